@@ -1,3 +1,4 @@
 pub mod Checks
 pub mod Kinds
 pub mod Printed
+pub mod Protocol

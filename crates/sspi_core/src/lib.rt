@@ -3,12 +3,22 @@
 
 mod cause;
 mod checks;
+mod draw;
 mod error;
+mod flags;
 mod kdc_code;
 mod kind;
+mod protocol;
+mod results;
+mod secret;
 
 pub use cause::Cause;
 pub use checks::{hold, pass, take};
+pub use draw::{Draw, MAX_MOMENT};
 pub use error::{Error, Place};
+pub use flags::{ClientRequestFlags, SecurityBufferFlags, ServerRequestFlags};
 pub use kdc_code::map_keb_error_code_to_sspi_error;
 pub use kind::ErrorKind;
+pub use protocol::NetworkProtocol;
+pub use results::{ContextSizes, CredentialUse, SecurityStatus, SessionKeys};
+pub use secret::Secret;

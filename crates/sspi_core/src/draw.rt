@@ -1,0 +1,13 @@
+//! What one step may use of the outside.
+
+/// The moment and the random octets that one step may use. They are handed in, so that a step is a function of its arguments.
+#[derive(Clone, Copy, PartialEq, Eq)]
+pub struct Draw {
+    /// Microseconds since 1970-01-01T00:00:00Z, at most `MAX_MOMENT`: a condition of each call that takes one.
+    pub moment: u64,
+    /// Random octets, taken from the front.
+    pub random: [u8; 64],
+}
+
+/// The last moment, the end of 9999-12-28, in microseconds since 1970-01-01T00:00:00Z.
+pub const MAX_MOMENT: u64 = 253_402_041_599_999_999;

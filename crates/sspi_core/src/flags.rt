@@ -1,0 +1,118 @@
+//! Sets of options.
+
+ghost use Rattle.std.specs.Prelude.{⊤, [], ◌∷◌, codes};
+
+use bitflags::{Flag, Flags, bitflag_items};
+
+/// What the caller of an initiator asks for. An acceptor reads `USE_SESSION_KEY` and `USE_DCE_STYLE` alone.
+#[derive(Clone, Copy, Debug, PartialEq, Eq, PartialOrd, Ord, Hash)]
+pub struct ClientRequestFlags(u32);
+
+/// What the caller of an acceptor asks for.
+#[derive(Clone, Copy, Debug, PartialEq, Eq, PartialOrd, Ord, Hash)]
+pub struct ServerRequestFlags(u32);
+
+/// How a buffer of a message is covered. With both flags it counts as `SECBUFFER_READONLY_WITH_CHECKSUM`.
+#[derive(Clone, Copy, Debug, PartialEq, Eq, PartialOrd, Ord, Hash)]
+pub struct SecurityBufferFlags(u32);
+
+bitflag_items! {
+    impl ClientRequestFlags: u32 {
+        /// The target may act for the client.
+        const DELEGATE = 0x1;
+        /// The target answers with a token of its own.
+        const MUTUAL_AUTH = 0x2;
+        const REPLAY_DETECT = 0x4;
+        const SEQUENCE_DETECT = 0x8;
+        const CONFIDENTIALITY = 0x10;
+        /// A ticket under the session key of the target's ticket, as user-to-user has it (RFC 4120 section 3.7).
+        const USE_SESSION_KEY = 0x20;
+        /// Tokens are bare, and the initiator has the last word.
+        const USE_DCE_STYLE = 0x200;
+        const INTEGRITY = 0x10000;
+        const NO_INTEGRITY = 0x800000;
+    }
+
+    impl ServerRequestFlags: u32 {
+        /// A ticket under the session key of the acceptor's ticket, as user-to-user has it (RFC 4120 section 3.7).
+        const USE_SESSION_KEY = 0x20;
+        /// Tokens are bare, and the initiator has the last word.
+        const USE_DCE_STYLE = 0x200;
+    }
+
+    impl SecurityBufferFlags: u32 {
+        const NONE = 0x0;
+        /// The buffer is not sealed, and the checksum covers it.
+        const SECBUFFER_READONLY_WITH_CHECKSUM = 0x10000000;
+        /// The buffer is neither sealed nor covered.
+        const SECBUFFER_READONLY = 0x80000000;
+    }
+}
+
+impl Flags for ClientRequestFlags {
+    type Bits = u32;
+
+    ghost exact = { ⊤ };
+
+    ghost table = { (codes "DELEGATE", 1) ∷ (codes "MUTUAL_AUTH", 2) ∷ (codes "REPLAY_DETECT", 4) ∷ (codes "SEQUENCE_DETECT", 8)
+        ∷ (codes "CONFIDENTIALITY", 16) ∷ (codes "USE_SESSION_KEY", 32) ∷ (codes "USE_DCE_STYLE", 512)
+        ∷ (codes "INTEGRITY", 65536) ∷ (codes "NO_INTEGRITY", 8388608) ∷ [] };
+
+    ghost set_of = { λ flags. flags.0 };
+
+    fn flags<'a>() -> &'a [Flag<ClientRequestFlags>] {
+        ClientRequestFlags::FLAGS
+    }
+
+    fn bits(&self) -> u32 {
+        self.0
+    }
+
+    fn from_bits_retain(bits: u32) -> ClientRequestFlags {
+        ClientRequestFlags(bits)
+    }
+}
+
+impl Flags for ServerRequestFlags {
+    type Bits = u32;
+
+    ghost exact = { ⊤ };
+
+    ghost table = { (codes "USE_SESSION_KEY", 32) ∷ (codes "USE_DCE_STYLE", 512) ∷ [] };
+
+    ghost set_of = { λ flags. flags.0 };
+
+    fn flags<'a>() -> &'a [Flag<ServerRequestFlags>] {
+        ServerRequestFlags::FLAGS
+    }
+
+    fn bits(&self) -> u32 {
+        self.0
+    }
+
+    fn from_bits_retain(bits: u32) -> ServerRequestFlags {
+        ServerRequestFlags(bits)
+    }
+}
+
+impl Flags for SecurityBufferFlags {
+    type Bits = u32;
+
+    ghost exact = { ⊤ };
+
+    ghost table = { (codes "NONE", 0) ∷ (codes "SECBUFFER_READONLY_WITH_CHECKSUM", 268435456) ∷ (codes "SECBUFFER_READONLY", 2147483648) ∷ [] };
+
+    ghost set_of = { λ flags. flags.0 };
+
+    fn flags<'a>() -> &'a [Flag<SecurityBufferFlags>] {
+        SecurityBufferFlags::FLAGS
+    }
+
+    fn bits(&self) -> u32 {
+        self.0
+    }
+
+    fn from_bits_retain(bits: u32) -> SecurityBufferFlags {
+        SecurityBufferFlags(bits)
+    }
+}

@@ -1,0 +1,33 @@
+//! A value that is not shown.
+
+ghost use Rattle.std.specs.Prelude.{◌≡◌};
+
+use std::marker::Model;
+
+/// A password or a key. It has no printed form, so that it does not stand in a log by accident. Contracts see the value itself.
+#[derive(PartialEq, Eq, Drop)]
+pub struct Secret<T> {
+    value: T,
+}
+
+impl<T> Model for Secret<T> {
+    ghost Value = { T };
+
+    ghost view = { λ a. a.value };
+
+    ghost inverse = { λ value. record { value = value } };
+}
+
+impl<T> Secret<T> {
+    pub fn new(value: T) -> Secret<T>
+        ensures { result ≡ value }
+    {
+        Secret { value }
+    }
+
+    pub fn as_ref(&self) -> &T
+        ensures { result.now ≡ self.now }
+    {
+        &self.value
+    }
+}
