@@ -1,0 +1,13 @@
+//! Copies that may want for memory.
+
+ghost use Rattle.std.specs.Prelude.{◌≡◌, IfOk};
+
+use crate::memory::OutOfMemory;
+use std::alloc::Global;
+
+/// A value that can be copied into new memory, as `Clone` copies where memory never runs out.
+pub trait TryCopy: Sized + Drop {
+    /// An equal value.
+    fn copy(&self, alloc: Global) -> Result<Self, OutOfMemory>
+        ensures { IfOk result (λ copy. copy ≡ self.now) };
+}

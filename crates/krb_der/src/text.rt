@@ -1,0 +1,61 @@
+//! A text.
+
+ghost use Rattle.std.specs.Prelude.{◌≡◌};
+ghost use Rattle.std.specs.String.{string_bytes};
+ghost use Rattle.std.specs.Str.{IsUtf8};
+
+use crate::copies::TryCopy;
+use crate::memory::OutOfMemory;
+use crate::octets::Octets;
+use std::alloc::Global;
+use std::marker::Model;
+use std::str;
+
+/// UTF-8 octets. Contracts see them as a list.
+#[derive(Debug, PartialEq, Eq, PartialOrd, Ord, Hash, Drop)]
+pub struct Text {
+    octets: Octets,
+}
+
+impl Model for Text {
+    ghost use Rattle.std.specs.Prelude.{List, ℕ};
+    ghost use Rattle.std.specs.Str.{IsUtf8};
+
+    ghost Value = { List ℕ };
+
+    ghost view = { λ a. a.octets };
+
+    ghost invariant = { λ a. IsUtf8 a.octets };
+
+    ghost inverse = { λ octets. record { octets = octets } };
+}
+
+impl Text {
+    pub fn new(text: String) -> Text
+        ensures { result ≡ string_bytes text }
+    {
+        Text {
+            octets: Octets::new(text.into_bytes()),
+        }
+    }
+
+    pub fn as_str(&self) -> &str
+        ensures { result.now ≡ self.now }
+    {
+        unsafe { str::from_utf8_unchecked(self.octets.as_slice()) }
+    }
+
+    pub fn into_inner(self) -> String
+        ensures { string_bytes result ≡ self }
+    {
+        unsafe { String::from_utf8_unchecked(self.octets.into_inner()) }
+    }
+}
+
+impl TryCopy for Text {
+    fn copy(&self, alloc: Global) -> Result<Text, OutOfMemory> {
+        Ok(Text {
+            octets: self.octets.copy(alloc)?,
+        })
+    }
+}
