@@ -1,0 +1,205 @@
+//! The cipher suites and their derived keys (RFC 3961, section 5.1; RFC 3962, sections 4 and 7).
+
+ghost use Rattle.std.specs.Prelude.{◌≡◌, ◌+◌, ◌≤◌, ◌++◌, ℕ, List, length};
+ghost use Rattle.krb_aes.specs.Aes.{IsScheduleOf};
+ghost use Rattle.krb_crypto.specs.Suite.{suite_number, key_size, suite_of_size, HasNumber, key_octets, constant_block, dk, usage_constant, ke, ki, kc};
+
+use crate::error::CryptoError;
+use crate::fold::n_fold;
+use krb_aes::KeySchedule;
+
+/// The octet behind a usage in the constant of the key of encryption (RFC 3961, section 5.3).
+const ENCRYPTION: u8 = 0xaa;
+
+/// The octet behind a usage in the constant of the key of the checksum of a sealed text.
+const INTEGRITY: u8 = 0x55;
+
+/// The octet behind a usage in the constant of the key of a checksum alone.
+const CHECKSUM: u8 = 0x99;
+
+/// An encryption type: AES with ciphertext stealing, and HMAC-SHA1 cut to 96 bits (RFC 3962).
+#[derive(Clone, Copy, Debug, PartialEq, Eq)]
+pub enum CipherSuite {
+    Aes128CtsHmacSha196,
+    Aes256CtsHmacSha196,
+}
+
+/// The length of an AES key.
+#[derive(Clone, Copy, Debug, PartialEq, Eq)]
+pub enum AesSize {
+    Aes128,
+    Aes256,
+}
+
+impl TryFrom<i64> for CipherSuite {
+    type Error = CryptoError;
+
+    ghost try_from_gives = { HasNumber };
+
+    /// The suite of an etype: 17 or 18.
+    fn try_from(value: i64) -> Result<CipherSuite, CryptoError> {
+        match value {
+            17 => Ok(CipherSuite::Aes128CtsHmacSha196),
+            18 => Ok(CipherSuite::Aes256CtsHmacSha196),
+            _ => Err(CryptoError::Etype),
+        }
+    }
+}
+
+impl From<AesSize> for CipherSuite {
+    ghost from_gives = { λ size suite. suite ≡ suite_of_size size };
+
+    fn from(size: AesSize) -> CipherSuite {
+        match size {
+            AesSize::Aes128 => CipherSuite::Aes128CtsHmacSha196,
+            AesSize::Aes256 => CipherSuite::Aes256CtsHmacSha196,
+        }
+    }
+}
+
+impl CipherSuite {
+    /// The etype.
+    pub fn number(&self) -> u8
+        ensures { result ≡ suite_number self.now }
+    {
+        match self {
+            CipherSuite::Aes128CtsHmacSha196 => 17,
+            CipherSuite::Aes256CtsHmacSha196 => 18,
+        }
+    }
+
+    /// The length of a key in octets.
+    pub fn key_size(&self) -> usize
+        ensures { result ≡ key_size self.now }
+    {
+        match self {
+            CipherSuite::Aes128CtsHmacSha196 => 16,
+            CipherSuite::Aes256CtsHmacSha196 => 32,
+        }
+    }
+}
+
+/// A key of 16 or 32 octets.
+#[derive(Clone, Copy)]
+pub enum DerivedKey {
+    Short([u8; 16]),
+    Long([u8; 32]),
+}
+
+impl DerivedKey {
+    /// The octets of the key.
+    pub fn as_slice(&self) -> &[u8]
+        ensures { result.now ≡ key_octets self.now }
+    {
+        match self {
+            DerivedKey::Short(octets) => octets,
+            DerivedKey::Long(octets) => octets,
+        }
+    }
+}
+
+/// The key with these octets.
+pub fn key_of(suite: CipherSuite, key: &[u8]) -> DerivedKey
+    requires { length key.now ≡ key_size suite }
+    ensures { key_octets result ≡ key.now }
+{
+    match suite {
+        CipherSuite::Aes128CtsHmacSha196 => {
+            let mut octets = [0; 16];
+            octets.copy_from_slice(key);
+            DerivedKey::Short(octets)
+        }
+        CipherSuite::Aes256CtsHmacSha196 => {
+            let mut octets = [0; 32];
+            octets.copy_from_slice(key);
+            DerivedKey::Long(octets)
+        }
+    }
+}
+
+/// A constant as one block.
+fn constant_block(constant: &[u8]) -> [u8; 16]
+    requires some { 1 ≤ length constant.now }
+    requires small { length constant.now ≤ 1024 }
+    ensures { result ≡ constant_block constant.now }
+{
+    if constant.len() == 16 {
+        let mut block = [0; 16];
+        block.copy_from_slice(constant);
+        block
+    } else {
+        n_fold(constant)
+    }
+}
+
+fn joined(first: &[u8; 16], second: &[u8; 16]) -> [u8; 32]
+    ensures { result ≡ first.now ++ second.now }
+{
+    let mut out = [0; 32];
+    out[..16].copy_from_slice(first);
+    out[16..].copy_from_slice(second);
+    out
+}
+
+/// The key derived from the key whose schedule this is.
+fn derive(suite: CipherSuite, schedule: &KeySchedule, constant: &[u8]) -> DerivedKey
+    requires some { 1 ≤ length constant.now }
+    requires small { length constant.now ≤ 1024 }
+    ensures { (key : List ℕ) → IsScheduleOf key schedule.now → key_octets result ≡ dk suite key constant.now }
+{
+    let first = schedule.encrypt_block(constant_block(constant));
+    match suite {
+        CipherSuite::Aes128CtsHmacSha196 => DerivedKey::Short(first),
+        CipherSuite::Aes256CtsHmacSha196 => {
+            let second = schedule.encrypt_block(first);
+            DerivedKey::Long(joined(&first, &second))
+        }
+    }
+}
+
+/// DK(key, constant) of RFC 3961, section 5.1. The constant has 1 to 1,024 octets.
+pub fn derive_key(suite: CipherSuite, key: &[u8], constant: &[u8]) -> DerivedKey
+    requires size { length key.now ≡ key_size suite }
+    requires some { 1 ≤ length constant.now }
+    requires small { length constant.now ≤ 1024 }
+    ensures { key_octets result ≡ dk suite key.now constant.now }
+{
+    derive(suite, &KeySchedule::new(key), constant)
+}
+
+/// The constant of a usage: the usage in big-endian order, and an octet.
+fn usage_constant(usage: u32, octet: u8) -> [u8; 5]
+    ensures { result ≡ usage_constant usage octet }
+{
+    let [a, b, c, d] = usage.to_be_bytes();
+    [a, b, c, d, octet]
+}
+
+/// The keys of encryption and of the checksum of sealed texts of a usage.
+pub(crate) fn sealing_keys(suite: CipherSuite, key: &[u8], usage: u32) -> (DerivedKey, DerivedKey)
+    requires { length key.now ≡ key_size suite }
+    ensures encryption { key_octets result.0 ≡ ke suite key.now usage }
+    ensures integrity { key_octets result.1 ≡ ki suite key.now usage }
+{
+    let schedule = KeySchedule::new(key);
+    (
+        derive(suite, &schedule, &usage_constant(usage, ENCRYPTION)),
+        derive(suite, &schedule, &usage_constant(usage, INTEGRITY)),
+    )
+}
+
+/// The key of the checksum of sealed texts of a usage.
+pub(crate) fn derived_integrity_key(suite: CipherSuite, key: &[u8], usage: u32) -> DerivedKey
+    requires { length key.now ≡ key_size suite }
+    ensures { key_octets result ≡ ki suite key.now usage }
+{
+    derive_key(suite, key, &usage_constant(usage, INTEGRITY))
+}
+
+/// The key of checksums alone of a usage.
+pub(crate) fn derived_checksum_key(suite: CipherSuite, key: &[u8], usage: u32) -> DerivedKey
+    requires { length key.now ≡ key_size suite }
+    ensures { key_octets result ≡ kc suite key.now usage }
+{
+    derive_key(suite, key, &usage_constant(usage, CHECKSUM))
+}
