@@ -1,3 +1,4 @@
 pub mod Chain
 pub mod KdcCodes
 pub mod Once
+pub mod PartLemmas

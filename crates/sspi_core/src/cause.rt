@@ -7,6 +7,7 @@ ghost use Rattle.sspi_core.specs.declared.cause.Cause.TheVariants as causes;
 
 use crate::kdc_code::map_keb_error_code_to_sspi_error;
 use crate::kind::ErrorKind;
+use krb_der::OutOfMemory;
 use std::alloc::{AllocError, AllocFailed};
 use std::fmt;
 
@@ -273,6 +274,14 @@ impl fmt::Display for Cause {
             Cause::ResultCode(code) => write!(f, "{name} {code}"),
             _ => write!(f, "{name}"),
         }
+    }
+}
+
+impl From<OutOfMemory> for Cause {
+    ghost from_gives = { λ _ cause. cause ≡ causes.Memory };
+
+    fn from(_error: OutOfMemory) -> Cause {
+        Cause::Memory
     }
 }
 

@@ -7,6 +7,7 @@ ghost use Rattle.sspi_core.specs.declared.cause.Cause.TheVariants as causes;
 
 use crate::cause::Cause;
 use crate::kind::ErrorKind;
+use krb_der::OutOfMemory;
 use std::alloc::{AllocError, AllocFailed};
 use std::fmt;
 
@@ -67,6 +68,14 @@ impl From<Cause> for Error {
             error_type: cause.kind(),
             cause,
         }
+    }
+}
+
+impl From<OutOfMemory> for Error {
+    ghost from_gives = { λ _ error. error ≡ error_of causes.Memory };
+
+    fn from(_error: OutOfMemory) -> Error {
+        Error::from(Cause::Memory)
     }
 }
 

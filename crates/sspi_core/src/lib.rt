@@ -1,6 +1,7 @@
 //! The vocabulary of the library: errors with one cause each, names, identities and buffers.
 #![tactic(auto)]
 
+mod buffer;
 mod cause;
 mod checks;
 mod draw;
@@ -8,10 +9,12 @@ mod error;
 mod flags;
 mod kdc_code;
 mod kind;
+mod message;
 mod protocol;
 mod results;
 mod secret;
 
+pub use buffer::{BufferType, Part, SecurityBufferRef};
 pub use cause::Cause;
 pub use checks::{hold, pass, take};
 pub use draw::{Draw, MAX_MOMENT};
@@ -19,6 +22,7 @@ pub use error::{Error, Place};
 pub use flags::{ClientRequestFlags, SecurityBufferFlags, ServerRequestFlags};
 pub use kdc_code::map_keb_error_code_to_sspi_error;
 pub use kind::ErrorKind;
+pub use message::Message;
 pub use protocol::NetworkProtocol;
 pub use results::{ContextSizes, CredentialUse, SecurityStatus, SessionKeys};
 pub use secret::Secret;
