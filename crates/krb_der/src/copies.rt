@@ -11,3 +11,12 @@ pub trait TryCopy: Sized + Drop {
     fn copy(&self, alloc: Global) -> Result<Self, OutOfMemory>
         ensures { IfOk result (λ copy. copy ≡ self.now) };
 }
+
+impl<T: TryCopy> TryCopy for Option<T> {
+    fn copy(&self, alloc: Global) -> Result<Option<T>, OutOfMemory> {
+        match self {
+            Some(value) => Ok(Some(value.copy(alloc)?)),
+            None => Ok(None),
+        }
+    }
+}
