@@ -2,6 +2,8 @@
 
 ghost use Rattle.std.specs.Prelude.{◌≡◌};
 
+use krb_der::{OutOfMemory, TryCopy};
+use std::alloc::Global;
 use std::marker::Model;
 
 /// A password or a key. It has no printed form, so that it does not stand in a log by accident. Contracts see the value itself.
@@ -29,5 +31,13 @@ impl<T> Secret<T> {
         ensures { result.now ≡ self.now }
     {
         &self.value
+    }
+}
+
+impl<T: TryCopy> TryCopy for Secret<T> {
+    fn copy(&self, alloc: Global) -> Result<Secret<T>, OutOfMemory> {
+        Ok(Secret {
+            value: self.value.copy(alloc)?,
+        })
     }
 }
