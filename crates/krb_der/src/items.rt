@@ -17,7 +17,7 @@ use std::hash::{Hash, Hasher};
 use std::marker::Model;
 
 /// A list. Contracts see it as one.
-#[derive(Drop)]
+#[derive(Debug, Drop)]
 pub struct Items<T> {
     items: Vec<T>,
 }
