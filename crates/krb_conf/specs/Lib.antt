@@ -1,0 +1,5 @@
+pub mod Ascii
+pub mod Key
+pub mod Krb5Conf
+pub mod Line
+pub mod Seen
