@@ -1,0 +1,4 @@
+pub mod Table
+pub mod Layouts
+pub mod Oid
+pub mod Frame
