@@ -2,3 +2,5 @@ pub mod Chain
 pub mod KdcCodes
 pub mod Once
 pub mod PartLemmas
+pub mod Cuts
+pub mod NameLemmas

@@ -4,4 +4,6 @@ pub mod Kinds
 pub mod Messages
 pub mod Printed
 pub mod Protocol
+pub mod Shown
+pub mod UsernameForms
 pub mod Usernames

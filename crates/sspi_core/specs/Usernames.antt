@@ -1,5 +1,5 @@
 -- Names of users.
-use Rattle.std.specs.Prelude.{ℕ, List, ◌∷◌, ◌++◌, Bool, true, false, not, ◌&&◌, ◌==◌, Option, Some, None, if◌then◌else◌}
+use Rattle.std.specs.Prelude.{◌≡◌, ℕ, List, ◌∷◌, ◌++◌, Bool, true, false, not, ◌&&◌, ◌==◌, Option, Some, None, if◌then◌else◌}
 use Rattle.std.specs.List.{list_any, before_first, after_first, before_last, after_last}
 
 -- an account and the suffix behind the last `@`, or an account and its NetBIOS domain
@@ -8,8 +8,8 @@ pub data UserName : Type 0 where
   DownLevel : (account : List ℕ) → (domain : Option (List ℕ)) → UserName
 
 -- the code of `@`
-abbrev pub at : ℕ
-at = 64
+abbrev pub at_sign : ℕ
+at_sign = 64
 
 -- the code of `\`
 abbrev pub backslash : ℕ
@@ -20,7 +20,7 @@ has sign text = list_any (λ c. c == sign) text
 
 -- a text without `\` and `@`
 abbrev pub is_plain : List ℕ → Bool
-is_plain text = not (has backslash text) && not (has at text)
+is_plain text = not (has backslash text) && not (has at_sign text)
 
 abbrev pub is_plain_option : Option (List ℕ) → Bool
 is_plain_option None = true
@@ -39,10 +39,20 @@ user_name name = if is_user_name name then Some name else None
 abbrev pub parsed : List ℕ → Option UserName
 parsed text =
     if has backslash text then
-    (if has at text then None else user_name (DownLevel (after_first (λ c. c == backslash) text) (Some (before_first (λ c. c == backslash) text))))
+    (if has at_sign text then None else user_name (DownLevel (after_first (λ c. c == backslash) text) (Some (before_first (λ c. c == backslash) text))))
     else
-    (if has at text then user_name (UserPrincipal (before_last (λ c. c == at) text) (after_last (λ c. c == at) text)) else user_name (DownLevel text None))
+    (if has at_sign text then user_name (UserPrincipal (before_last (λ c. c == at_sign) text) (after_last (λ c. c == at_sign) text)) else user_name (DownLevel text None))
 
 -- the whole text of a user principal name
 abbrev pub upn_text : List ℕ → List ℕ → List ℕ
-upn_text account suffix = account ++ at ∷ suffix
+upn_text account suffix = account ++ at_sign ∷ suffix
+
+-- the parts round the first `\`
+abbrev pub IsCutAtFirst : List ℕ → List ℕ → List ℕ → Type 0
+IsCutAtFirst text before after =
+    (has backslash text ≡ true) × (before ≡ before_first (λ c. c == backslash) text) × (after ≡ after_first (λ c. c == backslash) text)
+
+-- the parts round the last `@`
+abbrev pub IsCutAtLast : List ℕ → List ℕ → List ℕ → Type 0
+IsCutAtLast text before after =
+    (has at_sign text ≡ true) × (before ≡ before_last (λ c. c == at_sign) text) × (after ≡ after_last (λ c. c == at_sign) text)

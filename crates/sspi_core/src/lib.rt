@@ -13,6 +13,7 @@ mod message;
 mod protocol;
 mod results;
 mod secret;
+mod username;
 
 pub use buffer::{BufferType, Part, SecurityBufferRef};
 pub use cause::Cause;
@@ -26,3 +27,4 @@ pub use message::Message;
 pub use protocol::NetworkProtocol;
 pub use results::{ContextSizes, CredentialUse, SecurityStatus, SessionKeys};
 pub use secret::Secret;
+pub use username::{DownLevelLogonName, UserPrincipalName, Username, UsernameError, UsernameParts};

@@ -1,0 +1,14 @@
+-- How names of users are kept.
+use Rattle.std.specs.Prelude.{◌≡◌, ℕ, ◌+◌, ◌<◌, List, ◌∷◌, ◌++◌, take, drop, IsTrue, Option, Some, None}
+use Rattle.sspi_core.specs.declared.username.Form.{Form}
+use Rattle.sspi_core.specs.declared.username.Form.TheVariants.{UserPrincipal as WholeText, DownLevel as Parts}
+use Rattle.sspi_core.specs.Usernames.{UserName, UserPrincipal, DownLevel, is_user_name, upn_text}
+
+abbrev pub name_of : Form → UserName
+name_of (WholeText text place) = UserPrincipal (take place text) (drop (place + 1) text)
+name_of (Parts account domain) = DownLevel account domain
+
+-- the `@` stands at its place, and the parts are a name
+abbrev pub IsWhole : Form → Type 0
+IsWhole (WholeText text place) = (text ≡ upn_text (take place text) (drop (place + 1) text)) × IsTrue (is_user_name (UserPrincipal (take place text) (drop (place + 1) text)))
+IsWhole (Parts account domain) = IsTrue (is_user_name (DownLevel account domain))

@@ -1,0 +1,274 @@
+//! Names of users.
+
+ghost use Rattle.std.specs.Prelude.{◌≡◌, ◌↔◌, IfOk, IsTrue, MatchOption, None, Some, false};
+ghost use Rattle.std.specs.Option.{option_copied};
+ghost use Rattle.std.specs.String.{string_bytes};
+ghost use Rattle.sspi_core.specs.Shown.{shown, ShowsWhole};
+ghost use Rattle.sspi_core.specs.Usernames.{DownLevel, UserPrincipal, has, is_user_name, is_plain, is_plain_option, user_name, parsed, at_sign, backslash, upn_text, IsCutAtFirst, IsCutAtLast};
+
+use krb_der::{OutOfMemory, Text};
+use std::alloc::{AllocError, Global};
+use std::marker::Model;
+use thiserror::Error;
+
+/// Why a text is no user name.
+#[derive(Clone, Copy, Debug, PartialEq, Eq, Error)]
+pub enum UsernameError {
+    /// The text has both signs, or a part has a sign that it may not have.
+    #[error("MixedFormat")]
+    MixedFormat,
+    #[error("OutOfMemory")]
+    OutOfMemory,
+}
+
+impl From<OutOfMemory> for UsernameError {
+    ghost use Rattle.sspi_core.specs.declared.username.UsernameError.TheVariants as errors;
+
+    ghost from_gives = { λ _ e. e ≡ errors.OutOfMemory };
+
+    fn from(_error: OutOfMemory) -> UsernameError {
+        UsernameError::OutOfMemory
+    }
+}
+
+impl From<AllocError> for UsernameError {
+    ghost use Rattle.sspi_core.specs.declared.username.UsernameError.TheVariants as errors;
+
+    ghost from_gives = { λ _ e. e ≡ errors.OutOfMemory };
+
+    fn from(_error: AllocError) -> UsernameError {
+        UsernameError::OutOfMemory
+    }
+}
+
+/// How a name is kept.
+#[derive(Drop)]
+enum Form {
+    /// The whole text, and where its last `@` stands.
+    UserPrincipal(Text, usize),
+    /// The account, and the NetBIOS domain.
+    DownLevel(Text, Option<Text>),
+}
+
+/// The name of a user: `account@suffix`, or an account with a NetBIOS domain or none, as `DOMAIN\account`.
+#[derive(Drop)]
+pub struct Username {
+    form: Form,
+}
+
+impl Model for Username {
+    ghost use Rattle.sspi_core.specs.Usernames.{UserName};
+
+    ghost Value = { UserName };
+
+    ghost use Rattle.sspi_core.specs.UsernameForms.{name_of, IsWhole};
+
+    ghost view = { λ a. name_of a.form };
+
+    ghost invariant = { λ a. IsWhole a.form };
+}
+
+/// A user principal name.
+#[derive(Clone, Copy, Debug, PartialEq, Eq)]
+pub struct UserPrincipalName<'a> {
+    /// The whole text.
+    pub upn: &'a str,
+    /// What stands before the last `@`.
+    pub account_name: &'a str,
+    /// What stands behind the last `@`.
+    pub suffix: &'a str,
+}
+
+impl<'a> UserPrincipalName<'a> {
+    /// The whole text.
+    pub fn upn(&self) -> &'a str
+        ensures { result.now ≡ self.now.upn.now }
+    {
+        self.upn
+    }
+
+    /// What stands before the last `@`.
+    pub fn account_name(&self) -> &'a str
+        ensures { result.now ≡ self.now.account_name.now }
+    {
+        self.account_name
+    }
+
+    /// What stands behind the last `@`.
+    pub fn suffix(&self) -> &'a str
+        ensures { result.now ≡ self.now.suffix.now }
+    {
+        self.suffix
+    }
+}
+
+/// An account, with a NetBIOS domain or none.
+#[derive(Clone, Copy, Debug, PartialEq, Eq)]
+pub struct DownLevelLogonName<'a> {
+    pub account_name: &'a str,
+    pub netbios_domain: Option<&'a str>,
+}
+
+impl<'a> DownLevelLogonName<'a> {
+    pub fn account_name(&self) -> &'a str
+        ensures { result.now ≡ self.now.account_name.now }
+    {
+        self.account_name
+    }
+
+    pub fn netbios_domain(&self) -> Option<&'a str>
+        ensures { result ≡ self.now.netbios_domain }
+    {
+        self.netbios_domain
+    }
+}
+
+/// The parts of a name.
+#[derive(Clone, Copy, Debug, PartialEq, Eq)]
+pub enum UsernameParts<'a> {
+    UserPrincipalName(UserPrincipalName<'a>),
+    DownLevelLogonName(DownLevelLogonName<'a>),
+}
+
+fn has(text: &str, sign: u8) -> bool
+    ensures { result ≡ has sign text.now }
+{
+    text.as_bytes().contains(&sign)
+}
+
+fn is_plain(text: &str) -> bool
+    ensures { result ≡ is_plain text.now }
+{
+    !has(text, b'\\') && !has(text, b'@')
+}
+
+fn is_plain_option(text: Option<&str>) -> bool
+    ensures { result ≡ is_plain_option (option_copied text.entry) }
+{
+    match text {
+        None => true,
+        Some(text) => is_plain(text),
+    }
+}
+
+/// What stands round the first `\`.
+fn cut_backslash(text: &str) -> Option<(&str, &str)>
+    ensures { MatchOption result (has backslash text.now ≡ false) (λ parts. IsCutAtFirst text.now parts.0.now parts.1.now) }
+{
+    text.split_once('\\')
+}
+
+/// What stands round the last `@`.
+fn cut_at_sign(text: &str) -> Option<(&str, &str)>
+    ensures { MatchOption result (has at_sign text.now ≡ false) (λ parts. IsCutAtLast text.now parts.0.now parts.1.now) }
+{
+    text.rsplit_once('@')
+}
+
+fn copy_of(alloc: Global, text: &str) -> Result<Text, OutOfMemory>
+    ensures { IfOk result (λ copy. copy ≡ text.now) }
+{
+    Ok(Text::new(String::from_str(alloc, text)?))
+}
+
+/// The account, `@` and the suffix.
+fn joined(alloc: Global, account: &str, suffix: &str) -> Result<Text, OutOfMemory>
+    ensures { IfOk result (λ text. text ≡ upn_text account.now suffix.now) }
+{
+    let mut text = String::with_capacity(alloc, account.len() + 1 + suffix.len())?;
+    text.push_str(account)?;
+    text.push('@')?;
+    text.push_str(suffix)?;
+    Ok(Text::new(text))
+}
+
+impl Username {
+    /// An account with a NetBIOS domain or none. Neither part may have a `\` or an `@`.
+    pub fn new(
+        alloc: Global,
+        account: &str,
+        netbios: Option<&str>,
+    ) -> Result<Username, UsernameError>
+        ensures name { IfOk result (λ name. user_name (DownLevel account.now (option_copied netbios.entry)) ≡ Some name) }
+        ensures mixed { (result ≡ Err UsernameError.MixedFormat) ↔ (user_name (DownLevel account.now (option_copied netbios.entry)) ≡ None) }
+    {
+        if !is_plain(account) || !is_plain_option(netbios) {
+            return Err(UsernameError::MixedFormat);
+        }
+        let account = copy_of(alloc, account)?;
+        let netbios = match netbios {
+            None => None,
+            Some(domain) => Some(copy_of(alloc, domain)?),
+        };
+        Ok(Username {
+            form: Form::DownLevel(account, netbios),
+        })
+    }
+
+    /// A user principal name. Neither part may have a `\`, and the suffix no `@`.
+    pub fn new_upn(alloc: Global, account: &str, suffix: &str) -> Result<Username, UsernameError>
+        ensures name { IfOk result (λ name. user_name (UserPrincipal account.now suffix.now) ≡ Some name) }
+        ensures mixed { (result ≡ Err UsernameError.MixedFormat) ↔ (user_name (UserPrincipal account.now suffix.now) ≡ None) }
+    {
+        if has(account, b'\\') || !is_plain(suffix) {
+            return Err(UsernameError::MixedFormat);
+        }
+        let text = joined(alloc, account, suffix)?;
+        Ok(Username {
+            form: Form::UserPrincipal(text, account.len()),
+        })
+    }
+
+    /// The name that a text is: a domain and an account round the first `\`, an account and a suffix round the last `@`, or an account alone. A text with both signs is none.
+    pub fn parse(alloc: Global, value: &str) -> Result<Username, UsernameError>
+        ensures name { IfOk result (λ name. parsed value.now ≡ Some name) }
+        ensures mixed { (result ≡ Err UsernameError.MixedFormat) ↔ (parsed value.now ≡ None) }
+    {
+        match cut_backslash(value) {
+            Some((netbios, account)) => {
+                if has(value, b'@') {
+                    Err(UsernameError::MixedFormat)
+                } else {
+                    Username::new(alloc, account, Some(netbios))
+                }
+            }
+            None => match cut_at_sign(value) {
+                Some((account, suffix)) => Username::new_upn(alloc, account, suffix),
+                None => Username::new(alloc, value, None),
+            },
+        }
+    }
+
+    /// The parts of the name.
+    pub fn parts(&self) -> UsernameParts<'_>
+        ensures name { shown result ≡ self.now }
+        ensures whole { ShowsWhole result }
+        ensures user_name { IsTrue (is_user_name self.now) }
+    {
+        match &self.form {
+            Form::UserPrincipal(text, place) => {
+                let upn = text.as_str();
+                UsernameParts::UserPrincipalName(UserPrincipalName {
+                    upn,
+                    account_name: &upn[..*place],
+                    suffix: &upn[*place + 1..],
+                })
+            }
+            Form::DownLevel(account, netbios) => {
+                UsernameParts::DownLevelLogonName(DownLevelLogonName {
+                    account_name: account.as_str(),
+                    netbios_domain: lent(netbios),
+                })
+            }
+        }
+    }
+}
+
+fn lent(text: &Option<Text>) -> Option<&str>
+    ensures { option_copied result ≡ text.now }
+{
+    match text {
+        None => None,
+        Some(text) => Some(text.as_str()),
+    }
+}
