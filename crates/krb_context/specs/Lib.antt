@@ -1,2 +1,4 @@
+pub mod Params
 pub mod Places
+pub mod States
 pub mod Window

@@ -1,0 +1,116 @@
+//! The suite, the keys and the filler of a context's messages.
+
+ghost use Rattle.std.specs.Prelude.{◌≡◌, MatchOption, IfOk, None, Some};
+ghost use Rattle.krb_context.specs.Params.{default_params, suite_of, size_of, key_of};
+
+use crate::constants::DEFAULT_ENCRYPTION_TYPE;
+use krb_crypto::{AesSize, CipherSuite};
+use krb_der::{Octets, OutOfMemory, TryCopy};
+use sspi_core::Secret;
+use std::alloc::Global;
+
+/// The usage of an acceptor's wrap tokens (RFC 4121, section 2).
+pub const ACCEPTOR_SEAL: u32 = 22;
+
+/// The usage of an acceptor's MIC tokens.
+pub const ACCEPTOR_SIGN: u32 = 23;
+
+/// The usage of an initiator's wrap tokens.
+pub const INITIATOR_SEAL: u32 = 24;
+
+/// The usage of an initiator's MIC tokens.
+pub const INITIATOR_SIGN: u32 = 25;
+
+/// The suite and the keys of a context, and the filler of its sealed messages.
+///
+/// The context's suite is `encryption_type`, else AES-256. The context's key is the sub-session key, else the session key.
+#[derive(Drop)]
+pub struct EncryptionParams {
+    pub encryption_type: Option<CipherSuite>,
+    /// The key inside the ticket.
+    pub session_key: Option<Secret<Octets>>,
+    /// The key that an end of the exchange chose.
+    pub sub_session_key: Option<Secret<Octets>>,
+    /// Kept for who asks. The role of a context alone gives the usages of its messages.
+    pub sspi_encrypt_key_usage: u32,
+    /// Kept for who asks. The role of a context alone gives the usages of its messages.
+    pub sspi_decrypt_key_usage: u32,
+    /// How many octets of filler a sealed message has.
+    pub ec: u16,
+}
+
+impl EncryptionParams {
+    fn with_usages(sspi_encrypt_key_usage: u32, sspi_decrypt_key_usage: u32) -> EncryptionParams
+        ensures { result ≡ default_params sspi_encrypt_key_usage sspi_decrypt_key_usage }
+    {
+        EncryptionParams {
+            encryption_type: None,
+            session_key: None,
+            sub_session_key: None,
+            sspi_encrypt_key_usage,
+            sspi_decrypt_key_usage,
+            ec: 0,
+        }
+    }
+
+    /// Those of an initiator before the exchange: no suite, no keys and no filler.
+    pub fn default_for_client() -> EncryptionParams
+        ensures { result ≡ default_params 24 22 }
+    {
+        EncryptionParams::with_usages(INITIATOR_SEAL, ACCEPTOR_SEAL)
+    }
+
+    /// Those of an acceptor before the exchange: no suite, no keys and no filler.
+    pub fn default_for_server() -> EncryptionParams
+        ensures { result ≡ default_params 22 24 }
+    {
+        EncryptionParams::with_usages(ACCEPTOR_SEAL, INITIATOR_SEAL)
+    }
+
+    /// The size of the suite's keys, None exactly where no suite was chosen.
+    pub fn aes_size(&self) -> Option<AesSize>
+        ensures { result ≡ size_of self.now.encryption_type }
+    {
+        match self.encryption_type {
+            Some(CipherSuite::Aes128CtsHmacSha196) => Some(AesSize::Aes128),
+            Some(CipherSuite::Aes256CtsHmacSha196) => Some(AesSize::Aes256),
+            None => None,
+        }
+    }
+
+    /// The context's suite: the one that was chosen, else AES-256.
+    pub fn suite(&self) -> CipherSuite
+        ensures { result ≡ suite_of self.now }
+    {
+        match self.encryption_type {
+            Some(suite) => suite,
+            None => DEFAULT_ENCRYPTION_TYPE,
+        }
+    }
+
+    /// The context's key: the sub-session key, else the session key.
+    pub fn key(&self) -> Option<&Octets>
+        ensures { MatchOption result (key_of self.now ≡ None) (λ key. key_of self.now ≡ Some key.now) }
+    {
+        match &self.sub_session_key {
+            Some(key) => Some(key.as_ref()),
+            None => match &self.session_key {
+                Some(key) => Some(key.as_ref()),
+                None => None,
+            },
+        }
+    }
+}
+
+impl TryCopy for EncryptionParams {
+    fn copy(&self, alloc: Global) -> Result<EncryptionParams, OutOfMemory> {
+        Ok(EncryptionParams {
+            encryption_type: self.encryption_type,
+            session_key: self.session_key.copy(alloc)?,
+            sub_session_key: self.sub_session_key.copy(alloc)?,
+            sspi_encrypt_key_usage: self.sspi_encrypt_key_usage,
+            sspi_decrypt_key_usage: self.sspi_decrypt_key_usage,
+            ec: self.ec,
+        })
+    }
+}
