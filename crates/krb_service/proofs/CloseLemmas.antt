@@ -1,0 +1,152 @@
+-- What is written with the last line.
+use Rattle.std.proofs.Common.{◌≡◌, ◌≢◌, ℕ, ◌+◌, ◌≤◌, ◌⊎◌, inl, inr, Bool, true, false, List, [], ◌∷◌, ◌++◌, length, Option, Some, None, IfSome, is_some, refl, ap, sym, ◌∙◌, subst}
+use Rattle.std.specs.Prelude.{if◌then◌else◌}
+use Rattle.std.specs.Io.KnownBytes.{Consumes, Appends}
+use Rattle.std.proofs.lemmas.List.{append-nil}
+use Rattle.krb_text.specs.Output.{IsFront, AppendsFront}
+use Rattle.krb_text.specs.Script.{Setup, Declared, Reading, reading_of}
+use Rattle.krb_text.specs.declared.item.Event.{Event}
+use Rattle.krb_text.specs.declared.stop.Stop.{Stop}
+use Rattle.krb_text.specs.declared.stop.Stop.TheVariants.{Whole, Bad, Long}
+use Rattle.krb_text.specs.declared.status.Status.{Status}
+use Rattle.krb_text.specs.declared.status.Status.TheVariants.{Done, BadWords, BadLine as BadStatus, TooLong, ReadFault as ReadStatus, WriteFault as WriteStatus, OutOfMemory as MemoryStatus}
+use Rattle.krb_text.proofs.OutputLemmas.{Appends-trans, AppendsFront-next}
+use Rattle.krb_service.specs.declared.reply.Reply.{Reply}
+use Rattle.krb_service.specs.Policy.{State, Runs, service_of}
+use Rattle.krb_service.specs.Reply.{replies_text}
+use Rattle.krb_service.specs.Text.{Answered, IsText, IsStopped, first_events, last_line, stopped_line}
+use Rattle.krb_service.specs.Progress.{Progress}
+use Rattle.krb_service.specs.Closing.{closing, status_at, has_begun}
+use Rattle.krb_service.specs.Serve.{Written, Serves, status_of, end_of}
+use Rattle.krb_service.specs.Halts.{Halts, HaltsAt, EndsAt, IsBefore, IsAmid, Follows}
+use Rattle.krb_service.proofs.ProgressLemmas.{all-answered}
+use Rattle.krb_service.specs.declared.halt.Halt.{Halt}
+use Rattle.krb_service.specs.declared.halt.Halt.TheVariants.{End, BadLine, LongLine, ReadFault, WriteFault, OutOfMemory}
+
+-- the last line of a whole input, and the run behind it
+record EndsWith (progress : Progress) (so_far : Declared) (n : ℕ) (front : List ℕ) : Type 0 where
+  after : State
+  answered : Answered so_far front after
+  line_is : closing progress End ≡ last_line Whole n so_far.setup after
+  status_is : status_at progress End ≡ status_of Whole so_far
+
+ends_before : (progress : Progress) (so_far : Declared) (replies : List Reply) (n : ℕ) → n ≡ progress.lines + 1 → IsBefore progress so_far replies → EndsWith progress so_far n (replies_text replies)
+ends_before progress so_far replies n count b =
+    let R : List Reply → Type 0 = λ rs. Runs (service_of so_far.setup) [] rs (service_of so_far.setup) in
+    let E : List Event → Type 0 = λ es. Runs (service_of so_far.setup) es replies (service_of so_far.setup) in
+    record {
+      after = service_of so_far.setup;
+      answered = record { replies = replies; runs = subst E (sym b.events) (subst R (sym b.none) refl); is = refl };
+      line_is = rw (b.service, b.setup, count) refl;
+      status_is = rw (b.service, b.setup) refl;
+    }
+
+ends_amid : (progress : Progress) (so_far : Declared) (replies : List Reply) (n : ℕ) → IsAmid progress so_far replies → EndsWith progress so_far n (replies_text replies)
+ends_amid progress so_far replies n m = record {
+  after = m.after;
+  answered = record { replies = replies; runs = m.runs; is = refl };
+  line_is = rw (m.service, m.skew) refl;
+  status_is = rw (m.service, m.skew) refl;
+}
+
+ends_by : (progress : Progress) (so_far : Declared) (replies : List Reply) → IsBefore progress so_far replies ⊎ IsAmid progress so_far replies → EndsWith progress so_far (progress.lines + 1) (replies_text replies)
+ends_by progress so_far replies (inl b) = ends_before progress so_far replies (progress.lines + 1) refl b
+ends_by progress so_far replies (inr m) = ends_amid progress so_far replies (progress.lines + 1) m
+
+ends_with : (progress : Progress) (so_far : Declared) (replies : List Reply) → Follows progress so_far replies → EndsWith progress so_far (progress.lines + 1) (replies_text replies)
+ends_with progress so_far replies f = ends_by progress so_far replies f.state
+
+-- a text that ends where the reading does
+ended_text : (input front line : List ℕ) (so_far : Declared) (n : ℕ) (stop : Stop) (after : State) → reading_of input ≡ record { so_far = so_far; number = n; stop = stop } → Answered so_far front after
+    → line ≡ last_line stop n so_far.setup after → IsText input (front ++ line)
+ended_text input front line so_far n stop after is answered line_is =
+    let D : Reading → Type 0 = λ r. Answered r.so_far front after in
+    record {
+      front = front;
+      after = after;
+      answered = subst D (sym is) answered;
+      is = ap (λ l. front ++ l) (line_is ∙ sym (ap (λ (r : Reading). last_line r.stop r.number r.so_far.setup after) is));
+    }
+
+ended_status : (input : List ℕ) (so_far : Declared) (n : ℕ) (stop : Stop) → reading_of input ≡ record { so_far = so_far; number = n; stop = stop } → end_of input ≡ status_of stop so_far
+ended_status input so_far n stop is = ap (λ (r : Reading). status_of r.stop r.so_far) is
+
+-- the text is whole, by the status at the end
+end_written : (input taken written : List ℕ) (t : Bool) → end_of input ≡ (if t then Done else BadStatus) → IsText input written → taken ≡ input → Written input taken (if t then Done else BadStatus) written
+end_written input taken written true e w a = (e, w, a)
+end_written input taken written false e w a = (e, w)
+
+-- the last line makes the text whole
+pub closed : (input taken written : List ℕ) (progress : Progress) (halt : Halt) → HaltsAt input taken written progress halt → (halt ≡ ReadFault → ⊥) → (halt ≡ WriteFault → ⊥)
+    → Written input taken (status_at progress halt) (written ++ closing progress halt)
+closed input taken written progress End h r w =
+    let e = h.0 in
+    let with_line = ends_with progress e.so_far e.replies e.follows in
+    let T : List ℕ → Type 0 = λ l. IsText input (l ++ closing progress End) in
+    end_written input taken (written ++ closing progress End) (has_begun progress) (ended_status input e.so_far (progress.lines + 1) Whole e.reading ∙ sym with_line.status_is)
+    (subst T (sym e.is) (ended_text input (replies_text e.replies) (closing progress End) e.so_far (progress.lines + 1) Whole with_line.after e.reading with_line.answered with_line.line_is)) h.1
+closed input taken written progress BadLine h r w =
+    let all = all-answered progress h.so_far h.replies h.follows.state in
+    let T : List ℕ → Type 0 = λ l. IsText input (l ++ closing progress BadLine) in (
+      ended_status input h.so_far (progress.lines + 1) Bad h.reading,
+      subst T (sym h.is) (ended_text input (replies_text h.replies) (closing progress BadLine) h.so_far (progress.lines + 1) Bad all.0 h.reading all.1 refl),
+    )
+closed input taken written progress LongLine h r w =
+    let all = all-answered progress h.so_far h.replies h.follows.state in
+    let T : List ℕ → Type 0 = λ l. IsText input (l ++ closing progress LongLine) in (
+      ended_status input h.so_far (progress.lines + 1) Long h.reading,
+      subst T (sym h.is) (ended_text input (replies_text h.replies) (closing progress LongLine) h.so_far (progress.lines + 1) Long all.0 h.reading all.1 refl),
+    )
+closed input taken written progress ReadFault h r w = absurd (r refl)
+closed input taken written progress WriteFault h r w = absurd (w refl)
+closed input taken written progress OutOfMemory h r w = record { t = progress.answered; few = h.few; front = written; after = h.after; answered = h.answered; is = refl }
+
+end_front : (input taken whole front : List ℕ) (t : Bool) → Written input taken (if t then Done else BadStatus) whole → IsFront front whole → Written input taken WriteStatus front
+end_front input taken whole front true w f = (whole, f, inl w.1)
+end_front input taken whole front false w f = (whole, f, inl w.1)
+
+closed_front : (input taken whole front : List ℕ) (progress : Progress) (halt : Halt) → Written input taken (status_at progress halt) whole → IsFront front whole → (halt ≡ ReadFault → ⊥) → (halt ≡ WriteFault → ⊥)
+    → Written input taken WriteStatus front
+closed_front input taken whole front progress End w f r k = end_front input taken whole front (has_begun progress) w f
+closed_front input taken whole front progress BadLine w f r k = (whole, f, inl w.1)
+closed_front input taken whole front progress LongLine w f r k = (whole, f, inl w.1)
+closed_front input taken whole front progress ReadFault w f r k = absurd (r refl)
+closed_front input taken whole front progress WriteFault w f r k = absurd (k refl)
+closed_front input taken whole front progress OutOfMemory w f r k = (whole, f, inr w)
+
+map_some : (P Q : List ℕ → Type 0) (o : Option (List ℕ)) → ((x : List ℕ) → P x → Q x) → IfSome o P → IfSome o Q
+map_some P Q None f p = tt
+map_some P Q (Some x) f p = f x p
+
+-- the last line is written
+pub serves-closed : (left b before between after : Option (List ℕ)) (progress : Progress) (halt : Halt) (line : List ℕ) (status : Status) → Halts left b before between progress halt
+    → line ≡ closing progress halt → status ≡ status_at progress halt → Appends between after line → (halt ≡ ReadFault → ⊥) → (halt ≡ WriteFault → ⊥) → Serves left b before after status
+serves-closed left b before between after progress halt line status h line_is status_is wrote r w =
+    let L : List ℕ → Type 0 = λ l. Appends between after l in
+    let S : Status → Type 0 = λ st. Serves left b before after st in
+    let made : Serves left b before after (status_at progress halt) = map_some _ _ left (λ input k.
+    (k.0, k.1 ++ closing progress halt, k.2, Appends-trans before between after k.1 (closing progress halt) k.3 (subst L line_is wrote), closed input k.0 k.1 progress halt k.4 r w)) h in
+    subst S (sym status_is) made
+
+-- a write fails at the last line
+pub serves-front : (left b before between after : Option (List ℕ)) (progress : Progress) (halt : Halt) (line : List ℕ) → Halts left b before between progress halt
+    → line ≡ closing progress halt → AppendsFront between after line → (halt ≡ ReadFault → ⊥) → (halt ≡ WriteFault → ⊥) → Serves left b before after WriteStatus
+serves-front left b before between after progress halt line h line_is wrote r w =
+    let L : List ℕ → Type 0 = λ l. AppendsFront between after l in
+    map_some _ _ left (λ input k.
+    let whole = k.1 ++ closing progress halt in
+    let front = AppendsFront-next before between after whole k.1 (closing progress halt) [] (ap (λ l. k.1 ++ l) (sym (append-nil (closing progress halt)))) k.3 (subst L line_is wrote) in
+    (k.0, front.0, k.2, front.2, closed_front input k.0 whole front.0 progress halt (closed input k.0 k.1 progress halt k.4 r w) front.1 r w)) h
+
+-- a write failed before
+pub serves-write : (left b before after : Option (List ℕ)) (progress : Progress) → Halts left b before after progress WriteFault → Serves left b before after WriteStatus
+serves-write left b before after progress h = map_some _ _ left (λ input k. (k.0, k.1, k.2, k.3, k.4)) h
+
+Appends-nothing : (a : Option (List ℕ)) → Appends a a []
+Appends-nothing None = tt
+Appends-nothing (Some xs) = sym (append-nil xs)
+
+-- nothing is read or written
+pub serves-nothing : (left before : Option (List ℕ)) → Serves left left before before BadWords
+serves-nothing None before = tt
+serves-nothing (Some input) before = ([], [], refl, Appends-nothing before, (refl, refl))

@@ -1,0 +1,39 @@
+-- The last line, and the status.
+use Rattle.std.specs.Prelude.{◌+◌, Bool, ◌||◌, List, ℕ, [], Option, Some, None, is_some, if◌then◌else◌}
+use Rattle.krb_service.specs.Policy.{State, admitted, kept}
+use Rattle.krb_service.specs.Text.{end_line, bad_line, long_line, stopped_line}
+use Rattle.krb_service.specs.Progress.{Progress}
+use Rattle.krb_service.specs.declared.halt.Halt.{Halt}
+use Rattle.krb_service.specs.declared.halt.Halt.TheVariants.{End, BadLine as BadHalt, LongLine, ReadFault as ReadHalt, WriteFault as WriteHalt, OutOfMemory as MemoryHalt}
+use Rattle.krb_text.specs.declared.status.Status.{Status}
+use Rattle.krb_text.specs.declared.status.Status.TheVariants.{Done, BadLine, TooLong, ReadFault, WriteFault, OutOfMemory}
+
+-- whether there was a skew
+abbrev pub has_begun : Progress → Bool
+has_begun progress = is_some progress.service || is_some progress.setup.skew
+
+-- before the first event nothing is admitted or kept
+abbrev pub admitted_by : Option State → ℕ
+admitted_by None = 0
+admitted_by (Some state) = admitted state
+
+abbrev pub kept_by : Option State → ℕ
+kept_by None = 0
+kept_by (Some state) = kept state
+
+-- the last line, which a fault leaves out
+abbrev pub closing : Progress → Halt → List ℕ
+closing progress End = if has_begun progress then end_line (admitted_by progress.service) (kept_by progress.service) else bad_line (progress.lines + 1)
+closing progress BadHalt = bad_line (progress.lines + 1)
+closing progress LongLine = long_line (progress.lines + 1)
+closing progress ReadHalt = []
+closing progress WriteHalt = []
+closing progress MemoryHalt = stopped_line progress.answered
+
+abbrev pub status_at : Progress → Halt → Status
+status_at progress End = if has_begun progress then Done else BadLine
+status_at progress BadHalt = BadLine
+status_at progress LongLine = TooLong
+status_at progress ReadHalt = ReadFault
+status_at progress WriteHalt = WriteFault
+status_at progress MemoryHalt = OutOfMemory

@@ -1,0 +1,28 @@
+-- What is written of a reply.
+use Rattle.std.specs.Prelude.{ℕ, List, [], ◌∷◌, ◌++◌, codes}
+use Rattle.std.specs.List.{flat_map}
+use Rattle.hex.specs.Hex.{encode_lower}
+use Rattle.krb_service.specs.Error.{error_text}
+use Rattle.krb_service.specs.declared.error.SecurityStatus.{SecurityStatus}
+use Rattle.krb_service.specs.declared.error.SecurityStatus.TheVariants.{Ok, ContinueNeeded}
+use Rattle.krb_service.specs.declared.reply.Reply.{Reply}
+use Rattle.krb_service.specs.declared.reply.Reply.TheVariants.{Done, Refused}
+
+-- octets in lower-case hex; `-` stands for none
+abbrev pub hex_or_dash : List ℕ → List ℕ
+hex_or_dash [] = codes "-"
+hex_or_dash (b ∷ bs) = encode_lower (b ∷ bs)
+
+-- ok <hex?> or continue <hex?>
+abbrev pub done_line : SecurityStatus → List ℕ → List ℕ
+done_line Ok token = codes "ok " ++ hex_or_dash token ++ codes "\n"
+done_line ContinueNeeded token = codes "continue " ++ hex_or_dash token ++ codes "\n"
+
+-- the line that tells a reply
+abbrev pub reply_line : Reply → List ℕ
+reply_line (Done status token) = done_line status token
+reply_line (Refused error) = codes "refused " ++ error_text error ++ codes "\n"
+
+-- the lines of replies, one after another
+abbrev pub replies_text : List Reply → List ℕ
+replies_text replies = flat_map reply_line replies

@@ -1,0 +1,56 @@
+//! What an event is answered, and the line that tells it.
+ghost use Rattle.std.specs.Prelude.{◌≡◌, IfOk, string_bytes};
+ghost use Rattle.krb_service.specs.Reply.{hex_or_dash};
+
+use crate::error::{Error, SecurityStatus};
+use krb_der::Octets;
+use std::alloc::{AllocError, Global};
+
+/// What an event is answered.
+#[derive(Debug, Drop)]
+pub enum Reply {
+    /// It was taken. The token, which may be empty, is for the peer.
+    Done {
+        status: SecurityStatus,
+        token: Octets,
+    },
+    Refused(Error),
+}
+
+impl Reply {
+    ghost use Rattle.std.specs.Prelude.{◌≡◌, IfOk, string_bytes};
+    ghost use Rattle.krb_service.specs.Reply.{reply_line};
+
+    /// The line that tells it, with the octet 0A at its end.
+    pub fn line(&self, alloc: Global) -> Result<String, AllocError>
+        ensures { IfOk result (λ line. string_bytes line ≡ reply_line self.now) }
+    {
+        match self {
+            Reply::Done { status, token } => done_line(alloc, *status, token),
+            Reply::Refused(error) => format!(in alloc; "refused {error}\n"),
+        }
+    }
+}
+
+ghost use Rattle.krb_service.specs.Reply.{done_line};
+
+fn done_line(alloc: Global, status: SecurityStatus, token: &Octets) -> Result<String, AllocError>
+    ensures { IfOk result (λ line. string_bytes line ≡ done_line status token.now) }
+{
+    let digits = hex_or_dash(alloc, token.as_slice())?;
+    match status {
+        SecurityStatus::Ok => format!(in alloc; "ok {digits}\n"),
+        SecurityStatus::ContinueNeeded => format!(in alloc; "continue {digits}\n"),
+    }
+}
+
+/// Octets in lower-case hex; `-` stands for none.
+fn hex_or_dash(alloc: Global, octets: &[u8]) -> Result<String, AllocError>
+    ensures { IfOk result (λ text. string_bytes text ≡ hex_or_dash octets.now) }
+{
+    if octets.is_empty() {
+        String::from_str(alloc, "-")
+    } else {
+        hex::encode(alloc, octets)
+    }
+}

@@ -1,0 +1,161 @@
+//! A session: it takes one line after another, and answers each event as it comes.
+use crate::service::Service;
+use krb_text::{Event, FieldError, Item, Script, is_skipped, parse_item};
+use std::alloc::Global;
+use std::marker::Model;
+use std::mem;
+
+/// What the lines so far declare, and the service from the first event on.
+#[derive(Drop)]
+pub struct Session {
+    script: Script,
+    service: Option<Service>,
+    lines: u64,
+    answered: u64,
+}
+
+impl Model for Session {
+    ghost use Rattle.krb_service.specs.Progress.{Progress};
+
+    ghost Value = { Progress };
+
+    ghost view = { λ s. record { setup = s.script; service = s.service; lines = s.lines; answered = s.answered } };
+}
+
+impl Session {
+    ghost use Rattle.std.specs.Prelude.{◌≡◌, ◌<◌, ◌≤◌, ◌^◌, ◌+◌, Some, None, is_some, OnErr, IfOk, MatchResult, string_bytes};
+    ghost use Rattle.krb_text.specs.declared.fields.FieldError.TheVariants.{Bad};
+    ghost use Rattle.krb_service.specs.Progress.{new_progress, begun, Answers, prepare, Prepares, TakesContent, RefusesContent, Takes, Refuses};
+    ghost use Rattle.krb_service.specs.Closing.{has_begun, admitted_by, kept_by};
+
+    pub fn new(alloc: Global) -> Session
+        ensures { result ≡ new_progress }
+    {
+        Session {
+            script: Script::new(alloc),
+            service: None,
+            lines: 0,
+            answered: 0,
+        }
+    }
+
+    /// How many lines were taken.
+    pub fn lines(&self) -> u64
+        ensures { result ≡ self.now.lines }
+    {
+        self.lines
+    }
+
+    /// How many events were answered.
+    pub fn answered(&self) -> u64
+        ensures { result ≡ self.now.answered }
+    {
+        self.answered
+    }
+
+    /// Whether there was a line with the skew.
+    pub fn has_begun(&self) -> bool
+        ensures { result ≡ has_begun self.now }
+    {
+        self.service.is_some() || self.script.has_begun()
+    }
+
+    /// How many events admitted their peer.
+    pub fn admitted(&self) -> u64
+        ensures { result ≡ admitted_by self.now.service }
+    {
+        match &self.service {
+            Some(service) => service.admitted(),
+            None => 0,
+        }
+    }
+
+    /// How many records the replay book keeps.
+    pub fn kept(&self) -> u64
+        ensures { result ≡ kept_by self.now.service }
+    {
+        match &self.service {
+            Some(service) => service.kept(),
+            None => 0,
+        }
+    }
+
+    /// Makes the service, where there is none yet and a line told the skew.
+    fn begin(&mut self, alloc: Global)
+        ensures { self.new ≡ begun self.old }
+    {
+        if self.service.is_none() && self.script.has_begun() {
+            let script = mem::replace(&mut self.script, Script::new(alloc));
+            self.service = Some(Service::new(script));
+        }
+    }
+
+    /// One event, and the line of its reply.
+    fn answer(&mut self, alloc: Global, event: &Event) -> Result<String, FieldError>
+        requires { self.old.answered < 2 ^ 32 }
+        ensures turn { MatchResult result
+            (λ text. Answers self.old event.now (string_bytes text) self.new)
+            (λ e. e ≡ Bad → ((begun self.old).service ≡ None) × (self.new ≡ self.old)) }
+        ensures err { OnErr result (self.new.answered ≡ self.old.answered) }
+        ensures lines { self.new.lines ≡ self.old.lines }
+    {
+        self.begin(alloc);
+        let Some(service) = &mut self.service else {
+            return Err(FieldError::Bad);
+        };
+        let reply = service.step(event)?;
+        let text = reply.line(alloc)?;
+        self.answered += 1;
+        Ok(text)
+    }
+
+    /// One item before the first event.
+    fn prepare(&mut self, alloc: Global, item: Item) -> Result<String, FieldError>
+        ensures turn { MatchResult result
+            (λ text. Prepares self.old item (string_bytes text) self.new)
+            (λ e. e ≡ Bad → (prepare self.old item ≡ None) × (self.new ≡ self.old)) }
+        ensures err { OnErr result (self.new ≡ self.old) }
+        ensures lines { self.new.lines ≡ self.old.lines }
+    {
+        if self.service.is_some() {
+            return Err(FieldError::Bad);
+        }
+        self.script.set_up(item)?;
+        Ok(String::new(alloc))
+    }
+
+    fn take_content(&mut self, alloc: Global, line: &[u8]) -> Result<String, FieldError>
+        requires { self.old.answered < 2 ^ 32 }
+        ensures turn { MatchResult result
+            (λ text. TakesContent self.old line.now (string_bytes text) self.new)
+            (λ e. e ≡ Bad → RefusesContent self.old line.now × (self.new ≡ self.old)) }
+        ensures err { OnErr result (self.new.answered ≡ self.old.answered) }
+        ensures lines { self.new.lines ≡ self.old.lines }
+    {
+        match parse_item(alloc, line)? {
+            Item::Event(event) => self.answer(alloc, &event),
+            Item::Skew(seconds) => self.prepare(alloc, Item::Skew(seconds)),
+            Item::Acceptor(acceptor) => self.prepare(alloc, Item::Acceptor(acceptor)),
+            Item::Key(key) => self.prepare(alloc, Item::Key(key)),
+        }
+    }
+
+    /// One line more, and the line that is written for it. At `Bad` it stays as it was.
+    pub fn take_line(&mut self, alloc: Global, line: &[u8]) -> Result<String, FieldError>
+        requires lines { self.old.lines < 2 ^ 32 }
+        requires answered { self.old.answered < 2 ^ 32 }
+        ensures turn { MatchResult result
+            (λ text. Takes self.old line.now (string_bytes text) self.new)
+            (λ e. e ≡ Bad → Refuses self.old line.now × (self.new ≡ self.old)) }
+        ensures err { OnErr result (self.new.answered ≡ self.old.answered) }
+        ensures lines { self.new.lines ≤ self.old.lines + 1 }
+    {
+        let text = if is_skipped(line) {
+            String::new(alloc)
+        } else {
+            self.take_content(alloc, line)?
+        };
+        self.lines += 1;
+        Ok(text)
+    }
+}

@@ -1,0 +1,203 @@
+//! The fields of a line.
+ghost use Rattle.std.specs.Prelude.{◌≡◌, ◌<◌, ◌≤◌, ◌^◌, ◌∷◌, length};
+ghost use Rattle.std.specs.Char.{is_ascii_digit, is_ascii_graphic};
+ghost use Rattle.std.specs.List.{list_all};
+ghost use Rattle.krb_text.specs.Fields.{is_decimal, decimal_up_to, u32_of, octets_of, octets_or_none_of, is_name, name_of, is_distinct, is_flag, are_flags, flags_of, random_of, flag_bit, flag_bits};
+ghost use Rattle.krb_text.specs.Gives.{Gives};
+ghost use Rattle.krb_text.specs.declared.fields.FieldError.TheVariants.{OutOfMemory as NoMemory};
+
+use crate::flags::ClientRequestFlags;
+use hex::{FromHex, FromHexError};
+use krb_der::Octets;
+use std::alloc::{AllocError, AllocFailed, Global};
+
+/// Why a field or a line could not be read.
+#[derive(Clone, Copy, Debug, PartialEq, Eq)]
+pub enum FieldError {
+    Bad,
+    OutOfMemory,
+}
+
+impl From<AllocError> for FieldError {
+    ghost from_gives = { λ _ e. e ≡ NoMemory };
+
+    fn from(_: AllocError) -> Self {
+        FieldError::OutOfMemory
+    }
+}
+
+impl<T: Drop> From<AllocFailed<T>> for FieldError {
+    ghost from_gives = { λ _ e. e ≡ NoMemory };
+
+    fn from(_: AllocFailed<T>) -> Self {
+        FieldError::OutOfMemory
+    }
+}
+
+fn is_decimal(text: &[u8]) -> bool
+    ensures { result ≡ is_decimal text.now }
+{
+    match text {
+        [] => false,
+        [b'0', rest @ ..] => rest.is_empty(),
+        [first, rest @ ..] => first.is_ascii_digit() && are_digits(rest),
+    }
+}
+
+fn are_digits(text: &[u8]) -> bool
+    ensures { result ≡ list_all is_ascii_digit text.now }
+{
+    text.iter().all(|b| b.is_ascii_digit())
+}
+
+/// The decimal number, if it is at most `limit`.
+pub fn decimal_up_to(limit: u64, text: &[u8]) -> Option<u64>
+    ensures { result ≡ decimal_up_to limit text.now }
+{
+    if !is_decimal(text) {
+        return None;
+    }
+    let limit = u128::from(limit);
+    let mut value = 0u128;
+    for digit in text {
+        value = value * 10 + u128::from(*digit - b'0');
+        if value > limit {
+            return None;
+        }
+    }
+    Some(value as u64)
+}
+
+/// The same, for a line.
+pub fn number(limit: u64, text: &[u8]) -> Result<u64, FieldError>
+    ensures { Gives (decimal_up_to limit text.now) result }
+{
+    decimal_up_to(limit, text).ok_or(FieldError::Bad)
+}
+
+/// A number of 32 bits.
+pub fn number_u32(text: &[u8]) -> Result<u32, FieldError>
+    ensures { Gives (u32_of text.now) result }
+{
+    Ok(number(u64::from(u32::MAX), text)? as u32)
+}
+
+/// The octets that hex digits of either case stand for.
+pub fn octets(alloc: Global, text: &[u8]) -> Result<Octets, FieldError>
+    ensures { Gives (octets_of text.now) result }
+{
+    if text.is_empty() {
+        return Err(FieldError::Bad);
+    }
+    match hex::decode(alloc, text) {
+        Ok(bytes) => Ok(Octets::new(bytes)),
+        Err(FromHexError::OutOfMemory) => Err(FieldError::OutOfMemory),
+        Err(_) => Err(FieldError::Bad),
+    }
+}
+
+/// The same, where `-` stands for no octets.
+pub fn octets_or_none(alloc: Global, text: &[u8]) -> Result<Octets, FieldError>
+    ensures { Gives (octets_or_none_of text.now) result }
+{
+    if text == b"-".as_slice() {
+        return Ok(Octets::new(Vec::new(alloc)));
+    }
+    octets(alloc, text)
+}
+
+fn is_name(text: &[u8]) -> bool
+    ensures { result ≡ is_name text.now }
+{
+    !text.is_empty() && are_graphic(text)
+}
+
+fn are_graphic(text: &[u8]) -> bool
+    ensures { result ≡ list_all is_ascii_graphic text.now }
+{
+    text.iter().all(|b| b.is_ascii_graphic())
+}
+
+/// A field that is taken as it stands.
+pub fn name(alloc: Global, text: &[u8]) -> Result<Octets, FieldError>
+    ensures { Gives (name_of text.now) result }
+{
+    if !is_name(text) {
+        return Err(FieldError::Bad);
+    }
+    Ok(Octets::new(text.to_vec(alloc)?))
+}
+
+/// The 64 octets that 128 hex digits stand for.
+pub fn random_octets(text: &[u8]) -> Result<[u8; 64], FieldError>
+    ensures { Gives (random_of text.now) result }
+{
+    match <[u8; 64]>::from_hex(text) {
+        Ok(octets) => Ok(octets),
+        Err(_) => Err(FieldError::Bad),
+    }
+}
+
+/// The bit of a flag's letter, and 0 for any other octet.
+fn flag_bit(letter: u8) -> u32
+    ensures { result ≡ flag_bit letter }
+{
+    match letter {
+        b'D' => 0x1,
+        b'M' => 0x2,
+        b'R' => 0x4,
+        b'S' => 0x8,
+        b'C' => 0x10,
+        b'K' => 0x20,
+        b'E' => 0x200,
+        b'I' => 0x1_0000,
+        b'N' => 0x80_0000,
+        _ => 0,
+    }
+}
+
+fn is_flag(letter: u8) -> bool
+    ensures { result ≡ is_flag letter }
+{
+    flag_bit(letter) != 0
+}
+
+fn flag_bits(text: &[u8]) -> u32
+    ensures { result ≡ flag_bits text.now }
+{
+    text.iter().fold(0, |bits, letter| bits | flag_bit(*letter))
+}
+
+fn all_are_flags(text: &[u8]) -> bool
+    ensures { result ≡ list_all is_flag text.now }
+{
+    text.iter().all(|b| is_flag(*b))
+}
+
+fn is_distinct(text: &[u8]) -> bool
+    ensures { result ≡ is_distinct text.now }
+{
+    match text {
+        [] => true,
+        [first, rest @ ..] => !rest.contains(first) && is_distinct(rest),
+    }
+}
+
+fn are_flags(text: &[u8]) -> bool
+    ensures { result ≡ are_flags text.now }
+{
+    !text.is_empty() && all_are_flags(text) && is_distinct(text)
+}
+
+/// Flags by their letters, each once; `-` stands for none.
+pub fn flags(text: &[u8]) -> Result<ClientRequestFlags, FieldError>
+    ensures { Gives (flags_of text.now) result }
+{
+    if text == b"-".as_slice() {
+        return Ok(ClientRequestFlags::from_bits(0));
+    }
+    if !are_flags(text) {
+        return Err(FieldError::Bad);
+    }
+    Ok(ClientRequestFlags::from_bits(flag_bits(text)))
+}

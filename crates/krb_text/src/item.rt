@@ -1,0 +1,188 @@
+//! What a line declares.
+ghost use Rattle.std.specs.Prelude.{◌≡◌, ◌∷◌, map, IfOk};
+ghost use Rattle.krb_text.specs.Lines.{fields};
+ghost use Rattle.krb_text.specs.Items.{skew_of, acceptor_of, key_of, event_of, token_of, input_of, is_word_of_later_form, item_of_fields, item_of};
+ghost use Rattle.krb_text.specs.Gives.{Gives};
+
+use crate::fields::{
+    FieldError, flags, name, number, number_u32, octets, octets_or_none, random_octets,
+};
+use crate::flags::ClientRequestFlags;
+use krb_der::Octets;
+use std::alloc::{AllocError, Global};
+
+/// An acceptor.
+#[derive(Debug, Drop)]
+pub struct Acceptor {
+    /// The connection's number, by which other lines name it.
+    pub id: u32,
+    /// Its first sequence number.
+    pub number: u32,
+    pub host: Octets,
+    /// The name of its service as it stands in the line, with a `/` between two components.
+    pub service: Octets,
+}
+
+/// A key of an acceptor's service.
+#[derive(Debug, Drop)]
+pub struct Key {
+    pub id: u32,
+    pub service: Octets,
+    pub octets: Octets,
+}
+
+/// What an event brings to its connection.
+#[derive(Debug, Drop)]
+pub enum Input {
+    /// A token of the peer's.
+    Token(Octets),
+    /// A form that is not built yet. What stands behind its word is not looked at.
+    NotBuilt,
+}
+
+/// One event at a connection.
+#[derive(Debug, Drop)]
+pub struct Event {
+    /// The connection's number. No line need have declared it.
+    pub connection: u32,
+    /// Microseconds since 1970-01-01T00:00:00Z.
+    pub moment: u64,
+    /// What the event may draw, taken from the front.
+    pub random: [u8; 64],
+    pub flags: ClientRequestFlags,
+    pub input: Input,
+}
+
+/// What a line declares.
+#[derive(Debug, Drop)]
+pub enum Item {
+    /// The clock skew that is allowed, in seconds.
+    Skew(u32),
+    Acceptor(Acceptor),
+    Key(Key),
+    Event(Event),
+}
+
+/// The greatest skew that a line may tell: a day, in seconds.
+pub const MAX_SKEW: u64 = 86_400;
+
+fn split_fields<'a>(alloc: Global, line: &'a [u8]) -> Result<Vec<&'a [u8]>, AllocError>
+    ensures { IfOk result (λ parts. map (λ x. x.now) parts.items ≡ fields line.now) }
+{
+    line.split(|b| *b == b' ').collect(alloc)
+}
+
+fn parse_skew(fields: &[&[u8]]) -> Result<Item, FieldError>
+    ensures { Gives (skew_of (map (λ x. x.now) fields.now)) result }
+{
+    let [seconds] = fields else {
+        return Err(FieldError::Bad);
+    };
+    let seconds = number(MAX_SKEW, seconds)?;
+    Ok(Item::Skew(seconds as u32))
+}
+
+fn parse_acceptor(alloc: Global, fields: &[&[u8]]) -> Result<Item, FieldError>
+    ensures { Gives (acceptor_of (map (λ x. x.now) fields.now)) result }
+{
+    let [id, number, host, service] = fields else {
+        return Err(FieldError::Bad);
+    };
+    Ok(Item::Acceptor(Acceptor {
+        id: number_u32(id)?,
+        number: number_u32(number)?,
+        host: name(alloc, host)?,
+        service: name(alloc, service)?,
+    }))
+}
+
+fn parse_key(alloc: Global, fields: &[&[u8]]) -> Result<Item, FieldError>
+    ensures { Gives (key_of (map (λ x. x.now) fields.now)) result }
+{
+    let [id, service, key] = fields else {
+        return Err(FieldError::Bad);
+    };
+    Ok(Item::Key(Key {
+        id: number_u32(id)?,
+        service: name(alloc, service)?,
+        octets: octets(alloc, key)?,
+    }))
+}
+
+fn is_word_of_later_form(word: &[u8]) -> bool
+    ensures { result ≡ is_word_of_later_form word.now }
+{
+    word == b"start".as_slice()
+        || word == b"reply".as_slice()
+        || word == b"fault".as_slice()
+        || word == b"wrap".as_slice()
+        || word == b"unwrap".as_slice()
+        || word == b"mic".as_slice()
+        || word == b"verify".as_slice()
+}
+
+fn parse_token(alloc: Global, fields: &[&[u8]]) -> Result<Input, FieldError>
+    ensures { Gives (token_of (map (λ x. x.now) fields.now)) result }
+{
+    let [token] = fields else {
+        return Err(FieldError::Bad);
+    };
+    Ok(Input::Token(octets_or_none(alloc, token)?))
+}
+
+fn parse_input(alloc: Global, fields: &[&[u8]]) -> Result<Input, FieldError>
+    ensures { Gives (input_of (map (λ x. x.now) fields.now)) result }
+{
+    let [word, rest @ ..] = fields else {
+        return Err(FieldError::Bad);
+    };
+    if *word == b"token".as_slice() {
+        parse_token(alloc, rest)
+    } else if is_word_of_later_form(word) {
+        Ok(Input::NotBuilt)
+    } else {
+        Err(FieldError::Bad)
+    }
+}
+
+fn parse_event(alloc: Global, fields: &[&[u8]]) -> Result<Item, FieldError>
+    ensures { Gives (event_of (map (λ x. x.now) fields.now)) result }
+{
+    let [id, moment, random, letters, input @ ..] = fields else {
+        return Err(FieldError::Bad);
+    };
+    Ok(Item::Event(Event {
+        connection: number_u32(id)?,
+        moment: number(u64::MAX, moment)?,
+        random: random_octets(random)?,
+        flags: flags(letters)?,
+        input: parse_input(alloc, input)?,
+    }))
+}
+
+fn parse_fields(alloc: Global, fields: &[&[u8]]) -> Result<Item, FieldError>
+    ensures { Gives (item_of_fields (map (λ x. x.now) fields.now)) result }
+{
+    let [word, rest @ ..] = fields else {
+        return Err(FieldError::Bad);
+    };
+    if *word == b"skew".as_slice() {
+        parse_skew(rest)
+    } else if *word == b"acceptor".as_slice() {
+        parse_acceptor(alloc, rest)
+    } else if *word == b"key".as_slice() {
+        parse_key(alloc, rest)
+    } else if *word == b"event".as_slice() {
+        parse_event(alloc, rest)
+    } else {
+        Err(FieldError::Bad)
+    }
+}
+
+/// What a line declares, if it stands in the table.
+pub fn parse_item(alloc: Global, line: &[u8]) -> Result<Item, FieldError>
+    ensures { Gives (item_of line.now) result }
+{
+    let fields = split_fields(alloc, line)?;
+    parse_fields(alloc, &fields)
+}
