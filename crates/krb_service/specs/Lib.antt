@@ -1,4 +1,3 @@
-pub mod Error
 pub mod Reply
 pub mod Policy
 pub mod Text

@@ -8,10 +8,10 @@ use Rattle.krb_text.specs.declared.item.Input.{Input}
 use Rattle.krb_text.specs.declared.item.Input.TheVariants.{Token, NotBuilt as LaterForm}
 use Rattle.krb_service.specs.declared.reply.Reply.{Reply}
 use Rattle.krb_service.specs.declared.reply.Reply.TheVariants.{Refused}
-use Rattle.krb_service.specs.declared.error.ErrorKind.{ErrorKind}
-use Rattle.krb_service.specs.declared.error.ErrorKind.TheVariants.{InvalidHandle, InvalidParameter, UnsupportedFunction}
-use Rattle.krb_service.specs.declared.error.Cause.{Cause}
-use Rattle.krb_service.specs.declared.error.Cause.TheVariants.{Moment, Connection, NotBuilt}
+use Rattle.sspi_core.specs.Kinds.{error_of}
+use Rattle.sspi_core.specs.declared.cause.Cause.{Cause}
+use Rattle.sspi_core.specs.declared.cause.Cause.TheVariants.{Moment, Connection, NotBuilt}
+use Rattle.sspi_core.specs.declared.draw.TheConstants.{MAX_MOMENT}
 
 -- a service: what the lines declared
 pub record State : Type 0 where
@@ -23,27 +23,24 @@ pub record State : Type 0 where
 abbrev pub service_of : Setup → State
 service_of setup = record { skew = unwrap_or setup.skew 0; acceptors = setup.acceptors; keys = setup.keys }
 
--- the end of 9999-12-28, in microseconds since 1970-01-01T00:00:00Z
-abbrev pub last_moment : ℕ
-last_moment = 253402041599999999
-
-abbrev pub refused : ErrorKind → Cause → Reply
-refused kind cause = Refused (record { error_type = kind; cause = cause })
+-- a refusal of the cause's own kind
+abbrev pub refused : Cause → Reply
+refused cause = Refused (error_of cause)
 
 -- a token at a connection: nothing that a connection does with it is built yet
 abbrev pub token_reply : State → ℕ → Reply
 token_reply state connection =
-    if is_declared connection state.acceptors then refused UnsupportedFunction NotBuilt else refused InvalidHandle Connection
+    if is_declared connection state.acceptors then refused NotBuilt else refused Connection
 
 -- what is brought in time: a form that is not built is refused whatever its connection
 abbrev pub input_reply : State → ℕ → Input → Reply
 input_reply state connection (Token octets) = token_reply state connection
-input_reply state connection LaterForm = refused UnsupportedFunction NotBuilt
+input_reply state connection LaterForm = refused NotBuilt
 
 -- the first check is the moment's
 abbrev pub reply_to : State → Event → Reply
 reply_to state event =
-    if nat_lt last_moment event.moment then refused InvalidParameter Moment else input_reply state event.connection event.input
+    if nat_lt MAX_MOMENT event.moment then refused Moment else input_reply state event.connection event.input
 
 -- one event may be answered so, and the service is this afterwards
 unfoldable pub Steps : State → Event → Reply → State → Type 0

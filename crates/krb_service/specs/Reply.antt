@@ -2,9 +2,9 @@
 use Rattle.std.specs.Prelude.{ℕ, List, [], ◌∷◌, ◌++◌, codes}
 use Rattle.std.specs.List.{flat_map}
 use Rattle.hex.specs.Hex.{encode_lower}
-use Rattle.krb_service.specs.Error.{error_text}
-use Rattle.krb_service.specs.declared.error.SecurityStatus.{SecurityStatus}
-use Rattle.krb_service.specs.declared.error.SecurityStatus.TheVariants.{Ok, ContinueNeeded}
+use Rattle.sspi_core.specs.Printed.{error_text}
+use Rattle.sspi_core.specs.declared.results.SecurityStatus.{SecurityStatus}
+use Rattle.sspi_core.specs.declared.results.SecurityStatus.TheVariants.{Ok, ContinueNeeded}
 use Rattle.krb_service.specs.declared.reply.Reply.{Reply}
 use Rattle.krb_service.specs.declared.reply.Reply.TheVariants.{Done, Refused}
 

@@ -3,14 +3,12 @@
 
 mod closing;
 mod command;
-mod error;
 mod halt;
 mod reply;
 mod service;
 mod session;
 
 pub use command::serve;
-pub use error::{Cause, Error, ErrorKind, SecurityStatus};
 pub use krb_text::{
     Calls, CutFault, Failed, LineCutter, MemSink, MemSource, Sink, Source, Status, StdSink,
     StdSource, SureSink, SureSource, Words,

@@ -2,8 +2,8 @@
 ghost use Rattle.std.specs.Prelude.{◌≡◌, IfOk, string_bytes};
 ghost use Rattle.krb_service.specs.Reply.{hex_or_dash};
 
-use crate::error::{Error, SecurityStatus};
 use krb_der::Octets;
+use sspi_core::{Error, SecurityStatus};
 use std::alloc::{AllocError, Global};
 
 /// What an event is answered.

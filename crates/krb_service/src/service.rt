@@ -1,13 +1,10 @@
 //! The service: it answers one event after another.
-use crate::error::{Cause, Error, ErrorKind};
 use crate::reply::Reply;
 use krb_text::{Acceptor, Event, Input, Key, Script};
+use sspi_core::{Cause, Error, MAX_MOMENT};
 use std::alloc::AllocError;
 use std::collections::BTreeMap;
 use std::marker::Model;
-
-/// The last moment that an event may have: the end of 9999-12-28, in microseconds since 1970-01-01T00:00:00Z.
-pub const LAST_MOMENT: u64 = 253_402_041_599_999_999;
 
 /// A service of acceptors, with their keys.
 #[derive(Drop)]
@@ -48,16 +45,16 @@ impl Service {
         ensures step { IfOk result (λ reply. Steps self.old event.now reply self.new) }
         ensures err { OnErr result (self.new ≡ self.old) }
     {
-        if event.moment > LAST_MOMENT {
-            return Ok(refused(ErrorKind::InvalidParameter, Cause::Moment));
+        if event.moment > MAX_MOMENT {
+            return Ok(refused(Cause::Moment));
         }
         if let Input::NotBuilt = event.input {
-            return Ok(refused(ErrorKind::UnsupportedFunction, Cause::NotBuilt));
+            return Ok(refused(Cause::NotBuilt));
         }
         if !self.has_connection(event.connection) {
-            return Ok(refused(ErrorKind::InvalidHandle, Cause::Connection));
+            return Ok(refused(Cause::Connection));
         }
-        Ok(refused(ErrorKind::UnsupportedFunction, Cause::NotBuilt))
+        Ok(refused(Cause::NotBuilt))
     }
 
     fn has_connection(&self, id: u32) -> bool
@@ -84,8 +81,8 @@ impl Service {
 ghost use Rattle.std.specs.Prelude.{◌≡◌};
 ghost use Rattle.krb_service.specs.Policy.{refused};
 
-fn refused(error_type: ErrorKind, cause: Cause) -> Reply
-    ensures { result ≡ refused error_type cause }
+fn refused(cause: Cause) -> Reply
+    ensures { result ≡ refused cause }
 {
-    Reply::Refused(Error { error_type, cause })
+    Reply::Refused(Error::from(cause))
 }
