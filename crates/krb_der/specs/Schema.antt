@@ -1,13 +1,15 @@
 -- The kinds of value that RFC 4120 is made of, and the one spelling of each value.
-use Rattle.std.specs.Prelude.{◌≡◌, ℕ, ◌+◌, ◌^◌, ◌<◌, ◌≤◌, Bool, true, IsTrue, List, [], ◌∷◌, ◌++◌, length, Option, Some, None, IfSome, nat_lt, nat_le, ◌&&◌}
+use Rattle.std.specs.Prelude.{◌≡◌, ℕ, ◌+◌, ◌^◌, ◌<◌, ◌≤◌, Bool, true, IsTrue, List, [], ◌∷◌, ◌++◌, length, Option, Some, None, IfSome, nat_lt, nat_le, ◌&&◌, if◌then◌else◌, ℤ}
 use Rattle.std.specs.List.{flat_map, list_all, AllByRecursion}
 use Rattle.std.specs.Option.{option_map_or}
 use Rattle.krb_der.specs.Der.{tlv}
+use Rattle.krb_der.specs.Integer.{is_uint32}
+use Rattle.krb_der.specs.Moment.{IsTime, time_octets}
 
 mutual
   -- a kind of value
   pub data Kind : Type 0 where
-    integer text octet_string bits : Kind
+    integer error_code text octet_string bits time boolean : Kind
     sequence_of : Kind → Kind
     sequence : Fields → Kind
     application : ℕ → Kind → Kind
@@ -26,9 +28,12 @@ abbrev mutual
   -- the values of a kind
   pub Of : Kind → Type 0
   Of integer = List ℕ
+  Of error_code = List ℕ
   Of text = List ℕ
   Of octet_string = List ℕ
   Of bits = ℕ × List ℕ
+  Of time = ℤ
+  Of boolean = Bool
   Of (sequence_of item) = List (Of item)
   Of (sequence fields) = Row fields
   Of (application n kind) = Of kind
@@ -41,9 +46,12 @@ abbrev mutual
 
 abbrev pub tag_of : Kind → ℕ
 tag_of integer = 0x02
+tag_of error_code = 0x02
 tag_of text = 0x1b
 tag_of octet_string = 0x04
 tag_of bits = 0x03
+tag_of time = 0x18
+tag_of boolean = 0x01
 tag_of (sequence_of item) = 0x30
 tag_of (sequence fields) = 0x30
 tag_of (application n kind) = 0x60 + n
@@ -51,13 +59,20 @@ tag_of (application n kind) = 0x60 + n
 abbrev pub is_ascii : List ℕ → Bool
 is_ascii octets = list_all (λ octet. nat_lt octet 0x80) octets
 
+-- FF for true, and 00 for false (X.690 11.1)
+abbrev pub boolean_octets : Bool → List ℕ
+boolean_octets b = (if b then 0xff else 0x00) ∷ []
+
 abbrev mutual
   -- the contents of a value
   pub contents : (kind : Kind) → Of kind → List ℕ
   contents integer octets = octets
+  contents error_code octets = octets
   contents text octets = octets
   contents octet_string octets = octets
   contents bits value = value.0 ∷ value.1
+  contents time seconds = time_octets seconds
+  contents boolean b = boolean_octets b
   contents (sequence_of item) values = flat_map (λ value. tlv (tag_of item) (contents item value)) values
   contents (sequence fields) row = row_octets fields row
   contents (application n kind) value = tlv (tag_of kind) (contents kind value)
@@ -72,9 +87,12 @@ abbrev mutual
   -- what has a spelling
   pub IsSound : (kind : Kind) → Of kind → Type 0
   IsSound integer octets = 0 < length octets
+  IsSound error_code octets = IsTrue (is_uint32 octets)
   IsSound text octets = IsTrue (is_ascii octets)
   IsSound octet_string octets = Unit {0}
   IsSound bits value = value.0 ≤ 7
+  IsSound time seconds = IsTime seconds
+  IsSound boolean b = Unit {0}
   IsSound (sequence_of item) values = AllByRecursion (IsSound item) values
   IsSound (sequence fields) row = IsSoundRow fields row
   IsSound (application n kind) value = IsSound kind value
@@ -94,9 +112,12 @@ pub record Spells (kind : Kind) (value : Of kind) (octets : List ℕ) : Type 0 w
 abbrev mutual
   pub is_table : Kind → Bool
   is_table integer = true
+  is_table error_code = true
   is_table text = true
   is_table octet_string = true
   is_table bits = true
+  is_table time = true
+  is_table boolean = true
   is_table (sequence_of item) = is_table item
   is_table (sequence fields) = ascend fields 0
   is_table (application n kind) = is_table kind
@@ -106,13 +127,16 @@ abbrev mutual
   ascend (required n kind fields) low = nat_le low n && (is_table kind && ascend fields (n + 1))
   ascend (optional n kind fields) low = nat_le low n && (is_table kind && ascend fields (n + 1))
 
--- What T::write asks of a value besides its length: an octet in each integer and at most 7 unused bits. (That a text is ASCII is Name's own invariant.)
+-- What T::write asks of a value besides its length: an octet in each integer and at most 7 unused bits. (That a text is ASCII, a moment in the calendar and an error code in its range are invariants of Name, Time and ErrorCode.)
 abbrev mutual
   pub IsComplete : (kind : Kind) → Of kind → Type 0
   IsComplete integer octets = 0 < length octets
+  IsComplete error_code octets = Unit {0}
   IsComplete text octets = Unit {0}
   IsComplete octet_string octets = Unit {0}
   IsComplete bits value = value.0 ≤ 7
+  IsComplete time seconds = Unit {0}
+  IsComplete boolean b = Unit {0}
   IsComplete (sequence_of item) values = AllByRecursion (IsComplete item) values
   IsComplete (sequence fields) row = IsCompleteRow fields row
   IsComplete (application n kind) value = IsComplete kind value
@@ -126,9 +150,12 @@ abbrev mutual
 abbrev mutual
   pub IsWritable : (kind : Kind) → Of kind → Type 0
   IsWritable integer octets = 0 < length octets
+  IsWritable error_code octets = Unit {0}
   IsWritable text octets = Unit {0}
   IsWritable octet_string octets = Unit {0}
   IsWritable bits value = value.0 ≤ 7
+  IsWritable time seconds = Unit {0}
+  IsWritable boolean b = Unit {0}
   IsWritable (sequence_of item) values = AllByRecursion (λ value. (length (contents item value) < 2 ^ 31) × IsWritable item value) values
   IsWritable (sequence fields) row = IsWritableRow fields row
   IsWritable (application n kind) value = (length (contents kind value) < 2 ^ 31) × IsWritable kind value

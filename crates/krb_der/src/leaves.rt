@@ -1,9 +1,10 @@
 //! The types of single values, and lists of one type.
 
-ghost use Rattle.krb_der.specs.Layout.{integer_layout, octets_layout, text_layout, bits_layout, items_layout};
+ghost use Rattle.krb_der.specs.Layout.{integer_layout, octets_layout, text_layout, bits_layout, time_layout, boolean_layout, items_layout};
 
 use crate::asn1::{Asn1, next};
 use crate::bits::Bits;
+use crate::boolean::{boolean, boolean_octets};
 use crate::fault::Fault;
 use crate::integer::IntegerAsn1;
 use crate::items::Items;
@@ -11,6 +12,7 @@ use crate::memory::OutOfMemory;
 use crate::name::Name;
 use crate::octets::Octets;
 use crate::reader::Reader;
+use crate::time::Time;
 use crate::writer::Writer;
 use std::alloc::Global;
 
@@ -93,6 +95,40 @@ impl Asn1 for Bits {
         octets.push(self.unused)?;
         octets.extend_from_slice(self.octets.as_slice())?;
         Ok(Octets::new(octets))
+    }
+}
+
+impl Asn1 for Time {
+    ghost layout = { time_layout };
+
+    fn tag() -> u8 {
+        0x18
+    }
+
+    #[tactic(auto, unfolding(crate::specs::Records::value_in))]
+    fn from_contents(_alloc: Global, contents: &[u8]) -> Result<Self, Fault> {
+        Ok(Time::from_octets(contents)?)
+    }
+
+    fn to_contents(&self, alloc: Global) -> Result<Octets, OutOfMemory> {
+        Octets::from_slice(alloc, &self.to_octets())
+    }
+}
+
+impl Asn1 for bool {
+    ghost layout = { boolean_layout };
+
+    fn tag() -> u8 {
+        0x01
+    }
+
+    #[tactic(auto, unfolding(crate::specs::Records::value_in))]
+    fn from_contents(_alloc: Global, contents: &[u8]) -> Result<Self, Fault> {
+        Ok(boolean(contents)?)
+    }
+
+    fn to_contents(&self, alloc: Global) -> Result<Octets, OutOfMemory> {
+        Octets::from_slice(alloc, &boolean_octets(*self))
     }
 }
 

@@ -1,0 +1,8 @@
+-- Steps that may answer nothing.
+use Rattle.std.proofs.Common.{◌≡◌, Option, Some, None, refl}
+use Rattle.krb_der.specs.Reading.{◌>>=◌}
+
+-- the value of a step that answered
+pub bind_some : {A B : Type 0} (o : Option A) (f : A → Option B) (y : B) → (o >>= f) ≡ Some y → (x : A) × (o ≡ Some x) × (f x ≡ Some y)
+bind_some None f y e = absurd cc
+bind_some (Some x) f y e = (x, refl, e)
