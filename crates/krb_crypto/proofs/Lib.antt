@@ -6,3 +6,4 @@ pub mod OpenLemmas
 pub mod SealedLemmas
 pub mod SuiteLemmas
 pub mod ListLemmas
+pub mod PasswordLemmas

@@ -1,6 +1,6 @@
 -- Derived keys of one and of two blocks (RFC 3961, section 5.1).
 use Rattle.std.proofs.Common.{◌≡◌, ℕ, List, [], ◌++◌, length, drop, sym, ap, ap₂, ◌∙◌, arith}
-use Rattle.std.proofs.lemmas.List.{append-nil, length-append}
+use Rattle.std.proofs.lemmas.List.{append-nil}
 use Rattle.krb_crypto.proofs.ListLemmas.{put_mid_end}
 use borrow.Rule.Slice.PartMut.{put_mid}
 use Rattle.krb_aes.specs.Aes.{aes}
@@ -11,7 +11,7 @@ use Rattle.krb_crypto.specs.declared.suite.CipherSuite.TheVariants.{Aes128CtsHma
 pub joined_is : (a b z first second : List ℕ) → length first ≡ 16 → length z ≡ 16 → a ≡ first → b ≡ second → put_mid 16 16 (a ++ z) b ≡ first ++ second
 joined_is a b z first second size size_z ea eb =
     let size_a : length a ≡ 16 = ap length ea ∙ size in
-    put_mid_end a z b 16 16 size_a (omega (arith, length-append a z)) ∙ ap₂ (λ (x y : List ℕ). x ++ y) ea eb
+    put_mid_end a z b 16 16 size_a (omega arith) ∙ ap₂ (λ (x y : List ℕ). x ++ y) ea eb
 
 pub dk_short : (suite : CipherSuite) (key constant block r : List ℕ) → suite ≡ Aes128CtsHmacSha196 → block ≡ constant_block constant
     → r ≡ aes key block → r ≡ dk suite key constant

@@ -5,4 +5,5 @@ pub mod Cts
 pub mod SealingPair
 pub mod Sealed
 pub mod Keyed
+pub mod Password
 pub mod SealingKeys

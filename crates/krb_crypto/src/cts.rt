@@ -1,10 +1,10 @@
 // CBC with ciphertext stealing (RFC 3962, section 5).
 
 ghost use Rattle.std.specs.Prelude.{◌≡◌, ◌+◌, ◌-◌, ◌≤◌, ◌<◌, length, take, drop, replicate, ◌++◌};
-ghost use Rattle.krb_aes.specs.Round.{xor_octets};
 ghost use Rattle.krb_aes.specs.Aes.{block_cipher};
 ghost use Rattle.krb_crypto.specs.Cts.{cts};
 
+use crate::octets::xor_octets;
 use krb_aes::KeySchedule;
 
 const BLOCK_LEN: usize = 16;
@@ -27,16 +27,6 @@ fn last_block(text: &[u8], at: usize) -> [u8; 16]
     let mut block = [0; 16];
     block[..text.len() - at].copy_from_slice(&text[at..]);
     block
-}
-
-fn xor_octets(a: &[u8; 16], b: &[u8; 16]) -> [u8; 16]
-    ensures { result ≡ xor_octets a.now b.now }
-{
-    let mut out = [0; 16];
-    for i in 0..BLOCK_LEN {
-        out[i] = a[i] ^ b[i];
-    }
-    out
 }
 
 /// Encrypts a text of at least 16 octets in place.

@@ -171,8 +171,8 @@ impl SealingKey {
     {
         let end = text.len() - CHECKSUM_LEN;
         self.decrypt_text(&mut text[..end]);
-        let code = self.checksum(&text[..end], &[]);
-        is_code(&text[end..], &code)
+        let expected = self.checksum(&text[..end], &[]);
+        is_code(&text[end..], &expected)
     }
 
     /// Opens in place: the plain text then stands between the 16 octets of the confounder and the 12 of the checksum.
