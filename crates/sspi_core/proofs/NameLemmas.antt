@@ -5,6 +5,7 @@ use Rattle.std.specs.Str.{IsUtf8, IsCharBoundary}
 use Rattle.std.proofs.Math.Seq.{take-append_seam, drop-append-add, get_or-append_seam}
 use Rattle.std.proofs.lemmas.List.{length-append, length-drop, length-take, length-take-le}
 use Rattle.std.proofs.lemmas.Str.{IsCharBoundary-after_ascii}
+use Rattle.sspi_core.specs.FormBack.{inside_of}
 use Rattle.sspi_core.specs.Usernames.{UserName, UserPrincipal, has, backslash, at_sign, is_plain, is_user_name, user_name, upn_text}
 
 account_of : (account suffix : List ℕ) → take (length account) (upn_text account suffix) ≡ account
@@ -30,11 +31,6 @@ pub joined_is_named : (account suffix text : List ℕ) → text ≡ upn_text acc
     → user_name (UserPrincipal account suffix) ≡ Some (UserPrincipal (take (length account) text) (drop (length account + 1) text))
 joined_is_named account suffix text e none plain =
     let parts = parts_of_joined account suffix text e in rw (none, plain) (ap₂ (λ (a b : List ℕ). Some (UserPrincipal a b)) (sym parts.0) (sym parts.1))
-
-inside_of : (text : List ℕ) (place : ℕ) → text ≡ upn_text (take place text) (drop (place + 1) text) → place < length text
-inside_of text place e =
-    let sizes : length text ≡ length (take place text) + suc (length (drop (place + 1) text)) = ap length e ∙ length-append (take place text) (at_sign ∷ drop (place + 1) text) in
-    omega (arith, length-take place text, length-drop (place + 1) text)
 
 -- a text may be cut behind its `@`
 pub cut_behind : (text : List ℕ) (place : ℕ) → IsUtf8 text → text ≡ upn_text (take place text) (drop (place + 1) text) → IsCharBoundary text (place + 1)

@@ -1,5 +1,6 @@
 pub mod Buffer
 pub mod Checks
+pub mod FormBack
 pub mod Kinds
 pub mod Messages
 pub mod Printed

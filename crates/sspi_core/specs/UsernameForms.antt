@@ -1,5 +1,5 @@
 -- How names of users are kept.
-use Rattle.std.specs.Prelude.{◌≡◌, ℕ, ◌+◌, ◌<◌, List, ◌∷◌, ◌++◌, take, drop, IsTrue, Option, Some, None}
+use Rattle.std.specs.Prelude.{◌≡◌, ℕ, ◌+◌, ◌<◌, List, ◌∷◌, ◌++◌, take, drop, length, IsTrue}
 use Rattle.sspi_core.specs.declared.username.Form.{Form}
 use Rattle.sspi_core.specs.declared.username.Form.TheVariants.{UserPrincipal as WholeText, DownLevel as Parts}
 use Rattle.sspi_core.specs.Usernames.{UserName, UserPrincipal, DownLevel, is_user_name, upn_text}
@@ -12,3 +12,8 @@ name_of (Parts account domain) = DownLevel account domain
 abbrev pub IsWhole : Form → Type 0
 IsWhole (WholeText text place) = (text ≡ upn_text (take place text) (drop (place + 1) text)) × IsTrue (is_user_name (UserPrincipal (take place text) (drop (place + 1) text)))
 IsWhole (Parts account domain) = IsTrue (is_user_name (DownLevel account domain))
+
+-- the form of a name
+abbrev pub form_of : UserName → Form
+form_of (UserPrincipal account suffix) = WholeText (upn_text account suffix) (length account)
+form_of (DownLevel account domain) = Parts account domain

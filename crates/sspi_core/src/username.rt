@@ -6,7 +6,7 @@ ghost use Rattle.std.specs.String.{string_bytes};
 ghost use Rattle.sspi_core.specs.Shown.{shown, ShowsWhole};
 ghost use Rattle.sspi_core.specs.Usernames.{DownLevel, UserPrincipal, has, is_user_name, is_plain, is_plain_option, user_name, parsed, at_sign, backslash, upn_text, IsCutAtFirst, IsCutAtLast};
 
-use krb_der::{OutOfMemory, Text};
+use krb_der::{OutOfMemory, Text, TryCopy};
 use std::alloc::{AllocError, Global};
 use std::marker::Model;
 use thiserror::Error;
@@ -42,7 +42,7 @@ impl From<AllocError> for UsernameError {
 }
 
 /// How a name is kept.
-#[derive(Drop)]
+#[derive(Debug, PartialEq, Eq, Hash, Drop)]
 enum Form {
     /// The whole text, and where its last `@` stands.
     UserPrincipal(Text, usize),
@@ -51,7 +51,7 @@ enum Form {
 }
 
 /// The name of a user: `account@suffix`, or an account with a NetBIOS domain or none, as `DOMAIN\account`.
-#[derive(Drop)]
+#[derive(Debug, PartialEq, Eq, Hash, Drop)]
 pub struct Username {
     form: Form,
 }
@@ -61,11 +61,19 @@ impl Model for Username {
 
     ghost Value = { UserName };
 
-    ghost use Rattle.sspi_core.specs.UsernameForms.{name_of, IsWhole};
+    ghost use Rattle.sspi_core.specs.UsernameForms.{name_of, form_of, IsWhole};
 
     ghost view = { λ a. name_of a.form };
 
     ghost invariant = { λ a. IsWhole a.form };
+
+    ghost inverse = { λ name. record { form = form_of name } };
+
+    ghost use Rattle.std.proofs.Common.{ap};
+    ghost use Rattle.sspi_core.specs.declared.username.Username.TheInside.{Inside};
+    ghost use Rattle.sspi_core.specs.FormBack.{form_back};
+
+    ghost inverse_ok = { λ a h. ap (λ form. let inside : Inside = record { form = form } in inside) (form_back a.form h) };
 }
 
 /// A user principal name.
@@ -270,5 +278,17 @@ fn lent(text: &Option<Text>) -> Option<&str>
     match text {
         None => None,
         Some(text) => Some(text.as_str()),
+    }
+}
+
+impl TryCopy for Username {
+    fn copy(&self, alloc: Global) -> Result<Username, OutOfMemory> {
+        let form = match &self.form {
+            Form::UserPrincipal(text, place) => Form::UserPrincipal(text.copy(alloc)?, *place),
+            Form::DownLevel(account, netbios) => {
+                Form::DownLevel(account.copy(alloc)?, netbios.copy(alloc)?)
+            }
+        };
+        Ok(Username { form })
     }
 }
