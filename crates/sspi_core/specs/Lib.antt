@@ -1,3 +1,5 @@
+pub mod BindingParts
+pub mod Bindings
 pub mod Buffer
 pub mod Checks
 pub mod FormBack

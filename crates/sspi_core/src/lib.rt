@@ -1,6 +1,7 @@
 //! The vocabulary of the library: errors with one cause each, names, identities and buffers.
 #![tactic(auto)]
 
+mod bindings;
 mod buffer;
 mod cause;
 mod checks;
@@ -15,6 +16,7 @@ mod results;
 mod secret;
 mod username;
 
+pub use bindings::ChannelBindings;
 pub use buffer::{BufferType, Part, SecurityBufferRef};
 pub use cause::Cause;
 pub use checks::{hold, pass, take};
