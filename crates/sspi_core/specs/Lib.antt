@@ -3,6 +3,7 @@ pub mod Bindings
 pub mod Buffer
 pub mod Checks
 pub mod FormBack
+pub mod Identities
 pub mod Kinds
 pub mod Messages
 pub mod Printed

@@ -8,6 +8,7 @@ mod checks;
 mod draw;
 mod error;
 mod flags;
+mod identity;
 mod kdc_code;
 mod kind;
 mod message;
@@ -23,10 +24,15 @@ pub use checks::{hold, pass, take};
 pub use draw::{Draw, MAX_MOMENT};
 pub use error::{Error, Place};
 pub use flags::{ClientRequestFlags, SecurityBufferFlags, ServerRequestFlags};
+pub use identity::{
+    AuthIdentity, AuthIdentityBuffers, Credentials, CredentialsBuffers, KeytabIdentity,
+};
 pub use kdc_code::map_keb_error_code_to_sspi_error;
 pub use kind::ErrorKind;
 pub use message::Message;
 pub use protocol::NetworkProtocol;
-pub use results::{ContextSizes, CredentialUse, SecurityStatus, SessionKeys};
+pub use results::{
+    ContextNames, ContextSizes, CredentialUse, PackageInfo, SecurityStatus, SessionKeys,
+};
 pub use secret::Secret;
 pub use username::{DownLevelLogonName, UserPrincipalName, Username, UsernameError, UsernameParts};

@@ -1,7 +1,8 @@
 //! Plain values that calls answer.
 
 use crate::secret::Secret;
-use krb_der::Octets;
+use crate::username::Username;
+use krb_der::{Octets, Text};
 
 /// Whether a context is established.
 #[derive(Clone, Copy, Debug, PartialEq, Eq, Hash)]
@@ -10,6 +11,17 @@ pub enum SecurityStatus {
     Ok,
     /// A token of the peer is awaited.
     ContinueNeeded,
+}
+
+/// What a security package is.
+#[derive(Debug, PartialEq, Eq, Drop)]
+pub struct PackageInfo {
+    pub capabilities: u32,
+    pub rpc_id: u16,
+    /// The longest token of the handshake, in octets.
+    pub max_token_len: u32,
+    pub name: Text,
+    pub comment: Text,
 }
 
 /// How much room tokens take, in octets.
@@ -25,8 +37,14 @@ pub struct ContextSizes {
     pub security_trailer: u32,
 }
 
+/// The user of a context.
+#[derive(Debug, PartialEq, Eq, Drop)]
+pub struct ContextNames {
+    pub username: Username,
+}
+
 /// The key of an established context.
-#[derive(Drop)]
+#[derive(PartialEq, Eq, Drop)]
 pub struct SessionKeys {
     pub session_key: Secret<Octets>,
 }

@@ -1,0 +1,25 @@
+-- A name and the two texts that stand for it.
+use Rattle.std.specs.Prelude.{◌≡◌, ◌≢◌, ℕ, List, [], length, Option, Some, None, Bool, ◌==◌, if◌then◌else◌}
+use Rattle.sspi_core.specs.Usernames.{UserName, UserPrincipal, DownLevel, user_name, parsed, upn_text}
+
+-- the user of a name: a whole user principal name, or an account
+abbrev pub user_text : UserName → List ℕ
+user_text (UserPrincipal account suffix) = upn_text account suffix
+user_text (DownLevel account domain) = account
+
+abbrev pub text_or_empty : Option (List ℕ) → List ℕ
+text_or_empty None = []
+text_or_empty (Some text) = text
+
+-- the domain of a name, empty where there is none
+abbrev pub domain_text : UserName → List ℕ
+domain_text (UserPrincipal account suffix) = []
+domain_text (DownLevel account domain) = text_or_empty domain
+
+-- the name of a user and a domain
+abbrev pub named : List ℕ → List ℕ → Option UserName
+named user domain = if length domain == 0 then parsed user else user_name (DownLevel user (Some domain))
+
+-- a name whose domain, where it has one, is not empty
+abbrev pub HasNoEmptyDomain : UserName → Type 0
+HasNoEmptyDomain name = name ≢ DownLevel (user_text name) (Some [])
