@@ -1,5 +1,5 @@
 -- Steps of ordered checks.
-use Rattle.std.proofs.Common.{◌≡◌, Bool, true, false, IsTrue, rules, Result, Ok, Err, refl, sym, subst, ap, ◌∙◌}
+use Rattle.std.proofs.Common.{◌≡◌, Bool, true, false, IsTrue, rules, Result, Ok, Err, refl, ap, ◌∙◌}
 use Rattle.std.specs.Result.{IsErrAnd}
 use Rattle.sspi_core.specs.declared.cause.Cause.{Cause}
 use Rattle.sspi_core.specs.declared.cause.Cause.TheVariants.{Memory}
@@ -7,7 +7,7 @@ use Rattle.sspi_core.specs.declared.error.Error.{Error}
 use Rattle.sspi_core.specs.declared.error.Place.{Place}
 use Rattle.sspi_core.specs.declared.error.Place.TheVariants.{Query, MakeMic, Elsewhere}
 use Rattle.sspi_core.specs.Kinds.{error_at, error_of}
-use Rattle.sspi_core.specs.Checks.{Finds, Takes, Holds, Gives, Goes, Then, Answers, Told, told}
+use Rattle.sspi_core.specs.Checks.{Holds, Gives, Then, Answers, Told}
 
 pub is_err : {A E : Type 0} (answer : Result A E) (e : E) → IsErrAnd answer (λ d. d ≡ e) → answer ≡ Err e
 is_err (Ok x) e h = absurd h

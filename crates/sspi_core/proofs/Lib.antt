@@ -4,3 +4,4 @@ pub mod Once
 pub mod PartLemmas
 pub mod Cuts
 pub mod NameLemmas
+pub mod NameReturns

@@ -1,12 +1,12 @@
 -- A user principal name and its parts.
-use Rattle.std.proofs.Common.{◌≡◌, ℕ, suc, ◌+◌, ◌<◌, ◌≤◌, Bool, true, false, not, IsTrue, List, ◌∷◌, ◌++◌, ◌&&◌, length, take, drop, get_or, refl, sym, ap, ap₂, subst, ◌∙◌, arith}
-use Rattle.std.specs.Prelude.{Option, Some}
+use Rattle.std.proofs.Common.{◌≡◌, ℕ, ◌+◌, true, false, not, IsTrue, List, ◌∷◌, ◌&&◌, length, take, drop, get_or, refl, sym, ap, ap₂, ◌∙◌, arith}
+use Rattle.std.specs.Prelude.{Some}
 use Rattle.std.specs.Str.{IsUtf8, IsCharBoundary}
 use Rattle.std.proofs.Math.Seq.{take-append_seam, drop-append-add, get_or-append_seam}
-use Rattle.std.proofs.lemmas.List.{length-append, length-drop, length-take, length-take-le}
+use Rattle.std.proofs.lemmas.List.{length-take-le}
 use Rattle.std.proofs.lemmas.Str.{IsCharBoundary-after_ascii}
 use Rattle.sspi_core.specs.FormBack.{inside_of}
-use Rattle.sspi_core.specs.Usernames.{UserName, UserPrincipal, has, backslash, at_sign, is_plain, is_user_name, user_name, upn_text}
+use Rattle.sspi_core.specs.Usernames.{UserPrincipal, has, backslash, at_sign, is_plain, user_name, upn_text}
 
 account_of : (account suffix : List ℕ) → take (length account) (upn_text account suffix) ≡ account
 account_of account suffix = take-append_seam account (at_sign ∷ suffix)

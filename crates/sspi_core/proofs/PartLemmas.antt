@@ -1,13 +1,13 @@
 -- Where a part stands, and what replacing it does.
-use Rattle.std.proofs.Common.{◌≡◌, ℕ, zero, suc, ◌+◌, ◌<◌, Bool, true, false, cond, List, [], ◌∷◌, length, get_or, set, Option, Some, None, refl, sym, subst, ap, ap₂, ◌∙◌, arith}
+use Rattle.std.proofs.Common.{◌≡◌, ℕ, zero, suc, ◌+◌, Bool, true, false, cond, List, [], ◌∷◌, get_or, set, Option, Some, None, refl, sym, subst, ap, ◌∙◌, arith}
 use Rattle.std.specs.Prelude.{IsTrue}
 use Rattle.std.specs.Option.{option_map}
-use Rattle.std.specs.List.{find, count_by, sum_by, list_any}
+use Rattle.std.specs.List.{count_by, sum_by, list_any}
 use Rattle.std.proofs.lemmas.List.Sums.{sum_by-cons}
 use Rattle.sspi_core.specs.declared.buffer.Part.{Part}
 use Rattle.sspi_core.specs.declared.buffer.Part.TheVariants.{Token, Stream, Plain}
 use Rattle.sspi_core.specs.Buffer.{Buffer, is_part, is_readonly_alone}
-use Rattle.sspi_core.specs.Messages.{is_message, find_part, with_part, write, write_whole, IsAt, IsNowhere}
+use Rattle.sspi_core.specs.Messages.{is_message, find_part, with_part, IsAt, IsNowhere}
 
 rest_at : (part : Part) (b : Buffer) (bs : List Buffer) (i : ℕ) → IsAt part (b ∷ bs) (suc i) → IsAt part bs i
 rest_at part b bs i at = record { within = omega (arith, at.within); here = at.here; first = λ k d h. at.first (suc k) d (omega arith) }

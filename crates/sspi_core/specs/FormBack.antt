@@ -1,9 +1,9 @@
 -- A name gives its form back.
-use Rattle.std.proofs.Common.{◌≡◌, ℕ, suc, ◌∷◌, ◌∙◌, ap, ◌+◌, ◌<◌, ◌≤◌, List, length, take, drop, refl, sym, ap₂, arith}
+use Rattle.std.proofs.Common.{◌≡◌, ℕ, suc, ◌∷◌, ◌∙◌, ap, ◌+◌, ◌<◌, List, length, take, drop, refl, sym, ap₂, arith}
 use Rattle.std.proofs.lemmas.List.{length-append, length-take, length-drop, length-take-le}
 use Rattle.sspi_core.specs.declared.username.Form.{Form}
 use Rattle.sspi_core.specs.declared.username.Form.TheVariants.{UserPrincipal as WholeText, DownLevel as Parts}
-use Rattle.sspi_core.specs.Usernames.{UserName, UserPrincipal, DownLevel, at_sign, upn_text}
+use Rattle.sspi_core.specs.Usernames.{at_sign, upn_text}
 use Rattle.sspi_core.specs.UsernameForms.{name_of, form_of, IsWhole}
 
 pub inside_of : (text : List ℕ) (place : ℕ) → text ≡ upn_text (take place text) (drop (place + 1) text) → place < length text

@@ -1,5 +1,5 @@
 -- A name and the two texts that stand for it.
-use Rattle.std.specs.Prelude.{◌≡◌, ◌≢◌, ℕ, List, [], length, Option, Some, None, Bool, ◌==◌, if◌then◌else◌}
+use Rattle.std.specs.Prelude.{ℕ, List, [], length, Option, Some, None, Bool, false, ◌==◌, if◌then◌else◌}
 use Rattle.sspi_core.specs.Usernames.{UserName, UserPrincipal, DownLevel, user_name, parsed, upn_text}
 
 -- the user of a name: a whole user principal name, or an account
@@ -20,6 +20,11 @@ domain_text (DownLevel account domain) = text_or_empty domain
 abbrev pub named : List ℕ → List ℕ → Option UserName
 named user domain = if length domain == 0 then parsed user else user_name (DownLevel user (Some domain))
 
--- a name whose domain, where it has one, is not empty
-abbrev pub HasNoEmptyDomain : UserName → Type 0
-HasNoEmptyDomain name = name ≢ DownLevel (user_text name) (Some [])
+abbrev pub is_empty_text : Option (List ℕ) → Bool
+is_empty_text None = false
+is_empty_text (Some text) = length text == 0
+
+-- whether a name has a domain without octets, which the two texts do not tell from none
+abbrev pub has_empty_domain : UserName → Bool
+has_empty_domain (UserPrincipal account suffix) = false
+has_empty_domain (DownLevel account domain) = is_empty_text domain

@@ -2,6 +2,7 @@ pub mod BindingParts
 pub mod Bindings
 pub mod Buffer
 pub mod Checks
+pub mod CredentialBuffers
 pub mod FormBack
 pub mod Identities
 pub mod Kinds

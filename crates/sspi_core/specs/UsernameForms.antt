@@ -1,5 +1,5 @@
 -- How names of users are kept.
-use Rattle.std.specs.Prelude.{◌≡◌, ℕ, ◌+◌, ◌<◌, List, ◌∷◌, ◌++◌, take, drop, length, IsTrue}
+use Rattle.std.specs.Prelude.{◌≡◌, ◌+◌, take, drop, length, IsTrue}
 use Rattle.sspi_core.specs.declared.username.Form.{Form}
 use Rattle.sspi_core.specs.declared.username.Form.TheVariants.{UserPrincipal as WholeText, DownLevel as Parts}
 use Rattle.sspi_core.specs.Usernames.{UserName, UserPrincipal, DownLevel, is_user_name, upn_text}

@@ -1,7 +1,7 @@
 //! Who a context speaks for.
 
 ghost use Rattle.std.specs.Prelude.{◌≡◌, ◌↔◌, ◌==◌, ◌||◌, IfOk, IsTrue, None, Some};
-ghost use Rattle.sspi_core.specs.Identities.{user_text, domain_text, named};
+ghost use Rattle.sspi_core.specs.Identities.{named};
 
 use crate::secret::Secret;
 use crate::username::{Username, UsernameError, UsernameParts};
@@ -50,14 +50,14 @@ pub enum Credentials {
 }
 
 impl AuthIdentityBuffers {
+    ghost use Rattle.sspi_core.specs.CredentialBuffers.{identity_buffers};
+
     /// The parts of an identity: of a user principal name the whole text and no domain, else the account and its domain.
     pub fn from_identity(
         alloc: Global,
         identity: &AuthIdentity,
     ) -> Result<AuthIdentityBuffers, OutOfMemory>
-        ensures user { IfOk result (λ buffers. buffers.user ≡ user_text identity.now.username) }
-        ensures domain { IfOk result (λ buffers. buffers.domain ≡ domain_text identity.now.username) }
-        ensures password { IfOk result (λ buffers. buffers.password ≡ identity.now.password) }
+        ensures { IfOk result (λ buffers. buffers ≡ identity_buffers identity.now) }
     {
         let (user, domain) = match identity.username.parts() {
             UsernameParts::UserPrincipalName(name) => (name.upn(), ""),
@@ -93,6 +93,25 @@ impl AuthIdentity {
             username,
             password: buffers.password.copy(alloc)?,
         })
+    }
+}
+
+impl CredentialsBuffers {
+    ghost use Rattle.sspi_core.specs.CredentialBuffers.{buffers_of};
+
+    /// The parts of credentials.
+    pub fn from_credentials(
+        alloc: Global,
+        credentials: &Credentials,
+    ) -> Result<CredentialsBuffers, OutOfMemory>
+        ensures { IfOk result (λ buffers. buffers ≡ buffers_of credentials.now) }
+    {
+        match credentials {
+            Credentials::AuthIdentity(identity) => Ok(CredentialsBuffers::AuthIdentity(
+                AuthIdentityBuffers::from_identity(alloc, identity)?,
+            )),
+            Credentials::Keytab(identity) => Ok(CredentialsBuffers::Keytab(identity.copy(alloc)?)),
+        }
     }
 }
 

@@ -11,6 +11,7 @@ mod flags;
 mod identity;
 mod kdc_code;
 mod kind;
+pub mod laws;
 mod message;
 mod protocol;
 mod results;

@@ -1,7 +1,7 @@
-use Rattle.std.proofs.Common.{◌≡◌, ◌≤◌, Option, Some, List, length, ap, sym, subst, refl, ◌∙◌}
+use Rattle.std.proofs.Common.{◌≡◌, ◌≤◌, Option, Some, length, subst, refl}
 use Rattle.std.specs.Prelude.{IfSome}
 use Rattle.sspi_core.specs.Buffer.{Buffer}
-use Rattle.sspi_core.specs.Messages.{find_part, with_part, IsAt, IsNowhere}
+use Rattle.sspi_core.specs.Messages.{find_part}
 use Rattle.sspi_core.proofs.PartLemmas.{put_in_place, kept_in_place, found_in_place, stays_where_none, kept_by_write}
 use Rattle.sspi_core.proofs.message.Message.write.Goals as goal
 

@@ -1,4 +1,4 @@
-use Rattle.std.proofs.Common.{◌≡◌, ◌+◌, ℕ, List, sym, subst}
+use Rattle.std.proofs.Common.{◌+◌, ℕ, List, sym, subst}
 use Rattle.std.specs.Str.{IsUtf8, IsCharBoundary}
 use Rattle.sspi_core.proofs.NameLemmas.{cut_behind}
 use Rattle.sspi_core.proofs.username.Username.parts.Goals as goal
