@@ -108,6 +108,16 @@ pub record Spells (kind : Kind) (value : Of kind) (octets : List ℕ) : Type 0 w
   pub short : length (contents kind value) < 2 ^ 31
   pub is : octets ≡ tlv (tag_of kind) (contents kind value)
 
+-- The value of this kind stands at the front of the octets, and rest follows it.
+pub record ValueNext (kind : Kind) (value : Of kind) (octets rest : List ℕ) : Type 0 where
+  pub spelling : List ℕ
+  pub spells : Spells kind value spelling
+  pub parts : octets ≡ spelling ++ rest
+
+-- No value of this kind stands at the front.
+abbrev pub NoValueNext : Kind → List ℕ → Type 0
+NoValueNext kind octets = (value : Of kind) (rest : List ℕ) → ValueNext kind value octets rest → ⊥
+
 -- The tags of fields ascend.
 abbrev mutual
   pub is_table : Kind → Bool

@@ -1,6 +1,9 @@
 //! An INTEGER.
 
-ghost use Rattle.std.specs.Prelude.{◌≡◌};
+ghost use Rattle.std.specs.Prelude.{◌≡◌, ◌++◌, ◌∷◌, ◌<◌, get_or, IfOk, pos, ◌+ℤ◌, ◌*ℤ◌, FitsSigned, if◌then◌else◌, nat_lt};
+ghost use Rattle.std.specs.Int.{w64};
+ghost use Rattle.std.specs.Option.{SomeIff};
+ghost use Rattle.krb_der.specs.Integer.{integer_value, is_uint32, sign_of, unsigned_octets};
 
 use crate::copies::TryCopy;
 use crate::memory::OutOfMemory;
@@ -25,6 +28,47 @@ impl Model for IntegerAsn1 {
     ghost inverse = { λ octets. record { octets = octets } };
 }
 
+/// Where octets begin: at -1 if their highest bit is set, and else at 0.
+fn sign(octets: &[u8]) -> i64
+    ensures { result ≡ sign_of octets.now }
+{
+    match octets {
+        [0x80..=0xff, ..] => -1,
+        _ => 0,
+    }
+}
+
+/// The number with one more octet behind it, where that fits.
+fn shift_in(number: i64, octet: u8) -> Option<i64>
+    ensures { SomeIff result (FitsSigned w64 (number *ℤ pos 256 +ℤ pos octet)) (number *ℤ pos 256 +ℤ pos octet) }
+{
+    number.checked_mul(256)?.checked_add(i64::from(octet))
+}
+
+/// The two's complement number that octets spell, where it fits.
+fn number(octets: &[u8]) -> Option<i64>
+    ensures { SomeIff result (FitsSigned w64 (integer_value octets.now)) (integer_value octets.now) }
+{
+    let mut number = sign(octets);
+    for octet in octets {
+        number = shift_in(number, *octet)?;
+    }
+    Some(number)
+}
+
+/// Whether the octets are an INTEGER from 0 to 2^32 - 1.
+pub fn is_uint32(octets: &[u8]) -> bool
+    ensures { result ≡ is_uint32 octets.now }
+{
+    match octets {
+        [0..=0x7f, ..] => match number(octets) {
+            Some(number) => number < 1 << 32,
+            None => false,
+        },
+        _ => false,
+    }
+}
+
 impl IntegerAsn1 {
     pub fn from_bytes_be(octets: Vec<u8>) -> IntegerAsn1
         ensures { result ≡ octets.items }
@@ -32,6 +76,26 @@ impl IntegerAsn1 {
         IntegerAsn1 {
             octets: Octets::new(octets),
         }
+    }
+
+    /// The number that is not negative and whose octets these are, the highest first: with 00 in front where their first
+    /// bit is set.
+    pub fn from_bytes_be_unsigned(alloc: Global, octets: &[u8]) -> Result<IntegerAsn1, OutOfMemory>
+        ensures { IfOk result (λ integer. integer ≡ unsigned_octets octets.now) }
+    {
+        let mut all = Vec::new(alloc);
+        if let [0x80..=0xff, ..] = octets {
+            all.push(0)?;
+        }
+        all.extend_from_slice(octets)?;
+        Ok(IntegerAsn1::from_bytes_be(all))
+    }
+
+    /// The number, where it fits.
+    pub fn value(&self) -> Option<i64>
+        ensures { SomeIff result (FitsSigned w64 (integer_value self.now)) (integer_value self.now) }
+    {
+        number(self.as_slice())
     }
 
     pub fn as_slice(&self) -> &[u8]

@@ -1,10 +1,11 @@
 //! The types of single values, and lists of one type.
 
-ghost use Rattle.krb_der.specs.Layout.{integer_layout, octets_layout, text_layout, bits_layout, time_layout, boolean_layout, items_layout};
+ghost use Rattle.krb_der.specs.Layout.{integer_layout, error_code_layout, octets_layout, text_layout, bits_layout, time_layout, boolean_layout, items_layout};
 
 use crate::asn1::{Asn1, next};
 use crate::bits::Bits;
 use crate::boolean::{boolean, boolean_octets};
+use crate::error_code::ErrorCode;
 use crate::fault::Fault;
 use crate::integer::IntegerAsn1;
 use crate::items::Items;
@@ -30,6 +31,24 @@ impl Asn1 for IntegerAsn1 {
         }
         let octets = Vec::from_slice(alloc, contents)?;
         Ok(IntegerAsn1::from_bytes_be(octets))
+    }
+
+    fn to_contents(&self, alloc: Global) -> Result<Octets, OutOfMemory> {
+        Octets::from_slice(alloc, self.as_slice())
+    }
+}
+
+impl Asn1 for ErrorCode {
+    ghost layout = { error_code_layout };
+
+    fn tag() -> u8 {
+        0x02
+    }
+
+    #[tactic(auto, unfolding(crate::specs::Records::value_in))]
+    fn from_contents(alloc: Global, contents: &[u8]) -> Result<Self, Fault> {
+        let octets = Vec::from_slice(alloc, contents)?;
+        ErrorCode::new(IntegerAsn1::from_bytes_be(octets)).ok_or(Fault::Shape)
     }
 
     fn to_contents(&self, alloc: Global) -> Result<Octets, OutOfMemory> {

@@ -1,0 +1,10 @@
+use Rattle.std.proofs.Common.{arith, refl}
+use Rattle.krb_der.specs.Schema.{integer}
+use Rattle.krb_der.proofs.Outcome.{value_next, no_value_next}
+use Rattle.krb_der.proofs.front.integer_at.Goals as goal
+
+pub returns-clause-found : goal.returns-clause-found
+returns-clause-found c = value_next integer (λ x. (x.0.now, x.1.now)) c.args.octets.now c.integer_contents.result (λ i. omega (arith, c.type_inv.octets i)) c.integer_contents.ensures
+
+pub returns-clause-none : goal.returns-clause-none
+returns-clause-none c = no_value_next integer (λ x. (x.0.now, x.1.now)) c.args.octets.now c.integer_contents.result refl c.integer_contents.ensures
