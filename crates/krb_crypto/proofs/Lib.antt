@@ -7,3 +7,4 @@ pub mod SealedLemmas
 pub mod SuiteLemmas
 pub mod ListLemmas
 pub mod PasswordLemmas
+pub mod OctetFold
