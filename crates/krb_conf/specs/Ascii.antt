@@ -7,11 +7,23 @@ line_feed = 10
 abbrev pub number_sign : ℕ
 number_sign = 35
 
+abbrev pub full_stop : ℕ
+full_stop = 46
+
+abbrev pub slash : ℕ
+slash = 47
+
+abbrev pub colon : ℕ
+colon = 58
+
 abbrev pub semicolon : ℕ
 semicolon = 59
 
 abbrev pub equals_sign : ℕ
 equals_sign = 61
+
+abbrev pub at_sign : ℕ
+at_sign = 64
 
 abbrev pub left_bracket : ℕ
 left_bracket = 91

@@ -1,5 +1,9 @@
 pub mod Ascii
+pub mod Env
+pub mod Kdc
 pub mod Key
 pub mod Krb5Conf
 pub mod Line
+pub mod Names
+pub mod Realm
 pub mod Seen

@@ -48,8 +48,15 @@ impl Krb5Conf {
         Ok(Krb5Conf { values })
     }
 
+    /// The keys and their values.
+    pub(crate) fn values(&self) -> &[(Text, Text)]
+        ensures { result.now ≡ self.now }
+    {
+        self.values.as_slice()
+    }
+
     /// The first value under this key, the case of ASCII letters ignored.
-    fn find(&self, key: &str) -> Option<&Text>
+    pub(crate) fn find(&self, key: &str) -> Option<&Text>
         ensures { option_copied result
             ≡ option_map (λ entry. entry.1)
             (find (λ entry. words.is_same_text entry.0 key.now) self.entry.now) }

@@ -2,11 +2,27 @@
 //! names of a client and of a service.
 #![tactic(auto)]
 
+mod config;
+mod env;
+mod kdc;
 mod key;
 mod krb5_conf;
 mod line;
+mod names;
 mod reader;
+mod realm;
 mod relation;
 mod texts;
 
+pub use config::KerberosConfig;
+pub use env::Env;
+pub use kdc::{detect_kdc_host, detect_kdc_url, parse_kdc_url};
 pub use krb5_conf::Krb5Conf;
+pub use names::{
+    ClientPrincipalName, get_client_principal_name, get_client_principal_name_type,
+    parse_target_name,
+};
+pub use realm::get_client_principal_realm;
+
+#[cfg(test)]
+mod tests;
