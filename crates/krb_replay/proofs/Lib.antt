@@ -1,0 +1,5 @@
+pub mod CacheLemmas
+pub mod Order
+pub mod Runs
+pub mod Same
+pub mod Window

@@ -1,0 +1,10 @@
+pub mod Records
+pub mod Verdicts
+pub mod Clock
+pub mod History
+pub mod Gate
+pub mod Order
+pub mod Book
+pub mod ListBook
+pub mod Cache
+pub mod Runs

@@ -1,0 +1,42 @@
+//! What decides which authenticators are admitted.
+
+ghost use Rattle.std.specs.Prelude.{◌≡◌, ℕ, IfOk, OnErr};
+ghost use Rattle.krb_replay.specs.declared.ask.Ask.{Ask};
+ghost use Rattle.krb_replay.specs.declared.ask.Verdict.{Verdict};
+ghost use Rattle.krb_replay.specs.Gate.{IsJudged};
+
+use crate::ask::{Ask, Verdict};
+use krb_der::OutOfMemory;
+
+/// A gate that admits each authenticator once (RFC 4120 3.2.3). Its members say how it is seen by those that stand
+/// above any gate.
+pub trait ReplayGate {
+    /// The clock skew that is tolerated, in seconds. No call changes it.
+    ghost skew: { Self → ℕ };
+
+    /// The moment that the last call judged by, in microseconds since 1970-01-01T00:00:00Z.
+    ghost moment: { Self → ℕ };
+
+    /// What one call may do: the gate before it, the ask, the verdict, and the gate after it.
+    ghost admits: { Self → Ask → Verdict → Self → Type 0 };
+
+    /// No caller can tell the second gate from the first: what is left after a call that ran out of memory.
+    ghost is_same: { Self → Self → Type 0 };
+
+    /// Judges the ask, and remembers its record where it is admitted. Out of memory, the gate is as before.
+    fn admit(&mut self, ask: Ask) -> Result<Verdict, OutOfMemory>
+        ensures step { IfOk result (λ verdict. admits self.old ask verdict self.new) }
+        // Whatever the gate: the clock's refusal at its moment, and else Admitted or Replayed.
+        ensures judged { IfOk result (λ verdict. IsJudged (skew self.old) (moment self.new) ask verdict) }
+        ensures skew { skew self.new ≡ skew self.old }
+        ensures err { OnErr result (is_same self.old self.new) };
+
+    /// The moment that the last call judged by, and 0 before the first.
+    fn last_moment(&self) -> u64
+        ensures { result ≡ moment self.now };
+
+    ghost same: { (a : Self) → is_same a a };
+
+    /// A call after one that ran out of memory does what it would have done without that one.
+    ghost goes_on: { (a b c : Self) (ask : Ask) (verdict : Verdict) → is_same a b → admits b ask verdict c → admits a ask verdict c };
+}
