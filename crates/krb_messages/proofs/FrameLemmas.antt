@@ -1,8 +1,8 @@
 -- A frame is read at one place only: its object identifier and its message are the ones that stand there.
-use Rattle.std.proofs.Common.{◌≡◌, ℕ, ◌^◌, ◌<◌, List, [], ◌++◌, length, Result, Ok, Err, refl, sym, ap, ◌∙◌, arith}
+use Rattle.std.proofs.Common.{◌≡◌, ℕ, ◌^◌, ◌<◌, List, [], ◌++◌, length, drop, Result, Ok, Err, refl, sym, ap, ◌∙◌, arith}
 use Rattle.std.specs.Prelude.{OnErr}
 use Rattle.std.proofs.lemmas.Option.{some_pair_parts}
-use Rattle.std.proofs.lemmas.List.{append-nil, length-append}
+use Rattle.std.proofs.lemmas.List.{append-nil, length-append, drop_at}
 use Rattle.krb_der.specs.Der.{tlv, StandsNext, NoneNext}
 use Rattle.krb_der.specs.Reading.{next_value}
 use Rattle.krb_der.proofs.Values.{value_again}
@@ -57,3 +57,12 @@ frame_found oid token_id message contents octets after s t named e =
 -- An object identifier is shorter than a frame's contents that begin with it.
 pub oid_is_shorter : (oid after : List ℕ) → length (tlv 0x06 oid ++ after) < 2 ^ 31 → length oid < 2 ^ 31
 oid_is_shorter oid after short = omega (arith, length-append (tlv 0x06 oid) after, length-tlv 0x06 oid)
+
+-- Octets are one frame at the most.
+pub one_frame_lem : (oid other token_id message another octets : List ℕ) → IsFrame oid token_id message octets → IsFrame other token_id another octets → (oid ≡ other) × (message ≡ another)
+one_frame_lem oid other token_id message another octets f g =
+    let here = inside oid token_id message octets f in
+    let there = inside other token_id another octets g in
+    let stand : StandsNext 0x60 here octets [] = record { value = octets; is_value = f.is; parts = sym (append-nil octets) } in
+    let same = same_value 0x06 oid (token_id ++ message) other (token_id ++ another) (oid_short oid token_id message octets f) (oid_short other token_id another octets g) (frame_opens other token_id another octets g here [] stand).0 in
+    (same.0, sym (drop_at token_id message (length token_id) refl) ∙ ap (drop (length token_id)) same.1 ∙ drop_at token_id another (length token_id) refl)

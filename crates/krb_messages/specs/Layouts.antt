@@ -1,7 +1,7 @@
 -- Each record as its row of the table, there and back.
-use Rattle.std.specs.Prelude.{◌≡◌, true, refl}
+use Rattle.std.specs.Prelude.{◌≡◌, true, refl, map, option_map}
 use Rattle.krb_der.specs.Schema.{Of, is_table}
-use Rattle.krb_der.specs.Layout.{Layout, bits_layout}
+use Rattle.krb_der.specs.Layout.{Layout, bits_layout, items_layout, option_back}
 use Rattle.krb_messages.specs.declared.principal_name.PrincipalName.{PrincipalName}
 use Rattle.krb_messages.specs.declared.host_address.HostAddress.{HostAddress}
 use Rattle.krb_messages.specs.declared.authorization_data.AuthorizationDataElement.{AuthorizationDataElement}
@@ -9,9 +9,13 @@ use Rattle.krb_messages.specs.declared.encryption.EncryptedData.{EncryptedData}
 use Rattle.krb_messages.specs.declared.encryption.EncryptionKey.{EncryptionKey}
 use Rattle.krb_messages.specs.declared.encryption.Checksum.{Checksum}
 use Rattle.krb_messages.specs.declared.ticket.Ticket.{Ticket}
+use Rattle.krb_messages.specs.declared.enc_ticket_part.TransitedEncoding.{TransitedEncoding}
+use Rattle.krb_messages.specs.declared.enc_ticket_part.EncTicketPart.{EncTicketPart}
 use Rattle.krb_messages.specs.declared.ap_req.ApReq.{ApReq}
+use Rattle.krb_messages.specs.declared.authenticator.Authenticator.{Authenticator}
 use Rattle.krb_messages.specs.declared.ap_rep.ApRep.{ApRep}
-use Rattle.krb_messages.specs.Table.{principal_name, host_address, authorization_data_element, encrypted_data, encryption_key, checksum, ticket, ap_req, ap_rep}
+use Rattle.krb_messages.specs.declared.ap_rep.EncApRepPart.{EncApRepPart}
+use Rattle.krb_messages.specs.Table.{principal_name, host_address, authorization_data_element, encrypted_data, encryption_key, checksum, ticket, transited_encoding, enc_ticket_part, ap_req, authenticator, ap_rep, enc_ap_rep_part}
 
 -- PrincipalName
 unfoldable pub principal_name_row : PrincipalName → Of principal_name
@@ -153,6 +157,46 @@ ticket_ascends = refl
 abbrev pub ticket_layout : Layout Ticket
 ticket_layout = record { kind = ticket; view = ticket_row; of = ticket_of; back = ticket_back; ascends = ticket_ascends }
 
+-- TransitedEncoding
+unfoldable pub transited_encoding_row : TransitedEncoding → Of transited_encoding
+unfolding transited_encoding
+transited_encoding_row x = (x.tr_type, (x.contents, tt))
+
+unfoldable pub transited_encoding_of : Of transited_encoding → TransitedEncoding
+unfolding transited_encoding
+transited_encoding_of row = record { tr_type = row.0; contents = row.1.0 }
+
+pub transited_encoding_back : (x : TransitedEncoding) → transited_encoding_of (transited_encoding_row x) ≡ x
+unfolding transited_encoding transited_encoding_row transited_encoding_of
+transited_encoding_back x = refl
+
+pub transited_encoding_ascends : is_table transited_encoding ≡ true
+unfolding transited_encoding
+transited_encoding_ascends = refl
+
+abbrev pub transited_encoding_layout : Layout TransitedEncoding
+transited_encoding_layout = record { kind = transited_encoding; view = transited_encoding_row; of = transited_encoding_of; back = transited_encoding_back; ascends = transited_encoding_ascends }
+
+-- EncTicketPart
+unfoldable pub enc_ticket_part_row : EncTicketPart → Of enc_ticket_part
+unfolding enc_ticket_part
+enc_ticket_part_row x = (bits_layout.view x.flags, (encryption_key_row x.key, (x.crealm, (principal_name_row x.cname, (transited_encoding_row x.transited, (x.authtime, (x.starttime, (x.endtime, (x.renew_till, (option_map (map host_address_row) x.caddr, (option_map (map authorization_data_element_row) x.authorization_data, tt)))))))))))
+
+unfoldable pub enc_ticket_part_of : Of enc_ticket_part → EncTicketPart
+unfolding enc_ticket_part
+enc_ticket_part_of row = record { flags = bits_layout.of row.0; key = encryption_key_of row.1.0; crealm = row.1.1.0; cname = principal_name_of row.1.1.1.0; transited = transited_encoding_of row.1.1.1.1.0; authtime = row.1.1.1.1.1.0; starttime = row.1.1.1.1.1.1.0; endtime = row.1.1.1.1.1.1.1.0; renew_till = row.1.1.1.1.1.1.1.1.0; caddr = option_map (map host_address_of) row.1.1.1.1.1.1.1.1.1.0; authorization_data = option_map (map authorization_data_element_of) row.1.1.1.1.1.1.1.1.1.1.0 }
+
+pub enc_ticket_part_back : (x : EncTicketPart) → enc_ticket_part_of (enc_ticket_part_row x) ≡ x
+unfolding enc_ticket_part enc_ticket_part_row enc_ticket_part_of
+enc_ticket_part_back x = rw (encryption_key_back x.key, principal_name_back x.cname, transited_encoding_back x.transited, option_back (items_layout host_address_layout) x.caddr, option_back (items_layout authorization_data_element_layout) x.authorization_data) refl
+
+pub enc_ticket_part_ascends : is_table enc_ticket_part ≡ true
+unfolding enc_ticket_part encryption_key principal_name transited_encoding host_address authorization_data_element
+enc_ticket_part_ascends = refl
+
+abbrev pub enc_ticket_part_layout : Layout EncTicketPart
+enc_ticket_part_layout = record { kind = enc_ticket_part; view = enc_ticket_part_row; of = enc_ticket_part_of; back = enc_ticket_part_back; ascends = enc_ticket_part_ascends }
+
 -- ApReq
 unfoldable pub ap_req_row : ApReq → Of ap_req
 unfolding ap_req
@@ -173,6 +217,26 @@ ap_req_ascends = refl
 abbrev pub ap_req_layout : Layout ApReq
 ap_req_layout = record { kind = ap_req; view = ap_req_row; of = ap_req_of; back = ap_req_back; ascends = ap_req_ascends }
 
+-- Authenticator
+unfoldable pub authenticator_row : Authenticator → Of authenticator
+unfolding authenticator
+authenticator_row x = (x.authenticator_vno, (x.crealm, (principal_name_row x.cname, (option_map checksum_row x.cksum, (x.cusec, (x.ctime, (option_map encryption_key_row x.subkey, (x.seq_number, (option_map (map authorization_data_element_row) x.authorization_data, tt)))))))))
+
+unfoldable pub authenticator_of : Of authenticator → Authenticator
+unfolding authenticator
+authenticator_of row = record { authenticator_vno = row.0; crealm = row.1.0; cname = principal_name_of row.1.1.0; cksum = option_map checksum_of row.1.1.1.0; cusec = row.1.1.1.1.0; ctime = row.1.1.1.1.1.0; subkey = option_map encryption_key_of row.1.1.1.1.1.1.0; seq_number = row.1.1.1.1.1.1.1.0; authorization_data = option_map (map authorization_data_element_of) row.1.1.1.1.1.1.1.1.0 }
+
+pub authenticator_back : (x : Authenticator) → authenticator_of (authenticator_row x) ≡ x
+unfolding authenticator authenticator_row authenticator_of
+authenticator_back x = rw (principal_name_back x.cname, option_back checksum_layout x.cksum, option_back encryption_key_layout x.subkey, option_back (items_layout authorization_data_element_layout) x.authorization_data) refl
+
+pub authenticator_ascends : is_table authenticator ≡ true
+unfolding authenticator principal_name checksum encryption_key authorization_data_element
+authenticator_ascends = refl
+
+abbrev pub authenticator_layout : Layout Authenticator
+authenticator_layout = record { kind = authenticator; view = authenticator_row; of = authenticator_of; back = authenticator_back; ascends = authenticator_ascends }
+
 -- ApRep
 unfoldable pub ap_rep_row : ApRep → Of ap_rep
 unfolding ap_rep
@@ -192,3 +256,23 @@ ap_rep_ascends = refl
 
 abbrev pub ap_rep_layout : Layout ApRep
 ap_rep_layout = record { kind = ap_rep; view = ap_rep_row; of = ap_rep_of; back = ap_rep_back; ascends = ap_rep_ascends }
+
+-- EncApRepPart
+unfoldable pub enc_ap_rep_part_row : EncApRepPart → Of enc_ap_rep_part
+unfolding enc_ap_rep_part
+enc_ap_rep_part_row x = (x.ctime, (x.cusec, (option_map encryption_key_row x.subkey, (x.seq_number, tt))))
+
+unfoldable pub enc_ap_rep_part_of : Of enc_ap_rep_part → EncApRepPart
+unfolding enc_ap_rep_part
+enc_ap_rep_part_of row = record { ctime = row.0; cusec = row.1.0; subkey = option_map encryption_key_of row.1.1.0; seq_number = row.1.1.1.0 }
+
+pub enc_ap_rep_part_back : (x : EncApRepPart) → enc_ap_rep_part_of (enc_ap_rep_part_row x) ≡ x
+unfolding enc_ap_rep_part enc_ap_rep_part_row enc_ap_rep_part_of
+enc_ap_rep_part_back x = rw (option_back encryption_key_layout x.subkey) refl
+
+pub enc_ap_rep_part_ascends : is_table enc_ap_rep_part ≡ true
+unfolding enc_ap_rep_part encryption_key
+enc_ap_rep_part_ascends = refl
+
+abbrev pub enc_ap_rep_part_layout : Layout EncApRepPart
+enc_ap_rep_part_layout = record { kind = enc_ap_rep_part; view = enc_ap_rep_part_row; of = enc_ap_rep_part_of; back = enc_ap_rep_part_back; ascends = enc_ap_rep_part_ascends }

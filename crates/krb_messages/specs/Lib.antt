@@ -1,4 +1,6 @@
 pub mod Table
 pub mod Layouts
+pub mod Groups
+pub mod OneSpelling
 pub mod Oid
 pub mod Frame

@@ -2,7 +2,7 @@
 -- modules: `required n kind` is a field [n], `optional n kind` one that is OPTIONAL, `integer` an INTEGER of any length
 -- (Int32, UInt32, Microseconds), `text` a GeneralString of ASCII octets (KerberosString, Realm), `time` a
 -- GeneralizedTime (KerberosTime), `bits` a BIT STRING (KerberosFlags), `application n` a tag [APPLICATION n].
-use Rattle.krb_der.specs.Schema.{Kind, integer, text, octet_string, bits, sequence_of, sequence, application, nothing, required, optional, ◌▸◌}
+use Rattle.krb_der.specs.Schema.{Kind, integer, text, octet_string, bits, time, sequence_of, sequence, application, nothing, required, optional, ◌▸◌}
 
 -- RFC 4120 5.2.2, PrincipalName
 unfoldable pub principal_name : Kind
@@ -63,6 +63,22 @@ transited_encoding = sequence (
     required 1 octet_string ▸  -- contents
     nothing)
 
+-- RFC 4120 5.3, EncTicketPart
+unfoldable pub enc_ticket_part : Kind
+enc_ticket_part = application 3 (sequence (
+    required 0 bits ▸  -- flags
+    required 1 encryption_key ▸  -- key
+    required 2 text ▸  -- crealm
+    required 3 principal_name ▸  -- cname
+    required 4 transited_encoding ▸  -- transited
+    required 5 time ▸  -- authtime
+    optional 6 time ▸  -- starttime
+    required 7 time ▸  -- endtime
+    optional 8 time ▸  -- renew-till
+    optional 9 (sequence_of host_address) ▸  -- caddr
+    optional 10 (sequence_of authorization_data_element) ▸  -- authorization-data
+    nothing))
+
 -- RFC 4120 5.5.1, AP-REQ
 unfoldable pub ap_req : Kind
 ap_req = application 14 (sequence (
@@ -73,10 +89,33 @@ ap_req = application 14 (sequence (
     required 4 encrypted_data ▸  -- authenticator
     nothing))
 
+-- RFC 4120 5.5.1, Authenticator
+unfoldable pub authenticator : Kind
+authenticator = application 2 (sequence (
+    required 0 integer ▸  -- authenticator-vno
+    required 1 text ▸  -- crealm
+    required 2 principal_name ▸  -- cname
+    optional 3 checksum ▸  -- cksum
+    required 4 integer ▸  -- cusec
+    required 5 time ▸  -- ctime
+    optional 6 encryption_key ▸  -- subkey
+    optional 7 integer ▸  -- seq-number
+    optional 8 (sequence_of authorization_data_element) ▸  -- authorization-data
+    nothing))
+
 -- RFC 4120 5.5.2, AP-REP
 unfoldable pub ap_rep : Kind
 ap_rep = application 15 (sequence (
     required 0 integer ▸  -- pvno
     required 1 integer ▸  -- msg-type
     required 2 encrypted_data ▸  -- enc-part
+    nothing))
+
+-- RFC 4120 5.5.2, EncAPRepPart
+unfoldable pub enc_ap_rep_part : Kind
+enc_ap_rep_part = application 27 (sequence (
+    required 0 time ▸  -- ctime
+    required 1 integer ▸  -- cusec
+    optional 2 encryption_key ▸  -- subkey
+    optional 3 integer ▸  -- seq-number
     nothing))

@@ -1,7 +1,7 @@
 //! The reply of the AP exchange (RFC 4120 5.5.2).
 
-use crate::encryption::EncryptedData;
-use krb_der::{Asn1, Fault, IntegerAsn1, Octets, OutOfMemory, Reader, TryCopy, Writer};
+use crate::encryption::{EncryptedData, EncryptionKey};
+use krb_der::{Asn1, Fault, IntegerAsn1, Octets, OutOfMemory, Reader, Time, TryCopy, Writer};
 use std::alloc::Global;
 
 /// AP-REP (RFC 4120 5.5.2): a service shows that it opened the ticket.
@@ -55,6 +55,67 @@ impl TryCopy for ApRep {
             pvno: self.pvno.copy(alloc)?,
             msg_type: self.msg_type.copy(alloc)?,
             enc_part: self.enc_part.copy(alloc)?,
+        })
+    }
+}
+
+/// EncAPRepPart (RFC 4120 5.5.2). It has no printed form, since it holds a secret.
+#[derive(PartialEq, Eq, Drop)]
+pub struct EncApRepPart {
+    /// The client's clock, from its authenticator.
+    pub ctime: Time,
+    /// The microseconds of the client's clock, from its authenticator.
+    pub cusec: IntegerAsn1,
+    /// The key that the service chose for what follows.
+    pub subkey: Option<EncryptionKey>,
+    /// The number of the first message that the service sends.
+    pub seq_number: Option<IntegerAsn1>,
+}
+
+impl Asn1 for EncApRepPart {
+    ghost use Rattle.krb_messages.specs.Layouts.{enc_ap_rep_part_layout};
+
+    ghost layout = { enc_ap_rep_part_layout };
+
+    #[tactic(auto, unfolding(crate::specs::Table::enc_ap_rep_part))]
+    fn tag() -> u8 {
+        0x7b
+    }
+
+    #[tactic(auto, unfolding(crate::specs::Table::enc_ap_rep_part, crate::specs::Layouts::enc_ap_rep_part_row))]
+    fn from_contents(alloc: Global, contents: &[u8]) -> Result<Self, Fault> {
+        let mut fields = Reader::of_application(contents)?;
+        let ctime = fields.required_field(alloc, 0)?;
+        let cusec = fields.required_field(alloc, 1)?;
+        let subkey = fields.optional_field(alloc, 2)?;
+        let seq_number = fields.optional_field(alloc, 3)?;
+        fields.end()?;
+        Ok(EncApRepPart {
+            ctime,
+            cusec,
+            subkey,
+            seq_number,
+        })
+    }
+
+    #[tactic(auto, using(std::proofs::Common::append_assoc, krb_der::proofs::Each::optional_rows), unfolding(crate::specs::Table::enc_ap_rep_part, crate::specs::Layouts::enc_ap_rep_part_row))]
+    fn to_contents(&self, alloc: Global) -> Result<Octets, OutOfMemory> {
+        let mut fields = Writer::new(alloc);
+        fields.required_field(0, &self.ctime)?;
+        fields.required_field(1, &self.cusec)?;
+        fields.optional_field(2, &self.subkey)?;
+        fields.optional_field(3, &self.seq_number)?;
+        fields.into_sequence()
+    }
+}
+
+impl TryCopy for EncApRepPart {
+    fn copy(&self, alloc: Global) -> Result<EncApRepPart, OutOfMemory> {
+        Ok(EncApRepPart {
+            ctime: self.ctime,
+            cusec: self.cusec.copy(alloc)?,
+            subkey: self.subkey.copy(alloc)?,
+            seq_number: self.seq_number.copy(alloc)?,
         })
     }
 }
