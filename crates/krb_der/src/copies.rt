@@ -20,3 +20,11 @@ impl<T: TryCopy> TryCopy for Option<T> {
         }
     }
 }
+
+impl<A: TryCopy, B: TryCopy> TryCopy for (A, B) {
+    fn copy(&self, alloc: Global) -> Result<(A, B), OutOfMemory> {
+        let first = self.0.copy(alloc)?;
+        let second = self.1.copy(alloc)?;
+        Ok((first, second))
+    }
+}
