@@ -1,5 +1,5 @@
 -- The octets of a moment are those that spell it, and what is read is spelled so.
-use Rattle.std.proofs.Common.{◌≡◌, ℕ, zero, suc, ◌+◌, ◌-◌, ◌*◌, ◌/◌, ◌%◌, ◌<◌, ◌≤◌, inl, inr, nat_lt, List, [], ◌∷◌, ◌++◌, refl, sym, ap, ◌∙◌, arith, ℤ, pos, negsuc, ◌+ℤ◌, ◌*ℤ◌, ◌≤ℤ◌, unsigned_abs}
+use Rattle.std.proofs.Common.{◌≡◌, ℕ, zero, suc, ◌+◌, ◌-◌, ◌*◌, ◌/◌, ◌%◌, ◌<◌, ◌≤◌, inl, inr, List, refl, sym, ap, ◌∙◌, arith, ℤ, pos, negsuc, ◌+ℤ◌, ◌≤ℤ◌, unsigned_abs}
 use Rattle.std.specs.Int.{IsInRange}
 use Rattle.std.proofs.lemmas.Bool.{cases_lt, lt-ltb, le-ltb}
 use Rattle.jiff_core.specs.Calendar.{IsCivilDate, days_from_civil, days_in_month, day_count}
@@ -9,7 +9,7 @@ use Rattle.jiff_core.proofs.CalendarLemmas.{day_count-day, day_count-next_month,
 use Rattle.jiff_core.specs.declared.civil.date.Date.{Date}
 use Rattle.jiff_core.specs.Date.{epoch_day}
 use Rattle.jiff_core.proofs.DateLemmas.{epoch_day_injective}
-use Rattle.krb_der.specs.Moment.{two_digits, four_digits, spelled, IsMoment, SpellsMoment, IsTime, Day, next_day, day_after, day_octets, time_octets}
+use Rattle.krb_der.specs.Moment.{spelled, IsMoment, SpellsMoment, IsTime, Day, next_day, day_after, day_octets, time_octets}
 use borrow.Author.Differences.{up, down}
 
 day_count-zero : day_count (pos 0) 1 1 ≡ 3_652_425

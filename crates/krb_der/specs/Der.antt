@@ -1,5 +1,5 @@
 -- DER values as whole lists of octets (X.690 8.1 and 10.1), with single tag octets and definite lengths under 2^31.
-use Rattle.std.specs.Prelude.{◌≡◌, ℕ, ◌+◌, ◌*◌, ◌/◌, ◌%◌, ◌^◌, ◌<◌, List, [], ◌∷◌, ◌++◌, length, nat_lt, if◌then◌else◌}
+use Rattle.std.specs.Prelude.{◌≡◌, ℕ, ◌/◌, ◌%◌, ◌^◌, ◌<◌, List, [], ◌∷◌, ◌++◌, length, nat_lt, if◌then◌else◌}
 
 -- the shortest length octets of a length under 2^32 (X.690 8.1.3.4, 8.1.3.5 and 10.1)
 unfoldable pub length_octets : ℕ → List ℕ

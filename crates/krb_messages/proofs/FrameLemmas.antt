@@ -6,7 +6,7 @@ use Rattle.std.proofs.lemmas.List.{append-nil, length-append, drop_at}
 use Rattle.krb_der.specs.Der.{tlv, StandsNext, NoneNext}
 use Rattle.krb_der.specs.Reading.{next_value}
 use Rattle.krb_der.proofs.Values.{value_again}
-use Rattle.krb_der.proofs.Records.{length-tlv}
+use Rattle.krb_der.proofs.Lengths.{length-tlv}
 use Rattle.krb_messages.specs.Frame.{IsFrame, NoFrame}
 
 pub refused : {T E : Type 0} (r : Result T E) (token_id octets : List ℕ) → NoFrame token_id octets → OnErr r (NoFrame token_id octets)

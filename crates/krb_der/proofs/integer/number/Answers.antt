@@ -1,4 +1,4 @@
-use Rattle.std.proofs.Common.{◌≡◌, sym, ◌∙◌, subst, rules, arith, ℤ, FitsSigned, to_z}
+use Rattle.std.proofs.Common.{◌≡◌, subst, rules, arith, FitsSigned, to_z}
 use Rattle.std.specs.Int.{w64}
 use Rattle.krb_der.specs.Integer.{integer_value}
 use Rattle.krb_der.proofs.Integers.{stopped, done}

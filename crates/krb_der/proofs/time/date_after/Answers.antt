@@ -1,4 +1,4 @@
-use Rattle.std.proofs.Common.{◌≡◌, arith, pos, ◌+ℤ◌, ℕ}
+use Rattle.std.proofs.Common.{◌≡◌, arith, pos, ◌+ℤ◌}
 use Rattle.std.proofs.lemmas.Int.{ints}
 use Rattle.std.proofs.lemmas.Result.{IfOk-at_ok}
 use Rattle.jiff_core.specs.declared.civil.date.Date.{Date}

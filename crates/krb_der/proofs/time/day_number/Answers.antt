@@ -1,4 +1,4 @@
-use Rattle.std.proofs.Common.{arith, ◌≤ℤ◌, pos, ℤ}
+use Rattle.std.proofs.Common.{arith, ◌≤ℤ◌, pos}
 use Rattle.std.proofs.lemmas.Int.{ints}
 use Rattle.krb_der.proofs.Moments.{day_from_zero}
 use Rattle.krb_der.proofs.time.day_number.Goals as goal

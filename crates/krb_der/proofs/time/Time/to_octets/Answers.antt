@@ -1,6 +1,5 @@
-use Rattle.std.proofs.Common.{◌≡◌, ◌∙◌, ap, sym, subst, arith, ℤ, pos, negsuc, ◌≤ℤ◌, ◌+ℤ◌}
+use Rattle.std.proofs.Common.{◌≡◌, ◌∙◌, sym, subst, arith, pos, negsuc, ◌≤ℤ◌}
 use Rattle.jiff_core.proofs.SignedLemmas.{signed_arith}
-use Rattle.std.proofs.lemmas.Int.{ints}
 use Rattle.krb_der.specs.Moment.{SpellsMoment, IsTime}
 use Rattle.krb_der.proofs.Moments.{time_is_spelled, time_octets_from, abs_of_not_negative}
 use Rattle.krb_der.proofs.time.Time.to_octets.Goals as goal
