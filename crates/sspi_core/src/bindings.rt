@@ -1,6 +1,6 @@
 //! Channel bindings (RFC 2743 section 1.1.6), which tie a context to the channel below it.
 
-ghost use Rattle.std.specs.Prelude.{◌≡◌, ◌↔◌, ◌+◌, ◌≤◌, length, IfOk, IsTrue, MatchOption, false};
+ghost use Rattle.std.specs.Prelude.{◌≡◌, ◌↔◌, ◌+◌, ◌≤◌, length, IfOk, IsOkUnless, IsTrue, MatchOption, false};
 ghost use Rattle.sspi_core.specs.BindingParts.{word, is_inside, part};
 ghost use Rattle.sspi_core.specs.Kinds.{error_of};
 
@@ -27,6 +27,7 @@ impl ChannelBindings {
     /// Reads eight numbers of four octets, the lowest octet first: type, length and place of the initiator's address, the same of the acceptor's, length and place of the application's data. Places count from the first octet of the numbers. Refused as `Bindings` exactly where a number is missing or a part reaches past the end.
     pub fn from_bytes(alloc: Global, octets: &[u8]) -> Result<ChannelBindings, Error>
         ensures read { IfOk result (λ read. IsTrue (is_bindings octets.now) × (read ≡ bindings octets.now)) }
+        ensures inside { IsTrue (is_bindings octets.now) → IsOkUnless result (error_of Cause.Memory) }
         ensures outside { (result ≡ Err (error_of Cause.Bindings)) ↔ (is_bindings octets.now ≡ false) }
     {
         if octets.len() < 32 {

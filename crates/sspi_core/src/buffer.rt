@@ -1,6 +1,6 @@
 //! A buffer of a message: what it holds, and how much it can hold.
 
-ghost use Rattle.std.specs.Prelude.{◌≡◌, ◌≤◌, ◌<◌, length, MatchResult};
+ghost use Rattle.std.specs.Prelude.{◌≡◌, ◌≤◌, ◌<◌, length, IsOkUnless, OnErr, OnOk};
 ghost use Rattle.sspi_core.specs.Buffer.{Buffer, is_part, is_readonly_alone, no_flags};
 ghost use Rattle.sspi_core.specs.Kinds.{error_of};
 
@@ -150,10 +150,10 @@ impl SecurityBufferRef {
 
     /// Puts other octets into the buffer. They are refused as `TooSmall` exactly where they are longer than the limit, and a refusal leaves the buffer.
     pub fn write_data(&mut self, alloc: Global, octets: &[u8]) -> Result<(), Error>
-        ensures result { MatchResult result
-            (λ _. (length octets.now ≤ self.old.limit) × (self.new ≡ record self.old { octets = octets.now }))
-            (λ e. (self.new ≡ self.old) × (e ≡ error_of Cause.TooSmall → self.old.limit < length octets.now)) }
+        ensures ok { OnOk result ((length octets.now ≤ self.old.limit) × (self.new ≡ record self.old { octets = octets.now })) }
+        ensures err { OnErr result (self.new ≡ self.old) }
         ensures too_small { self.old.limit < length octets.now → result ≡ Err (error_of Cause.TooSmall) }
+        ensures fits { length octets.now ≤ self.old.limit → IsOkUnless result (error_of Cause.Memory) }
     {
         if octets.len() > self.limit {
             return Err(Error::from(Cause::TooSmall));
