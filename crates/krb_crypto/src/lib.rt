@@ -1,4 +1,15 @@
 //! The AES suites of Kerberos (RFC 3961, RFC 3962): sealed texts, checksums, derived keys and password keys.
+//!
+//! A text is sealed under a suite, a key and a usage, behind a confounder of 16 random octets that the caller draws:
+//!
+//! ```text
+//! let suite = CipherSuite::try_from(18)?;
+//! let text = encrypt(alloc, suite, key, usage, confounder, plain)?;
+//! let same = decrypt(alloc, suite, key, usage, text.as_slice())?;
+//! ```
+//!
+//! Each such call derives the keys of the usage anew. Whoever seals or opens many texts keeps a `SealingKey`, which holds
+//! them derived and expanded. Nothing here runs in constant time: AES goes by table look-ups, which leak through the cache.
 #![tactic(auto)]
 
 mod checksum;
