@@ -3,8 +3,7 @@ EXAMPLE ?= examples/lines
 
 .PHONY: run test
 run:
-	@if [ -d crates/krb_run ]; then cd crates/krb_run && rt run -- serve < ../../$(EXAMPLE); \
-	else echo "The program is not built yet: there is no crates/krb_run."; fi
+	cd crates/krb_run && rt run -- serve < ../../$(EXAMPLE)
 
 test:
 	rt ci

@@ -1,5 +1,5 @@
 -- What is written with the last line.
-use Rattle.std.proofs.Common.{◌≡◌, ◌≢◌, ℕ, ◌+◌, ◌≤◌, ◌⊎◌, inl, inr, Bool, true, false, List, [], ◌∷◌, ◌++◌, length, Option, Some, None, IfSome, is_some, refl, ap, sym, ◌∙◌, subst}
+use Rattle.std.proofs.Common.{◌≡◌, ◌≢◌, ℕ, ◌+◌, ◌≤◌, ◌⊎◌, inl, inr, Bool, true, false, List, [], ◌∷◌, ◌++◌, length, Option, Some, None, IfSome, is_some, refl, ap, sym, ◌∙◌, subst, arith}
 use Rattle.std.specs.Prelude.{if◌then◌else◌}
 use Rattle.std.specs.Io.KnownBytes.{Consumes, Appends}
 use Rattle.std.proofs.lemmas.List.{append-nil}
@@ -149,4 +149,4 @@ Appends-nothing (Some xs) = sym (append-nil xs)
 -- nothing is read or written
 pub serves-nothing : (left before : Option (List ℕ)) → Serves left left before before BadWords
 serves-nothing None before = tt
-serves-nothing (Some input) before = ([], [], refl, Appends-nothing before, (refl, refl))
+serves-nothing (Some input) before = ([], [], (refl, omega arith), Appends-nothing before, (refl, refl))

@@ -8,7 +8,7 @@ use Rattle.krb_text.specs.Lines.{Cut, cut, lines, unended}
 use Rattle.krb_text.specs.Cutter.{is_unbroken, IsLine}
 use Rattle.krb_text.specs.Output.{IsFront, AppendsFront}
 use Rattle.krb_text.specs.Script.{Declared, Reading, nothing_declared, declare_line, read_lines, read_on, reading_at, reading_of, is_long}
-use Rattle.krb_text.specs.Reader.{Reader, new_reader, ahead, IsBetweenLines, TakesLine, TakesRest, LongComes}
+use Rattle.krb_text.specs.Reader.{Reader, new_reader, ahead, IsBetweenLines, IsWithin, CutsOn, TakesLine, TakesRest, LongComes}
 use Rattle.krb_text.specs.declared.stop.Stop.{Stop}
 use Rattle.krb_text.specs.declared.stop.Stop.TheVariants.{Whole, Bad, Long}
 use Rattle.krb_text.specs.declared.status.Status.TheVariants.{ReadFault as ReadStatus, WriteFault as WriteStatus}
@@ -17,7 +17,7 @@ use Rattle.krb_text.proofs.OutputLemmas.{Appends-trans, AppendsFront-next}
 use Rattle.krb_service.specs.Policy.{State}
 use Rattle.krb_service.specs.Reply.{replies_text}
 use Rattle.krb_service.specs.Text.{Answered, IsText, IsStopped, first_events, stopped_line}
-use Rattle.krb_service.specs.Serve.{Written, IsCutShort, whole_reading, IsSound}
+use Rattle.krb_service.specs.Serve.{Written, IsCutShort, IsTaken, whole_reading, IsSound}
 use Rattle.krb_service.specs.Progress.{Progress, Takes, Refuses}
 use Rattle.krb_service.specs.Halts.{Halts, HaltsAt, EndsAt, StopsAt, Follows}
 use Rattle.krb_service.specs.declared.halt.Halt.{Halt}
@@ -44,11 +44,14 @@ known_rest (Some input) (Some coming) (Some l) handled rest p q =
     let whole : input ≡ handled ++ (rest ++ l) = p ∙ ap (λ c. handled ++ c) q in
     (l, whole, whole ∙ sym (append_assoc handled rest l), λ e. e)
 
+taken_length : (handled bytes pending : List ℕ) → length ((handled ++ bytes) ++ pending) ≡ length handled + length bytes + length pending
+taken_length handled bytes pending = length-append (handled ++ bytes) pending ∙ ap (λ n. n + length pending) (length-append handled bytes)
+
 -- a short line comes next
 pub record Coming (b : Option (List ℕ)) (input : List ℕ) (so_far : Declared) (n : ℕ) (line : List ℕ) : Type 0 where
   pub taken : List ℕ
   pub more : List (List ℕ)
-  pub consumed : Consumes (Some input) b taken
+  pub consumed : IsTaken input b taken
   pub total : ℕ
   pub at : ℕ
   pub is : reading_of input ≡ read_lines total at n so_far (line ∷ more)
@@ -65,10 +68,12 @@ comes-whole left front before now old new a b progress line front_is s t =
     map_some _ (λ input. Coming b input s.so_far (progress.lines + 1) line) left (λ input k.
     let coming : (line ++ 10 ∷ []) ++ k.0 ≡ line ++ 10 ∷ k.0 = append_assoc line (10 ∷ []) k.0 in
     let count = s.count in let within = t.within in
+    let bound = t.bound in let taken_is = ap (λ c. c.taken) t.ready in
+    let len = taken_length s.handled (line ++ 10 ∷ []) new.pending in let line_len = length-append line (10 ∷ []) in
     record {
       taken = (s.handled ++ (line ++ 10 ∷ [])) ++ new.pending;
       more = lines k.0;
-      consumed = k.2;
+      consumed = (k.2, omega arith);
       total = length input;
       at = length s.handled;
       is = reading-ahead left front before now old.cutting.taken progress s input (line ++ 10 ∷ k.0) (k.1 ∙ ap (λ l. s.handled ++ l) coming)
@@ -95,7 +100,7 @@ last_line_comes left front before now old new a b progress line front_is s t som
       coming = record {
         taken = s.handled ++ line;
         more = [];
-        consumed = k.2;
+        consumed = (k.2, let l = length-append s.handled line in omega arith);
         total = length input;
         at = length s.handled;
         is = reading-ahead left front before now old.cutting.taken progress s input line whole
@@ -151,17 +156,18 @@ exit-memory left front before now b octets progress after line s comes same =
 
 -- memory runs out at the reading of a line
 pub exit-read_memory : (left front before now : Option (List ℕ)) (old new : Reader) (a b : Option (List ℕ)) (progress : Progress) (bytes : List ℕ) → front ≡ ahead old a
-    → (s : Standing left front before now old.cutting.taken progress) → Consumes (ahead old a) (ahead new b) bytes → Halts left b before now progress OutOfMemory
-exit-read_memory left front before now old new a b progress bytes front_is s moved =
+    → (s : Standing left front before now old.cutting.taken progress) → CutsOn old new a b bytes → IsWithin new → Halts left b before now progress OutOfMemory
+exit-read_memory left front before now old new a b progress bytes front_is s moved within =
+    let bound : length ((s.handled ++ bytes) ++ new.pending) ≤ max_input + 1 = let count = s.count in let cut_count = moved.1 in let len = taken_length s.handled bytes new.pending in omega arith in
     map_some _ _ left (λ input k. (
       (s.handled ++ bytes) ++ new.pending,
       replies_text s.replies,
-      k.2,
+      (k.2, bound),
       s.written,
       stops_at left front before now old.cutting.taken progress progress s input refl
           (grown input (length input) (length s.handled) (progress.lines + 1) s.so_far (lines (bytes ++ k.0)) (reading-ahead left front before now old.cutting.taken progress s input (bytes ++ k.0) k.1)),
     ))
-    (known_cut left front b new.pending s.handled bytes s.consumed (rw front_is moved))
+    (known_cut left front b new.pending s.handled bytes s.consumed (rw front_is moved.0))
 
 -- a write fails at the reply to the line
 pub exit-write : (left front before now last b : Option (List ℕ)) (octets : ℕ) (progress after : Progress) (line written : List ℕ) (s : Standing left front before now octets progress)
@@ -197,9 +203,10 @@ read-long total at n so_far line rest e = rw e refl
 
 -- a long line comes
 pub exit-long : (left front before now : Option (List ℕ)) (old new : Reader) (a b : Option (List ℕ)) (progress : Progress) (bytes : List ℕ) → front ≡ ahead old a
-    → (s : Standing left front before now old.cutting.taken progress) → IfSome (ahead old a) (λ octets. LongComes old.cutting.taken octets) → Consumes (ahead old a) (ahead new b) bytes
+    → (s : Standing left front before now old.cutting.taken progress) → IfSome (ahead old a) (λ octets. LongComes old.cutting.taken octets) → CutsOn old new a b bytes → IsWithin new
     → Halts left b before now progress LongLine
-exit-long left front before now old new a b progress bytes front_is s long moved =
+exit-long left front before now old new a b progress bytes front_is s long moved within =
+    let bound : length ((s.handled ++ bytes) ++ new.pending) ≤ max_input + 1 = let count = s.count in let cut_count = moved.1 in let len = taken_length s.handled bytes new.pending in omega arith in
     let F : List ℕ → Type 0 = λ octets. LongComes old.cutting.taken octets in
     let Q : Option (List ℕ) → Type 0 = λ o. IfSome o F in
     map_some _ _ left (λ input k.
@@ -211,8 +218,8 @@ exit-long left front before now old new a b progress bytes front_is s long moved
     let is = reading-ahead left front before now old.cutting.taken progress s input k.0 k.1
     ∙ ap (λ l. read_lines (length input) (length s.handled) (progress.lines + 1) s.so_far l) k.2.2
     ∙ read-long (length input) (length s.handled) (progress.lines + 1) s.so_far k.2.0 k.2.1 is_long_line in
-    ((s.handled ++ bytes) ++ new.pending, replies_text s.replies, k.3, s.written, record { so_far = s.so_far; reading = is; replies = s.replies; follows = s.follows; is = refl }))
-    (long_input left front b F new.pending s.handled bytes s.consumed (subst Q (sym front_is) long) (rw front_is moved))
+    ((s.handled ++ bytes) ++ new.pending, replies_text s.replies, (k.3, bound), s.written, record { so_far = s.so_far; reading = is; replies = s.replies; follows = s.follows; is = refl }))
+    (long_input left front b F new.pending s.handled bytes s.consumed (subst Q (sym front_is) long) (rw front_is moved.0))
 
 -- a read fails
 pub exit-read : (left front before now : Option (List ℕ)) (old new : Reader) (a b : Option (List ℕ)) (progress : Progress) (rest : List ℕ) → front ≡ ahead old a
@@ -228,7 +235,7 @@ exit-read left front before now old new a b progress rest front_is s t =
     let sound : IsSound taken = (ap (λ (r : Reading). r.stop) is, omega (arith, rest_is), omega (arith, len)) in
     let all = all-answered progress s.so_far s.replies s.follows.state in
     let D : Declared → Type 0 = λ d. (after : State) × Answered d (replies_text s.replies) after in
-    map_some _ _ left (λ input k. (taken, replies_text s.replies, k.2, s.written, (sound, subst D (sym (ap (λ (r : Reading). r.so_far) is)) all)))
+    map_some _ _ left (λ input k. (taken, replies_text s.replies, (k.2, omega (arith, len)), s.written, (sound, subst D (sym (ap (λ (r : Reading). r.so_far) is)) all)))
     (known_rest left front b s.handled rest s.consumed (rw front_is t.consumed))
 
 -- the input is at its end, and no octets stand behind the last 0A
@@ -238,7 +245,8 @@ exit-end left front before now old new a b progress rest front_is s t at_end non
     map_some _ _ left (λ input k.
     let whole : input ≡ s.handled ++ rest = k.1 ∙ ap (λ m. s.handled ++ (rest ++ m)) (k.3 at_end) ∙ ap (λ l. s.handled ++ l) (append-nil rest) in
     let is = reading-ahead left front before now old.cutting.taken progress s input rest whole ∙ ap (λ l. read_lines (length input) (length s.handled) (progress.lines + 1) s.so_far (lines l)) none in
-    (s.handled ++ rest, replies_text s.replies, k.2, s.written, (record { so_far = s.so_far; reading = is; replies = s.replies; follows = s.follows; is = refl }, sym whole)))
+    let count = s.count in let within = t.within in let l = length-append s.handled rest in
+    (s.handled ++ rest, replies_text s.replies, (k.2, omega arith), s.written, (record { so_far = s.so_far; reading = is; replies = s.replies; follows = s.follows; is = refl }, sym whole)))
     (known_rest left front b s.handled rest s.consumed (rw front_is t.consumed))
 
 -- the last line is answered

@@ -1,6 +1,6 @@
 -- Where the answering of lines ends, and what it has read and written then.
 use Rattle.std.specs.Prelude.{◌≡◌, ◌<◌, ◌≤◌, ◌+◌, List, [], ℕ, Option, Some, None, IfSome, length, is_some, true, ◌⊎◌}
-use Rattle.std.specs.Io.KnownBytes.{Appends, Consumes}
+use Rattle.std.specs.Io.KnownBytes.{Appends}
 use Rattle.krb_text.specs.Script.{Declared, reading_of}
 use Rattle.krb_text.specs.declared.stop.Stop.{Stop}
 use Rattle.krb_text.specs.declared.stop.Stop.TheVariants.{Whole, Bad, Long}
@@ -9,7 +9,7 @@ use Rattle.krb_service.specs.Policy.{State, Runs, service_of}
 use Rattle.krb_service.specs.Reply.{replies_text}
 use Rattle.krb_service.specs.Text.{Answered, first_events}
 use Rattle.krb_service.specs.Progress.{Progress}
-use Rattle.krb_service.specs.Serve.{Written}
+use Rattle.krb_service.specs.Serve.{Written, IsTaken}
 use Rattle.krb_service.specs.declared.reply.Reply.{Reply}
 use Rattle.krb_service.specs.declared.halt.Halt.{Halt}
 use Rattle.krb_service.specs.declared.halt.Halt.TheVariants.{End, BadLine, LongLine, ReadFault as ReadHalt, WriteFault, OutOfMemory}
@@ -58,4 +58,4 @@ HaltsAt input taken written progress OutOfMemory = StopsAt input written progres
 
 abbrev pub Halts : Option (List ℕ) → Option (List ℕ) → Option (List ℕ) → Option (List ℕ) → Progress → Halt → Type 0
 Halts left left_after before after progress halt =
-    IfSome left (λ input. (taken written : List ℕ) × Consumes (Some input) left_after taken × Appends before after written × HaltsAt input taken written progress halt)
+    IfSome left (λ input. (taken written : List ℕ) × IsTaken input left_after taken × Appends before after written × HaltsAt input taken written progress halt)

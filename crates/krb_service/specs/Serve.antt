@@ -43,7 +43,11 @@ Written input taken WriteFault written = IsCutShort input written
 Written input taken OutOfMemory written = IsStopped input written
 Written input taken BadWords written = (taken ≡ []) × (written ≡ [])
 
+-- a front of the input is taken, of which no more is looked at than one octet past the limit
+abbrev pub IsTaken : List ℕ → Option (List ℕ) → List ℕ → Type 0
+IsTaken input left_after taken = Consumes (Some input) left_after taken × (length taken ≤ max_input + 1)
+
 -- of the input that the source had left, a front is taken, and the sink has taken what the status says, where they tell
 abbrev pub Serves : Option (List ℕ) → Option (List ℕ) → Option (List ℕ) → Option (List ℕ) → Status → Type 0
 Serves left left_after before after status =
-    IfSome left (λ input. (taken written : List ℕ) × Consumes (Some input) left_after taken × Appends before after written × Written input taken status written)
+    IfSome left (λ input. (taken written : List ℕ) × IsTaken input left_after taken × Appends before after written × Written input taken status written)

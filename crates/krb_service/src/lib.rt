@@ -15,3 +15,6 @@ pub use krb_text::{
 };
 pub use reply::Reply;
 pub use service::Service;
+
+#[cfg(test)]
+mod tests;

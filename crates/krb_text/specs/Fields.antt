@@ -6,7 +6,7 @@ use Rattle.std.specs.Str.{bytes_eq}
 use Rattle.std.specs.Result.{result_ok}
 use Rattle.std.specs.Int.RustNames.{bit_or}
 use Rattle.hex.specs.Hex.{decode_of, decode_sized}
-use Rattle.krb_text.specs.declared.flags.ClientRequestFlags.{ClientRequestFlags}
+use Rattle.sspi_core.specs.declared.flags.ClientRequestFlags.{ClientRequestFlags}
 
 -- decimal digits, with no leading zero
 abbrev pub is_decimal : List ℕ → Bool
@@ -67,9 +67,13 @@ are_flags text = nat_lt 0 (length text) && list_all is_flag text && is_distinct 
 abbrev pub flag_bits : List ℕ → ℕ
 flag_bits text = fold (λ bits letter. bit_or bits (flag_bit letter)) 0 text
 
+-- the set of flags that has these bits
+abbrev pub flags_from : ℕ → ClientRequestFlags
+flags_from bits = record { 0 = bits }
+
 -- flags by their letters, where `-` stands for none
 abbrev pub flags_of : List ℕ → Option ClientRequestFlags
 flags_of text =
-    if bytes_eq text (codes "-") then Some (record { bits = 0 })
-    else if are_flags text then Some (record { bits = flag_bits text })
+    if bytes_eq text (codes "-") then Some (flags_from 0)
+    else if are_flags text then Some (flags_from (flag_bits text))
     else None

@@ -2,13 +2,14 @@
 ghost use Rattle.std.specs.Prelude.{◌≡◌, ◌<◌, ◌≤◌, ◌^◌, ◌∷◌, length};
 ghost use Rattle.std.specs.Char.{is_ascii_digit, is_ascii_graphic};
 ghost use Rattle.std.specs.List.{list_all};
-ghost use Rattle.krb_text.specs.Fields.{is_decimal, decimal_up_to, u32_of, octets_of, octets_or_none_of, is_name, name_of, is_distinct, is_flag, are_flags, flags_of, random_of, flag_bit, flag_bits};
+ghost use Rattle.krb_text.specs.Fields.{is_decimal, decimal_up_to, u32_of, octets_of, octets_or_none_of, is_name, name_of, is_distinct, is_flag, are_flags, flags_of, random_of, flag_bit, flag_bits, flags_from};
 ghost use Rattle.krb_text.specs.Gives.{Gives};
 ghost use Rattle.krb_text.specs.declared.fields.FieldError.TheVariants.{OutOfMemory as NoMemory};
 
-use crate::flags::ClientRequestFlags;
+use bitflags::Flags;
 use hex::{FromHex, FromHexError};
 use krb_der::Octets;
+use sspi_core::ClientRequestFlags;
 use std::alloc::{AllocError, AllocFailed, Global};
 
 /// Why a field or a line could not be read.
@@ -189,15 +190,21 @@ fn are_flags(text: &[u8]) -> bool
     !text.is_empty() && all_are_flags(text) && is_distinct(text)
 }
 
+fn flags_from(bits: u32) -> ClientRequestFlags
+    ensures { result ≡ flags_from bits }
+{
+    ClientRequestFlags::from_bits_retain(bits)
+}
+
 /// Flags by their letters, each once; `-` stands for none.
 pub fn flags(text: &[u8]) -> Result<ClientRequestFlags, FieldError>
     ensures { Gives (flags_of text.now) result }
 {
     if text == b"-".as_slice() {
-        return Ok(ClientRequestFlags::from_bits(0));
+        return Ok(flags_from(0));
     }
     if !are_flags(text) {
         return Err(FieldError::Bad);
     }
-    Ok(ClientRequestFlags::from_bits(flag_bits(text)))
+    Ok(flags_from(flag_bits(text)))
 }

@@ -7,8 +7,8 @@ ghost use Rattle.krb_text.specs.Gives.{Gives};
 use crate::fields::{
     FieldError, flags, name, number, number_u32, octets, octets_or_none, random_octets,
 };
-use crate::flags::ClientRequestFlags;
 use krb_der::Octets;
+use sspi_core::ClientRequestFlags;
 use std::alloc::{AllocError, Global};
 
 /// An acceptor.

@@ -3,7 +3,6 @@
 
 mod cutter;
 mod fields;
-mod flags;
 mod item;
 mod lines;
 mod output;
@@ -16,7 +15,6 @@ mod words;
 
 pub use cutter::{CutFault, LineCutter};
 pub use fields::FieldError;
-pub use flags::ClientRequestFlags;
 pub use item::{Acceptor, Event, Input, Item, Key, parse_item};
 pub use lines::is_skipped;
 pub use output::write_line;
@@ -28,3 +26,6 @@ pub use script::Script;
 pub use status::Status;
 pub use stop::Stop;
 pub use words::Words;
+
+#[cfg(test)]
+mod tests;

@@ -1,0 +1,47 @@
+//! What the program prints of itself.
+
+pub const VERSION: &str = "krb_run 0.1.0\n";
+
+pub const HELP: &str = "\
+krb_run answers the events of a Kerberos service, one line of text for each.
+
+    krb_run serve        reads lines on standard input, and writes the reply to each event before it reads on
+    krb_run threads      the same on two threads: not built yet
+    krb_run demo <n>     a made input of n events: not built yet
+    krb_run --help       this text
+    krb_run --version    the version
+
+Lines, with one space between two fields; a line that is empty or begins with # is only counted:
+
+    skew <seconds>                                 first, once: the clock skew that is allowed, 0 to 86400
+    acceptor <id> <number> <host> <service>        an acceptor, and its first sequence number
+    key <id> <service> <hex>                       the key of an acceptor for its own service
+    event <id> <moment> <random> <flags> <input>   an event at a connection
+
+An id and a number have at most 32 bits. A moment is in microseconds since 1970-01-01T00:00:00Z. The random octets are
+64, in hex. Flags are letters, each once, or - for none: D delegate, M mutual, R replay, S sequence, C confidentiality,
+K use session key, E DCE style, I integrity, N no integrity. An input is token <hex>, where - stands for no octets. The
+inputs start, reply, fault, wrap, unwrap, mic and verify are not built yet. Behind the first event only events stand.
+
+Replies:
+
+    ok <hex>, continue <hex>     the event was taken; the token for the peer, or -
+    refused <kind> <cause>       it was not
+
+The last line is one of these:
+
+    end <admitted> <kept>        the input is at its end: how many events admitted their peer, and how many records are kept
+    bad line <n>                 line n is not in the table, or not where it may stand
+    long line <n>                line n has more than 1048576 octets, or the input more than 1073741824
+    stopped <n>                  memory ran out behind the replies to n events
+
+Exit status:
+
+    0    the whole input was answered
+    2    other words than these
+    3    a bad line
+    4    a read failed
+    5    a write failed
+    6    memory ran out
+    7    a long line
+";
