@@ -1,4 +1,15 @@
-//! A Kerberos service over lines of text: it reads its input, and writes one line for each event.
+//! A Kerberos service over lines of text.
+//!
+//! [`serve`] reads lines from a source, answers each event as its line comes, and writes the reply before it reads on:
+//!
+//! ```
+//! let mut source = SureSource::new(b"skew 300\n");
+//! let mut sink = MemSink::new(alloc, Calls::sound(alloc));
+//! let status = serve(alloc, &words, &mut source, &mut sink); // Done, and the sink has taken `end 0 0`
+//! ```
+//!
+//! How a call ends, and what it has written then, is its contract: `specs/Serve.antt` has a line for each status. What a
+//! service answers to an event is the policy machine's: `specs/Policy.antt`.
 #![tactic(auto)]
 
 mod closing;
@@ -15,6 +26,3 @@ pub use krb_text::{
 };
 pub use reply::Reply;
 pub use service::Service;
-
-#[cfg(test)]
-mod tests;

@@ -1,4 +1,13 @@
-//! Lines of text in and out: the outside, the cutting into lines, the table of lines and what they declare.
+//! Lines of text in and out.
+//!
+//! A [`Source`] gives an input in pieces. A [`LineReader`] cuts it into lines, [`parse_item`] says what a line declares,
+//! and a [`Script`] keeps what the lines before the first event declare. Text goes to a [`Sink`] by [`write_line`].
+//!
+//! ```
+//! let mut cutter = LineCutter::new(alloc);
+//! cutter.feed(b"ab\nc")?; // 3: it takes the piece up to and with its first 0A
+//! cutter.ready()           // Some(b"ab")
+//! ```
 #![tactic(auto)]
 
 mod cutter;
