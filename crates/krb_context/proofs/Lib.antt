@@ -1,2 +1,4 @@
+pub mod AsciiLemmas
+pub mod KdcLemmas
 pub mod PlaceLemmas
 pub mod WindowLemmas

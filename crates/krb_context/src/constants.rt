@@ -5,9 +5,6 @@ use krb_crypto::CipherSuite;
 /// The name of the package.
 pub const PKG_NAME: &str = "Kerberos";
 
-/// The version of the protocol.
-pub const KERBEROS_VERSION: u8 = 5;
-
 /// The first component of the name of a ticket-granting service.
 pub const TGT_SERVICE_NAME: &str = "krbtgt";
 

@@ -1,16 +1,26 @@
 //! Contexts, and the messages that they seal.
 #![tactic(auto)]
 
+mod config;
 mod constants;
+mod context;
+mod equal;
+mod kept;
 mod params;
+mod server;
 mod state;
 mod window;
 
+pub use config::{KerberosServerConfig, ProtocolConfig};
 pub use constants::{
-    CHANGE_PASSWORD_SERVICE_NAME, DEFAULT_ENCRYPTION_TYPE, KADMIN, KERBEROS_VERSION, MAX_SIGNATURE,
-    MAX_TOKEN, PKG_NAME, RRC, SECURITY_TRAILER, TGT_SERVICE_NAME,
+    CHANGE_PASSWORD_SERVICE_NAME, DEFAULT_ENCRYPTION_TYPE, KADMIN, MAX_SIGNATURE, MAX_TOKEN,
+    PKG_NAME, RRC, SECURITY_TRAILER, TGT_SERVICE_NAME,
 };
+pub use context::{ContextChange, Kerberos};
+pub use kept::KeptKey;
+pub use krb_messages::constants::KERBEROS_VERSION;
 pub use krb_options::{ApOptions, GssFlags, KdcOptions};
-pub use params::{ACCEPTOR_SEAL, ACCEPTOR_SIGN, EncryptionParams, INITIATOR_SEAL, INITIATOR_SIGN};
+pub use params::EncryptionParams;
+pub use server::ServerProperties;
 pub use state::KerberosState;
 pub use window::{NumberVerdict, NumberWindow};

@@ -6,20 +6,9 @@ ghost use Rattle.krb_context.specs.Params.{default_params, suite_of, size_of, ke
 use crate::constants::DEFAULT_ENCRYPTION_TYPE;
 use krb_crypto::{AesSize, CipherSuite};
 use krb_der::{Octets, OutOfMemory, TryCopy};
+use krb_messages::constants::{ACCEPTOR_SEAL_USAGE, INITIATOR_SEAL_USAGE};
 use sspi_core::Secret;
 use std::alloc::Global;
-
-/// The usage of an acceptor's wrap tokens (RFC 4121, section 2).
-pub const ACCEPTOR_SEAL: u32 = 22;
-
-/// The usage of an acceptor's MIC tokens.
-pub const ACCEPTOR_SIGN: u32 = 23;
-
-/// The usage of an initiator's wrap tokens.
-pub const INITIATOR_SEAL: u32 = 24;
-
-/// The usage of an initiator's MIC tokens.
-pub const INITIATOR_SIGN: u32 = 25;
 
 /// The suite and the keys of a context, and the filler of its sealed messages.
 ///
@@ -57,14 +46,14 @@ impl EncryptionParams {
     pub fn default_for_client() -> EncryptionParams
         ensures { result ≡ default_params 24 22 }
     {
-        EncryptionParams::with_usages(INITIATOR_SEAL, ACCEPTOR_SEAL)
+        EncryptionParams::with_usages(INITIATOR_SEAL_USAGE, ACCEPTOR_SEAL_USAGE)
     }
 
     /// Those of an acceptor before the exchange: no suite, no keys and no filler.
     pub fn default_for_server() -> EncryptionParams
         ensures { result ≡ default_params 22 24 }
     {
-        EncryptionParams::with_usages(ACCEPTOR_SEAL, INITIATOR_SEAL)
+        EncryptionParams::with_usages(ACCEPTOR_SEAL_USAGE, INITIATOR_SEAL_USAGE)
     }
 
     /// The size of the suite's keys, None exactly where no suite was chosen.
