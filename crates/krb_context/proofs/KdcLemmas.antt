@@ -1,6 +1,6 @@
 -- The KDC of a context.
 use Rattle.std.proofs.Common.{◌≡◌, List, sym, ap, ap₂, ◌∙◌}
-use Rattle.std.specs.Prelude.{ℕ, Option, Some, None, option_map}
+use Rattle.std.specs.Prelude.{ℕ, Option, Some, option_map}
 use Rattle.url.specs.Parts.{Parts}
 use Rattle.krb_conf.specs.declared.config.KerberosConfig.{KerberosConfig}
 use Rattle.krb_conf.specs.declared.env.Env.{Env}

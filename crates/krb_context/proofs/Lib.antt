@@ -1,4 +1,17 @@
 pub mod AsciiLemmas
+pub mod ChainLemmas
 pub mod KdcLemmas
+pub mod MicChecks
+pub mod MicLemmas
+pub mod OnceLemmas
+pub mod OpenLemmas
+pub mod PeerLemmas
 pub mod PlaceLemmas
+pub mod ReadyLemmas
+pub mod SizeLemmas
+pub mod TextLemmas
+pub mod TurnLemmas
+pub mod UnwrapLemmas
 pub mod WindowLemmas
+pub mod WrapLemmas
+pub mod WrappedLemmas

@@ -1,16 +1,15 @@
 -- A window judges and notes as the list that never forgets.
-use Rattle.std.proofs.Common.{◌≡◌, ℕ, ◌+◌, ◌-◌, ◌*◌, ◌/◌, ◌%◌, ◌^◌, ◌<◌, ◌≤◌, ℤ, pos, ◌+ℤ◌, ◌-ℤ◌, ◌<ℤ◌, ◌≤ℤ◌, Bool, true, false, List, [], ◌∷◌, ◌++◌, refl, sym, ap, ap₂, max, ◌∙◌, subst, inl, inr, arith}
-use Rattle.std.specs.Prelude.{◌≢◌, Option, Some, None, ◌||◌, ◌==◌, int_lt, nat_lt, nat_le, bit_or, IsTrue, if◌then◌else◌}
+use Rattle.std.proofs.Common.{◌≡◌, ℕ, ◌+◌, ◌-◌, ◌*◌, ◌/◌, ◌%◌, ◌^◌, ◌<◌, ◌≤◌, ℤ, pos, ◌+ℤ◌, ◌-ℤ◌, ◌<ℤ◌, Bool, true, false, List, [], ◌∷◌, ◌++◌, refl, sym, ap, ap₂, max, ◌∙◌, subst, inl, inr, arith}
+use Rattle.std.specs.Prelude.{◌≢◌, Option, Some, None, ◌||◌, ◌==◌, int_lt, nat_lt, nat_le, bit_or, if◌then◌else◌}
 use Rattle.std.specs.Int.{bit_at, w64, int_max}
 use Rattle.std.specs.Ordering.{int_eq}
-use Rattle.std.proofs.lemmas.Bool.{cases_lt, lt-ltb, cases_eq, or_right, and_parts, both_ways, eqb-true, ne_eqb, ltb-true, leb-true, leb-false}
+use Rattle.std.proofs.lemmas.Bool.{cases_lt, lt-ltb, cases_eq, or_right, and_parts, both_ways, eqb-true, ne_eqb, leb-true, leb-false}
 use Rattle.std.proofs.Math.Nat.{pos_of_ne-zero}
 use Rattle.std.proofs.lemmas.Int.{ints, clamps}
 use Rattle.std.proofs.lemmas.Nat.{shr_split, pow_pos}
-use Rattle.std.proofs.lemmas.Nat.Bits.{bit_at_or, bit_at-zero, bit_at-lt, bit_at_cat_low, bit_at_cat_high, bit_at-pow_same, bit_at-pow_other, bit_at_set_same, bit_at_set_other}
-use Rattle.krb_context.specs.Places.{number_at, ahead, is_ahead, greatest, place_after, place_of, was_opened, verdict_after, verdict_of, opened}
+use Rattle.std.proofs.lemmas.Nat.Bits.{bit_at_or, bit_at-zero, bit_at-lt, bit_at_cat_low, bit_at_cat_high, bit_at-pow_other, bit_at_set_same, bit_at_set_other}
+use Rattle.krb_context.specs.Places.{number_at, ahead, is_ahead, greatest, place_after, was_opened, verdict_after, verdict_of, opened}
 use Rattle.krb_context.specs.Window.{Window, has_newest, has_bit, IsWindowOf, StandsAfter, StandsFor, judged, moved_up, noted}
-use Rattle.krb_context.specs.declared.window.NumberVerdict.{NumberVerdict}
 use Rattle.krb_context.specs.declared.window.NumberVerdict.TheVariants.{Fresh, Old, Repeated}
 use Rattle.krb_context.proofs.PlaceLemmas.{or_false, number_at-lt, number_at-plus, number_at-pos, top_of, greatest-push, was_opened-push, int_eq-same, int_eq-apart, none_above, newest_opened}
 

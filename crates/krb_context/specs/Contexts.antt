@@ -1,5 +1,5 @@
 -- Contexts: a new one, its number, its KDC, and what an exchange makes of it.
-use Rattle.std.specs.Prelude.{ℕ, ◌+◌, ◌%◌, ◌^◌, List, Bool, false, Option, Some, None, is_some, is_none, option_map, option_and_then}
+use Rattle.std.specs.Prelude.{ℕ, zero, suc, ◌+◌, ◌%◌, ◌^◌, List, Bool, false, Option, None, is_some, is_none, option_map, option_and_then}
 use Rattle.std.specs.Option.{option_or}
 use Rattle.url.specs.Parts.{Parts}
 use Rattle.krb_conf.specs.Kdc.{kdc_host, url_of}
@@ -40,6 +40,11 @@ is_peer_acceptor context = is_none context.server
 -- the number behind a number, going round
 abbrev pub next_number : ℕ → ℕ
 next_number number = (number + 1) % 2 ^ 32
+
+-- the number so many behind a number
+abbrev pub number_after : ℕ → ℕ → ℕ
+number_after number zero = number
+number_after number (suc times) = next_number (number_after number times)
 
 -- the URL of the KDC of a realm: the configured one, else the one that is found
 abbrev pub kdc_url_of : KerberosConfig → Env → List ℕ → Option Parts

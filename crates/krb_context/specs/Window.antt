@@ -1,5 +1,5 @@
 -- The window of numbers: the newest number, and a mask of the 64 places up to it.
-use Rattle.std.specs.Prelude.{◌≡◌, ℕ, ◌+◌, ◌-◌, ◌*◌, ◌%◌, ◌/◌, ◌^◌, ◌<◌, ◌==◌, nat_lt, nat_le, bit_or, ℤ, pos, ◌-ℤ◌, Bool, ◌&&◌, ◌||◌, List, Option, Some, None, if◌then◌else◌}
+use Rattle.std.specs.Prelude.{◌≡◌, ℕ, ◌*◌, ◌%◌, ◌^◌, ◌<◌, ◌==◌, nat_lt, nat_le, bit_or, ℤ, pos, ◌-ℤ◌, Bool, ◌||◌, List, Option, Some, None, if◌then◌else◌}
 use Rattle.std.specs.Int.{bit_at}
 use Rattle.krb_context.specs.declared.window.NumberVerdict.{NumberVerdict}
 use Rattle.krb_context.specs.declared.window.NumberVerdict.TheVariants.{Fresh, Old, Repeated}

@@ -1,4 +1,4 @@
-use Rattle.std.proofs.Common.{rules, ◌≡◌, sym, ap, ◌∙◌, arith}
+use Rattle.std.proofs.Common.{sym, ap, ◌∙◌, arith}
 use Rattle.std.specs.Prelude.{ℕ, List}
 use Rattle.krb_der.specs.Schema.{is_ascii}
 use Rattle.krb_context.proofs.AsciiLemmas.{not_all_ascii, each_ascii}

@@ -1,4 +1,4 @@
-use Rattle.std.proofs.Common.{rules, ◌≡◌, arith}
+use Rattle.std.proofs.Common.{arith}
 use Rattle.krb_context.proofs.AsciiLemmas.{not_all_ascii}
 use Rattle.krb_context.proofs.server.components.Goals as goal
 

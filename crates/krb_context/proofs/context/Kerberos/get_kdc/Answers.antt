@@ -1,6 +1,5 @@
-use Rattle.std.proofs.Common.{rules, ◌≡◌, sym, ap, ◌∙◌}
+use Rattle.std.proofs.Common.{sym, ap, ◌∙◌}
 use Rattle.std.specs.Prelude.{ℕ, List, Some, option_map}
-use Rattle.url.specs.Parts.{Parts}
 use Rattle.krb_context.proofs.KdcLemmas.{kdc_found}
 use Rattle.krb_context.proofs.context.Kerberos.get_kdc.Goals as goal
 

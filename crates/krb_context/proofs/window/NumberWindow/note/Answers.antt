@@ -1,6 +1,6 @@
-use Rattle.std.proofs.Common.{rules, ◌≡◌, ◌∙◌, ◌<◌, ◌^◌, ◌*◌, ◌%◌, sym, subst, arith}
+use Rattle.std.proofs.Common.{rules, ◌^◌, ◌*◌, ◌%◌, sym, subst, arith}
 use Rattle.std.specs.Prelude.{ℕ, IsTrue, bit_or}
-use Rattle.krb_context.specs.Window.{Window, has_newest, noted}
+use Rattle.krb_context.specs.Window.{has_newest}
 use Rattle.krb_context.proofs.WindowLemmas.{moved_up-newest, added-newest, notes_from}
 use Rattle.krb_context.proofs.window.NumberWindow.note.Goals as goal
 use Rattle.std.proofs.lemmas.Bool.{ne_eqb}

@@ -1,0 +1,20 @@
+use Rattle.std.proofs.Common.{rules, ◌-◌, length}
+use Rattle.sspi_core.specs.declared.cause.Cause.TheVariants.{Short}
+use Rattle.sspi_core.proofs.Chain.{held, chain, goes, answers}
+use Rattle.krb_context.specs.Unwraps.{is_long, Opens}
+use Rattle.krb_context.proofs.params.EncryptionParams.open.Goals as goal
+
+pub find-requires-clause-long : goal.find-requires-clause-long
+find-requires-clause-long c = held Short (is_long c.args.header.now (length c.args.text.now - 16)) tt c.in_ok-check_long.ensures
+
+pub returns-in_err-check_long : goal.returns-in_err-check_long
+unfolding Opens
+returns-in_err-check_long c = search (rules, chain)
+
+pub returns-in_err-check_room : goal.returns-in_err-check_room
+unfolding Opens
+returns-in_err-check_room c = search (rules, chain)
+
+pub returns : goal.returns
+unfolding Opens
+returns c = goes _ _ _ _ (answers _ _ c.in_ok-check_long.ensures) (goes _ _ _ _ (answers _ _ c.in_ok-check_room.ensures) c.find.ensures)

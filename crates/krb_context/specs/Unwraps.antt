@@ -1,0 +1,92 @@
+-- Unwrapping a message (RFC 4121, section 4.2.4): the checks in their order, and the text that the buffers spell.
+use Rattle.std.specs.Prelude.{ℕ, ◌+◌, ◌-◌, List, [], length, take, Bool, true, false, not, ◌&&◌, ◌||◌, ◌==◌, nat_le, Option, Some, None, Result, if◌then◌else◌}
+use Rattle.krb_crypto.specs.Suite.{key_size, kc}
+use Rattle.sspi_core.specs.declared.cause.Cause.{Cause}
+use Rattle.sspi_core.specs.declared.cause.Cause.TheVariants.{Sequence, Buffers, Header, Direction, ExtraCount, KeyLength, Short, Room, Altered, Old as OldCause, Repeated as RepeatedCause}
+use Rattle.sspi_core.specs.declared.buffer.Part.TheVariants.{Stream, Plain}
+use Rattle.sspi_core.specs.Buffer.{Buffer}
+use Rattle.sspi_core.specs.Checks.{Finds, Takes, Holds, Passes, Gives, ◌>>=◌, ◌>>◌}
+use Rattle.sspi_core.specs.Messages.{find_part, write, write_whole}
+use Rattle.krb_context.specs.declared.context.Kerberos.{Kerberos}
+use Rattle.krb_context.specs.declared.params.EncryptionParams.{EncryptionParams}
+use Rattle.krb_context.specs.declared.window.NumberVerdict.{NumberVerdict}
+use Rattle.krb_context.specs.declared.window.NumberVerdict.TheVariants.{Fresh, Old, Repeated}
+use Rattle.krb_context.specs.Contexts.{is_peer_acceptor}
+use Rattle.krb_context.specs.Header.{is_wrap_header, is_sealed, is_from, ec_of, number_of}
+use Rattle.krb_context.specs.Params.{suite_of}
+use Rattle.krb_context.specs.Parties.{ready_key, seal_usage, keys_of}
+use Rattle.krb_context.specs.Spelled.{spelled, has_part}
+use Rattle.krb_context.specs.Spelt.{Spelt, SpeltClear}
+use Rattle.krb_context.specs.Window.{judged}
+
+-- the header of a wrap token: 16 octets with its id and its filler
+abbrev pub header_of : List ℕ → Option (List ℕ)
+header_of text = if nat_le 16 (length text) && is_wrap_header (take 16 text) then Some (take 16 text) else None
+
+-- the filler of a sealed text is as long as the context's
+abbrev pub has_count : ℕ → List ℕ → Bool
+has_count ec h = not (is_sealed h) || ec_of h == ec
+
+-- the key is as long as the suite's keys are
+abbrev pub has_key_size : EncryptionParams → List ℕ → Bool
+has_key_size params key = length key == key_size (suite_of params)
+
+-- the checks of the header, and the header
+unfoldable pub Heads : EncryptionParams → List ℕ → Bool → List ℕ → Result (List ℕ) Cause → Type 0
+Heads params key peer text = do
+  header ← Takes Header (header_of text)
+  Holds Direction (is_from peer header)
+  Holds ExtraCount (has_count params.ec header)
+  Holds KeyLength (has_key_size params key)
+  Gives header
+
+-- what a body has beside the text: a confounder, the filler, the header's copy and the checksum, or the checksum alone
+abbrev pub extra_of : List ℕ → ℕ
+extra_of h = if is_sealed h then 44 + ec_of h else ec_of h
+
+-- a body of n octets is not empty, and has what stands beside the text
+abbrev pub is_long : List ℕ → ℕ → Bool
+is_long h n = nat_le 1 n && nat_le (extra_of h) n
+
+-- a text of n octets has room in the plain data; behind a stream it always has
+abbrev pub has_room : List Buffer → Buffer → ℕ → Bool
+has_room buffers plain n = has_part Stream buffers || nat_le n plain.limit
+
+abbrev pub SpeltBy : Bool → EncryptionParams → List ℕ → Bool → List Buffer → List ℕ → Type 0
+SpeltBy true params key peer buffers p = Spelt (keys_of params key peer) peer params.ec buffers p
+SpeltBy false params key peer buffers p = SpeltClear (kc (suite_of params) key (seal_usage peer)) peer buffers p
+
+-- the checks of the body, and the text that the buffers spell: sealed, or in the clear with its checksum
+unfoldable pub Opens : EncryptionParams → List ℕ → Bool → List Buffer → Buffer → List ℕ → List ℕ → Result (List ℕ) Cause → Type 0
+Opens params key peer buffers plain text header = do
+  Holds Short (is_long header (length text - 16))
+  Holds Room (has_room buffers plain (length text - 16 - extra_of header))
+  Finds Altered (λ p. SpeltBy (is_sealed header) params key peer buffers p)
+
+-- how a number is refused
+abbrev pub aged : NumberVerdict → Option Cause
+aged Fresh = None
+aged Old = Some OldCause
+aged Repeated = Some RepeatedCause
+
+-- all checks of a message whose token has this text, from a peer of this role
+unfoldable pub Receives : Kerberos → Bool → List Buffer → List ℕ → Result (List ℕ) Cause → Type 0
+Receives context peer buffers text = do
+  key ← Takes Sequence (ready_key context.state context.encryption_params)
+  plain ← Takes Buffers (find_part Plain buffers)
+  header ← Heads context.encryption_params key peer text
+  opened ← Opens context.encryption_params key peer buffers plain text header
+  Passes (aged (judged context.window (number_of header)))
+  Gives opened
+
+-- all checks of a message, and its text
+abbrev pub Unwraps : Kerberos → List Buffer → Result (List ℕ) Cause → Type 0
+Unwraps context buffers = Receives context (is_peer_acceptor context) buffers (spelled buffers)
+
+-- the number of a message
+abbrev pub message_number : List Buffer → ℕ
+message_number buffers = number_of (take 16 (spelled buffers))
+
+-- the buffers once p was taken out of them
+abbrev pub unwrapped : List ℕ → List Buffer → List Buffer
+unwrapped p buffers = if has_part Stream buffers then write_whole Stream [] (write_whole Plain p buffers) else write Plain p buffers

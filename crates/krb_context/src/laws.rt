@@ -1,0 +1,86 @@
+//! Laws of messages, of windows and of keys: public functions without parameters, whose clauses hold for all values.
+
+ghost use Rattle.std.specs.Prelude.{◌≡◌, ◌+◌, ◌%◌, ◌^◌, ◌<◌, ℕ, ℤ, List, length, Result, Ok, Err, Bool};
+ghost use Rattle.krb_aes.specs.Octets.{IsOctets};
+ghost use Rattle.krb_crypto.specs.SealingPair.{SealingPair};
+ghost use Rattle.krb_messages.specs.declared.principal_name.PrincipalName.{PrincipalName};
+ghost use Rattle.sspi_core.specs.Buffer.{Buffer};
+ghost use Rattle.sspi_core.specs.declared.buffer.Part.TheVariants.{Token, Plain};
+ghost use Rattle.sspi_core.specs.declared.cause.Cause.{Cause};
+ghost use Rattle.sspi_core.specs.declared.cause.Cause.TheVariants.{Direction};
+ghost use Rattle.krb_context.specs.declared.context.Kerberos.{Kerberos};
+ghost use Rattle.krb_context.specs.declared.server.ServerProperties.{ServerProperties};
+ghost use Rattle.krb_context.specs.declared.window.NumberVerdict.TheVariants.{Fresh};
+ghost use Rattle.krb_context.specs.Contexts.{is_acceptor, is_peer_acceptor, next_number, number_after};
+ghost use Rattle.krb_context.specs.Mics.{MakesMic, ChecksMic};
+ghost use Rattle.krb_context.specs.Params.{suite_of};
+ghost use Rattle.krb_context.specs.Peers.{ArePeers, IsDelivered};
+ghost use Rattle.krb_context.specs.Places.{verdict_of, opened};
+ghost use Rattle.krb_context.specs.ServiceKeys.{service_key};
+ghost use Rattle.krb_context.specs.Spelled.{part_octets};
+ghost use Rattle.krb_context.specs.Spelt.{Spelt};
+ghost use Rattle.krb_context.specs.Unwraps.{Unwraps, message_number};
+ghost use Rattle.krb_context.specs.Window.{Window, StandsFor, judged, noted};
+ghost use Rattle.krb_context.specs.Wraps.{Wraps};
+
+/// What one end wraps the other opens to the same octets: under one key, suite and length of the filler, with the same
+/// read-only data in the same places, where there is room and the number is fresh.
+pub fn wrapped_messages_open()
+    ensures { (sender receiver : Kerberos) (confounder : List ℕ) (sent made received : List Buffer) → ArePeers sender receiver
+        → length confounder ≡ 16 → IsOctets confounder → IsOctets (part_octets Plain sent)
+        → Wraps sender confounder sent (Ok made) → IsDelivered (part_octets Plain sent) made received
+        → judged receiver.window (next_number sender.seq_number) ≡ Fresh
+        → Unwraps receiver received (Ok (part_octets Plain sent)) }
+{}
+
+/// A wrap of n octets leaves a token of 60 octets and the filler, and data of n octets; its number is the next one.
+pub fn wrapped_messages_have_lengths_and_numbers()
+    ensures { (sender : Kerberos) (confounder : List ℕ) (sent made : List Buffer) → sender.encryption_params.ec < 2 ^ 16
+        → length confounder ≡ 16 → IsOctets confounder → IsOctets (part_octets Plain sent) → Wraps sender confounder sent (Ok made)
+        → (length (part_octets Token made) ≡ 60 + sender.encryption_params.ec)
+        × (length (part_octets Plain made) ≡ length (part_octets Plain sent))
+        × (message_number made ≡ next_number sender.seq_number) }
+{}
+
+/// After a number s the k-th next number is s + k modulo 2^32.
+pub fn numbers_rise_by_one()
+    ensures { (number times : ℕ) → number < 2 ^ 32 → number_after number times ≡ (number + times) % 2 ^ 32 }
+{}
+
+/// The checks of a message give one answer, so at most one text.
+pub fn messages_have_one_answer()
+    ensures { (context : Kerberos) (buffers : List Buffer) (one other : Result (List ℕ) Cause) → Unwraps context buffers one
+        → Unwraps context buffers other → one ≡ other }
+{}
+
+/// At most one text is sealed in given buffers.
+pub fn sealed_texts_are_one()
+    ensures { (keys : SealingPair) (acceptor : Bool) (ec : ℕ) (buffers : List Buffer) (p q : List ℕ) → Spelt keys acceptor ec buffers p
+        → Spelt keys acceptor ec buffers q → p ≡ q }
+{}
+
+/// A MIC token is accepted by the other side over the same payload, under the same sub-session key and suite.
+pub fn mic_tokens_are_accepted()
+    ensures { (maker other : Kerberos) (payload token : List ℕ) → is_acceptor maker ≡ is_peer_acceptor other
+        → maker.encryption_params.sub_session_key ≡ other.encryption_params.sub_session_key
+        → suite_of maker.encryption_params ≡ suite_of other.encryption_params → MakesMic maker payload (Ok token)
+        → ChecksMic other token payload (Ok tt) }
+{}
+
+/// A MIC token is refused by the side that made it, as one of the wrong direction.
+pub fn own_mic_tokens_are_refused()
+    ensures { (maker : Kerberos) (payload token : List ℕ) → MakesMic maker payload (Ok token) → ChecksMic maker token payload (Err Direction) }
+{}
+
+/// A window judges and notes a number as each list of places that it stands for.
+pub fn windows_follow_the_list()
+    ensures { (window : Window) (places : List ℤ) (number : ℕ) → number < 2 ^ 32 → StandsFor window places
+        → (judged window number ≡ verdict_of places number)
+        × (judged window number ≡ Fresh → StandsFor (noted window number) (opened places number)) }
+{}
+
+/// The key for a service depends on the components of its name alone.
+pub fn service_keys_go_by_components()
+    ensures { (server : ServerProperties) (one other : PrincipalName) → one.name_string ≡ other.name_string
+        → service_key server one.name_string ≡ service_key server other.name_string }
+{}

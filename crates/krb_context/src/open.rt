@@ -1,0 +1,166 @@
+//! Opening the body of a token.
+
+ghost use Rattle.std.specs.Prelude.{◌≡◌, ◌↔◌, ◌+◌, ◌-◌, ◌≤◌, ◌<◌, ◌++◌, ℕ, List, length, take, drop, slice_index, vec_len, IsTrue, MatchOption, IfOk, IfSome};
+ghost use Rattle.krb_aes.specs.Aes.{aes};
+ghost use Rattle.krb_crypto.specs.Cts.{cts};
+ghost use Rattle.krb_crypto.specs.Keyed.{IsHmacOf};
+ghost use Rattle.krb_crypto.specs.Hmac.{hmac12};
+ghost use Rattle.krb_crypto.specs.Suite.{key_size, kc};
+ghost use Rattle.krb_context.specs.Header.{ec_of, without_counts};
+ghost use Rattle.krb_context.specs.Spelled.{covered, covered_of};
+ghost use Rattle.krb_context.specs.Spelt.{IsSealedAs, IsClearAs, covered_code};
+
+use crate::equal::is_equal;
+use crate::header::{ec_of, is_copy_of, without_counts};
+use krb_crypto::{CipherSuite, HmacState, SealingKey, start_checksum};
+use krb_der::Octets;
+use sspi_core::{BufferType, Message, Part, SecurityBufferRef};
+
+/// One buffer's share of what the checksum covers.
+fn covered_of<'a>(buffer: &'a SecurityBufferRef, plain: &'a [u8]) -> &'a [u8]
+    ensures { result.now ≡ covered_of plain.now buffer.now }
+{
+    if buffer.is_part(Part::Plain) {
+        plain
+    } else if matches!(buffer.kind(), BufferType::Data) {
+        buffer.data()
+    } else {
+        &[]
+    }
+}
+
+/// All data go into the code, the plain text in the place of the plain data.
+fn update_covered(state: &mut HmacState, buffers: &[SecurityBufferRef], plain: &[u8])
+    ensures { (key message : List ℕ) → IsHmacOf key message state.old → IsHmacOf key (message ++ covered plain.now buffers.now) state.new }
+{
+    for buffer in buffers {
+        state.update(covered_of(buffer, plain));
+    }
+}
+
+/// The code of a confounder, the data and what is behind the plain text, where the plain text ends at `end`.
+#[tactic(auto, unfolding(crate::specs::Spelt::covered_code))]
+pub(crate) fn covered_code(
+    sealing: &SealingKey,
+    message: &Message,
+    text: &[u8],
+    end: usize,
+) -> [u8; 12]
+    requires start { 16 ≤ end }
+    requires within { end ≤ length text.now }
+    ensures { result ≡ covered_code sealing.now.integrity message.now text.now end }
+{
+    let mut state = sealing.start_code();
+    state.update(&text[..16]);
+    update_covered(&mut state, message.buffers(), &text[16..end]);
+    state.update(&text[end..]);
+    state.finalize_short()
+}
+
+/// The octets from 16 to `end`.
+pub(crate) fn plain_part(text: Vec<u8>, end: usize) -> Vec<u8>
+    requires start { 16 ≤ end }
+    requires within { end ≤ vec_len text }
+    ensures items { result.items ≡ take (end - 16) (drop 16 text.items) }
+    ensures size { vec_len result + 16 ≡ end }
+{
+    let mut plain = text;
+    plain.as_mut_slice().copy_within(16..end, 0);
+    plain.truncate(end - 16);
+    plain
+}
+
+/// The last 12 octets.
+fn last_twelve(text: &[u8]) -> [u8; 12]
+    requires { 12 ≤ length text.now }
+    ensures { result ≡ drop (length text.now - 12) text.now }
+{
+    let mut code = [0; 12];
+    code.copy_from_slice(&text[text.len() - 12..]);
+    code
+}
+
+/// Decrypts all but the last 12 octets, which go.
+fn decrypt_front(sealing: &SealingKey, text: &mut Vec<u8>)
+    requires { 28 ≤ vec_len text.old }
+    ensures size { vec_len text.new + 12 ≡ vec_len text.old }
+    ensures opened { cts (aes sealing.now.encryption) text.new.items ≡ take (vec_len text.new) text.old.items }
+    ensures octets { (k : ℕ) → slice_index text.new.items k < 256 }
+{
+    text.truncate(text.len() - 12);
+    sealing.decrypt_text(text.as_mut_slice());
+}
+
+/// The text whose sealed form this is, if there is one.
+pub(crate) fn open_sealed(
+    sealing: &SealingKey,
+    message: &Message,
+    header: &[u8; 16],
+    ec: usize,
+    whole: Vec<u8>,
+) -> Option<Octets>
+    requires { 44 + ec ≤ vec_len whole }
+    ensures { MatchOption result
+        ((p : List ℕ) → ¬ (IsSealedAs sealing.now ec header.now message.now whole.items p))
+        (λ p. IsSealedAs sealing.now ec header.now message.now whole.items p) }
+{
+    let code = last_twelve(whole.as_slice());
+    let mut text = whole;
+    decrypt_front(sealing, &mut text);
+    let copy_at = text.len() - 16;
+    let end = copy_at - ec;
+    let found = covered_code(sealing, message, text.as_slice(), end);
+    if !is_equal(&found, &code) {
+        return None;
+    }
+    if !is_copy_of(header, &text.as_slice()[copy_at..]) {
+        return None;
+    }
+    let plain = plain_part(text, end);
+    Some(Octets::new(plain))
+}
+
+/// The code of a text in the clear, and of its header.
+fn clear_code(
+    suite: CipherSuite,
+    key: &[u8],
+    usage: u32,
+    text: &[u8],
+    header: &[u8; 16],
+) -> [u8; 12]
+    requires { length key.now ≡ key_size suite }
+    ensures { result ≡ hmac12 (kc suite key.now usage) (text.now ++ without_counts header.now) }
+{
+    let mut state = start_checksum(suite, key, usage);
+    state.update(text);
+    state.update(&without_counts(header));
+    state.finalize_short()
+}
+
+/// The text whose form in the clear this is, if there is one.
+pub(crate) fn open_clear(
+    suite: CipherSuite,
+    key: &[u8],
+    usage: u32,
+    header: &[u8; 16],
+    whole: Vec<u8>,
+) -> Option<Octets>
+    requires size { length key.now ≡ key_size suite }
+    requires long { ec_of header.now ≤ vec_len whole }
+    ensures { MatchOption result
+        ((p : List ℕ) → ¬ (IsClearAs (kc suite key.now usage) header.now whole.items p))
+        (λ p. IsClearAs (kc suite key.now usage) header.now whole.items p) }
+{
+    if ec_of(header) != 12 {
+        return None;
+    }
+    let code = last_twelve(whole.as_slice());
+    let mut text = whole;
+    text.truncate(text.len() - 12);
+    let found = clear_code(suite, key, usage, text.as_slice(), header);
+    if is_equal(&found, &code) {
+        Some(Octets::new(text))
+    } else {
+        None
+    }
+}

@@ -1,0 +1,109 @@
+//! Sealing a message.
+
+ghost use Rattle.std.specs.Prelude.{◌≡◌, ◌+◌, ◌≤◌, List, ℕ, length, IfOk, IfErr, OnErr, Ok};
+ghost use Rattle.std.specs.Result.{result_map_both};
+ghost use Rattle.sspi_core.specs.Checks.{Holds};
+ghost use Rattle.sspi_core.specs.Messages.{find_part};
+ghost use Rattle.sspi_core.specs.declared.cause.Cause.TheVariants as causes;
+ghost use Rattle.sspi_core.specs.declared.buffer.Part.TheVariants as parts;
+ghost use Rattle.sspi_core.specs.declared.error.Place.TheVariants as places;
+ghost use Rattle.krb_context.specs.Contexts.{next_number};
+ghost use Rattle.krb_context.specs.Refusals.{Refuses};
+ghost use Rattle.krb_context.specs.Wrapped.{limit_of};
+ghost use Rattle.krb_context.specs.Wraps.{has_parts, has_token_room, Readies, Wraps};
+
+use crate::context::Kerberos;
+use crate::params::EncryptionParams;
+use crate::parties::{check_key_size, ready_key, seal_usage};
+use crate::seal::seal_message;
+use crate::state::KerberosState;
+use crate::text::has_part;
+use krb_der::Octets;
+use sspi_core::{Cause, Error, Message, Part, SecurityStatus, hold};
+use std::alloc::Global;
+
+fn limit_of(message: &Message, part: Part) -> usize
+    ensures { result ≡ limit_of (find_part part message.now) }
+{
+    match message.find(part) {
+        Some(buffer) => buffer.limit(),
+        None => 0,
+    }
+}
+
+fn check_parts(message: &Message) -> Result<(), Cause>
+    ensures { Holds causes.Buffers (has_parts message.now) result }
+{
+    hold(
+        has_part(message, Part::Token)
+            && has_part(message, Part::Plain)
+            && !has_part(message, Part::Stream),
+        Cause::Buffers,
+    )
+}
+
+fn check_token_room(ec: u16, message: &Message) -> Result<(), Cause>
+    ensures { Holds causes.TooSmall (has_token_room ec message.now) result }
+{
+    hold(
+        60 + ec as usize <= limit_of(message, Part::Token),
+        Cause::TooSmall,
+    )
+}
+
+/// The key of a message that is to be wrapped, once all is checked.
+fn ready_to_wrap<'a>(
+    state: KerberosState,
+    params: &'a EncryptionParams,
+    message: &Message,
+) -> Result<&'a Octets, Cause>
+    ensures { Readies state params.now message.now (result_map_both (λ key. key.now) (λ e. e) result) }
+{
+    let key = ready_key(state, params)?;
+    check_parts(message)?;
+    check_key_size(params, key)?;
+    check_token_room(params.ec, message)?;
+    Ok(key)
+}
+
+impl Kerberos {
+    /// Seals the plain data of a message: the token gets a header and 44 octets of the sealed body and the filler, the data
+    /// the rest, as many octets as before. The confounder is 16 random octets. The context's number rises by one, going round
+    /// at 2^32, and stands in the header.
+    ///
+    /// The refusals, in their order: `Sequence` before the exchange is over and where there is no key; `Buffers` without a
+    /// token or plain data, or with a stream; `KeyLength`; `TooSmall` where the token cannot hold 60 octets and the filler.
+    /// A refusal leaves the message and the context.
+    pub fn encrypt_message(
+        &mut self,
+        alloc: Global,
+        message: &mut Message,
+        confounder: [u8; 16],
+    ) -> Result<SecurityStatus, Error>
+        ensures wrapped { IfOk result (λ status. (status ≡ SecurityStatus.Ok) × Wraps self.old confounder message.old (Ok message.new)
+            × (self.new ≡ record self.old { seq_number = next_number self.old.seq_number })) }
+        ensures refused { IfErr result (λ error. Refuses places.Elsewhere (Wraps self.old confounder message.old) error) }
+        ensures stays { OnErr result ((message.new ≡ message.old) × (self.new ≡ self.old)) }
+    {
+        let params = &self.encryption_params;
+        let key = ready_to_wrap(self.state, params, message)?;
+        let number = self.seq_number.wrapping_add(1);
+        let acceptor = self.server.is_some();
+        let kept = self
+            .kept_to_seal
+            .take(params.suite(), key.as_slice(), seal_usage(acceptor));
+        let sealed = seal_message(
+            alloc,
+            &kept.sealing,
+            acceptor,
+            params.ec,
+            number,
+            &confounder,
+            message,
+        );
+        self.kept_to_seal.put(kept);
+        sealed?;
+        self.seq_number = number;
+        Ok(SecurityStatus::Ok)
+    }
+}
