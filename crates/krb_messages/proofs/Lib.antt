@@ -1,2 +1,3 @@
 pub mod FrameLemmas
 pub mod Spellings
+pub mod Complete

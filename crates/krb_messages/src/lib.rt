@@ -26,3 +26,6 @@ pub use host_address::{HostAddress, HostAddresses};
 pub use oid::Oid;
 pub use principal_name::PrincipalName;
 pub use ticket::Ticket;
+
+#[cfg(test)]
+mod tests;
