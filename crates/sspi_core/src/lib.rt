@@ -37,3 +37,6 @@ pub use results::{
 };
 pub use secret::Secret;
 pub use username::{DownLevelLogonName, UserPrincipalName, Username, UsernameError, UsernameParts};
+
+#[cfg(test)]
+mod tests;
