@@ -1,0 +1,111 @@
+-- The ways in which a token is answered.
+use Rattle.std.proofs.Common.{◌≡◌, ℕ, Bool, true, false, List, Option, Some, None, Result, Ok, Err, refl, sym, ap, ◌∙◌, subst}
+use Rattle.std.specs.Result.{IsErrAnd}
+use Rattle.sspi_core.specs.declared.cause.Cause.{Cause}
+use Rattle.sspi_core.specs.declared.cause.Cause.TheVariants.{ClientName, ApOptions, SubKey, Memory}
+use Rattle.sspi_core.specs.declared.draw.Draw.{Draw}
+use Rattle.sspi_core.specs.Checks.{Takes, Holds, Passes, Gives, Goes, Then, Answers}
+use Rattle.sspi_core.proofs.Chain.{halts, follows, is_err, same_err}
+use Rattle.krb_replay.specs.declared.ask.Ask.{Ask}
+use Rattle.krb_replay.specs.declared.ask.Verdict.{Verdict}
+use Rattle.krb_replay.specs.declared.ask.Verdict.TheVariants.{Admitted}
+use Rattle.krb_context.specs.declared.context.Kerberos.{Kerberos}
+use Rattle.krb_server.specs.declared.request.Request.{Request}
+use Rattle.krb_server.specs.declared.admission.Admission.{Admission}
+use Rattle.krb_server.specs.declared.admission.Accepted.{Accepted}
+use Rattle.krb_server.specs.Requests.{ask_of}
+use Rattle.krb_server.specs.Complete.{Completes}
+use Rattle.krb_server.specs.Admission.{accepted_of, settled}
+use Rattle.krb_server.specs.Accepts.{Begins, Finishes, Judged, Accepts, Makes, refusal}
+use Rattle.krb_server.proofs.Once.{one_outcome_lem}
+
+pub answered : {A : Type 0} (checks : Result A Cause → Type 0) (x : A) → Answers checks (Ok x) → checks (Ok x)
+answered checks x h = h.so (λ z. absurd cc)
+
+module _ {G : Type 0} (admits : G → Ask → Verdict → G → Type 0) (server : Kerberos) (dce : Bool) (token : List ℕ) (draw : Draw) (old : G) where
+  pub refused_before : (e : Cause) (answer : Result Accepted Cause) → Answers (Begins server dce token) (Err e) → IsErrAnd answer (λ d. d ≡ e) → (answer ≡ Err Memory → ⊥) → Accepts admits server dce token draw old answer server old
+  unfolding Judged
+  refused_before e answer h is ne =
+      let begun : Begins server dce token (Err e) = h.so (λ z. ne (is_err answer e is ∙ ap Err (same_err {A = Request} e Memory z))) in record {
+        verdict = Admitted;
+        request = Err e;
+        begun = begun;
+        gate = refl;
+        outcome = Err e;
+        judged = halts _ _ e _ begun refl;
+        made = (is_err answer e is, refl);
+      }
+
+  pub refused_by_gate : (request : Request) (ask : Ask) (verdict : Verdict) (new : G) (e : Cause) (answer : Result Accepted Cause) → Answers (Begins server dce token) (Ok request) → ask ≡ ask_of request draw.moment → admits old ask verdict new → Passes (refusal verdict) (Err e) → IsErrAnd answer (λ d. d ≡ e) → Accepts admits server dce token draw old answer server new
+  unfolding Judged
+  refused_by_gate request ask verdict new e answer h asked step pass is =
+      let begun = answered _ _ h in record {
+        verdict = verdict;
+        request = Ok request;
+        begun = begun;
+        gate = subst (λ (q : Ask). admits old q verdict new) asked step;
+        outcome = Err e;
+        judged = follows _ _ request _ begun (halts _ _ e _ pass refl);
+        made = (is_err answer e is, refl);
+      }
+
+  pub refused_after : (request : Request) (ask : Ask) (verdict : Verdict) (new : G) (e : Cause) (answer : Result Accepted Cause) (u : Unit {0}) → Answers (Begins server dce token) (Ok request) → ask ≡ ask_of request draw.moment → admits old ask verdict new → Passes (refusal verdict) (Ok u) → Finishes server draw request (Err e) → IsErrAnd answer (λ d. d ≡ e) → Accepts admits server dce token draw old answer server new
+  unfolding Judged
+  refused_after request ask verdict new e answer u h asked step pass finished is =
+      let begun = answered _ _ h in record {
+        verdict = verdict;
+        request = Ok request;
+        begun = begun;
+        gate = subst (λ (q : Ask). admits old q verdict new) asked step;
+        outcome = Err e;
+        judged = follows _ _ request _ begun (follows _ _ u _ pass finished);
+        made = (is_err answer e is, refl);
+      }
+
+  pub admitted : (request : Request) (ask : Ask) (verdict : Verdict) (new : G) (admission : Admission) (accepted : Accepted) (server' : Kerberos) (u : Unit {0}) → Answers (Begins server dce token) (Ok request) → ask ≡ ask_of request draw.moment → admits old ask verdict new → Passes (refusal verdict) (Ok u) → Finishes server draw request (Ok admission) → accepted ≡ accepted_of admission → server' ≡ settled server admission → Accepts admits server dce token draw old (Ok accepted) server' new
+  unfolding Judged
+  admitted request ask verdict new admission accepted server' u h asked step pass finished is is' =
+      let begun = answered _ _ h in record {
+        verdict = verdict;
+        request = Ok request;
+        begun = begun;
+        gate = subst (λ (q : Ask). admits old q verdict new) asked step;
+        outcome = Ok admission;
+        judged = follows _ _ request _ begun (follows _ _ u _ pass finished);
+        made = (ap Ok is, is');
+      }
+
+  -- an AP-REQ that passes every check is accepted
+  pub completed : (new : G) (answer : Result Accepted Cause) (server' : Kerberos) (admission : Admission) (step : Accepts admits server dce token draw old answer server' new) → step.verdict ≡ Admitted → Judged server dce token draw Admitted (Ok admission) → (answer ≡ Ok (accepted_of admission)) × (server' ≡ settled server admission)
+  completed new answer server' admission step admits_it passes =
+      let e = one_outcome_lem server dce token draw Admitted step.outcome (Ok admission) (subst (λ (v : Verdict). Judged server dce token draw v step.outcome) admits_it step.judged) passes in
+      subst (λ (r : Result Admission Cause). Makes server r answer server') e step.made
+
+-- ---- no check behind the gate is refused for want of memory
+
+record Refuses {A : Type 0} (checks : Result A Cause → Type 0) : Type 0 where
+  pub not : (e : Cause) → checks (Err e) → e ≡ Memory → ⊥
+
+rest_refuses : {A B : Type 0} (first : Result A Cause → Type 0) (next : A → Result B Cause → Type 0) (m : Result A Cause) (e : Cause) → Refuses first → ((a : A) → Refuses (next a)) → first m → Goes next m (Err e) → e ≡ Memory → ⊥
+rest_refuses first next (Ok a) e one of h k z = (of a).not e k z
+rest_refuses {A} {B} first next (Err d) e one of h k z = one.not d h (sym (same_err {A = B} e d k) ∙ z)
+
+then_refuses : {A B : Type 0} (first : Result A Cause → Type 0) (next : A → Result B Cause → Type 0) → Refuses first → ((a : A) → Refuses (next a)) → Refuses (λ r. Then first next r)
+then_refuses first next one of = record { not = λ e h z. rest_refuses first next h.middle e one of h.held h.rest z }
+
+take_refuses : {A : Type 0} (cause : Cause) (value : Option A) → (cause ≡ Memory → ⊥) → (e : Cause) → Takes cause value (Err e) → e ≡ Memory → ⊥
+take_refuses {A} cause None ne e h z = ne (sym (same_err {A = A} e cause h.is) ∙ z)
+take_refuses cause (Some x) ne e h z = let i = h.is in absurd cc
+
+hold_refuses : (cause : Cause) (test : Bool) → (cause ≡ Memory → ⊥) → (e : Cause) → Holds cause test (Err e) → e ≡ Memory → ⊥
+hold_refuses cause false ne e h z = ne (sym (same_err {A = Unit {0}} e cause h.is) ∙ z)
+hold_refuses cause true ne e h z = let i = h.is in absurd cc
+
+gives_refuses : {A : Type 0} (value : A) → Refuses (λ r. Gives value r)
+gives_refuses value = record { not = λ e h z. let i = h.is in absurd cc }
+
+pub finishes_refuses : (server : Kerberos) (draw : Draw) (request : Request) (e : Cause) → Finishes server draw request (Err e) → e ≡ Memory → ⊥
+unfolding Finishes Completes
+finishes_refuses server draw request =
+    (then_refuses _ _ (then_refuses _ _ (record { not = take_refuses ClientName _ (λ z. cc) }) (λ client. then_refuses _ _ (record { not = hold_refuses ApOptions _ (λ z. cc) })
+    (λ _. then_refuses _ _ (record { not = hold_refuses SubKey _ (λ z. cc) }) (λ _. gives_refuses _)))) (λ client. gives_refuses _)).not

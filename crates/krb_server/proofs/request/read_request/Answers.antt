@@ -1,0 +1,20 @@
+use Rattle.std.proofs.Common.{rules}
+use Rattle.krb_server.specs.Requests.{Requests}
+use Rattle.sspi_core.proofs.Chain.{chain}
+use Rattle.krb_server.proofs.request.read_request.Goals as goal
+
+pub returns-in_err-message : goal.returns-in_err-message
+unfolding Requests
+returns-in_err-message c = search (rules, chain)
+
+pub returns-in_err-part : goal.returns-in_err-part
+unfolding Requests
+returns-in_err-part c = search (rules, chain)
+
+pub returns-in_err-suite : goal.returns-in_err-suite
+unfolding Requests
+returns-in_err-suite c = search (rules, chain)
+
+pub returns : goal.returns
+unfolding Requests
+returns c = search (rules, chain)

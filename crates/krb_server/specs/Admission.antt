@@ -1,0 +1,151 @@
+-- What an admission makes (RFC 4120, sections 3.2.4 and 3.2.5).
+use Rattle.std.specs.Prelude.{◌≡◌, ℕ, ◌+◌, ◌-◌, ◌%◌, ◌^◌, ◌<◌, ◌≤◌, ℤ, length, Bool, List, [], ◌∷◌, ◌++◌, take, drop, Option, Some, None, option_map, unwrap_or, if◌then◌else◌}
+use Rattle.std.specs.Int.{w32, to_be_bytes}
+use Rattle.krb_der.specs.Der.{tlv}
+use Rattle.krb_der.specs.Reading.{number_of}
+use Rattle.krb_der.specs.Schema.{tag_of, contents, IsComplete}
+use Rattle.krb_der.specs.Layout.{Layout}
+use Rattle.krb_crypto.specs.Suite.{key_size, suite_number}
+use Rattle.krb_crypto.specs.Sealed.{sealed}
+use Rattle.krb_crypto.specs.declared.suite.CipherSuite.{CipherSuite}
+use Rattle.krb_messages.specs.declared.encryption.EncryptionKey.{EncryptionKey}
+use Rattle.krb_messages.specs.declared.ap_rep.ApRep.{ApRep}
+use Rattle.krb_messages.specs.declared.ap_rep.EncApRepPart.{EncApRepPart}
+use Rattle.krb_messages.specs.declared.constants.TheConstants.{AP_REP_TOKEN_ID, AP_REP_USAGE, AP_REP_MSG_TYPE, KERBEROS_VERSION, KRB5_OID, USER_TO_USER_OID}
+use Rattle.krb_messages.specs.Layouts.{ap_rep_layout, enc_ap_rep_part_layout}
+use Rattle.krb_messages.specs.Table.{enc_ap_rep_part}
+use Rattle.krb_context.specs.declared.context.Kerberos.{Kerberos}
+use Rattle.krb_context.specs.declared.server.ServerProperties.{ServerProperties}
+use Rattle.krb_context.specs.declared.state.KerberosState.TheVariants.{Final}
+use Rattle.sspi_core.specs.Usernames.{UserName}
+use Rattle.sspi_core.specs.declared.draw.Draw.{Draw}
+use Rattle.sspi_core.specs.declared.results.SecurityStatus.TheVariants.{Ok as Complete}
+use Rattle.krb_server.specs.declared.request.Request.{Request}
+use Rattle.krb_server.specs.declared.admission.Admission.{Admission}
+use Rattle.krb_server.specs.declared.admission.Accepted.{Accepted}
+use Rattle.krb_server.specs.declared.admission.Accepted.TheVariants.{Done}
+use Rattle.krb_server.specs.Opens.{suite_of}
+use Rattle.krb_server.specs.Complete.{is_mutual}
+
+-- the spelling of a record
+unfoldable pub spelling : {A : Type 0} → Layout A → A → List ℕ
+spelling layout value = tlv (tag_of layout.kind) (contents layout.kind (layout.view value))
+
+-- the frame of a message (RFC 2743, section 3.1; RFC 4121, section 4.1)
+unfoldable pub framed : List ℕ → List ℕ → List ℕ → List ℕ
+framed oid token_id message = tlv 0x60 (tlv 0x06 oid ++ (token_id ++ message))
+
+-- a key of a suite
+abbrev pub key_with : CipherSuite → List ℕ → EncryptionKey
+key_with suite key = record { key_type = suite_number suite ∷ []; key_value = key }
+
+-- what is sealed in an AP-REP (RFC 4120, section 5.5.2)
+abbrev pub ap_rep_part : CipherSuite → ℤ → List ℕ → List ℕ → Option (List ℕ) → EncApRepPart
+ap_rep_part suite ctime cusec number subkey = record { ctime = ctime; cusec = cusec; subkey = option_map (key_with suite) subkey; seq_number = Some number }
+
+-- an AP-REP with this cipher
+abbrev pub ap_rep_with : CipherSuite → List ℕ → ApRep
+ap_rep_with suite cipher = record {
+  pvno = KERBEROS_VERSION ∷ [];
+  msg_type = AP_REP_MSG_TYPE ∷ [];
+  enc_part = record { etype = suite_number suite ∷ []; kvno = None; cipher = cipher };
+}
+
+-- an AP-REP in which this is sealed under the session key
+abbrev pub ap_rep : CipherSuite → List ℕ → List ℕ → EncApRepPart → ApRep
+ap_rep suite key confounder part = ap_rep_with suite (sealed suite key AP_REP_USAGE confounder (spelling enc_ap_rep_part_layout part))
+
+-- the sub-session key that is drawn, and the confounder behind it
+abbrev pub drawn_key : CipherSuite → Draw → List ℕ
+drawn_key suite draw = take (key_size suite) draw.random
+
+abbrev pub drawn_confounder : CipherSuite → Draw → List ℕ
+drawn_confounder suite draw = take 16 (drop (key_size suite) draw.random)
+
+-- the mechanism that a token names: user-to-user once a TGT-REQ was taken
+abbrev pub mechanism : Bool → List ℕ
+mechanism user_to_user = if user_to_user then USER_TO_USER_OID else KRB5_OID
+
+-- what the AP-REP to a request seals: its authenticator's time, the drawn subkey, and the number after the context's own
+abbrev pub reply_part : ℕ → Draw → Request → EncApRepPart
+reply_part number draw request =
+    ap_rep_part request.suite request.authenticator.ctime request.authenticator.cusec (to_be_bytes w32 ((number + 1) % 2 ^ 32)) (Some (drawn_key request.suite draw))
+
+-- the AP-REP to a request, framed
+unfoldable pub reply_token : Bool → ℕ → Draw → Request → List ℕ
+reply_token user_to_user number draw request =
+    framed (mechanism user_to_user) AP_REP_TOKEN_ID
+    (spelling ap_rep_layout (ap_rep request.suite request.part.key.key_value (drawn_confounder request.suite draw) (reply_part number draw request)))
+
+-- mutual-required: the drawn key is the sub-session key, the own number stays, and the AP-REP is the answer
+unfoldable pub mutual_admission : Bool → ℕ → Draw → Request → UserName → Admission
+mutual_admission user_to_user number draw request client = record {
+  client = client;
+  suite = request.suite;
+  session_key = request.part.key.key_value;
+  sub_session_key = Some (drawn_key request.suite draw);
+  seq_number = number;
+  token = reply_token user_to_user number draw request;
+}
+
+-- the suite of a subkey that is there
+abbrev pub subkey_suite : CipherSuite → Option EncryptionKey → CipherSuite
+subkey_suite suite None = suite
+subkey_suite suite (Some key) = unwrap_or (suite_of key.key_type) suite
+
+-- the own number from an authenticator's: the one before its low four octets, zero octets standing in front of a shorter one
+abbrev pub number_before : ℕ → Option (List ℕ) → ℕ
+number_before number None = number
+number_before number (Some octets) = (number_of octets % 2 ^ 32 + (2 ^ 32 - 1)) % 2 ^ 32
+
+-- otherwise: an authenticator's subkey and number are taken, and there is no token
+unfoldable pub one_way_admission : ℕ → Request → UserName → Admission
+one_way_admission number request client = record {
+  client = client;
+  suite = subkey_suite request.suite request.authenticator.subkey;
+  session_key = request.part.key.key_value;
+  sub_session_key = option_map (λ (key : EncryptionKey). key.key_value) request.authenticator.subkey;
+  seq_number = number_before number request.authenticator.seq_number;
+  token = [];
+}
+
+-- what admitting the client makes
+abbrev pub admission_of : Bool → ℕ → Draw → Request → UserName → Admission
+admission_of user_to_user number draw request client =
+    if is_mutual request.message.ap_options then mutual_admission user_to_user number draw request client else one_way_admission number request client
+
+-- the context is established
+abbrev pub accepted_of : Admission → Accepted
+accepted_of admission = Done Complete admission.token
+
+abbrev pub with_client : Option ServerProperties → UserName → Option ServerProperties
+with_client None client = None
+with_client (Some server) client = Some (record server { client = Some client })
+
+-- the first of some
+abbrev pub or_else : {A : Type 0} → Option A → Option A → Option A
+or_else None other = other
+or_else (Some x) other = Some x
+
+-- an acceptor that has admitted a client: all else of it stays
+unfoldable pub settled : Kerberos → Admission → Kerberos
+settled server admission = record server {
+  state = Final;
+  encryption_params = record server.encryption_params {
+    encryption_type = Some admission.suite;
+    session_key = Some admission.session_key;
+    sub_session_key = or_else admission.sub_session_key server.encryption_params.sub_session_key;
+  };
+  seq_number = admission.seq_number;
+  server = with_client server.server admission.client;
+}
+
+-- a part that can be written, and sealed in an AP-REP that can be written
+pub record IsShortPart (part : EncApRepPart) : Type 0 where
+  pub complete : IsComplete enc_ap_rep_part (enc_ap_rep_part_layout.view part)
+  pub short : length (tlv (tag_of enc_ap_rep_part) (contents enc_ap_rep_part (enc_ap_rep_part_layout.view part))) ≤ 2 ^ 26
+
+-- what an AP-REP repeats has an octet and is no longer than a token
+pub record IsAnswerable (request : Request) : Type 0 where
+  pub some : 0 < length request.authenticator.cusec
+  pub short : length request.authenticator.cusec ≤ 2 ^ 24

@@ -1,0 +1,7 @@
+pub mod Opens
+pub mod Tokens
+pub mod Requests
+pub mod Clients
+pub mod Complete
+pub mod Admission
+pub mod Accepts

@@ -1,0 +1,52 @@
+-- The message in a token of the handshake, behind the mechanism's name (RFC 4121, section 4.1).
+use Rattle.std.specs.Prelude.{◌≡◌, ℕ, nat_le, Bool, true, false, List, length, Option, Some, None, Result}
+use Rattle.krb_messages.specs.Frame.{IsFrame}
+use Rattle.krb_messages.specs.Layouts.{ap_req_layout}
+use Rattle.krb_messages.specs.declared.ap_req.ApReq.{ApReq}
+use Rattle.krb_messages.specs.declared.constants.TheConstants.{AP_REQ_TOKEN_ID, TGT_REQ_TOKEN_ID}
+use Rattle.krb_context.specs.declared.state.KerberosState.{KerberosState}
+use Rattle.krb_context.specs.declared.state.KerberosState.TheVariants.{TgtExchange, Preauthentication, ApExchange, Final}
+use Rattle.krb_server.specs.declared.token.Incoming.{Incoming}
+use Rattle.krb_server.specs.declared.token.Incoming.TheVariants.{ApReq as ApReqToken, TgtReq}
+use Rattle.krb_server.specs.declared.token.TheConstants.{MAX_TOKEN}
+use Rattle.krb_server.specs.Opens.{IsRead}
+use Rattle.sspi_core.specs.declared.cause.Cause.{Cause}
+use Rattle.sspi_core.specs.declared.cause.Cause.TheVariants.{Shape, NotBuilt}
+use Rattle.sspi_core.specs.Checks.{Finds, Holds, Takes, Goes, ◌>>=◌, ◌>>◌}
+
+-- the token is a frame of this AP-REQ, whatever mechanism it names
+pub record IsApReq (token : List ℕ) (message : ApReq) : Type 0 where
+  pub oid : List ℕ
+  pub octets : List ℕ
+  pub frame : IsFrame oid AP_REQ_TOKEN_ID octets token
+  pub read : IsRead ap_req_layout octets message
+
+-- the token is a frame of a TGT-REQ, which begins user-to-user. What it frames is not looked at yet
+pub record IsTgtReq (token : List ℕ) : Type 0 where
+  pub oid : List ℕ
+  pub octets : List ℕ
+  pub frame : IsFrame oid TGT_REQ_TOKEN_ID octets token
+
+-- where a TGT-REQ may come
+abbrev pub takes_tgt_req : KerberosState → Bool
+takes_tgt_req TgtExchange = true
+takes_tgt_req Preauthentication = false
+takes_tgt_req ApExchange = false
+takes_tgt_req Final = false
+
+-- what the token is to an acceptor in this state
+abbrev pub IsIncoming : KerberosState → List ℕ → Incoming → Type 0
+IsIncoming state token (ApReqToken message) = IsApReq token message
+IsIncoming state token TgtReq = (takes_tgt_req state ≡ true) × IsTgtReq token
+
+-- the AP-REQ that came; a TGT-REQ is not answered yet
+abbrev pub ap_req_of : Incoming → Option ApReq
+ap_req_of (ApReqToken message) = Some message
+ap_req_of TgtReq = None
+
+-- the AP-REQ in a token
+unfoldable pub Receives : KerberosState → List ℕ → Result ApReq Cause → Type 0
+Receives state token = do
+  Holds Shape (nat_le (length token) MAX_TOKEN)
+  incoming ← Finds Shape (IsIncoming state token)
+  Takes NotBuilt (ap_req_of incoming)

@@ -1,0 +1,155 @@
+//! The acceptor's step.
+
+ghost use Rattle.std.specs.Prelude.{◌≡◌, length, not, IfOk, Err, Result};
+ghost use Rattle.std.specs.Result.{result_map_both};
+ghost use Rattle.sspi_core.specs.declared.cause.Cause.{Cause};
+ghost use Rattle.sspi_core.specs.declared.cause.Cause.TheVariants as causes;
+ghost use Rattle.sspi_core.specs.declared.error.Place.TheVariants as places;
+ghost use Rattle.sspi_core.specs.Kinds.{error_of};
+ghost use Rattle.sspi_core.specs.Checks.{Answers, Holds, Takes, Passes, told};
+ghost use Rattle.krb_crypto.specs.Suite.{key_size};
+ghost use Rattle.krb_server.specs.declared.admission.Accepted.{Accepted};
+ghost use Rattle.krb_server.specs.Admission.{IsAnswerable};
+ghost use Rattle.krb_server.specs.Accepts.{takes_token, asks_dce_style, refusal, Begins, Finishes, Accepts};
+
+use crate::admission::{Accepted, Admission, admission_of, settle};
+use crate::complete::complete;
+use crate::request::{Request, ask_of, read_request};
+use bitflags::Flags;
+use krb_conf::Env;
+use krb_context::{Kerberos, KerberosState, ServerProperties};
+use krb_der::OutOfMemory;
+use krb_replay::{ReplayGate, Verdict};
+use sspi_core::{Cause, Draw, Error, ServerRequestFlags, hold, pass};
+use std::alloc::Global;
+
+fn takes_token(dce: bool, state: KerberosState) -> bool
+    ensures { result ≡ takes_token dce state }
+{
+    match state {
+        KerberosState::TgtExchange | KerberosState::Preauthentication => true,
+        KerberosState::ApExchange => dce,
+        KerberosState::Final => false,
+    }
+}
+
+fn check_state(dce: bool, server: &Kerberos) -> Result<(), Cause>
+    ensures { Holds causes.Sequence (takes_token dce server.now.state) result }
+{
+    hold(takes_token(dce, server.state), Cause::Sequence)
+}
+
+fn check_built(dce: bool) -> Result<(), Cause>
+    ensures { Holds causes.NotBuilt (not dce) result }
+{
+    hold(!dce, Cause::NotBuilt)
+}
+
+fn properties(server: &Kerberos) -> Result<&ServerProperties, Cause>
+    ensures { Takes causes.Sequence server.now.server (result_map_both (λ p. p.now) (λ e. e) result) }
+{
+    match &server.server {
+        Some(properties) => Ok(properties),
+        None => Err(Cause::Sequence),
+    }
+}
+
+/// The checks before the gate.
+fn begin(alloc: Global, server: &Kerberos, dce: bool, token: &[u8]) -> Result<Request, Cause>
+    ensures { Answers (Begins server.now dce token.now) result }
+{
+    check_state(dce, server)?;
+    check_built(dce)?;
+    let properties = properties(server)?;
+    read_request(alloc, properties, server.state, token)
+}
+
+/// What the gate's verdict refuses.
+fn refusal(verdict: Verdict) -> Option<Cause>
+    ensures { result ≡ refusal verdict }
+{
+    match verdict {
+        Verdict::Admitted => None,
+        Verdict::Skew => Some(Cause::Skew),
+        Verdict::NotYet => Some(Cause::NotYet),
+        Verdict::Expired => Some(Cause::Expired),
+        Verdict::Replayed => Some(Cause::Replayed),
+    }
+}
+
+/// The checks behind the gate, and what admission makes, ready before the gate is asked.
+fn finish(
+    alloc: Global,
+    server: &Kerberos,
+    draw: &Draw,
+    request: &Request,
+) -> Result<Result<Admission, Cause>, OutOfMemory>
+    requires key { length request.now.part.key.key_value ≡ key_size request.now.suite }
+    requires answerable { IsAnswerable request.now }
+    ensures { IfOk result (Finishes server.now draw.now request.now) }
+{
+    let completed = complete(alloc, request)?;
+    match completed {
+        Ok(client) => Ok(Ok(admission_of(
+            alloc,
+            server.krb5_user_to_user,
+            server.seq_number,
+            draw,
+            request,
+            client,
+        )?)),
+        Err(cause) => Ok(Err(cause)),
+    }
+}
+
+/// Judges a token. All that needs memory is made before the gate is asked.
+fn accept<G: ReplayGate>(
+    alloc: Global,
+    server: &mut Kerberos,
+    gate: &mut G,
+    dce: bool,
+    token: &[u8],
+    draw: &Draw,
+) -> Result<Accepted, Cause>
+    ensures step { (result ≡ Err causes.Memory → ⊥) → Accepts G.admits server.old dce token.now draw.now gate.old result server.new gate.new }
+    ensures memory { result ≡ Err causes.Memory → (server.new ≡ server.old) × G.is_same gate.old gate.new }
+{
+    let request = begin(alloc, server, dce, token)?;
+    let outcome = finish(alloc, server, draw, &request)?;
+    let verdict = gate.admit(ask_of(request, draw.moment))?;
+    pass(refusal(verdict))?;
+    let admission = outcome?;
+    Ok(settle(server, admission))
+}
+
+/// Admits the client whose AP-REQ the token frames, or refuses it by the first check that it fails.
+///
+/// The moment of `draw` is the gate's question, in microseconds since 1970-01-01T00:00:00Z. Where the client asks for an
+/// AP-REP, the first random octets of `draw` become the sub-session key, as many as the suite's key has, and the 16 behind
+/// them the AP-REP's confounder.
+///
+/// The refusals, in their order: OutOfSequence Sequence where the context waits for no token; UnsupportedFunction NotBuilt
+/// with DCE style; then those of the checks of RFC 4120, section 3.2.3, as `specs/Requests` has them, the gate's, and those
+/// of `specs/Complete`. The environment is not read yet: it is for user-to-user.
+pub fn accept_security_context<G: ReplayGate>(
+    alloc: Global,
+    server: &mut Kerberos,
+    gate: &mut G,
+    token: &[u8],
+    flags: ServerRequestFlags,
+    _env: &Env,
+    draw: &Draw,
+) -> Result<Accepted, Error>
+    // Anything but want of memory is what the ordered checks and the gate answer.
+    ensures step { (result ≡ Err (error_of causes.Memory) → ⊥)
+        → (answer : Result Accepted Cause) × (result ≡ told places.Elsewhere answer)
+        × Accepts G.admits server.old (asks_dce_style flags) token.now draw.now gate.old answer server.new gate.new }
+    // Where memory runs out, context and gate are as before.
+    ensures memory { result ≡ Err (error_of causes.Memory) → (server.new ≡ server.old) × G.is_same gate.old gate.new }
+{
+    let dce = flags.contains(ServerRequestFlags::USE_DCE_STYLE);
+    match accept(alloc, server, gate, dce, token, draw) {
+        Ok(accepted) => Ok(accepted),
+        Err(cause) => Err(Error::from(cause)),
+    }
+}

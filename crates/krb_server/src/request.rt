@@ -1,0 +1,129 @@
+//! An AP-REQ, up to the question to the replay gate.
+
+ghost use Rattle.std.specs.Prelude.{◌≡◌, MatchResult};
+ghost use Rattle.std.specs.Result.{result_map_both};
+ghost use Rattle.sspi_core.specs.declared.cause.Cause.TheVariants as causes;
+ghost use Rattle.sspi_core.specs.Checks.{Answers, Holds, Takes};
+ghost use Rattle.krb_context.specs.ServiceKeys.{service_key};
+ghost use Rattle.krb_server.specs.Requests.{is_same_client, OpensTicket, OpensAuthenticator, Requests, ask_of};
+
+use crate::open::open;
+use crate::token::receive;
+use krb_context::{KerberosState, ServerProperties};
+use krb_crypto::CipherSuite;
+use krb_der::Octets;
+use krb_messages::constants::{AP_REQ_AUTHENTICATOR_USAGE, TICKET_USAGE};
+use krb_messages::{ApReq, Authenticator, EncTicketPart, PrincipalName, Ticket};
+use krb_replay::{Ask, Record};
+use sspi_core::{Cause, hold};
+use std::alloc::Global;
+
+/// An AP-REQ with what is sealed in it.
+#[derive(Drop)]
+pub struct Request {
+    pub message: ApReq,
+    /// What is sealed in the ticket.
+    pub part: EncTicketPart,
+    /// The authenticator's suite.
+    pub suite: CipherSuite,
+    pub authenticator: Authenticator,
+}
+
+fn is_same_client(part: &EncTicketPart, authenticator: &Authenticator) -> bool
+    ensures { result ≡ is_same_client part.now authenticator.now }
+{
+    part.crealm == authenticator.crealm && part.cname == authenticator.cname
+}
+
+fn check_names(part: &EncTicketPart, authenticator: &Authenticator) -> Result<(), Cause>
+    ensures { Holds causes.Names (is_same_client part.now authenticator.now) result }
+{
+    hold(is_same_client(part, authenticator), Cause::Names)
+}
+
+/// The key of the service that a ticket names in the clear.
+fn service_key<'a>(server: &'a ServerProperties, name: &PrincipalName) -> Result<&'a Octets, Cause>
+    ensures { Takes causes.NoServiceKey (service_key server.now name.now.name_string) (result_map_both (λ key. key.now) (λ e. e) result) }
+{
+    match server.ticket_decryption_key_for(name) {
+        Some(key) => Ok(key.as_ref()),
+        None => Err(Cause::NoServiceKey),
+    }
+}
+
+/// What is sealed in the ticket.
+fn open_ticket(
+    alloc: Global,
+    server: &ServerProperties,
+    message: &ApReq,
+) -> Result<EncTicketPart, Cause>
+    ensures { Answers (OpensTicket server.now message.now) result }
+{
+    let key = service_key(server, &message.ticket.sname)?;
+    let (_, part) = open::<EncTicketPart>(alloc, key, TICKET_USAGE, &message.ticket.enc_part)?;
+    Ok(part)
+}
+
+/// The authenticator, of the same client.
+fn open_authenticator(
+    alloc: Global,
+    message: &ApReq,
+    part: &EncTicketPart,
+) -> Result<(CipherSuite, Authenticator), Cause>
+    ensures { Answers (OpensAuthenticator message.now part.now) result }
+{
+    let sealed = open::<Authenticator>(
+        alloc,
+        &part.key.key_value,
+        AP_REQ_AUTHENTICATOR_USAGE,
+        &message.authenticator,
+    )?;
+    check_names(part, &sealed.1)?;
+    Ok(sealed)
+}
+
+/// The AP-REQ in a token, with what is sealed in it.
+pub(crate) fn read_request(
+    alloc: Global,
+    server: &ServerProperties,
+    state: KerberosState,
+    token: &[u8],
+) -> Result<Request, Cause>
+    ensures { Answers (Requests server.now state token.now) result }
+{
+    let message = receive(alloc, state, token)?;
+    let part = open_ticket(alloc, server, &message)?;
+    let (suite, authenticator) = open_authenticator(alloc, &message, &part)?;
+    Ok(Request {
+        message,
+        part,
+        suite,
+        authenticator,
+    })
+}
+
+/// The question to the gate. Nothing is copied.
+pub(crate) fn ask_of(request: Request, moment: u64) -> Ask
+    ensures { result ≡ ask_of request moment }
+{
+    let Request {
+        message,
+        part,
+        authenticator,
+        ..
+    } = request;
+    let ApReq { ticket, .. } = message;
+    let Ticket { sname, .. } = ticket;
+    Ask {
+        entry: Record {
+            ctime: authenticator.ctime,
+            cusec: Octets::new(authenticator.cusec.into_inner()),
+            realm: authenticator.crealm,
+            name: authenticator.cname,
+        },
+        sname,
+        start: part.starttime.unwrap_or(part.authtime),
+        end: part.endtime,
+        moment,
+    }
+}
