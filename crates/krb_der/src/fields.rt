@@ -1,6 +1,6 @@
 //! The fields of a SEQUENCE, each in its context tag.
 
-ghost use Rattle.std.specs.Prelude.{◌≡◌, ◌+◌, ◌^◌, ◌<◌, ◌++◌, [], length, option_map, IfOk, IfSome, OnOk};
+ghost use Rattle.std.specs.Prelude.{◌≡◌, ◌+◌, ◌^◌, ◌<◌, ◌++◌, [], length, option_map, IfOk, IfSome, OnOk, OnErr};
 ghost use Rattle.std.specs.Option.{option_map_or};
 ghost use Rattle.krb_der.specs.Der.{tlv};
 ghost use Rattle.krb_der.specs.Schema.{IsSound, sequence, tag_of};
@@ -80,11 +80,12 @@ impl<'a> Reader<'a> {
 }
 
 impl Writer {
-    /// Writes a field in context tag `n`.
+    /// Writes a field in context tag `n`. At want of memory nothing is written, here and below.
     pub fn required_field<T: Asn1>(&mut self, n: u8, value: &T) -> Result<(), OutOfMemory>
         requires tag { n < 32 }
         requires writable { FieldIsWritable T.layout.kind (T.layout.view value.now) }
-        ensures { OnOk result (IsSound T.layout.kind (T.layout.view value.now) × (self.new ≡ self.old ++ field_octets n T.layout.kind (T.layout.view value.now))) }
+        ensures ok { OnOk result (IsSound T.layout.kind (T.layout.view value.now) × (self.new ≡ self.old ++ field_octets n T.layout.kind (T.layout.view value.now))) }
+        ensures err { OnErr result (self.new ≡ self.old) }
     {
         let contents = value.to_contents(self.alloc())?;
         let mut field = Writer::new(self.alloc());
@@ -98,7 +99,8 @@ impl Writer {
     pub fn optional_field<T: Asn1>(&mut self, n: u8, value: &Option<T>) -> Result<(), OutOfMemory>
         requires tag { n < 32 }
         requires writable { IfSome value.now (λ x. FieldIsWritable T.layout.kind (T.layout.view x)) }
-        ensures { OnOk result (IfSome value.now (λ x. IsSound T.layout.kind (T.layout.view x)) × (self.new ≡ self.old ++ option_map_or (λ x. field_octets n T.layout.kind (T.layout.view x)) value.now [])) }
+        ensures ok { OnOk result (IfSome value.now (λ x. IsSound T.layout.kind (T.layout.view x)) × (self.new ≡ self.old ++ option_map_or (λ x. field_octets n T.layout.kind (T.layout.view x)) value.now [])) }
+        ensures err { OnErr result (self.new ≡ self.old) }
     {
         match value {
             None => {}

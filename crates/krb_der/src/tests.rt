@@ -1,9 +1,10 @@
 //! Octets from the standards and written out by hand.
 
 use crate::{
-    Asn1, Bits, ErrorCode, IntegerAsn1, Items, Name, Octets, Reader, Shape, Text, Time, TryCopy,
-    Writer,
+    Asn1, Bits, ErrorCode, Fault, IntegerAsn1, Items, Name, Octets, Reader, Shape, Text, Time,
+    TryCopy, Writer,
 };
+use std::alloc::Global;
 
 /// The boundaries of each form of a length (X.690 8.1.3.4, 8.1.3.5): contents, and the octets before them.
 #[test]
@@ -53,6 +54,31 @@ fn octets_outside_the_grammar_are_refused(rt: HostRuntime) {
     let mut reader = Reader::new(&[0x02, 0x02, 0x00, 0x05, 0x05]);
     assert!(rt; reader.integer() == Ok(&[0x00, 0x05]));
     assert!(rt; reader.end() == Err(Shape));
+}
+
+/// What is written of the INTEGER that was read.
+fn integer_written_again(alloc: Global, octets: &[u8]) -> Result<Octets, Fault> {
+    let contents = Reader::new(octets).integer()?;
+    let mut writer = Writer::new(alloc);
+    writer.integer(contents)?;
+    Ok(writer.finish())
+}
+
+/// An INTEGER is written as it was read, octet for octet: octets 00 and ff that its number does not need stay.
+#[test]
+fn integers_are_written_as_they_were_read(rt: HostRuntime) {
+    let cases: [&[u8]; 5] = [
+        &[0x02, 0x01, 0x05],
+        &[0x02, 0x02, 0x00, 0x05],
+        &[0x02, 0x02, 0x00, 0x80],
+        &[0x02, 0x01, 0x80],
+        &[0x02, 0x02, 0xff, 0x80],
+    ];
+    for octets in cases {
+        let again = integer_written_again(rt.alloc(), octets);
+        assert!(rt; again.is_ok());
+        assert!(rt; again.unwrap().as_slice() == octets);
+    }
 }
 
 /// X.690's own examples: 8.2.2 (BOOLEAN), 8.6.4.2 (BIT STRING), and single values that are refused.

@@ -1,6 +1,7 @@
 //! A text.
 
-ghost use Rattle.std.specs.Prelude.{◌≡◌};
+ghost use Rattle.std.specs.Prelude.{◌≡◌, ◌==◌, IfOk};
+ghost use Rattle.std.specs.List.{list_any};
 ghost use Rattle.std.specs.String.{string_bytes};
 ghost use Rattle.std.specs.Str.{IsUtf8};
 
@@ -30,6 +31,13 @@ impl Model for Text {
     ghost inverse = { λ octets. record { octets = octets } };
 }
 
+/// Whether a text has this octet, as one below 80 hex: a character of ASCII.
+pub fn has_octet(text: &str, octet: u8) -> bool
+    ensures { result ≡ list_any (λ each. each == octet) text.now }
+{
+    text.as_bytes().contains(&octet)
+}
+
 impl Text {
     pub fn new(text: String) -> Text
         ensures { result ≡ string_bytes text }
@@ -37,6 +45,14 @@ impl Text {
         Text {
             octets: Octets::new(text.into_bytes()),
         }
+    }
+
+    /// A text of its own.
+    pub fn from_str(alloc: Global, text: &str) -> Result<Text, OutOfMemory>
+        ensures { IfOk result (λ copy. copy ≡ text.now) }
+    {
+        let text = String::from_str(alloc, text)?;
+        Ok(Text::new(text))
     }
 
     pub fn as_str(&self) -> &str
