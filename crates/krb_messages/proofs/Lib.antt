@@ -1,3 +1,4 @@
 pub mod FrameLemmas
 pub mod Spellings
 pub mod Complete
+pub mod Groups

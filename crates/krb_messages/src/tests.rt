@@ -1,5 +1,7 @@
 //! Records and frames, on octets spelled by hand and on what real clients sent.
 
+mod changed;
+mod fields;
 mod samples;
 
 use crate::constants::{AP_REP_TOKEN_ID, AP_REQ_TOKEN_ID, KRB5_OID};
@@ -70,8 +72,8 @@ fn messages_have_one_spelling(rt: HostRuntime) -> Result<(), Fail> {
     assert!(rt; is_one_spelling::<ApRep>(alloc, samples::AP_REP)?);
     assert!(rt; is_one_spelling::<EncApRepPart>(alloc, samples::ENC_AP_REP_PART)?);
     assert!(rt; is_one_spelling::<EncApRepPart>(alloc, samples::ENC_AP_REP_PART_LEAST)?);
-    assert!(rt; is_one_spelling::<Ticket>(alloc, samples::KRB5_MESSAGE_TICKET)?);
-    assert!(rt; is_one_spelling::<EncryptedData>(alloc, samples::KRB5_MESSAGE_AUTHENTICATOR)?);
+    assert!(rt; is_one_spelling::<Ticket>(alloc, samples::krb5_ticket())?);
+    assert!(rt; is_one_spelling::<EncryptedData>(alloc, samples::krb5_authenticator())?);
     Ok(())
 }
 
@@ -157,7 +159,7 @@ fn frames_of_real_clients(rt: HostRuntime) -> Result<(), Fail> {
 #[test]
 fn a_real_ticket_names_its_service(rt: HostRuntime) -> Result<(), Fail> {
     let alloc = rt.alloc();
-    let ticket = Ticket::read(alloc, samples::KRB5_MESSAGE_TICKET)?;
+    let ticket = Ticket::read(alloc, samples::krb5_ticket())?;
     assert_eq!(rt; ticket.realm.as_str(), "EXAMPLE.COM");
     let [host, server] = ticket.sname.name_string.as_slice() else {
         return Err(Fail::from(Shape));

@@ -7,6 +7,7 @@ use Rattle.krb_der.proofs.Outcome.{Fails-map}
 use Rattle.krb_messages.specs.Table.{enc_ticket_part}
 use Rattle.krb_messages.specs.Layouts.{enc_ticket_part_row}
 use Rattle.krb_messages.specs.Groups.{subject_fields, subject_row, validity_fields, validity_row}
+use Rattle.krb_messages.proofs.Groups.{two_groups}
 use Rattle.krb_messages.proofs.enc_ticket_part.EncTicketPartAsn1.from_contents.Goals as goal
 
 pub returns-in_err-authtime : goal.returns-in_err-authtime
@@ -25,7 +26,7 @@ returns-in_err-end c =
     let first = c.in_ok-flags.field-0 in
     let second = c.in_ok-authtime.field-0 in
     let e : value_in enc_ticket_part c.args.contents.now ≡ option_map (subject_row (validity_fields nothing) first) (option_map (validity_row nothing second) (row_in nothing c.read_validity.new.fields)) =
-    c.in_ok-fields.ensures 3 (subject_fields (validity_fields nothing)) ∙ c.in_ok-flags.ensures (validity_fields nothing) ∙ ap (option_map (subject_row (validity_fields nothing) first)) (c.in_ok-authtime.ensures nothing) in
+    two_groups subject_fields validity_fields subject_row validity_row first second _ _ _ _ (c.in_ok-fields.ensures 3 (subject_fields (validity_fields nothing))) c.in_ok-flags.ensures c.in_ok-authtime.ensures in
     rw (failed.1, failed.2, e, c.in_err-end.ensures.fields) refl
 
 pub returns : goal.returns
@@ -34,5 +35,5 @@ returns c =
     let first = c.in_ok-flags.field-0 in
     let second = c.in_ok-authtime.field-0 in
     let e : value_in enc_ticket_part c.args.contents.now ≡ option_map (subject_row (validity_fields nothing) first) (option_map (validity_row nothing second) (row_in nothing c.read_validity.new.fields)) =
-    c.in_ok-fields.ensures 3 (subject_fields (validity_fields nothing)) ∙ c.in_ok-flags.ensures (validity_fields nothing) ∙ ap (option_map (subject_row (validity_fields nothing) first)) (c.in_ok-authtime.ensures nothing) in
+    two_groups subject_fields validity_fields subject_row validity_row first second _ _ _ _ (c.in_ok-fields.ensures 3 (subject_fields (validity_fields nothing))) c.in_ok-flags.ensures c.in_ok-authtime.ensures in
     e ∙ ap (λ rest. option_map (subject_row (validity_fields nothing) first) (option_map (validity_row nothing second) rest)) c.in_ok-end.ensures.fields
