@@ -66,8 +66,8 @@ impl AuthIdentityBuffers {
             }
         };
         Ok(AuthIdentityBuffers {
-            user: Text::new(String::from_str(alloc, user)?),
-            domain: Text::new(String::from_str(alloc, domain)?),
+            user: Text::from_str(alloc, user)?,
+            domain: Text::from_str(alloc, domain)?,
             password: identity.password.copy(alloc)?,
         })
     }

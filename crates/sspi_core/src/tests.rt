@@ -1,5 +1,9 @@
 //! Values from outside: the table of codes, printed words, written-out names and buffers.
 
+mod errors;
+mod messages;
+mod names;
+
 use crate::*;
 use bitflags::Flags;
 use krb_der::Octets;

@@ -6,7 +6,7 @@ ghost use Rattle.std.specs.String.{string_bytes};
 ghost use Rattle.sspi_core.specs.Shown.{shown, ShowsWhole};
 ghost use Rattle.sspi_core.specs.Usernames.{DownLevel, UserPrincipal, has, is_user_name, is_plain, is_plain_option, user_name, parsed, at_sign, backslash, upn_text, IsCutAtFirst, IsCutAtLast};
 
-use krb_der::{OutOfMemory, Text, TryCopy};
+use krb_der::{OutOfMemory, Text, TryCopy, has_octet};
 use std::alloc::{AllocError, Global};
 use std::marker::Model;
 use thiserror::Error;
@@ -138,16 +138,10 @@ pub enum UsernameParts<'a> {
     DownLevelLogonName(DownLevelLogonName<'a>),
 }
 
-fn has(text: &str, sign: u8) -> bool
-    ensures { result ≡ has sign text.now }
-{
-    text.as_bytes().contains(&sign)
-}
-
 fn is_plain(text: &str) -> bool
     ensures { result ≡ is_plain text.now }
 {
-    !has(text, b'\\') && !has(text, b'@')
+    !has_octet(text, b'\\') && !has_octet(text, b'@')
 }
 
 fn is_plain_option(text: Option<&str>) -> bool
@@ -171,12 +165,6 @@ fn cut_at_sign(text: &str) -> Option<(&str, &str)>
     ensures { MatchOption result (has at_sign text.now ≡ false) (λ parts. IsCutAtLast text.now parts.0.now parts.1.now) }
 {
     text.rsplit_once('@')
-}
-
-fn copy_of(alloc: Global, text: &str) -> Result<Text, OutOfMemory>
-    ensures { IfOk result (λ copy. copy ≡ text.now) }
-{
-    Ok(Text::new(String::from_str(alloc, text)?))
 }
 
 /// The account, `@` and the suffix.
@@ -203,10 +191,10 @@ impl Username {
         if !is_plain(account) || !is_plain_option(netbios) {
             return Err(UsernameError::MixedFormat);
         }
-        let account = copy_of(alloc, account)?;
+        let account = Text::from_str(alloc, account)?;
         let netbios = match netbios {
             None => None,
-            Some(domain) => Some(copy_of(alloc, domain)?),
+            Some(domain) => Some(Text::from_str(alloc, domain)?),
         };
         Ok(Username {
             form: Form::DownLevel(account, netbios),
@@ -218,7 +206,7 @@ impl Username {
         ensures name { IfOk result (λ name. user_name (UserPrincipal account.now suffix.now) ≡ Some name) }
         ensures mixed { (result ≡ Err UsernameError.MixedFormat) ↔ (user_name (UserPrincipal account.now suffix.now) ≡ None) }
     {
-        if has(account, b'\\') || !is_plain(suffix) {
+        if has_octet(account, b'\\') || !is_plain(suffix) {
             return Err(UsernameError::MixedFormat);
         }
         let text = joined(alloc, account, suffix)?;
@@ -234,7 +222,7 @@ impl Username {
     {
         match cut_backslash(value) {
             Some((netbios, account)) => {
-                if has(value, b'@') {
+                if has_octet(value, b'@') {
                     Err(UsernameError::MixedFormat)
                 } else {
                     Username::new(alloc, account, Some(netbios))
