@@ -8,16 +8,10 @@ use Rattle.krb_crypto.specs.SealingPair.{SealingPair}
 use Rattle.krb_crypto.proofs.CtsInjective.{aes_cts_injective}
 use Rattle.krb_crypto.proofs.SealedLemmas.{length-hmac12}
 use Rattle.sspi_core.specs.Buffer.{Buffer}
+use Rattle.krb_context.specs.Decrypted.{IsDecrypted, HasCode}
 use Rattle.krb_context.specs.Header.{IsCopyOf}
 use Rattle.krb_context.specs.Spelled.{covered}
 use Rattle.krb_context.specs.Spelt.{inner_text, sealed_body, covered_code, IsSealedAs}
-
--- what was decrypted: o is the only text whose encryption stands before the checksum
-pub record IsDecrypted (keys : SealingPair) (ec : ℕ) (whole o : List ℕ) : Type 0 where
-  pub long : 44 + ec ≤ length whole
-  pub size : length o + 12 ≡ length whole
-  pub opened : cts (aes keys.encryption) o ≡ take (length o) whole
-  pub octets : (k : ℕ) → slice_index o k < 256
 
 -- the parts of an inner text
 pub record IsParted (confounder p filler copy o : List ℕ) (ec : ℕ) : Type 0 where
@@ -79,7 +73,7 @@ decrypted_is keys ec header buffers whole p o d s =
 -- where a text is sealed, the checksum agrees, and so does the header's copy
 pub sealed_agrees : (keys : SealingPair) (ec : ℕ) (header : List ℕ) (buffers : List Buffer) (whole p o : List ℕ)
     → IsDecrypted keys ec whole o → IsSealedAs keys ec header buffers whole p
-    → (covered_code keys.integrity buffers o (length o - 16 - ec) ≡ drop (length o) whole) × IsCopyOf header (drop (length o - 16) o)
+    → HasCode keys ec buffers whole o × IsCopyOf header (drop (length o - 16) o)
     × (p ≡ take (length o - 16 - ec - 16) (drop 16 o))
 sealed_agrees keys ec header buffers whole p o d s =
     let both = decrypted_is keys ec header buffers whole p o d s in
@@ -92,7 +86,7 @@ sealed_agrees keys ec header buffers whole p o d s =
 
 -- where both agree, the middle is sealed
 pub agrees_sealed : (keys : SealingPair) (ec : ℕ) (header : List ℕ) (buffers : List Buffer) (whole o : List ℕ)
-    → IsDecrypted keys ec whole o → covered_code keys.integrity buffers o (length o - 16 - ec) ≡ drop (length o) whole
+    → IsDecrypted keys ec whole o → HasCode keys ec buffers whole o
     → IsCopyOf header (drop (length o - 16) o) → IsSealedAs keys ec header buffers whole (take (length o - 16 - ec - 16) (drop 16 o))
 unfolding sealed_body covered_code
 agrees_sealed keys ec header buffers whole o d agrees copied =
@@ -123,16 +117,7 @@ agrees_sealed keys ec header buffers whole o d agrees copied =
           sym (ap₂ (λ (u v : List ℕ). u ++ v) (ap (cts (aes keys.encryption)) inner ∙ d.opened) code ∙ take-append-drop (length o) whole);
     }
 
--- what the code computes, in these terms
-pub code_is : (whole slice code o : List ℕ) → slice ≡ whole → length o + 12 ≡ length whole → code ≡ drop (length slice - 12) slice → code ≡ drop (length o) whole
-code_is whole slice code o es size ec =
-    let at : length slice - 12 ≡ length o = omega (arith, ap length es) in
-    ec ∙ ap₂ (λ (n : ℕ) (s : List ℕ). drop n s) at es
-
-pub found_is : (key : List ℕ) (buffers : List Buffer) (o slice found : List ℕ) (ec n : ℕ) → slice ≡ o → n ≡ length o
-    → found ≡ covered_code key buffers slice (n - 16 - ec) → found ≡ covered_code key buffers o (length o - 16 - ec)
-found_is key buffers o slice found ec n es en ef = ef ∙ ap₂ (λ (s : List ℕ) (k : ℕ). covered_code key buffers s (k - 16 - ec)) es en
-
+-- where the header's copy stands, in these terms
 pub copy_is : (o slice : List ℕ) (n : ℕ) → slice ≡ o → n ≡ length o → take (length slice - (n - 16)) (drop (n - 16) slice) ≡ drop (length o - 16) o
 copy_is o slice n es en = take_rest slice (n - 16) ∙ ap₂ (λ (k : ℕ) (s : List ℕ). drop (k - 16) s) en es
 

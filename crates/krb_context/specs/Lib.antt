@@ -1,5 +1,6 @@
 pub mod Configs
 pub mod Contexts
+pub mod Decrypted
 pub mod Headed
 pub mod Header
 pub mod Mics

@@ -6,6 +6,7 @@ mod constants;
 mod context;
 mod equal;
 mod handles;
+mod headed;
 mod header;
 mod kept;
 pub mod laws;

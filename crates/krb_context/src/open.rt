@@ -1,13 +1,12 @@
 //! Opening the body of a token.
 
 ghost use Rattle.std.specs.Prelude.{◌≡◌, ◌↔◌, ◌+◌, ◌-◌, ◌≤◌, ◌<◌, ◌++◌, ℕ, List, length, take, drop, slice_index, vec_len, IsTrue, MatchOption, IfOk, IfSome};
-ghost use Rattle.krb_aes.specs.Aes.{aes};
-ghost use Rattle.krb_crypto.specs.Cts.{cts};
 ghost use Rattle.krb_crypto.specs.Keyed.{IsHmacOf};
 ghost use Rattle.krb_crypto.specs.Hmac.{hmac12};
 ghost use Rattle.krb_crypto.specs.Suite.{key_size, kc};
 ghost use Rattle.krb_context.specs.Header.{ec_of, without_counts};
 ghost use Rattle.krb_context.specs.Spelled.{covered, covered_of};
+ghost use Rattle.krb_context.specs.Decrypted.{IsDecrypted, HasCode};
 ghost use Rattle.krb_context.specs.Spelt.{IsSealedAs, IsClearAs, covered_code};
 
 use crate::equal::is_equal;
@@ -80,15 +79,18 @@ fn last_twelve(text: &[u8]) -> [u8; 12]
     code
 }
 
-/// Decrypts all but the last 12 octets, which go.
-fn decrypt_front(sealing: &SealingKey, text: &mut Vec<u8>)
-    requires { 28 ≤ vec_len text.old }
-    ensures size { vec_len text.new + 12 ≡ vec_len text.old }
-    ensures opened { cts (aes sealing.now.encryption) text.new.items ≡ take (vec_len text.new) text.old.items }
-    ensures octets { (k : ℕ) → slice_index text.new.items k < 256 }
+/// Decrypts all but the last 12 octets, which go, and says whether they are the checksum.
+fn decrypt(sealing: &SealingKey, message: &Message, ec: usize, text: &mut Vec<u8>) -> bool
+    requires { 44 + ec ≤ vec_len text.old }
+    ensures decrypted { IsDecrypted sealing.now ec text.old.items text.new.items }
+    ensures agrees { IsTrue result ↔ HasCode sealing.now ec message.now text.old.items text.new.items }
 {
+    let code = last_twelve(text.as_slice());
     text.truncate(text.len() - 12);
     sealing.decrypt_text(text.as_mut_slice());
+    let end = text.len() - 16 - ec;
+    let found = covered_code(sealing, message, text.as_slice(), end);
+    is_equal(&found, &code)
 }
 
 /// The text whose sealed form this is, if there is one.
@@ -104,19 +106,15 @@ pub(crate) fn open_sealed(
         ((p : List ℕ) → ¬ (IsSealedAs sealing.now ec header.now message.now whole.items p))
         (λ p. IsSealedAs sealing.now ec header.now message.now whole.items p) }
 {
-    let code = last_twelve(whole.as_slice());
     let mut text = whole;
-    decrypt_front(sealing, &mut text);
-    let copy_at = text.len() - 16;
-    let end = copy_at - ec;
-    let found = covered_code(sealing, message, text.as_slice(), end);
-    if !is_equal(&found, &code) {
+    if !decrypt(sealing, message, ec, &mut text) {
         return None;
     }
+    let copy_at = text.len() - 16;
     if !is_copy_of(header, &text.as_slice()[copy_at..]) {
         return None;
     }
-    let plain = plain_part(text, end);
+    let plain = plain_part(text, copy_at - ec);
     Some(Octets::new(plain))
 }
 

@@ -19,7 +19,7 @@ use krb_der::Octets;
 use sspi_core::{Message, Part};
 use std::alloc::{AllocError, Global};
 
-/// What is encrypted, with zeros for its filler.
+/// What is encrypted, with zeros for its filler. There is room for a checksum behind it.
 fn inner_text(
     alloc: Global,
     confounder: &[u8; 16],
@@ -29,7 +29,7 @@ fn inner_text(
 ) -> Result<Vec<u8>, AllocError>
     ensures { IfOk result (λ text. text.items ≡ inner_text confounder.now plain.now (replicate ec 0) copy.now) }
 {
-    let mut text = Vec::new(alloc);
+    let mut text = Vec::with_capacity(alloc, 44 + ec as usize + plain.len())?;
     text.extend_from_slice(confounder)?;
     text.extend_from_slice(plain)?;
     let filled = text.len() + ec as usize;
@@ -80,7 +80,7 @@ fn token_of(
     ensures size { IfOk result (λ token. vec_len token + end ≡ 32 + length whole.now) }
     ensures token { IfOk result (λ token. token.items ≡ header.now ++ (drop end whole.now ++ take 16 whole.now)) }
 {
-    let mut token = Vec::new(alloc);
+    let mut token = Vec::with_capacity(alloc, 32 + whole.len() - end)?;
     token.extend_from_slice(header)?;
     token.extend_from_slice(&whole[end..])?;
     token.extend_from_slice(&whole[..16])?;

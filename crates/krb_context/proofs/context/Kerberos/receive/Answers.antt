@@ -3,8 +3,8 @@ use Rattle.krb_context.specs.Unwraps.{Receives}
 use Rattle.krb_context.proofs.UnwrapLemmas.{headed}
 use Rattle.krb_context.proofs.context.Kerberos.receive.Goals as goal
 
-pub open-requires-clause-headed : goal.open-requires-clause-headed
-open-requires-clause-headed c = headed _ _ _ _ _ c.in_ok-header.ensures
+pub invariant_of-headed-clause-checked : goal.invariant_of-headed-clause-checked
+invariant_of-headed-clause-checked c = headed _ _ _ _ _ c.in_ok-header.ensures
 
 pub returns-in_err-key-clause-receives : goal.returns-in_err-key-clause-receives
 unfolding Receives

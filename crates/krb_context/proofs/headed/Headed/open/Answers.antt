@@ -2,10 +2,10 @@ use Rattle.std.proofs.Common.{rules, ◌-◌, length}
 use Rattle.sspi_core.specs.declared.cause.Cause.TheVariants.{Short}
 use Rattle.sspi_core.proofs.Chain.{held, chain, goes, answers}
 use Rattle.krb_context.specs.Unwraps.{is_long, Opens}
-use Rattle.krb_context.proofs.params.EncryptionParams.open.Goals as goal
+use Rattle.krb_context.proofs.headed.Headed.open.Goals as goal
 
-pub find-requires-clause-long : goal.find-requires-clause-long
-find-requires-clause-long c = held Short (is_long c.args.header.now (length c.args.text.now - 16)) tt c.in_ok-check_long.ensures
+pub find-requires : goal.find-requires
+find-requires c = held Short (is_long c.args.self.now.header.now (length c.args.self.now.text.now - 16)) tt c.in_ok-check_long.ensures
 
 pub returns-in_err-check_long : goal.returns-in_err-check_long
 unfolding Opens
