@@ -5,6 +5,7 @@
 //! long enough to measure.
 #![tactic(auto)]
 
+mod replay;
 mod suites;
 mod timing;
 
@@ -24,5 +25,6 @@ fn is_full(rt: &(impl Env + AllocGlobal)) -> Result<bool> {
 
 fn main(rt: HostRuntime) -> Result<()> {
     let full = is_full(&rt)?;
-    suites::run(&rt, full)
+    suites::run(&rt, full)?;
+    replay::run(&rt, full)
 }
