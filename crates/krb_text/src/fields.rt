@@ -8,7 +8,7 @@ ghost use Rattle.krb_text.specs.declared.fields.FieldError.TheVariants.{OutOfMem
 
 use bitflags::Flags;
 use hex::{FromHex, FromHexError};
-use krb_der::Octets;
+use krb_der::{Name, Octets, OutOfMemory};
 use sspi_core::ClientRequestFlags;
 use std::alloc::{AllocError, AllocFailed, Global};
 
@@ -17,6 +17,14 @@ use std::alloc::{AllocError, AllocFailed, Global};
 pub enum FieldError {
     Bad,
     OutOfMemory,
+}
+
+impl From<OutOfMemory> for FieldError {
+    ghost from_gives = { λ _ e. e ≡ NoMemory };
+
+    fn from(_: OutOfMemory) -> Self {
+        FieldError::OutOfMemory
+    }
 }
 
 impl From<AllocError> for FieldError {
@@ -120,13 +128,16 @@ fn are_graphic(text: &[u8]) -> bool
 }
 
 /// A field that is taken as it stands.
-pub fn name(alloc: Global, text: &[u8]) -> Result<Octets, FieldError>
+pub fn name(alloc: Global, text: &[u8]) -> Result<Name, FieldError>
     ensures { Gives (name_of text.now) result }
 {
     if !is_name(text) {
         return Err(FieldError::Bad);
     }
-    Ok(Octets::new(text.to_vec(alloc)?))
+    match Name::new(text.to_vec(alloc)?) {
+        Some(name) => Ok(name),
+        None => Err(FieldError::Bad),
+    }
 }
 
 /// The 64 octets that 128 hex digits stand for.

@@ -7,7 +7,7 @@ ghost use Rattle.krb_text.specs.Gives.{Gives};
 use crate::fields::{
     FieldError, flags, name, number, number_u32, octets, octets_or_none, random_octets,
 };
-use krb_der::Octets;
+use krb_der::{Name, Octets};
 use sspi_core::ClientRequestFlags;
 use std::alloc::{AllocError, Global};
 
@@ -18,16 +18,16 @@ pub struct Acceptor {
     pub id: u32,
     /// Its first sequence number.
     pub number: u32,
-    pub host: Octets,
+    pub host: Name,
     /// The name of its service as it stands in the line, with a `/` between two components.
-    pub service: Octets,
+    pub service: Name,
 }
 
 /// A key of an acceptor's service.
 #[derive(Debug, Drop)]
 pub struct Key {
     pub id: u32,
-    pub service: Octets,
+    pub service: Name,
     pub octets: Octets,
 }
 
