@@ -21,6 +21,11 @@ decimal_value text = fold (λ value digit. value * 10 + (digit - 48)) 0 text
 abbrev pub decimal_up_to : ℕ → List ℕ → Option ℕ
 decimal_up_to limit text = if is_decimal text && nat_le (decimal_value text) limit then Some (decimal_value text) else None
 
+-- the decimal number behind this word, if there is no other word, and it is at most `limit`
+abbrev pub number_behind : List ℕ → ℕ → List (List ℕ) → Option ℕ
+number_behind word limit (first ∷ number ∷ []) = if bytes_eq first word then decimal_up_to limit number else None
+number_behind word limit _ = None
+
 -- a decimal number of 32 bits
 abbrev pub u32_of : List ℕ → Option ℕ
 u32_of text = decimal_up_to (2 ^ 32 - 1) text
