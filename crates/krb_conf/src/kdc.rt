@@ -9,7 +9,7 @@ ghost use Rattle.std.specs.Option.{option_or};
 use crate::env::{Env, lookup};
 use crate::key::join;
 use crate::krb5_conf::Krb5Conf;
-use crate::texts::{concat, text_of};
+use crate::texts::concat;
 use krb_der::{OutOfMemory, Text};
 use std::alloc::Global;
 use url::{ParseError, Url};
@@ -68,7 +68,7 @@ pub fn detect_kdc_host(alloc: Global, env: &Env, domain: &str) -> Result<Option<
 {
     let own = concat(alloc, REALM_VARIABLE, domain)?;
     match configured(env, own.as_str()) {
-        Some(host) => Ok(Some(text_of(alloc, host)?)),
+        Some(host) => Ok(Some(Text::from_str(alloc, host)?)),
         None => kdc_in_files(alloc, env, domain),
     }
 }

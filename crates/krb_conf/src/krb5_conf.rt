@@ -8,7 +8,6 @@ ghost use Rattle.krb_conf.specs.Krb5Conf.{values_of, value_at, section_at};
 use crate::key::{is_same_text, join, under};
 use crate::line::is_skipped;
 use crate::reader::{Effect, Place, effect_at};
-use crate::texts::text_of;
 use krb_der::{Items, OutOfMemory, Text, TryCopy};
 use std::alloc::Global;
 use std::marker::Model;
@@ -98,7 +97,7 @@ impl Krb5Conf {
             let Some(rest) = under(key.as_str(), section.as_str()) else {
                 continue;
             };
-            found.push((text_of(alloc, rest)?, value.copy(alloc)?))?;
+            found.push((Text::from_str(alloc, rest)?, value.copy(alloc)?))?;
         }
         if found.is_empty() {
             return Ok(None);

@@ -1,20 +1,13 @@
 //! What one line of a `krb5.conf` says by itself.
 
 ghost use Rattle.std.specs.Prelude.{◌≡◌, option_copied, option_map};
-ghost use Rattle.krb_conf.specs.Line.{has, is_skipped, section_name, relation};
+ghost use Rattle.krb_conf.specs.Line.{is_skipped, section_name, relation};
 
 /// Whether a trimmed line is empty or a comment.
 pub(crate) fn is_skipped(line: &str) -> bool
     ensures { result ≡ is_skipped line.now }
 {
     line.is_empty() || line.starts_with('#') || line.starts_with(';')
-}
-
-/// Whether a line has an octet of ASCII.
-pub(crate) fn has(line: &str, octet: u8) -> bool
-    ensures { result ≡ has octet line.now }
-{
-    line.as_bytes().contains(&octet)
 }
 
 /// The section that a trimmed line names.

@@ -5,7 +5,7 @@ ghost use Rattle.krb_conf.specs.Names.{name_type, client_name, target_parts};
 ghost use Rattle.sspi_core.specs.declared.cause.Cause.TheVariants as causes;
 ghost use Rattle.sspi_core.specs.declared.kind.ErrorKind.TheVariants as kinds;
 
-use crate::line::has;
+use krb_der::has_octet;
 use sspi_core::{Cause, Error, Username, UsernameParts};
 
 /// The type of a name that is an account (RFC 4120 6.2).
@@ -28,7 +28,7 @@ pub struct ClientPrincipalName<'a> {
 pub fn get_client_principal_name_type(username: &str, _domain: &str) -> u8
     ensures { result ≡ name_type username.now }
 {
-    if has(username, b'@') {
+    if has_octet(username, b'@') {
         NT_ENTERPRISE
     } else {
         NT_PRINCIPAL

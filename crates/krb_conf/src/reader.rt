@@ -5,8 +5,9 @@ ghost use Rattle.krb_conf.specs.Krb5Conf as conf;
 ghost use Rattle.krb_conf.specs.Krb5Conf.{effect};
 ghost use Rattle.krb_conf.specs.Seen.{place_of, effect_of, depth_of, depth_after};
 
-use crate::line::{has, relation, section_name};
+use crate::line::{relation, section_name};
 use crate::relation::Relation;
+use krb_der::has_octet;
 
 /// A section, and where in it a line stands.
 #[derive(Clone, Copy)]
@@ -70,7 +71,7 @@ fn effect_within<'a>(section: Section<'a>, line: &'a str) -> Effect<'a>
     if depth > 0 && line.ends_with('}') {
         return leads_within(name, None, depth - 1);
     }
-    if has(line, b'{') {
+    if has_octet(line, b'{') {
         return match relation(line) {
             Some((group, _)) => leads_within(name, Some(group), depth + 1),
             None => Effect::Nothing,

@@ -3,7 +3,6 @@
 ghost use Rattle.std.specs.Prelude.{◌≡◌, ◌++◌, ◌∷◌, [], IfOk, option_copied};
 ghost use Rattle.krb_conf.specs.Krb5Conf.{key};
 
-use crate::texts::text_of;
 use krb_der::{OutOfMemory, Text};
 use std::alloc::Global;
 
@@ -40,6 +39,6 @@ impl Relation<'_> {
               self.now.value.now,
             )) }
     {
-        Ok((self.key(alloc)?, text_of(alloc, self.value)?))
+        Ok((self.key(alloc)?, Text::from_str(alloc, self.value)?))
     }
 }

@@ -145,14 +145,10 @@ fn a_section_gives_its_values_in_their_order(rt: HostRuntime) -> Result<(), Fail
     Ok(())
 }
 
-fn text(alloc: Global, text: &str) -> Result<Text, OutOfMemory> {
-    Ok(Text::new(String::from_str(alloc, text)?))
-}
-
 fn pairs(alloc: Global, pairs: &[(&str, &str)]) -> Result<Items<(Text, Text)>, OutOfMemory> {
     let mut items = Vec::new(alloc);
     for (name, value) in pairs {
-        items.push((text(alloc, name)?, text(alloc, value)?))?;
+        items.push((Text::from_str(alloc, name)?, Text::from_str(alloc, value)?))?;
     }
     Ok(Items::new(items))
 }
@@ -268,7 +264,7 @@ fn a_configured_kdc_counts_first(rt: HostRuntime) -> Result<(), Fail> {
     for (address, own, used) in rows {
         let url = parse_kdc_url(rt.alloc(), address)?;
         assert_eq!(rt; shown_url(&url), own);
-        let config = KerberosConfig::new(rt.alloc(), address, text(rt.alloc(), "host")?)?;
+        let config = KerberosConfig::new(rt.alloc(), address, Text::from_str(rt.alloc(), "host")?)?;
         let copy = config.copy(rt.alloc())?;
         assert_eq!(rt; copy.client_computer_name.as_str(), "host");
         let url = copy.get_kdc_url(rt.alloc(), &env, "EXAMPLE.COM")?;

@@ -1,17 +1,10 @@
-//! Copies of text.
+//! Texts made of others.
 
 ghost use Rattle.std.specs.Prelude.{◌≡◌, ◌++◌, IfOk};
 ghost use Rattle.std.specs.Str.{str_to_ascii_uppercase};
 
 use krb_der::{OutOfMemory, Text};
 use std::alloc::Global;
-
-/// A text of its own.
-pub(crate) fn text_of(alloc: Global, text: &str) -> Result<Text, OutOfMemory>
-    ensures { IfOk result (λ copy. copy ≡ text.now) }
-{
-    Ok(Text::new(String::from_str(alloc, text)?))
-}
 
 /// One text and then another.
 pub(crate) fn concat(alloc: Global, front: &str, back: &str) -> Result<Text, OutOfMemory>
