@@ -1,4 +1,5 @@
 use crate::*;
+use std::alloc::{AllocError, Global};
 use std::io::{self, Read, Write};
 use std::test::Fail;
 
@@ -51,5 +52,35 @@ fn the_standard_edge_moves_octets_and_tells_faults(rt: HostRuntime) -> Result<()
     let mut sink = StdSink::new(Vec::<u8>::new(rt.alloc()));
     assert_eq!(rt; sink.write(b"ok -\n"), Ok(5));
     assert_eq!(rt; StdSink::new(Stuck).write(b"ok -\n"), Err(Failed));
+    Ok(())
+}
+
+/// The second call fails, and each other one moves three octets at most.
+fn second_fails(alloc: Global) -> Result<Calls, AllocError> {
+    Ok(Calls::new(Vec::from_slice(alloc, &[2])?, Some(3)))
+}
+
+#[test]
+fn a_listed_read_fails_and_the_next_goes_on(rt: HostRuntime) -> Result<(), Fail> {
+    let mut piece = [0; 4];
+    let mut source = MemSource::new(b"skew 3", second_fails(rt.alloc())?);
+    assert_eq!(rt; source.read(&mut piece), Ok(3));
+    assert_eq!(rt; source.read(&mut piece), Err(Failed));
+    assert_eq!(rt; source.read(&mut piece), Ok(3));
+    assert_eq!(rt; piece.as_slice().get(..3), Some(b"w 3".as_slice()));
+    assert_eq!(rt; source.read(&mut piece), Ok(0));
+    Ok(())
+}
+
+#[test]
+fn a_listed_write_fails_and_the_next_goes_on(rt: HostRuntime) -> Result<(), Fail> {
+    let alloc = rt.alloc();
+    let mut sink = MemSink::new(alloc, second_fails(alloc)?);
+    assert_eq!(rt; sink.write(b"end 0"), Ok(3));
+    assert_eq!(rt; sink.write(b" 0"), Err(Failed));
+    assert_eq!(rt; sink.write(b" 0"), Ok(2));
+    assert_eq!(rt; sink.bytes(), b"end 0".as_slice());
+    let mut sound = MemSink::new(alloc, Calls::sound(alloc));
+    assert_eq!(rt; sound.write(b"end 0 0"), Ok(7));
     Ok(())
 }
