@@ -1,0 +1,119 @@
+-- The client of the demonstration: its ticket and its AP-REQs (RFC 4120, sections 5.3 and 5.5.1).
+use Rattle.std.specs.Prelude.{ℕ, ◌+◌, List, [], ◌∷◌, ◌++◌, codes, replicate, Some, None, ℤ, pos}
+use Rattle.std.specs.List.{range_with_len}
+use Rattle.std.specs.Int.{w32, to_be_bytes}
+use Rattle.krb_der.specs.declared.bits.Bits.{Bits}
+use Rattle.krb_crypto.specs.Suite.{suite_number}
+use Rattle.krb_crypto.specs.SealingPair.{SealingPair, sealing_pair}
+use Rattle.krb_crypto.specs.Sealed.{sealed_text}
+use Rattle.krb_crypto.specs.declared.suite.CipherSuite.{CipherSuite}
+use Rattle.krb_crypto.specs.declared.suite.CipherSuite.TheVariants.{Aes256CtsHmacSha196}
+use Rattle.krb_messages.specs.declared.ap_req.ApReq.{ApReq}
+use Rattle.krb_messages.specs.declared.authenticator.Authenticator.{Authenticator}
+use Rattle.krb_messages.specs.declared.enc_ticket_part.EncTicketPart.{EncTicketPart}
+use Rattle.krb_messages.specs.declared.encryption.EncryptedData.{EncryptedData}
+use Rattle.krb_messages.specs.declared.encryption.EncryptionKey.{EncryptionKey}
+use Rattle.krb_messages.specs.declared.principal_name.PrincipalName.{PrincipalName}
+use Rattle.krb_messages.specs.declared.ticket.Ticket.{Ticket}
+use Rattle.krb_messages.specs.declared.constants.TheConstants.{KERBEROS_VERSION, AP_REQ_MSG_TYPE, KRB5_OID, AP_REQ_TOKEN_ID, NT_PRINCIPAL, NT_SRV_INST, TICKET_USAGE, AP_REQ_AUTHENTICATOR_USAGE}
+use Rattle.krb_messages.specs.Layouts.{ap_req_layout, authenticator_layout, enc_ticket_part_layout}
+use Rattle.krb_demo.specs.Spelling.{spelling, framed}
+
+-- the suite of all keys
+abbrev pub suite : CipherSuite
+suite = Aes256CtsHmacSha196
+
+-- the service's key, the octets 00 to 1F, and the session key, 20 to 3F
+unfoldable pub service_key : List ℕ
+service_key = range_with_len 0x00 32
+
+unfoldable pub session_key : List ℕ
+session_key = range_with_len 0x20 32
+
+-- when the ticket was given: 14 November 2023, 22:13:20 UTC, in seconds from 1970
+abbrev pub start : ℕ
+start = 1_700_000_000
+
+abbrev pub realm : List ℕ
+realm = codes "EXAMPLE.COM"
+
+abbrev pub client : PrincipalName
+client = record { name_type = NT_PRINCIPAL ∷ []; name_string = codes "alice" ∷ [] }
+
+abbrev pub service : PrincipalName
+service = record { name_type = NT_SRV_INST ∷ []; name_string = codes "host" ∷ codes "server.example.com" ∷ [] }
+
+-- a text sealed under these keys, with no key version
+abbrev pub encrypted : SealingPair → List ℕ → List ℕ → EncryptedData
+encrypted keys confounder plain = record { etype = suite_number suite ∷ []; kvno = None; cipher = sealed_text keys (confounder ++ plain) }
+
+-- flags and options of which none is set
+abbrev pub no_options : Bits
+no_options = record { unused = 0; octets = replicate 4 0 }
+
+abbrev pub session_encryption_key : EncryptionKey
+session_encryption_key = record { key_type = suite_number suite ∷ []; key_value = session_key }
+
+-- what the ticket seals: it is valid for ten hours
+unfoldable pub ticket_part : EncTicketPart
+ticket_part = record {
+  flags = no_options;
+  key = session_encryption_key;
+  crealm = realm;
+  cname = client;
+  transited = record { tr_type = 1 ∷ []; contents = [] };
+  authtime = pos start;
+  starttime = Some (pos start);
+  endtime = pos (start + 36_000);
+  renew_till = None;
+  caddr = None;
+  authorization_data = None;
+}
+
+-- the keys under which the ticket and the authenticators are sealed
+unfoldable pub ticket_keys : SealingPair
+ticket_keys = sealing_pair suite service_key TICKET_USAGE
+
+unfoldable pub authenticator_keys : SealingPair
+authenticator_keys = sealing_pair suite session_key AP_REQ_AUTHENTICATOR_USAGE
+
+-- the ticket, sealed behind a confounder of zeros
+unfoldable pub client_ticket : Ticket
+client_ticket = record {
+  tkt_vno = KERBEROS_VERSION ∷ [];
+  realm = realm;
+  sname = service;
+  enc_part = encrypted ticket_keys (replicate 16 0) (spelling enc_ticket_part_layout ticket_part);
+}
+
+-- what the client seals at this second and microsecond of its clock
+abbrev pub authenticator : ℤ → List ℕ → Authenticator
+authenticator ctime cusec = record {
+  authenticator_vno = KERBEROS_VERSION ∷ [];
+  crealm = realm;
+  cname = client;
+  cksum = None;
+  cusec = cusec;
+  ctime = ctime;
+  subkey = None;
+  seq_number = Some (to_be_bytes w32 42);
+  authorization_data = None;
+}
+
+-- an AP-REQ that asks for no answer, with this authenticator
+abbrev pub ap_req : EncryptedData → ApReq
+ap_req authenticator = record {
+  pvno = KERBEROS_VERSION ∷ [];
+  msg_type = AP_REQ_MSG_TYPE ∷ [];
+  ap_options = no_options;
+  ticket = client_ticket;
+  authenticator = authenticator;
+}
+
+-- the authenticator, sealed behind this confounder
+unfoldable pub sealed_authenticator : ℤ → List ℕ → List ℕ → EncryptedData
+sealed_authenticator ctime cusec confounder = encrypted authenticator_keys confounder (spelling authenticator_layout (authenticator ctime cusec))
+
+-- the AP-REQ of this second and microsecond, as a token
+unfoldable pub token : ℤ → List ℕ → List ℕ → List ℕ
+token ctime cusec confounder = framed KRB5_OID AP_REQ_TOKEN_ID (spelling ap_req_layout (ap_req (sealed_authenticator ctime cusec confounder)))
