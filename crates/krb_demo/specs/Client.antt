@@ -11,6 +11,7 @@ use Rattle.krb_crypto.specs.declared.suite.CipherSuite.TheVariants.{Aes256CtsHma
 use Rattle.krb_messages.specs.declared.ap_req.ApReq.{ApReq}
 use Rattle.krb_messages.specs.declared.authenticator.Authenticator.{Authenticator}
 use Rattle.krb_messages.specs.declared.enc_ticket_part.EncTicketPart.{EncTicketPart}
+use Rattle.krb_messages.specs.declared.enc_ticket_part.TransitedEncoding.{TransitedEncoding}
 use Rattle.krb_messages.specs.declared.encryption.EncryptedData.{EncryptedData}
 use Rattle.krb_messages.specs.declared.encryption.EncryptionKey.{EncryptionKey}
 use Rattle.krb_messages.specs.declared.principal_name.PrincipalName.{PrincipalName}
@@ -54,6 +55,10 @@ no_options = record { unused = 0; octets = replicate 4 0 }
 abbrev pub session_encryption_key : EncryptionKey
 session_encryption_key = record { key_type = suite_number suite ∷ []; key_value = session_key }
 
+-- no realm lies between the client's and the service's (DOMAIN-X500-COMPRESS, section 3.3.3.2)
+abbrev pub no_realms : TransitedEncoding
+no_realms = record { tr_type = 1 ∷ []; contents = [] }
+
 -- what the ticket seals: it is valid for ten hours
 unfoldable pub ticket_part : EncTicketPart
 ticket_part = record {
@@ -61,7 +66,7 @@ ticket_part = record {
   key = session_encryption_key;
   crealm = realm;
   cname = client;
-  transited = record { tr_type = 1 ∷ []; contents = [] };
+  transited = no_realms;
   authtime = pos start;
   starttime = Some (pos start);
   endtime = pos (start + 36_000);

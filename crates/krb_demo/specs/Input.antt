@@ -24,10 +24,14 @@ token_at j = token (pos (start + j)) (to_be_bytes w32 j) (replicate 8 0 ++ to_be
 abbrev pub sender : ℕ → ℕ
 sender k = if k % 10 == 0 then k - 1 else k
 
--- a token at the k-th acceptor, k seconds after the start, with 64 random octets that are all zero: 128 digits 0
+-- 64 octets of zero in hex: 128 digits 0
+unfoldable pub zeros : List ℕ
+zeros = replicate 128 48
+
+-- a token at the k-th acceptor, k seconds after the start, with random octets that are all zero
 abbrev pub event_line : ℕ → List ℕ
 event_line k =
-    codes "event " ++ decimal k ++ codes " " ++ decimal ((start + k) * 1_000_000) ++ codes " " ++ replicate 128 48
+    codes "event " ++ decimal k ++ codes " " ++ decimal ((start + k) * 1_000_000) ++ codes " " ++ zeros
     ++ codes " - token " ++ encode_lower (token_at (sender k)) ++ codes "\n"
 
 unfoldable pub demonstration : ℕ → List ℕ

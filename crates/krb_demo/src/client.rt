@@ -1,7 +1,7 @@
 //! The client of the demonstration.
 
-ghost use Rattle.std.specs.Prelude.{◌≡◌, ◌≤◌, ◌^◌, length, IfOk};
-ghost use Rattle.krb_demo.specs.Client.{ticket_part, client_ticket, authenticator, authenticator_keys, sealed_authenticator, ap_req, token};
+ghost use Rattle.std.specs.Prelude.{◌≡◌, ◌≤◌, ◌^◌, length, pos, IfOk};
+ghost use Rattle.krb_demo.specs.Client.{no_realms, ticket_part, client_ticket, authenticator, authenticator_keys, sealed_authenticator, ap_req, token};
 
 use crate::parts::{
     SUITE, client, encrypted, integer, no_options, realm, service, service_key,
@@ -18,18 +18,25 @@ use krb_messages::{
 };
 use std::alloc::Global;
 
-/// When the ticket was given: 2023-11-14T22:13:20Z.
-pub(crate) const START: i64 = 1_700_000_000;
+/// When the ticket was given, in seconds from 1970: 2023-11-14T22:13:20Z.
+pub(crate) const START: u32 = 1_700_000_000;
 
 /// For how long it is valid, in seconds: ten hours.
-const LIFETIME: i64 = 36_000;
+const LIFETIME: u32 = 36_000;
 
 /// The number of the client's first message.
 const SEQ_NUMBER: u32 = 42;
 
-/// The realms between the client's and the service's: none.
-fn transited(alloc: Global) -> Result<TransitedEncoding, OutOfMemory>
-    ensures { IfOk result (λ transited. transited ≡ ticket_part.transited) }
+/// The moment so many seconds from the beginning of 1970.
+pub(crate) fn seconds(count: u32) -> Time
+    ensures { result ≡ pos count }
+{
+    Time::new(i64::from(count))
+}
+
+/// No realm lies between the client's and the service's.
+fn no_realms(alloc: Global) -> Result<TransitedEncoding, OutOfMemory>
+    ensures { IfOk result (λ realms. realms ≡ no_realms) }
 {
     Ok(TransitedEncoding {
         tr_type: integer(alloc, &[1])?,
@@ -38,6 +45,7 @@ fn transited(alloc: Global) -> Result<TransitedEncoding, OutOfMemory>
 }
 
 /// What the ticket seals.
+#[tactic(auto, unfolding(crate::specs::Client::ticket_part))]
 fn ticket_part(alloc: Global) -> Result<EncTicketPart, OutOfMemory>
     ensures { IfOk result (λ part. part ≡ ticket_part) }
 {
@@ -46,21 +54,23 @@ fn ticket_part(alloc: Global) -> Result<EncTicketPart, OutOfMemory>
         key: session_encryption_key(alloc)?,
         crealm: realm(alloc)?,
         cname: client(alloc)?,
-        transited: transited(alloc)?,
-        authtime: Time::new(START),
-        starttime: Some(Time::new(START)),
-        endtime: Time::new(START + LIFETIME),
+        transited: no_realms(alloc)?,
+        authtime: seconds(START),
+        starttime: Some(seconds(START)),
+        endtime: seconds(START + LIFETIME),
         renew_till: None,
         caddr: None,
         authorization_data: None,
     })
 }
 
+#[tactic(auto, unfolding(crate::specs::Spelling::spelling, crate::specs::Client::ticket_keys, crate::specs::Client::client_ticket))]
 fn ticket(alloc: Global) -> Result<Ticket, OutOfMemory>
     ensures made { IfOk result (λ ticket. ticket ≡ client_ticket) }
     ensures short { IfOk result (λ ticket. length ticket.enc_part.cipher ≤ 2 ^ 16) }
 {
-    let plain = ticket_part(alloc)?.write(alloc)?;
+    let part = ticket_part(alloc)?;
+    let plain = part.write(alloc)?;
     let keys = SealingKey::new(SUITE, &service_key(), TICKET_USAGE);
     Ok(Ticket {
         tkt_vno: integer(alloc, &[KERBEROS_VERSION])?,
@@ -98,6 +108,7 @@ pub struct DemoClient {
 }
 
 impl DemoClient {
+    #[tactic(auto, unfolding(crate::specs::Client::authenticator_keys))]
     pub fn new(alloc: Global) -> Result<DemoClient, OutOfMemory> {
         Ok(DemoClient {
             ticket: ticket(alloc)?,
@@ -119,6 +130,7 @@ impl DemoClient {
     }
 
     /// The authenticator of this time, sealed.
+    #[tactic(auto, unfolding(crate::specs::Spelling::spelling, crate::specs::Client::sealed_authenticator))]
     fn sealed(
         &self,
         alloc: Global,
@@ -129,12 +141,14 @@ impl DemoClient {
         ensures made { IfOk result (λ part. part ≡ sealed_authenticator ctime cusec confounder) }
         ensures short { IfOk result (λ part. length part.cipher ≤ 2 ^ 16) }
     {
-        let plain = authenticator(alloc, ctime, cusec)?.write(alloc)?;
+        let part = authenticator(alloc, ctime, cusec)?;
+        let plain = part.write(alloc)?;
         encrypted(alloc, &self.keys, confounder, plain.as_slice())
     }
 
     /// An AP-REQ that asks for no answer, framed (RFC 4120, section 5.5.1; RFC 4121, section 4.1). `ctime` and the
     /// big-endian `cusec` are the client's clock; the number of its first message is 42.
+    #[tactic(auto, unfolding(crate::specs::Spelling::spelling, crate::specs::Spelling::framed, crate::specs::Client::token))]
     pub fn token(
         &self,
         alloc: Global,
@@ -145,7 +159,8 @@ impl DemoClient {
         ensures { IfOk result (λ octets. octets ≡ token ctime cusec confounder) }
     {
         let sealed = self.sealed(alloc, ctime, cusec, confounder)?;
-        let message = self.ap_req(alloc, sealed)?.write(alloc)?;
-        write_framed(alloc, Oid::Krb5, AP_REQ_TOKEN_ID, message.as_slice())
+        let message = self.ap_req(alloc, sealed)?;
+        let octets = message.write(alloc)?;
+        write_framed(alloc, Oid::Krb5, AP_REQ_TOKEN_ID, octets.as_slice())
     }
 }
