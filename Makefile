@@ -1,5 +1,5 @@
 # `make run` proves what is not proved yet, builds the program and runs it on an example; `make test` is the merge gate.
-EXAMPLE ?= examples/lines
+EXAMPLE ?= examples/one-client
 
 .PHONY: run test
 run:

@@ -12,60 +12,72 @@ use Rattle.krb_text.specs.declared.status.Status.{Status}
 use Rattle.krb_text.specs.declared.status.Status.TheVariants.{Done, BadWords, BadLine as BadStatus, TooLong, ReadFault as ReadStatus, WriteFault as WriteStatus, OutOfMemory as MemoryStatus}
 use Rattle.krb_text.proofs.OutputLemmas.{Appends-trans, AppendsFront-next}
 use Rattle.krb_service.specs.declared.reply.Reply.{Reply}
-use Rattle.krb_service.specs.Policy.{State, Runs, service_of}
-use Rattle.krb_service.specs.Reply.{replies_text}
-use Rattle.krb_service.specs.Text.{Answered, IsText, IsStopped, first_events, last_line, stopped_line}
+use Rattle.krb_replay.specs.Book.{Book, StandsFor}
+use Rattle.krb_replay.specs.History.{History, window}
+use Rattle.krb_replay.proofs.Order.{length-in_order}
+use Rattle.krb_service.specs.Policy.{State}
+use Rattle.krb_service.specs.Described.{skew_of, service_of, with_gate}
+use Rattle.krb_service.specs.Reply.{replies_text, admissions}
+use Rattle.krb_service.specs.Text.{Answered, IsText, IsStopped, last_line, end_line}
 use Rattle.krb_service.specs.Progress.{Progress}
-use Rattle.krb_service.specs.Closing.{closing, status_at, has_begun}
+use Rattle.krb_service.specs.Closing.{closing, status_at, has_begun, kept_by}
 use Rattle.krb_service.specs.Serve.{Written, Serves, status_of, end_of}
 use Rattle.krb_service.specs.Halts.{Halts, HaltsAt, EndsAt, IsBefore, IsAmid, Follows}
-use Rattle.krb_service.proofs.ProgressLemmas.{all-answered}
+use Rattle.krb_service.proofs.ProgressLemmas.{before-answered, all-answered}
 use Rattle.krb_service.specs.declared.halt.Halt.{Halt}
 use Rattle.krb_service.specs.declared.halt.Halt.TheVariants.{End, BadLine, LongLine, ReadFault, WriteFault, OutOfMemory}
 
 -- the last line of a whole input, and the run behind it
-record EndsWith (progress : Progress) (so_far : Declared) (n : ℕ) (front : List ℕ) : Type 0 where
-  after : State
-  answered : Answered so_far front after
-  line_is : closing progress End ≡ last_line Whole n so_far.setup after
-  status_is : status_at progress End ≡ status_of Whole so_far
+pub record EndsWith (progress : Progress) (so_far : Declared) (n : ℕ) (replies : List Reply) : Type 0 where
+  pub after : State History
+  pub answered : Answered so_far (replies_text replies) replies after
+  pub kept_is : kept_by progress.service ≡ length (window (skew_of so_far.setup) after.gate)
+  pub line_is : closing progress End ≡ last_line Whole n so_far.setup replies after.gate
+  pub status_is : status_at progress End ≡ status_of Whole so_far
 
-ends_before : (progress : Progress) (so_far : Declared) (replies : List Reply) (n : ℕ) → n ≡ progress.lines + 1 → IsBefore progress so_far replies → EndsWith progress so_far n (replies_text replies)
-ends_before progress so_far replies n count b =
-    let R : List Reply → Type 0 = λ rs. Runs (service_of so_far.setup) [] rs (service_of so_far.setup) in
-    let E : List Event → Type 0 = λ es. Runs (service_of so_far.setup) es replies (service_of so_far.setup) in
-    record {
-      after = service_of so_far.setup;
-      answered = record { replies = replies; runs = subst E (sym b.events) (subst R (sym b.none) refl); is = refl };
-      line_is = rw (b.service, b.setup, count) refl;
-      status_is = rw (b.service, b.setup) refl;
-    }
-
-ends_amid : (progress : Progress) (so_far : Declared) (replies : List Reply) (n : ℕ) → IsAmid progress so_far replies → EndsWith progress so_far n (replies_text replies)
-ends_amid progress so_far replies n m = record {
-  after = m.after;
-  answered = record { replies = replies; runs = m.runs; is = refl };
-  line_is = rw (m.service, m.skew) refl;
-  status_is = rw (m.service, m.skew) refl;
+ends_before : (progress : Progress) (so_far : Declared) (replies : List Reply) → progress.admitted ≡ admissions replies → IsBefore progress so_far replies → EndsWith progress so_far (progress.lines + 1) replies
+ends_before progress so_far replies admitted b = record {
+  after = service_of so_far.setup;
+  answered = before-answered progress so_far replies b;
+  kept_is = ap kept_by b.service;
+  line_is = rw (b.service, b.setup, admitted) refl;
+  status_is = rw (b.service, b.setup) refl;
 }
 
-ends_by : (progress : Progress) (so_far : Declared) (replies : List Reply) → IsBefore progress so_far replies ⊎ IsAmid progress so_far replies → EndsWith progress so_far (progress.lines + 1) (replies_text replies)
-ends_by progress so_far replies (inl b) = ends_before progress so_far replies (progress.lines + 1) refl b
-ends_by progress so_far replies (inr m) = ends_amid progress so_far replies (progress.lines + 1) m
+-- the book keeps as many records as the window has
+window_kept : (book : Book) (h : History) (skew : ℕ) → StandsFor book h → book.skew ≡ skew → length book.kept ≡ length (window skew h)
+window_kept book h skew stands own_skew = ap length stands.kept ∙ length-in_order (window book.skew h) ∙ ap (λ k. length (window k h)) own_skew
 
-ends_with : (progress : Progress) (so_far : Declared) (replies : List Reply) → Follows progress so_far replies → EndsWith progress so_far (progress.lines + 1) (replies_text replies)
-ends_with progress so_far replies f = ends_by progress so_far replies f.state
+ends_amid : (progress : Progress) (so_far : Declared) (replies : List Reply) → progress.admitted ≡ admissions replies → IsAmid progress so_far replies → EndsWith progress so_far (progress.lines + 1) replies
+ends_amid progress so_far replies admitted m =
+    let kept : length m.after.gate.kept ≡ length (window (skew_of so_far.setup) m.history) = window_kept m.after.gate m.history (skew_of so_far.setup) m.stands m.own_skew in
+    record {
+      after = with_gate m.after m.history;
+      answered = record { runs = m.runs; is = refl };
+      kept_is = ap kept_by m.service ∙ kept;
+      line_is = rw (m.service, m.skew, admitted) (ap (λ n. end_line (admissions replies) n) kept);
+      status_is = rw (m.service, m.skew) refl;
+    }
+
+ends_by : (progress : Progress) (so_far : Declared) (replies : List Reply) → progress.admitted ≡ admissions replies → IsBefore progress so_far replies ⊎ IsAmid progress so_far replies
+    → EndsWith progress so_far (progress.lines + 1) replies
+ends_by progress so_far replies admitted (inl b) = ends_before progress so_far replies admitted b
+ends_by progress so_far replies admitted (inr m) = ends_amid progress so_far replies admitted m
+
+pub ends_with : (progress : Progress) (so_far : Declared) (replies : List Reply) → Follows progress so_far replies → EndsWith progress so_far (progress.lines + 1) replies
+ends_with progress so_far replies f = ends_by progress so_far replies f.admitted f.state
 
 -- a text that ends where the reading does
-ended_text : (input front line : List ℕ) (so_far : Declared) (n : ℕ) (stop : Stop) (after : State) → reading_of input ≡ record { so_far = so_far; number = n; stop = stop } → Answered so_far front after
-    → line ≡ last_line stop n so_far.setup after → IsText input (front ++ line)
-ended_text input front line so_far n stop after is answered line_is =
-    let D : Reading → Type 0 = λ r. Answered r.so_far front after in
+ended_text : (input line : List ℕ) (so_far : Declared) (n : ℕ) (stop : Stop) (replies : List Reply) (after : State History) → reading_of input ≡ record { so_far = so_far; number = n; stop = stop }
+    → Answered so_far (replies_text replies) replies after → line ≡ last_line stop n so_far.setup replies after.gate → IsText input (replies_text replies ++ line)
+ended_text input line so_far n stop replies after is answered line_is =
+    let D : Reading → Type 0 = λ r. Answered r.so_far (replies_text replies) replies after in
     record {
-      front = front;
+      front = replies_text replies;
+      replies = replies;
       after = after;
       answered = subst D (sym is) answered;
-      is = ap (λ l. front ++ l) (line_is ∙ sym (ap (λ (r : Reading). last_line r.stop r.number r.so_far.setup after) is));
+      is = ap (λ l. replies_text replies ++ l) (line_is ∙ sym (ap (λ (r : Reading). last_line r.stop r.number r.so_far.setup replies after.gate) is));
     }
 
 ended_status : (input : List ℕ) (so_far : Declared) (n : ℕ) (stop : Stop) → reading_of input ≡ record { so_far = so_far; number = n; stop = stop } → end_of input ≡ status_of stop so_far
@@ -84,22 +96,22 @@ closed input taken written progress End h r w =
     let with_line = ends_with progress e.so_far e.replies e.follows in
     let T : List ℕ → Type 0 = λ l. IsText input (l ++ closing progress End) in
     end_written input taken (written ++ closing progress End) (has_begun progress) (ended_status input e.so_far (progress.lines + 1) Whole e.reading ∙ sym with_line.status_is)
-    (subst T (sym e.is) (ended_text input (replies_text e.replies) (closing progress End) e.so_far (progress.lines + 1) Whole with_line.after e.reading with_line.answered with_line.line_is)) h.1
+    (subst T (sym e.is) (ended_text input (closing progress End) e.so_far (progress.lines + 1) Whole e.replies with_line.after e.reading with_line.answered with_line.line_is)) h.1
 closed input taken written progress BadLine h r w =
     let all = all-answered progress h.so_far h.replies h.follows.state in
     let T : List ℕ → Type 0 = λ l. IsText input (l ++ closing progress BadLine) in (
       ended_status input h.so_far (progress.lines + 1) Bad h.reading,
-      subst T (sym h.is) (ended_text input (replies_text h.replies) (closing progress BadLine) h.so_far (progress.lines + 1) Bad all.0 h.reading all.1 refl),
+      subst T (sym h.is) (ended_text input (closing progress BadLine) h.so_far (progress.lines + 1) Bad h.replies all.0 h.reading all.1 refl),
     )
 closed input taken written progress LongLine h r w =
     let all = all-answered progress h.so_far h.replies h.follows.state in
     let T : List ℕ → Type 0 = λ l. IsText input (l ++ closing progress LongLine) in (
       ended_status input h.so_far (progress.lines + 1) Long h.reading,
-      subst T (sym h.is) (ended_text input (replies_text h.replies) (closing progress LongLine) h.so_far (progress.lines + 1) Long all.0 h.reading all.1 refl),
+      subst T (sym h.is) (ended_text input (closing progress LongLine) h.so_far (progress.lines + 1) Long h.replies all.0 h.reading all.1 refl),
     )
 closed input taken written progress ReadFault h r w = absurd (r refl)
 closed input taken written progress WriteFault h r w = absurd (w refl)
-closed input taken written progress OutOfMemory h r w = record { t = progress.answered; few = h.few; front = written; after = h.after; answered = h.answered; is = refl }
+closed input taken written progress OutOfMemory h r w = record { t = progress.answered; few = h.few; front = written; replies = h.replies; after = h.after; answered = h.answered; is = refl }
 
 end_front : (input taken whole front : List ℕ) (t : Bool) → Written input taken (if t then Done else BadStatus) whole → IsFront front whole → Written input taken WriteStatus front
 end_front input taken whole front true w f = (whole, f, inl w.1)
@@ -150,3 +162,14 @@ Appends-nothing (Some xs) = sym (append-nil xs)
 pub serves-nothing : (left before : Option (List ℕ)) → Serves left left before before BadWords
 serves-nothing None before = tt
 serves-nothing (Some input) before = ([], [], (refl, omega arith), Appends-nothing before, (refl, refl))
+
+-- an input with no bad and no long line
+pub answered-whole : (input taken written : List ℕ) (status : Status) → end_of input ≡ Done → Written input taken status written → status ≢ BadWords
+    → (status ≡ Done) ⊎ ((status ≡ ReadStatus) ⊎ ((status ≡ WriteStatus) ⊎ (status ≡ MemoryStatus)))
+answered-whole input taken written Done e w n = inl refl
+answered-whole input taken written BadWords e w n = absurd (n refl)
+answered-whole input taken written BadStatus e w n = let f = w.0 in absurd (cc)
+answered-whole input taken written TooLong e w n = let f = w.0 in absurd (cc)
+answered-whole input taken written ReadStatus e w n = inr (inl refl)
+answered-whole input taken written WriteStatus e w n = inr (inr (inl refl))
+answered-whole input taken written MemoryStatus e w n = inr (inr (inr refl))

@@ -14,6 +14,7 @@ use Rattle.krb_text.specs.declared.stop.Stop.TheVariants.{Whole, Bad, Long}
 use Rattle.krb_text.specs.declared.status.Status.TheVariants.{ReadFault as ReadStatus, WriteFault as WriteStatus}
 use Rattle.krb_text.proofs.CutLemmas.{lines_line, lines_rest, cut_rest, some_end}
 use Rattle.krb_text.proofs.OutputLemmas.{Appends-trans, AppendsFront-next}
+use Rattle.krb_replay.specs.History.{History}
 use Rattle.krb_service.specs.Policy.{State}
 use Rattle.krb_service.specs.Reply.{replies_text}
 use Rattle.krb_service.specs.Text.{Answered, IsText, IsStopped, first_events, stopped_line}
@@ -139,8 +140,8 @@ stops_at left front before now octets progress after s input same grows =
     let answered = s.follows.answered in
     let fewer = Grows-length s.so_far final grows in
     let first = first-answered progress s.so_far final s.replies answered s.follows.state grows in
-    let T : ℕ → Type 0 = λ t. Answered (first_events t final) (replies_text s.replies) first.0 in
-    record { few = omega (arith, same, answered, fewer); after = first.0; answered = subst T (sym same) first.1 }
+    let T : ℕ → Type 0 = λ t. Answered (first_events t final) (replies_text s.replies) s.replies first.0 in
+    record { few = omega (arith, same, answered, fewer); replies = s.replies; after = first.0; answered = subst T (sym same) first.1 }
 
 -- memory runs out at the line
 pub exit-memory : (left front before now b : Option (List ℕ)) (octets : ℕ) (progress after : Progress) (line : List ℕ) (s : Standing left front before now octets progress)
@@ -189,7 +190,7 @@ exit-write left front before now last b octets progress after line written s com
       front.0,
       c.consumed,
       front.2,
-      (whole, front.1, inr (record { t = after.answered; few = omega arith; front = replies_text m.all; after = first.0; answered = first.1; is = refl })),
+      (whole, front.1, inr (record { t = after.answered; few = omega arith; front = replies_text m.all; replies = m.all; after = first.0; answered = first.1; is = refl })),
     )) comes
 
 long_input : (left front b : Option (List ℕ)) (F : List ℕ → Type 0) (pending handled bytes : List ℕ) → Consumes left front handled → IfSome front F → Consumes front (prepend_known pending b) bytes
@@ -234,8 +235,9 @@ exit-read left front before now old new a b progress rest front_is s t =
     let count = s.count in let within = t.within in let low = t.is_line.1 in
     let sound : IsSound taken = (ap (λ (r : Reading). r.stop) is, omega (arith, rest_is), omega (arith, len)) in
     let all = all-answered progress s.so_far s.replies s.follows.state in
-    let D : Declared → Type 0 = λ d. (after : State) × Answered d (replies_text s.replies) after in
-    map_some _ _ left (λ input k. (taken, replies_text s.replies, (k.2, omega (arith, len)), s.written, (sound, subst D (sym (ap (λ (r : Reading). r.so_far) is)) all)))
+    let D : Declared → Type 0 = λ d. (after : State History) × Answered d (replies_text s.replies) s.replies after in
+    let moved = subst D (sym (ap (λ (r : Reading). r.so_far) is)) all in
+    map_some _ _ left (λ input k. (taken, replies_text s.replies, (k.2, omega (arith, len)), s.written, (sound, (s.replies, moved.0, moved.1))))
     (known_rest left front b s.handled rest s.consumed (rw front_is t.consumed))
 
 -- the input is at its end, and no octets stand behind the last 0A

@@ -1,6 +1,11 @@
 pub mod PolicyLemmas
+pub mod StepLemmas
+pub mod HistoryLemmas
 pub mod GrowthLemmas
 pub mod ProgressLemmas
+pub mod OrderLemmas
 pub mod StandingLemmas
 pub mod ExitLemmas
 pub mod CloseLemmas
+pub mod OnceLemmas
+pub mod LeftLemmas

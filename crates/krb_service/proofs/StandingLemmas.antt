@@ -54,7 +54,7 @@ standing_new left before = record {
   cuts = λ rest. refl;
   reads = λ total more low. refl;
   replies = [];
-  follows = record { answered = refl; state = inl (record { setup = refl; service = refl; events = refl; none = refl }) };
+  follows = record { answered = refl; admitted = refl; modest = omega arith; state = inl (record { setup = refl; service = refl; events = refl; none = refl }) };
   few = omega arith;
   low = omega arith;
   written = Appends-nothing before;

@@ -1,6 +1,7 @@
 -- The last line, and the status.
-use Rattle.std.specs.Prelude.{◌+◌, Bool, ◌||◌, List, ℕ, [], Option, Some, None, is_some, if◌then◌else◌}
-use Rattle.krb_service.specs.Policy.{State, admitted, kept}
+use Rattle.std.specs.Prelude.{◌+◌, Bool, ◌||◌, List, ℕ, [], length, Option, Some, None, is_some, if◌then◌else◌}
+use Rattle.krb_replay.specs.Book.{Book}
+use Rattle.krb_service.specs.Policy.{State}
 use Rattle.krb_service.specs.Text.{end_line, bad_line, long_line, stopped_line}
 use Rattle.krb_service.specs.Progress.{Progress}
 use Rattle.krb_service.specs.declared.halt.Halt.{Halt}
@@ -12,18 +13,14 @@ use Rattle.krb_text.specs.declared.status.Status.TheVariants.{Done, BadLine, Too
 abbrev pub has_begun : Progress → Bool
 has_begun progress = is_some progress.service || is_some progress.setup.skew
 
--- before the first event nothing is admitted or kept
-abbrev pub admitted_by : Option State → ℕ
-admitted_by None = 0
-admitted_by (Some state) = admitted state
-
-abbrev pub kept_by : Option State → ℕ
+-- how many records the replay book keeps: none before the first event
+abbrev pub kept_by : Option (State Book) → ℕ
 kept_by None = 0
-kept_by (Some state) = kept state
+kept_by (Some state) = length state.gate.kept
 
 -- the last line, which a fault leaves out
 abbrev pub closing : Progress → Halt → List ℕ
-closing progress End = if has_begun progress then end_line (admitted_by progress.service) (kept_by progress.service) else bad_line (progress.lines + 1)
+closing progress End = if has_begun progress then end_line progress.admitted (kept_by progress.service) else bad_line (progress.lines + 1)
 closing progress BadHalt = bad_line (progress.lines + 1)
 closing progress LongLine = long_line (progress.lines + 1)
 closing progress ReadHalt = []

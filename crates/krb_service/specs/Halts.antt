@@ -5,8 +5,11 @@ use Rattle.krb_text.specs.Script.{Declared, reading_of}
 use Rattle.krb_text.specs.declared.stop.Stop.{Stop}
 use Rattle.krb_text.specs.declared.stop.Stop.TheVariants.{Whole, Bad, Long}
 use Rattle.krb_text.specs.declared.status.Status.TheVariants.{ReadFault, WriteFault as WriteStatus}
-use Rattle.krb_service.specs.Policy.{State, Runs, service_of}
-use Rattle.krb_service.specs.Reply.{replies_text}
+use Rattle.krb_replay.specs.Book.{Book, StandsFor}
+use Rattle.krb_replay.specs.History.{History}
+use Rattle.krb_service.specs.Policy.{State, Runs}
+use Rattle.krb_service.specs.Described.{Remembers, skew_of, service_of, with_gate}
+use Rattle.krb_service.specs.Reply.{replies_text, admissions}
 use Rattle.krb_service.specs.Text.{Answered, first_events}
 use Rattle.krb_service.specs.Progress.{Progress}
 use Rattle.krb_service.specs.Serve.{Written, IsTaken}
@@ -21,17 +24,22 @@ pub record IsBefore (progress : Progress) (so_far : Declared) (replies : List Re
   pub events : so_far.events ≡ []
   pub none : replies ≡ []
 
--- the service has answered the events
+-- the service has answered the events, as the one that never forgets does, and its book stands for the history
 pub record IsAmid (progress : Progress) (so_far : Declared) (replies : List Reply) : Type 0 where
-  pub after : State
+  pub after : State Book
+  pub history : History
   pub service : progress.service ≡ Some after
   pub skew : is_some so_far.setup.skew ≡ true
   pub some : 0 < length so_far.events
-  pub runs : Runs (service_of so_far.setup) so_far.events replies after
+  pub runs : Runs (Remembers (skew_of so_far.setup)) (service_of so_far.setup) so_far.events replies (with_gate after history)
+  pub stands : StandsFor after.gate history
+  pub own_skew : after.gate.skew ≡ skew_of so_far.setup
 
 -- a session knows what the lines so far declare, and has answered their events with these replies
 pub record Follows (progress : Progress) (so_far : Declared) (replies : List Reply) : Type 0 where
   pub answered : progress.answered ≡ length so_far.events
+  pub admitted : progress.admitted ≡ admissions replies
+  pub modest : progress.admitted ≤ progress.answered
   pub state : IsBefore progress so_far replies ⊎ IsAmid progress so_far replies
 
 -- the reading of the input ends here, and the replies are written
@@ -45,8 +53,9 @@ pub record EndsAt (input written : List ℕ) (progress : Progress) (stop : Stop)
 -- memory ran out, and the replies to the first events are written
 pub record StopsAt (input written : List ℕ) (progress : Progress) : Type 0 where
   pub few : progress.answered ≤ length (reading_of input).so_far.events
-  pub after : State
-  pub answered : Answered (first_events progress.answered (reading_of input).so_far) written after
+  pub replies : List Reply
+  pub after : State History
+  pub answered : Answered (first_events progress.answered (reading_of input).so_far) written replies after
 
 abbrev pub HaltsAt : List ℕ → List ℕ → List ℕ → Progress → Halt → Type 0
 HaltsAt input taken written progress End = EndsAt input written progress Whole × (taken ≡ input)

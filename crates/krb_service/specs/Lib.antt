@@ -1,5 +1,7 @@
 pub mod Reply
 pub mod Policy
+pub mod Described
+pub mod Left
 pub mod Text
 pub mod Progress
 pub mod Closing

@@ -1,62 +1,129 @@
 -- The policy machine: what a service answers to an event, and what it is afterwards.
-use Rattle.std.specs.Prelude.{◌≡◌, ℕ, nat_lt, not, List, [], ◌∷◌, unwrap_or, if◌then◌else◌}
-use Rattle.krb_text.specs.Script.{Setup, is_declared}
-use Rattle.krb_text.specs.declared.item.Acceptor.{Acceptor}
-use Rattle.krb_text.specs.declared.item.Key.{Key}
+use Rattle.std.specs.Prelude.{◌≡◌, ℕ, nat_le, Bool, true, false, if◌then◌else◌, List, [], ◌∷◌, ◌++◌, Option, Some, None, is_some, Result, Ok, Err}
+use Rattle.std.specs.Ordering.{nat_cmp}
+use Rattle.std.specs.BTreeMap.{is_at}
+use Rattle.std.specs.Map.{set_value}
+use Rattle.krb_conf.specs.declared.env.Env.{Env}
+use Rattle.krb_context.specs.Contexts.{is_acceptor}
+use Rattle.krb_context.specs.declared.context.Kerberos.{Kerberos}
+use Rattle.krb_replay.specs.declared.ask.Ask.{Ask}
+use Rattle.krb_replay.specs.declared.ask.Verdict.{Verdict}
+use Rattle.krb_server.specs.Accepts.{asks_dce_style, Accepts}
+use Rattle.krb_server.specs.declared.admission.Accepted.{Accepted}
+use Rattle.krb_server.specs.declared.admission.Accepted.TheVariants.{Done as Admitted}
+use Rattle.krb_text.specs.Script.{at_id}
 use Rattle.krb_text.specs.declared.item.Event.{Event}
 use Rattle.krb_text.specs.declared.item.Input.{Input}
 use Rattle.krb_text.specs.declared.item.Input.TheVariants.{Token, NotBuilt as LaterForm}
-use Rattle.krb_service.specs.declared.reply.Reply.{Reply}
-use Rattle.krb_service.specs.declared.reply.Reply.TheVariants.{Refused}
+use Rattle.sspi_core.specs.Checks.{ok_or}
 use Rattle.sspi_core.specs.Kinds.{error_of}
 use Rattle.sspi_core.specs.declared.cause.Cause.{Cause}
-use Rattle.sspi_core.specs.declared.cause.Cause.TheVariants.{Moment, Connection, NotBuilt}
+use Rattle.sspi_core.specs.declared.cause.Cause.TheVariants as causes
+use Rattle.sspi_core.specs.declared.draw.Draw.{Draw}
+use Rattle.sspi_core.specs.declared.error.Error.{Error}
 use Rattle.sspi_core.specs.declared.draw.TheConstants.{MAX_MOMENT}
+use Rattle.sspi_core.specs.declared.flags.ClientRequestFlags.{ClientRequestFlags}
+use Rattle.sspi_core.specs.declared.flags.ServerRequestFlags.{ServerRequestFlags}
+use Rattle.krb_service.specs.declared.connection.Connection.{Connection}
+use Rattle.krb_service.specs.declared.reply.Reply.{Reply}
+use Rattle.krb_service.specs.declared.reply.Reply.TheVariants.{Done, Refused}
 
--- a service: what the lines declared
-pub record State : Type 0 where
-  pub skew : ℕ
-  pub acceptors : List (ℕ × Acceptor)
-  pub keys : List (ℕ × Key)
+-- a service: its connections by their numbers, its environment, and its replay gate
+pub record State (G : Type 0) : Type 0 where
+  pub connections : List (ℕ × Connection)
+  pub env : Env
+  pub gate : G
 
--- the service that the lines describe
-abbrev pub service_of : Setup → State
-service_of setup = record { skew = unwrap_or setup.skew 0; acceptors = setup.acceptors; keys = setup.keys }
+infixl 10 ◌>>=◌
+abbrev pub ◌>>=◌ : {A B : Type 0} → Result A Cause → (A → Result B Cause) → Result B Cause
+Ok x >>= f = f x
+Err cause >>= f = Err cause
 
--- a refusal of the cause's own kind
-abbrev pub refused : Cause → Reply
-refused cause = Refused (error_of cause)
+-- nothing where the test holds, and else the refusal
+abbrev pub check : Cause → Bool → Result (Unit {0}) Cause
+check cause test = if test then Ok tt else Err cause
 
--- a token at a connection: nothing that a connection does with it is built yet
-abbrev pub token_reply : State → ℕ → Reply
-token_reply state connection =
-    if is_declared connection state.acceptors then refused NotBuilt else refused Connection
+-- the token that an event brings, where its form is built
+abbrev pub token_of : Input → Option (List ℕ)
+token_of (Token octets) = Some octets
+token_of LaterForm = None
 
--- what is brought in time: a form that is not built is refused whatever its connection
-abbrev pub input_reply : State → ℕ → Input → Reply
-input_reply state connection (Token octets) = token_reply state connection
-input_reply state connection LaterForm = refused NotBuilt
+-- the first checks: the moment is in range, the form is built, there is such a connection, and it is an acceptor, since
+-- what an initiator does with a token is not built
+abbrev pub reached : List (ℕ × Connection) → Event → Result (Connection × List ℕ) Cause
+reached connections event = do
+  in_range ← check causes.Moment (nat_le event.moment MAX_MOMENT)
+  token ← ok_or causes.NotBuilt (token_of event.input)
+  connection ← ok_or causes.Connection (at_id event.connection connections)
+  built ← check causes.NotBuilt (is_acceptor connection.context)
+  Ok (connection, token)
 
--- the first check is the moment's
-abbrev pub reply_to : State → Event → Reply
-reply_to state event =
-    if nat_lt MAX_MOMENT event.moment then refused Moment else input_reply state event.connection event.input
+-- the flags of an event, of which an acceptor reads the two that it has
+abbrev pub server_flags : ClientRequestFlags → ServerRequestFlags
+server_flags flags = record { 0 = flags.0 }
 
--- one event may be answered so, and the service is this afterwards
-unfoldable pub Steps : State → Event → Reply → State → Type 0
-Steps state event reply after = (reply ≡ reply_to state event) × (after ≡ state)
+-- what an event hands to the step
+abbrev pub draw_of : Event → Draw
+draw_of event = record { moment = event.moment; random = event.random }
 
--- events may be answered so, one after another, and the service is this afterwards
-abbrev pub Runs : State → List Event → List Reply → State → Type 0
-Runs state [] [] after = after ≡ state
-Runs state [] (reply ∷ replies) after = ⊥
-Runs state (event ∷ events) [] after = ⊥
-Runs state (event ∷ events) (reply ∷ replies) after = (between : State) × Steps state event reply between × Runs between events replies after
+-- the reply that an acceptor's answer makes
+abbrev pub reply_of : Result Accepted Cause → Reply
+reply_of (Ok (Admitted status token)) = Done status token
+reply_of (Err cause) = Refused (error_of cause)
 
--- how many events admitted their peer: none, while no token is
-abbrev pub admitted : State → ℕ
-admitted state = 0
+-- the reply to an answer with its kind
+abbrev pub Replies : Result Accepted Error → Reply → Type 0
+Replies (Ok (Admitted status token)) reply = reply ≡ Done status token
+Replies (Err error) reply = reply ≡ Refused error
 
--- how many records the replay book keeps: none, while there is no book
-abbrev pub kept : State → ℕ
-kept state = 0
+-- the number has a connection
+abbrev pub is_taken : ℕ → List (ℕ × Connection) → Bool
+is_taken id connections = is_some (at_id id connections)
+
+-- why a connection is not added: its number is taken, or else it has the other role
+abbrev pub refusal_to_add : Bool → Bool → Option Cause
+refusal_to_add true fits = Some causes.Connection
+refusal_to_add false false = Some causes.Role
+refusal_to_add false true = None
+
+-- no caller can tell the second service from the first
+pub record IsSameState {G : Type 0} (is_same : G → G → Type 0) (old new : State G) : Type 0 where
+  pub connections : new.connections ≡ old.connections
+  pub env : new.env ≡ old.env
+  pub gate : is_same old.gate new.gate
+
+-- a gate that gives this verdict, whatever it is asked, and stays
+abbrev pub Says : {G : Type 0} → Verdict → G → Ask → Verdict → G → Type 0
+Says given old ask verdict new = (verdict ≡ given) × (new ≡ old)
+
+module _ {G : Type 0} (admits : G → Ask → Verdict → G → Type 0) where
+  -- the acceptor of a connection judges a token: its context and the gate take the step, and all else stays
+  pub record Judges (state : State G) (event : Event) (connection : Connection) (token : List ℕ) (answer : Result Accepted Cause) (after : State G) : Type 0 where
+    pub server : Kerberos
+    pub accepts : Accepts admits connection.context (asks_dce_style (server_flags event.flags)) token (draw_of event) state.gate answer server after.gate
+    pub connections : after.connections ≡ set_value (is_at (nat_cmp event.connection)) state.connections (record connection { context = server })
+    pub env : after.env ≡ state.env
+
+  -- behind the first checks: a refusal of theirs leaves the service
+  abbrev pub Behind : State G → Event → Result (Connection × List ℕ) Cause → Result Accepted Cause → State G → Type 0
+  Behind state event (Ok found) answer after = Judges state event found.0 found.1 answer after
+  Behind state event (Err cause) answer after = (answer ≡ Err cause) × (after ≡ state)
+
+  -- one event may be answered so, and the service is this afterwards
+  pub record Steps (state : State G) (event : Event) (reply : Reply) (after : State G) : Type 0 where
+    pub answer : Result Accepted Cause
+    pub behind : Behind state event (reached state.connections event) answer after
+    pub reply_is : reply ≡ reply_of answer
+
+  -- events may be answered so, one after another, and the service is this afterwards
+  abbrev pub Runs : State G → List Event → List Reply → State G → Type 0
+  Runs state [] [] after = after ≡ state
+  Runs state [] (reply ∷ replies) after = ⊥
+  Runs state (event ∷ events) [] after = ⊥
+  Runs state (event ∷ events) (reply ∷ replies) after = (between : State G) × Steps state event reply between × Runs between events replies after
+
+  -- a run whose replies stand behind those that were there
+  pub record RunsOn (state : State G) (events : List Event) (old new : List Reply) (after : State G) : Type 0 where
+    pub made : List Reply
+    pub replies : new ≡ old ++ made
+    pub runs : Runs state events made after

@@ -1,47 +1,64 @@
 -- What a session knows after some lines, and what one line more does.
-use Rattle.std.specs.Prelude.{◌≡◌, ℕ, ◌+◌, Bool, false, List, [], Option, Some, None, is_some, option_map, if◌then◌else◌, IfSome, IsSomeAnd, MatchBool}
+use Rattle.std.specs.Prelude.{◌≡◌, ℕ, ◌+◌, Bool, true, false, List, [], Option, Some, None, is_some, option_map, if◌then◌else◌, IfSome, MatchOption, MatchBool}
+use Rattle.krb_replay.specs.Book.{Book, Follows, StandsFor}
+use Rattle.krb_replay.specs.History.{no_history}
 use Rattle.krb_text.specs.Lines.{is_skipped}
 use Rattle.krb_text.specs.Items.{item_of}
 use Rattle.krb_text.specs.Script.{Setup, empty_setup, set_up}
 use Rattle.krb_text.specs.declared.item.Item.{Item}
 use Rattle.krb_text.specs.declared.item.Item.TheVariants.{Skew, Acceptor as AcceptorItem, Key as KeyItem, Event as EventItem}
 use Rattle.krb_text.specs.declared.item.Event.{Event}
-use Rattle.krb_service.specs.Policy.{State, Steps, service_of}
-use Rattle.krb_service.specs.Reply.{reply_line}
+use Rattle.krb_service.specs.Policy.{State, Steps}
+use Rattle.krb_service.specs.Described.{skew_of, no_env, connections_of}
+use Rattle.krb_service.specs.Reply.{reply_line, is_done}
 use Rattle.krb_service.specs.declared.reply.Reply.{Reply}
 
--- what the lines before the first event declare, the service from the first event on, and how many lines were taken and
--- events answered
+-- what the lines before the first event declare, the service from the first event on, how many lines were taken, how many
+-- events answered, and how many of them admitted their peer
 pub record Progress : Type 0 where
   pub setup : Setup
-  pub service : Option State
+  pub service : Option (State Book)
   pub lines : ℕ
   pub answered : ℕ
+  pub admitted : ℕ
 
 abbrev pub new_progress : Progress
-new_progress = record { setup = empty_setup; service = None; lines = 0; answered = 0 }
+new_progress = record { setup = empty_setup; service = None; lines = 0; answered = 0; admitted = 0 }
 
--- the first event makes the service
-abbrev pub begun_by : Option State → Progress → Progress
-begun_by (Some state) progress = progress
-begun_by None progress =
-    if is_some progress.setup.skew then record progress { setup = empty_setup; service = Some (service_of progress.setup) } else progress
+-- a service of what was declared, over a book that was asked nothing
+pub record IsNew (setup : Setup) (state : State Book) : Type 0 where
+  pub connections : state.connections ≡ connections_of setup
+  pub env : state.env ≡ no_env
+  pub skew : state.gate.skew ≡ skew_of setup
+  pub stands : StandsFor state.gate no_history
 
-abbrev pub begun : Progress → Progress
-begun progress = begun_by progress.service progress
+-- the service that answers the next event: the first event makes it
+abbrev pub Begins : Progress → State Book → Type 0
+Begins progress state = MatchOption progress.service ((is_some progress.setup.skew ≡ true) × IsNew progress.setup state) (λ service. state ≡ service)
+
+-- there is no service, and no line told the skew
+abbrev pub CannotBegin : Progress → Type 0
+CannotBegin progress = (progress.service ≡ None) × (is_some progress.setup.skew ≡ false)
+
+-- how many events an answer adds to those that admitted their peer
+abbrev pub one_if_done : Reply → ℕ
+one_if_done reply = if is_done reply then 1 else 0
 
 -- one event is answered: this text is written, and this is known then
 pub record Answers (progress : Progress) (event : Event) (text : List ℕ) (after : Progress) : Type 0 where
-  pub before : State
+  pub before : State Book
   pub reply : Reply
-  pub next : State
-  pub begins : (begun progress).service ≡ Some before
-  pub steps : Steps before event reply next
+  pub next : State Book
+  pub begins : Begins progress before
+  pub steps : Steps (Follows StandsFor) before event reply next
   pub text_is : text ≡ reply_line reply
-  pub after_is : after ≡ record (begun progress) { service = Some next; answered = progress.answered + 1 }
+  pub service_is : after.service ≡ Some next
+  pub lines_are : after.lines ≡ progress.lines
+  pub answered_is : after.answered ≡ progress.answered + 1
+  pub admitted_is : after.admitted ≡ progress.admitted + one_if_done reply
 
 -- before the first event
-abbrev pub prepare_by : Option State → Progress → Item → Option Progress
+abbrev pub prepare_by : Option (State Book) → Progress → Item → Option Progress
 prepare_by (Some state) progress item = None
 prepare_by None progress item = option_map (λ setup. record progress { setup = setup }) (set_up progress.setup item)
 
@@ -61,7 +78,7 @@ TakesItem progress (KeyItem key) text after = Prepares progress (KeyItem key) te
 
 -- an item that does not meet the conditions
 abbrev pub RefusesItem : Progress → Item → Type 0
-RefusesItem progress (EventItem event) = (begun progress).service ≡ None
+RefusesItem progress (EventItem event) = CannotBegin progress
 RefusesItem progress (Skew seconds) = prepare progress (Skew seconds) ≡ None
 RefusesItem progress (AcceptorItem acceptor) = prepare progress (AcceptorItem acceptor) ≡ None
 RefusesItem progress (KeyItem key) = prepare progress (KeyItem key) ≡ None

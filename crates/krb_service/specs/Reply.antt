@@ -1,6 +1,6 @@
 -- What is written of a reply.
-use Rattle.std.specs.Prelude.{ℕ, List, [], ◌∷◌, ◌++◌, codes}
-use Rattle.std.specs.List.{flat_map}
+use Rattle.std.specs.Prelude.{ℕ, Bool, true, false, List, [], ◌∷◌, ◌++◌, codes}
+use Rattle.std.specs.List.{flat_map, count_by}
 use Rattle.hex.specs.Hex.{encode_lower}
 use Rattle.sspi_core.specs.Printed.{error_text}
 use Rattle.sspi_core.specs.declared.results.SecurityStatus.{SecurityStatus}
@@ -26,3 +26,12 @@ reply_line (Refused error) = codes "refused " ++ error_text error ++ codes "\n"
 -- the lines of replies, one after another
 abbrev pub replies_text : List Reply → List ℕ
 replies_text replies = flat_map reply_line replies
+
+-- whether a reply admits the peer
+abbrev pub is_done : Reply → Bool
+is_done (Done status token) = true
+is_done (Refused error) = false
+
+-- how many of them admit their peer
+abbrev pub admissions : List Reply → ℕ
+admissions replies = count_by is_done replies

@@ -9,7 +9,9 @@ use Rattle.krb_text.specs.declared.stop.Stop.{Stop}
 use Rattle.krb_text.specs.declared.stop.Stop.TheVariants.{Whole, Bad, Long}
 use Rattle.krb_text.specs.declared.status.Status.{Status}
 use Rattle.krb_text.specs.declared.status.Status.TheVariants.{Done, BadWords, BadLine, TooLong, ReadFault, WriteFault, OutOfMemory}
+use Rattle.krb_replay.specs.History.{History}
 use Rattle.krb_service.specs.Policy.{State}
+use Rattle.krb_service.specs.declared.reply.Reply.{Reply}
 use Rattle.krb_service.specs.Text.{Answered, IsText, IsStopped}
 
 -- the status that goes with the end of a reading
@@ -38,7 +40,7 @@ abbrev pub Written : List ℕ → List ℕ → Status → List ℕ → Type 0
 Written input taken Done written = (end_of input ≡ Done) × IsText input written × (taken ≡ input)
 Written input taken BadLine written = (end_of input ≡ BadLine) × IsText input written
 Written input taken TooLong written = (end_of input ≡ TooLong) × IsText input written
-Written input taken ReadFault written = IsSound taken × ((after : State) × Answered (whole_reading taken).so_far written after)
+Written input taken ReadFault written = IsSound taken × ((replies : List Reply) × (after : State History) × Answered (whole_reading taken).so_far written replies after)
 Written input taken WriteFault written = IsCutShort input written
 Written input taken OutOfMemory written = IsStopped input written
 Written input taken BadWords written = (taken ≡ []) × (written ≡ [])

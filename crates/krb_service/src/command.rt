@@ -23,6 +23,7 @@ fn answer_line<K: Sink>(
 ) -> Result<(), Halt>
     requires lines { session.old.lines < 2 ^ 32 }
     requires answered { session.old.answered < 2 ^ 32 }
+    requires admitted { session.old.admitted < 2 ^ 32 }
     ensures ok { OnOk result ((text : List ℕ) × Takes session.old line.now text session.new × Appends (K.taken sink.old) (K.taken sink.new) text) }
     ensures bad { result ≡ Err Halt.BadLine → Refuses session.old line.now × (session.new ≡ session.old) × (sink.new ≡ sink.old) }
     ensures memory { result ≡ Err Halt.OutOfMemory → (session.new.answered ≡ session.old.answered) × (sink.new ≡ sink.old) }
@@ -44,7 +45,7 @@ fn answer_line<K: Sink>(
 }
 
 /// Takes line after line, and answers each event as it comes.
-fn answer_lines<S: Source, K: Sink>(
+pub(crate) fn answer_lines<S: Source, K: Sink>(
     alloc: Global,
     reader: &mut LineReader,
     session: &mut Session,

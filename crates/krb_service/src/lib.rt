@@ -14,15 +14,19 @@
 
 mod closing;
 mod command;
+mod connection;
+mod described;
 mod halt;
+pub mod laws;
 mod reply;
 mod service;
 mod session;
 
 pub use command::serve;
+pub use connection::Connection;
 pub use krb_text::{
-    Calls, CutFault, Failed, LineCutter, MemSink, MemSource, Sink, Source, Status, StdSink,
-    StdSource, SureSink, SureSource, Words,
+    Calls, CutFault, Event, Failed, Input, LineCutter, MemSink, MemSource, Sink, Source, Status,
+    StdSink, StdSource, SureSink, SureSource, Words,
 };
 pub use reply::Reply;
-pub use service::Service;
+pub use service::{Service, Stopped};

@@ -19,7 +19,14 @@ pub enum Reply {
 
 impl Reply {
     ghost use Rattle.std.specs.Prelude.{◌≡◌, IfOk, string_bytes};
-    ghost use Rattle.krb_service.specs.Reply.{reply_line};
+    ghost use Rattle.krb_service.specs.Reply.{reply_line, is_done};
+
+    /// Whether it admits the peer.
+    pub fn is_done(&self) -> bool
+        ensures { result ≡ is_done self.now }
+    {
+        matches!(self, Reply::Done { .. })
+    }
 
     /// The line that tells it, with the octet 0A at its end.
     pub fn line(&self, alloc: Global) -> Result<String, AllocError>

@@ -1,88 +1,276 @@
-//! The service: it answers one event after another.
+//! The service: many connections, one replay gate, one event after another.
+ghost use Rattle.std.specs.Prelude.{◌≡◌, ◌≢◌, ◌↔◌, Err, IsTrue, IfOk, OnErr};
+ghost use Rattle.std.specs.Ordering.{nat_cmp};
+ghost use Rattle.sspi_core.specs.Kinds.{error_of};
+ghost use Rattle.sspi_core.specs.declared.cause.Cause.TheVariants as causes;
+ghost use Rattle.krb_service.specs.Policy.{server_flags, draw_of, Replies};
+
+use crate::connection::Connection;
 use crate::reply::Reply;
-use krb_text::{Acceptor, Event, Input, Key, Script};
-use sspi_core::{Cause, Error, MAX_MOMENT};
-use std::alloc::AllocError;
+use bitflags::Flags;
+use krb_conf::Env;
+use krb_context::Kerberos;
+use krb_der::{Items, Name, OutOfMemory};
+use krb_replay::ReplayGate;
+use krb_server::{Accepted, accept_security_context};
+use krb_text::{Event, Input};
+use sspi_core::{
+    Cause, ClientRequestFlags, Draw, Error, ErrorKind, MAX_MOMENT, ServerRequestFlags,
+};
+use std::alloc::Global;
 use std::collections::BTreeMap;
 use std::marker::Model;
 
-/// A service of acceptors, with their keys.
+/// Connections by their numbers, over one replay gate. Contracts see the connections in the order of their numbers, the
+/// environment, and the gate.
 #[derive(Drop)]
-pub struct Service {
-    skew: u32,
-    acceptors: BTreeMap<u32, Acceptor>,
-    keys: BTreeMap<u32, Key>,
+pub struct Service<G> {
+    connections: BTreeMap<u32, Connection>,
+    env: Env,
+    gate: G,
 }
 
-impl Model for Service {
+impl<G> Model for Service<G> {
     ghost use Rattle.krb_service.specs.Policy.{State};
 
-    ghost Value = { State };
+    ghost Value = { State G };
 
-    ghost view = { λ s. record { skew = s.skew; acceptors = s.acceptors.entries; keys = s.keys.entries } };
+    ghost view = { λ s. record { connections = s.connections.entries; env = s.env; gate = s.gate } };
 }
 
-impl Service {
-    ghost use Rattle.std.specs.Prelude.{◌≡◌, IfOk, OnErr};
-    ghost use Rattle.krb_text.specs.Script.{is_declared};
-    ghost use Rattle.krb_service.specs.Policy.{Steps, admitted, kept, service_of};
+/// Memory ran out behind so many events.
+#[derive(Clone, Copy, Debug, PartialEq, Eq)]
+pub struct Stopped {
+    pub taken: usize,
+}
 
-    /// The service that the lines describe.
-    pub fn new(script: Script) -> Service
-        ensures { result ≡ service_of script }
+/// The flags of an event, of which an acceptor reads the two that it has.
+fn server_flags(flags: ClientRequestFlags) -> ServerRequestFlags
+    ensures { result ≡ server_flags flags }
+{
+    ServerRequestFlags::from_bits_retain(flags.bits())
+}
+
+fn draw_of(event: &Event) -> Draw
+    ensures { result ≡ draw_of event.now }
+{
+    Draw {
+        moment: event.moment,
+        random: event.random,
+    }
+}
+
+/// Whether memory ran out.
+fn is_memory(error: &Error) -> bool
+    ensures { IsTrue result ↔ (error.now ≡ error_of causes.Memory) }
+{
+    matches!(
+        error,
+        Error {
+            error_type: ErrorKind::OutOfMemory,
+            cause: Cause::Memory
+        }
+    )
+}
+
+/// The reply that an acceptor's answer makes, unless memory ran out.
+fn reply_to(answer: Result<Accepted, Error>) -> Result<Reply, OutOfMemory>
+    ensures replied { IfOk result (λ reply. Replies answer reply) }
+    ensures other { IfOk result (λ _. answer ≢ Err (error_of causes.Memory)) }
+    ensures memory { OnErr result (answer ≡ Err (error_of causes.Memory)) }
+{
+    match answer {
+        Ok(Accepted::Done { status, token }) => Ok(Reply::Done { status, token }),
+        Err(error) if is_memory(&error) => Err(OutOfMemory),
+        Err(error) => Ok(Reply::Refused(error)),
+    }
+}
+
+impl<G: ReplayGate> Service<G> {
+    ghost use Rattle.std.specs.Prelude.{◌≡◌, ◌<◌, [], ◌∷◌, ◌++◌, length, take, not, Err, Some, None, option_map, IfOk, IfErr, OnOk, OnErr};
+    ghost use Rattle.std.specs.Result.{result_map_both};
+    ghost use Rattle.std.specs.BTreeMap.{insert_entry};
+    ghost use Rattle.krb_context.specs.Contexts.{is_acceptor};
+    ghost use Rattle.krb_text.specs.Script.{at_id};
+    ghost use Rattle.krb_service.specs.Described.{no_env};
+    ghost use Rattle.krb_service.specs.declared.reply.Reply.{Reply};
+    ghost use Rattle.sspi_core.specs.declared.cause.Cause.{Cause};
+    ghost use Rattle.krb_service.specs.Policy.{State, reached, is_taken, refusal_to_add, IsSameState, Steps, RunsOn};
+
+    /// A service without connections, whose environment has no variable and no file.
+    pub fn new(alloc: Global, gate: G) -> Service<G>
+        ensures { result ≡ record { connections = []; env = no_env; gate = gate } }
     {
-        let (skew, acceptors, keys) = script.into_parts();
         Service {
-            skew,
-            acceptors,
-            keys,
+            connections: BTreeMap::new(alloc),
+            env: Env {
+                vars: Items::new(Vec::new(alloc)),
+                files: Items::new(Vec::new(alloc)),
+            },
+            gate,
         }
     }
 
-    /// One event. At `Err` the service is as it was.
-    #[tactic(auto, unfolding(crate::specs::Policy::Steps))]
-    pub fn step(&mut self, event: &Event) -> Result<Reply, AllocError>
-        ensures step { IfOk result (λ reply. Steps self.old event.now reply self.new) }
+    /// The context of the connection with this number.
+    pub fn connection(&self, id: u32) -> Option<&Kerberos>
+        ensures { option_map (λ context. context.now) result ≡ option_map (λ connection. connection.context) (at_id id self.now.connections) }
+    {
+        match self.connections.get(&id) {
+            Some(connection) => Some(&connection.context),
+            None => None,
+        }
+    }
+
+    pub fn gate(&self) -> &G
+        ensures { result.now ≡ self.now.gate }
+    {
+        &self.gate
+    }
+
+    pub fn set_env(&mut self, env: Env)
+        ensures { self.new ≡ record self.old { env = env } }
+    {
+        self.env = env;
+    }
+
+    /// Puts a connection where its number stands, in the place of one that has it.
+    pub(crate) fn put(&mut self, id: u32, connection: Connection) -> Result<(), OutOfMemory>
+        ensures put { OnOk result (self.new ≡ record self.old { connections = insert_entry nat_cmp self.old.connections id connection }) }
         ensures err { OnErr result (self.new ≡ self.old) }
     {
+        self.connections.insert(id, connection)?;
+        Ok(())
+    }
+
+    /// Adds an acceptor in its own context. A refusal leaves the service: `Connection` where the number is taken, and then
+    /// `Role` where the context is an initiator's.
+    pub fn add_acceptor(&mut self, id: u32, server: Kerberos) -> Result<(), Error>
+        ensures added { OnOk result (self.new ≡ record self.old { connections = insert_entry nat_cmp self.old.connections id (record { context = server; target = None }) }) }
+        ensures refused { (cause : Cause) → refusal_to_add (is_taken id self.old.connections) (is_acceptor server) ≡ Some cause → result ≡ Err (error_of cause) }
+        ensures memory { refusal_to_add (is_taken id self.old.connections) (is_acceptor server) ≡ None → IfErr result (λ e. e ≡ error_of causes.Memory) }
+        ensures err { OnErr result (self.new ≡ self.old) }
+    {
+        match self.refusal(id, !server.is_client()) {
+            Some(cause) => Err(Error::from(cause)),
+            None => self.place(id, server, None),
+        }
+    }
+
+    /// Adds an initiator in its own context, and whom it is to speak to. A refusal leaves the service: `Connection` where the
+    /// number is taken, and then `Role` where the context is an acceptor's.
+    pub fn add_initiator(
+        &mut self,
+        id: u32,
+        client: Kerberos,
+        target: Option<Name>,
+    ) -> Result<(), Error>
+        ensures added { OnOk result (self.new ≡ record self.old { connections = insert_entry nat_cmp self.old.connections id (record { context = client; target = target }) }) }
+        ensures refused { (cause : Cause) → refusal_to_add (is_taken id self.old.connections) (not (is_acceptor client)) ≡ Some cause → result ≡ Err (error_of cause) }
+        ensures memory { refusal_to_add (is_taken id self.old.connections) (not (is_acceptor client)) ≡ None → IfErr result (λ e. e ≡ error_of causes.Memory) }
+        ensures err { OnErr result (self.new ≡ self.old) }
+    {
+        match self.refusal(id, client.is_client()) {
+            Some(cause) => Err(Error::from(cause)),
+            None => self.place(id, client, target),
+        }
+    }
+
+    /// A new connection, which only memory can refuse.
+    fn place(&mut self, id: u32, context: Kerberos, target: Option<Name>) -> Result<(), Error>
+        ensures placed { OnOk result (self.new ≡ record self.old { connections = insert_entry nat_cmp self.old.connections id (record { context = context; target = target }) }) }
+        ensures memory { IfErr result (λ e. e ≡ error_of causes.Memory) }
+        ensures err { OnErr result (self.new ≡ self.old) }
+    {
+        Ok(self.put(id, Connection { context, target })?)
+    }
+
+    /// Why a connection is not added.
+    fn refusal(&self, id: u32, fits: bool) -> Option<Cause>
+        ensures { result ≡ refusal_to_add (is_taken id self.now.connections) fits }
+    {
+        if self.connections.contains_key(&id) {
+            return Some(Cause::Connection);
+        }
+        if fits { None } else { Some(Cause::Role) }
+    }
+
+    /// The first checks of an event. What stays for the acceptor is the token.
+    fn reach<'a>(&self, event: &'a Event) -> Result<&'a [u8], Cause>
+        ensures { result_map_both (λ token. token.now) (λ cause. cause) result ≡ result_map_both (λ found. found.1) (λ cause. cause) (reached self.now.connections event.now) }
+    {
         if event.moment > MAX_MOMENT {
-            return Ok(refused(Cause::Moment));
+            return Err(Cause::Moment);
         }
-        if let Input::NotBuilt = event.input {
-            return Ok(refused(Cause::NotBuilt));
+        let Input::Token(token) = &event.input else {
+            return Err(Cause::NotBuilt);
+        };
+        let Some(context) = self.connection(event.connection) else {
+            return Err(Cause::Connection);
+        };
+        if context.is_client() {
+            return Err(Cause::NotBuilt);
         }
-        if !self.has_connection(event.connection) {
-            return Ok(refused(Cause::Connection));
+        Ok(token.as_slice())
+    }
+
+    /// One event. Out of memory, the connections and the environment stay, and no caller can tell the gate from what it was.
+    pub(crate) fn step(&mut self, alloc: Global, event: &Event) -> Result<Reply, OutOfMemory>
+        ensures step { IfOk result (λ reply. Steps G.admits self.old event.now reply self.new) }
+        ensures err { OnErr result (IsSameState G.is_same self.old self.new) }
+    {
+        let token = match self.reach(event) {
+            Ok(token) => token,
+            Err(cause) => return Ok(Reply::Refused(Error::from(cause))),
+        };
+        let Some(connection) = self.connections.get_mut(&event.connection) else {
+            return Ok(Reply::Refused(Error::from(Cause::Connection)));
+        };
+        let answer = accept_security_context(
+            alloc,
+            &mut connection.context,
+            &mut self.gate,
+            token,
+            server_flags(event.flags),
+            &self.env,
+            &draw_of(event),
+        );
+        reply_to(answer)
+    }
+
+    /// One event, and its reply behind the others. The reply's place is made first.
+    fn answer(
+        &mut self,
+        alloc: Global,
+        event: &Event,
+        replies: &mut Vec<Reply>,
+    ) -> Result<(), OutOfMemory>
+        ensures ok { OnOk result ((reply : Reply) × (replies.new.items ≡ replies.old.items ++ reply ∷ []) × Steps G.admits self.old event.now reply self.new) }
+        ensures err { OnErr result ((replies.new.items ≡ replies.old.items) × IsSameState G.is_same self.old self.new) }
+    {
+        replies.reserve(1)?;
+        let reply = self.step(alloc, event)?;
+        replies.push(reply).unwrap();
+        Ok(())
+    }
+
+    /// Answers the events, one after another. The replies grow by one for each event that is taken. Where memory runs out,
+    /// connections, gate and replies are those behind the events taken.
+    pub fn run(
+        &mut self,
+        alloc: Global,
+        events: &[Event],
+        replies: &mut Vec<Reply>,
+    ) -> Result<(), Stopped>
+        ensures ok { OnOk result (RunsOn G.admits self.old events.now replies.old.items replies.new.items self.new) }
+        ensures stopped { IfErr result (λ stopped. stopped.taken < length events.now) }
+        ensures front { IfErr result (λ stopped. (after : State G) × RunsOn G.admits self.old (take stopped.taken events.now) replies.old.items replies.new.items after × IsSameState G.is_same after self.new) }
+    {
+        for (taken, event) in events.iter().enumerate() {
+            match self.answer(alloc, event, replies) {
+                Ok(()) => {}
+                Err(_) => return Err(Stopped { taken }),
+            }
         }
-        Ok(refused(Cause::NotBuilt))
+        Ok(())
     }
-
-    fn has_connection(&self, id: u32) -> bool
-        ensures { result ≡ is_declared id self.now.acceptors }
-    {
-        self.acceptors.contains_key(&id)
-    }
-
-    /// How many events admitted their peer.
-    pub fn admitted(&self) -> u64
-        ensures { result ≡ admitted self.now }
-    {
-        0
-    }
-
-    /// How many records the replay book keeps.
-    pub fn kept(&self) -> u64
-        ensures { result ≡ kept self.now }
-    {
-        0
-    }
-}
-
-ghost use Rattle.std.specs.Prelude.{◌≡◌};
-ghost use Rattle.krb_service.specs.Policy.{refused};
-
-fn refused(cause: Cause) -> Reply
-    ensures { result ≡ refused cause }
-{
-    Reply::Refused(Error::from(cause))
 }

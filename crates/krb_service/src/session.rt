@@ -1,5 +1,9 @@
 //! A session: it takes one line after another, and answers each event as it comes.
+use crate::described::service_of;
+use crate::reply::Reply;
 use crate::service::Service;
+use krb_der::OutOfMemory;
+use krb_replay::ReplayBook;
 use krb_text::{Event, FieldError, Item, Script, is_skipped, parse_item};
 use std::alloc::Global;
 use std::marker::Model;
@@ -9,9 +13,10 @@ use std::mem;
 #[derive(Drop)]
 pub struct Session {
     script: Script,
-    service: Option<Service>,
+    service: Option<Service<ReplayBook>>,
     lines: u64,
     answered: u64,
+    admitted: u64,
 }
 
 impl Model for Session {
@@ -19,14 +24,14 @@ impl Model for Session {
 
     ghost Value = { Progress };
 
-    ghost view = { λ s. record { setup = s.script; service = s.service; lines = s.lines; answered = s.answered } };
+    ghost view = { λ s. record { setup = s.script; service = s.service; lines = s.lines; answered = s.answered; admitted = s.admitted } };
 }
 
 impl Session {
-    ghost use Rattle.std.specs.Prelude.{◌≡◌, ◌<◌, ◌≤◌, ◌^◌, ◌+◌, Some, None, is_some, OnErr, IfOk, MatchResult, string_bytes};
+    ghost use Rattle.std.specs.Prelude.{◌≡◌, ◌<◌, ◌≤◌, ◌^◌, ◌+◌, Some, None, OnOk, OnErr, MatchOption, MatchResult, string_bytes};
     ghost use Rattle.krb_text.specs.declared.fields.FieldError.TheVariants.{Bad};
-    ghost use Rattle.krb_service.specs.Progress.{new_progress, begun, Answers, prepare, Prepares, TakesContent, RefusesContent, Takes, Refuses};
-    ghost use Rattle.krb_service.specs.Closing.{has_begun, admitted_by, kept_by};
+    ghost use Rattle.krb_service.specs.Progress.{new_progress, Begins, CannotBegin, one_if_done, Answers, prepare, Prepares, TakesContent, RefusesContent, Takes, Refuses};
+    ghost use Rattle.krb_service.specs.Closing.{has_begun, kept_by};
 
     pub fn new(alloc: Global) -> Session
         ensures { result ≡ new_progress }
@@ -36,6 +41,7 @@ impl Session {
             service: None,
             lines: 0,
             answered: 0,
+            admitted: 0,
         }
     }
 
@@ -62,12 +68,9 @@ impl Session {
 
     /// How many events admitted their peer.
     pub fn admitted(&self) -> u64
-        ensures { result ≡ admitted_by self.now.service }
+        ensures { result ≡ self.now.admitted }
     {
-        match &self.service {
-            Some(service) => service.admitted(),
-            None => 0,
-        }
+        self.admitted
     }
 
     /// How many records the replay book keeps.
@@ -75,37 +78,54 @@ impl Session {
         ensures { result ≡ kept_by self.now.service }
     {
         match &self.service {
-            Some(service) => service.kept(),
+            Some(service) => service.gate().kept(),
             None => 0,
         }
     }
 
     /// Makes the service, where there is none yet and a line told the skew.
-    fn begin(&mut self, alloc: Global)
-        ensures { self.new ≡ begun self.old }
+    fn begin(&mut self, alloc: Global) -> Result<(), OutOfMemory>
+        ensures begun { OnOk result (MatchOption self.new.service (CannotBegin self.old × (self.new ≡ self.old)) (Begins self.old)) }
+        ensures lines { self.new.lines ≡ self.old.lines }
+        ensures answered { self.new.answered ≡ self.old.answered }
+        ensures admitted { self.new.admitted ≡ self.old.admitted }
     {
         if self.service.is_none() && self.script.has_begun() {
             let script = mem::replace(&mut self.script, Script::new(alloc));
-            self.service = Some(Service::new(script));
+            self.service = Some(service_of(alloc, script)?);
+        }
+        Ok(())
+    }
+
+    /// One answer more.
+    fn count(&mut self, reply: &Reply)
+        requires answered { self.old.answered < 2 ^ 32 }
+        requires admitted { self.old.admitted < 2 ^ 32 }
+        ensures { self.new ≡ record self.old { answered = self.old.answered + 1; admitted = self.old.admitted + one_if_done reply.now } }
+    {
+        self.answered += 1;
+        if reply.is_done() {
+            self.admitted += 1;
         }
     }
 
     /// One event, and the line of its reply.
     fn answer(&mut self, alloc: Global, event: &Event) -> Result<String, FieldError>
-        requires { self.old.answered < 2 ^ 32 }
+        requires answered { self.old.answered < 2 ^ 32 }
+        requires admitted { self.old.admitted < 2 ^ 32 }
         ensures turn { MatchResult result
             (λ text. Answers self.old event.now (string_bytes text) self.new)
-            (λ e. e ≡ Bad → ((begun self.old).service ≡ None) × (self.new ≡ self.old)) }
+            (λ e. e ≡ Bad → CannotBegin self.old × (self.new ≡ self.old)) }
         ensures err { OnErr result (self.new.answered ≡ self.old.answered) }
         ensures lines { self.new.lines ≡ self.old.lines }
     {
-        self.begin(alloc);
+        self.begin(alloc)?;
         let Some(service) = &mut self.service else {
             return Err(FieldError::Bad);
         };
-        let reply = service.step(event)?;
+        let reply = service.step(alloc, event)?;
         let text = reply.line(alloc)?;
-        self.answered += 1;
+        self.count(&reply);
         Ok(text)
     }
 
@@ -125,7 +145,8 @@ impl Session {
     }
 
     fn take_content(&mut self, alloc: Global, line: &[u8]) -> Result<String, FieldError>
-        requires { self.old.answered < 2 ^ 32 }
+        requires answered { self.old.answered < 2 ^ 32 }
+        requires admitted { self.old.admitted < 2 ^ 32 }
         ensures turn { MatchResult result
             (λ text. TakesContent self.old line.now (string_bytes text) self.new)
             (λ e. e ≡ Bad → RefusesContent self.old line.now × (self.new ≡ self.old)) }
@@ -144,6 +165,7 @@ impl Session {
     pub fn take_line(&mut self, alloc: Global, line: &[u8]) -> Result<String, FieldError>
         requires lines { self.old.lines < 2 ^ 32 }
         requires answered { self.old.answered < 2 ^ 32 }
+        requires admitted { self.old.admitted < 2 ^ 32 }
         ensures turn { MatchResult result
             (λ text. Takes self.old line.now (string_bytes text) self.new)
             (λ e. e ≡ Bad → Refuses self.old line.now × (self.new ≡ self.old)) }

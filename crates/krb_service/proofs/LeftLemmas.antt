@@ -1,0 +1,155 @@
+-- What the events of a run leave in the gate that never forgets, and when an event is answered Done.
+use Rattle.std.proofs.Common.{◌≡◌, ℕ, Bool, true, false, List, [], ◌∷◌, ◌++◌, length, Option, Some, None, Result, Ok, Err, refl, sym, ap, ◌∙◌, subst, append_assoc}
+use Rattle.std.specs.Prelude.{if◌then◌else◌}
+use Rattle.std.proofs.lemmas.List.{append-nil}
+use Rattle.krb_context.specs.declared.context.Kerberos.{Kerberos}
+use Rattle.krb_replay.proofs.Runs.{admits_once}
+use Rattle.krb_replay.specs.History.{History, verdict_of, history_after}
+use Rattle.krb_replay.specs.Records.{IsDistinct}
+use Rattle.krb_replay.specs.Verdicts.{is_admitted}
+use Rattle.krb_replay.specs.declared.ask.Ask.{Ask}
+use Rattle.krb_replay.specs.declared.ask.Verdict.{Verdict}
+use Rattle.krb_replay.specs.declared.ask.Verdict.TheVariants.{Admitted, Skew, NotYet, Expired, Replayed}
+use Rattle.krb_replay.specs.declared.record.Record.{Record}
+use Rattle.krb_server.proofs.Once.{begins_once}
+use Rattle.krb_server.proofs.Steps.{completed}
+use Rattle.krb_server.specs.Accepts.{Begins, Finishes, Judged, Asks, Makes, Accepts, refusal, asks_dce_style}
+use Rattle.krb_server.specs.Admission.{accepted_of}
+use Rattle.krb_server.specs.Requests.{ask_of}
+use Rattle.krb_server.specs.declared.admission.Accepted.{Accepted}
+use Rattle.krb_server.specs.declared.admission.Admission.{Admission}
+use Rattle.krb_server.specs.declared.request.Request.{Request}
+use Rattle.krb_text.specs.declared.item.Event.{Event}
+use Rattle.sspi_core.proofs.Chain.{follows}
+use Rattle.sspi_core.specs.Checks.{Passes, Goes, err_of, ◌>>◌}
+use Rattle.sspi_core.specs.declared.cause.Cause.{Cause}
+use Rattle.sspi_core.specs.declared.draw.Draw.{Draw}
+use Rattle.krb_service.specs.declared.connection.Connection.{Connection}
+use Rattle.krb_service.specs.declared.reply.Reply.{Reply}
+use Rattle.krb_service.specs.declared.reply.Reply.TheVariants.{Done, Refused}
+use Rattle.krb_service.specs.Policy.{State, Judges, Behind, Steps, Runs, reached, reply_of, server_flags, draw_of}
+use Rattle.krb_service.specs.Described.{Remembers}
+use Rattle.krb_service.specs.Left.{left_by, left_behind, record_left, records_left}
+use Rattle.krb_service.specs.Reply.{is_done}
+
+recorded_is : (records : List Record) (entry : Record) (b : Bool) → (if b then records ++ entry ∷ [] else records) ≡ records ++ (if b then entry ∷ [] else [])
+recorded_is records entry true = refl
+recorded_is records entry false = sym (append-nil records)
+
+-- the records afterwards are those before and the one that is left, and none is there twice
+record Leaves (before after : List Record) (left : List Record) : Type 0 where
+  is : after ≡ before ++ left
+  distinct : IsDistinct after
+
+asks_left : (skew moment : ℕ) (h : History) (request : Result Request Cause) (verdict : Verdict) (after : History) → Asks (Remembers skew) moment h request verdict after → IsDistinct h.admitted
+    → Leaves h.admitted after.admitted (left_by request verdict moment)
+asks_left skew moment h (Ok request) verdict after step distinct =
+    let ask = ask_of request moment in
+    let given = verdict_of skew h ask in
+    let now : after.admitted ≡ h.admitted ++ (if is_admitted given then ask.entry ∷ [] else []) =
+    ap (λ (g : History). g.admitted) step.1 ∙ recorded_is h.admitted ask.entry (is_admitted given) in
+    let once : IsDistinct (h.admitted ++ (if is_admitted given then ask.entry ∷ [] else [])) = admits_once skew h (ask ∷ []) distinct in
+    record {
+      is = now ∙ ap (λ (v : Verdict). h.admitted ++ (if is_admitted v then ask.entry ∷ [] else [])) (sym step.0);
+      distinct = subst IsDistinct (sym now) once;
+    }
+asks_left skew moment h (Err cause) verdict after same distinct =
+    let D : History → Type 0 = λ g. IsDistinct g.admitted in
+    record { is = ap (λ (g : History). g.admitted) same ∙ sym (append-nil h.admitted); distinct = subst D (sym same) distinct }
+
+behind_left : (skew : ℕ) (state : State History) (event : Event) (found : Result (Connection × List ℕ) Cause) (answer : Result Accepted Cause) (after : State History)
+    → (b : Behind (Remembers skew) state event found answer after) → IsDistinct state.gate.admitted
+    → Leaves state.gate.admitted after.gate.admitted (left_behind (Remembers skew) state event found answer after b)
+behind_left skew state event (Ok found) answer after b distinct =
+    asks_left skew event.moment state.gate b.accepts.request b.accepts.verdict after.gate b.accepts.gate distinct
+behind_left skew state event (Err cause) answer after b distinct =
+    let D : State History → Type 0 = λ s. IsDistinct s.gate.admitted in
+    record { is = ap (λ (s : State History). s.gate.admitted) b.1 ∙ sym (append-nil state.gate.admitted); distinct = subst D (sym b.1) distinct }
+
+-- no record is left by two events of a run
+pub left-once : (skew : ℕ) (state after : State History) (events : List Event) (replies : List Reply) (runs : Runs (Remembers skew) state events replies after)
+    → IsDistinct state.gate.admitted → IsDistinct (state.gate.admitted ++ records_left (Remembers skew) state events replies after runs)
+left-once skew state after [] replies runs distinct = subst IsDistinct (sym (append-nil state.gate.admitted)) distinct
+left-once skew state after (event ∷ events) [] runs distinct = absurd runs
+left-once skew state after (event ∷ events) (reply ∷ replies) runs distinct =
+    let step = runs.1 in
+    let one = behind_left skew state event (reached state.connections event) step.answer runs.0 step.behind distinct in
+    let left = record_left (Remembers skew) state event reply runs.0 step in
+    let rest = records_left (Remembers skew) runs.0 events replies after runs.2 in
+    subst IsDistinct (ap (λ l. l ++ rest) one.is ∙ append_assoc state.gate.admitted left rest) (left-once skew runs.0 after events replies runs.2 one.distinct)
+
+-- what passes behind the gate was admitted by it
+passed_admitted : (verdict : Verdict) (middle : Result (Unit {0}) Cause) (next : Unit {0} → Result Admission Cause → Type 0) (admission : Admission) → middle ≡ err_of (refusal verdict) → Goes next middle (Ok admission)
+    → is_admitted verdict ≡ true
+passed_admitted Admitted middle next admission is goes = refl
+passed_admitted Skew (Ok u) next admission is goes = absurd (cc)
+passed_admitted Skew (Err e) next admission is goes = absurd (cc)
+passed_admitted NotYet (Ok u) next admission is goes = absurd (cc)
+passed_admitted NotYet (Err e) next admission is goes = absurd (cc)
+passed_admitted Expired (Ok u) next admission is goes = absurd (cc)
+passed_admitted Expired (Err e) next admission is goes = absurd (cc)
+passed_admitted Replayed (Ok u) next admission is goes = absurd (cc)
+passed_admitted Replayed (Err e) next admission is goes = absurd (cc)
+
+one_left : (verdict : Verdict) (request : Request) (moment : ℕ) → is_admitted verdict ≡ true → length (left_by (Ok request) verdict moment) ≡ 1
+one_left verdict request moment is = rw is refl
+
+goes_left : (server : Kerberos) (dce : Bool) (token : List ℕ) (draw : Draw) (verdict : Verdict) (request : Result Request Cause) (admission : Admission) → Begins server dce token request
+    → Judged server dce token draw verdict (Ok admission) → length (left_by request verdict draw.moment) ≡ 1
+unfolding Judged
+goes_left server dce token draw verdict (Ok request) admission begun judged =
+    let same : judged.middle ≡ Ok request = (begins_once server dce token).same judged.middle (Ok request) judged.held begun in
+    let R : Result Request Cause → Type 0 = λ m. Goes (λ (request : Request). Passes (refusal verdict) >> Finishes server draw request) m (Ok admission) in
+    let passed : (Passes (refusal verdict) >> Finishes server draw request) (Ok admission) = subst R same judged.rest in
+    one_left verdict request draw.moment (passed_admitted verdict passed.middle _ admission passed.held.is passed.rest)
+goes_left server dce token draw verdict (Err cause) admission begun judged =
+    let same : judged.middle ≡ Err cause = (begins_once server dce token).same judged.middle (Err cause) judged.held begun in
+    let R : Result Request Cause → Type 0 = λ m. Goes (λ (request : Request). Passes (refusal verdict) >> Finishes server draw request) m (Ok admission) in
+    let refused : ◌≡◌ {A = Result Admission Cause} (Ok admission) (Err cause) = subst R same judged.rest in
+    absurd (cc)
+
+made_left : {G : Type 0} (admits : G → Ask → Verdict → G → Type 0) (server : Kerberos) (dce : Bool) (token : List ℕ) (draw : Draw) (old new : G) (outcome : Result Admission Cause) (answer : Result Accepted Cause) (after : Kerberos)
+    (request : Result Request Cause) (verdict : Verdict) → Begins server dce token request → Judged server dce token draw verdict outcome → Makes server outcome answer after → is_done (reply_of answer) ≡ true
+    → length (left_by request verdict draw.moment) ≡ 1
+made_left admits server dce token draw old new (Ok admission) answer after request verdict begun judged made done = goes_left server dce token draw verdict request admission begun judged
+made_left admits server dce token draw old new (Err cause) answer after request verdict begun judged made done =
+    let is = made.0 in let refused : is_done (reply_of (Err cause)) ≡ true = ap (λ a. is_done (reply_of a)) (sym is) ∙ done in absurd (cc)
+
+done_behind : (skew : ℕ) (state : State History) (event : Event) (found : Result (Connection × List ℕ) Cause) (answer : Result Accepted Cause) (after : State History)
+    → (b : Behind (Remembers skew) state event found answer after) → is_done (reply_of answer) ≡ true → length (left_behind (Remembers skew) state event found answer after b) ≡ 1
+done_behind skew state event (Ok found) answer after b done =
+    made_left (Remembers skew) found.0.context (asks_dce_style (server_flags event.flags)) found.1 (draw_of event) state.gate after.gate b.accepts.outcome answer b.server b.accepts.request b.accepts.verdict
+    b.accepts.begun b.accepts.judged b.accepts.made done
+done_behind skew state event (Err cause) answer after b done =
+    let refused : is_done (reply_of (Err cause)) ≡ true = ap (λ a. is_done (reply_of a)) (sym b.0) ∙ done in absurd (cc)
+
+-- an event that is answered Done leaves one record
+pub done-left : (skew : ℕ) (state after : State History) (event : Event) (reply : Reply) (step : Steps (Remembers skew) state event reply after) → is_done reply ≡ true
+    → length (record_left (Remembers skew) state event reply after step) ≡ 1
+done-left skew state after event reply step done =
+    done_behind skew state event (reached state.connections event) step.answer after step.behind (ap is_done (sym step.reply_is) ∙ done)
+
+judged_admitted : (server : Kerberos) (dce : Bool) (token : List ℕ) (draw : Draw) (request : Request) (admission : Admission) → Begins server dce token (Ok request) → Finishes server draw request (Ok admission)
+    → Judged server dce token draw Admitted (Ok admission)
+unfolding Judged
+judged_admitted server dce token draw request admission begun finished = follows _ _ request _ begun (follows _ _ tt _ (record { is = refl }) finished)
+
+asked_verdict : (skew moment : ℕ) (h : History) (p : Result Request Cause) (request : Request) (verdict : Verdict) (after : History) → p ≡ Ok request → Asks (Remembers skew) moment h p verdict after
+    → verdict ≡ verdict_of skew h (ask_of request moment)
+asked_verdict skew moment h p request verdict after is asks =
+    let A : Result Request Cause → Type 0 = λ r. Asks (Remembers skew) moment h r verdict after in (subst A is asks).0
+
+-- an event that passes every check, and that the gate admits, is answered Done
+pub passing-done : (skew : ℕ) (state after : State History) (event : Event) (reply : Reply) (connection : Connection) (token : List ℕ) (request : Request) (admission : Admission)
+    → Steps (Remembers skew) state event reply after → reached state.connections event ≡ Ok (connection, token)
+    → Begins connection.context (asks_dce_style (server_flags event.flags)) token (Ok request) → verdict_of skew state.gate (ask_of request event.moment) ≡ Admitted
+    → Finishes connection.context (draw_of event) request (Ok admission) → reply ≡ reply_of (Ok (accepted_of admission))
+passing-done skew state after event reply connection token request admission step reaches begun admitted finished =
+    let B : Result (Connection × List ℕ) Cause → Type 0 = λ f. Behind (Remembers skew) state event f step.answer after in
+    let j = subst B reaches step.behind in
+    let dce = asks_dce_style (server_flags event.flags) in
+    let draw = draw_of event in
+    let same = (begins_once connection.context dce token).same j.accepts.request (Ok request) j.accepts.begun begun in
+    let verdict = asked_verdict skew event.moment state.gate j.accepts.request request j.accepts.verdict after.gate same j.accepts.gate ∙ admitted in
+    let done = completed (Remembers skew) connection.context dce token draw state.gate after.gate step.answer j.server admission j.accepts verdict (judged_admitted connection.context dce token draw request admission begun finished) in
+    step.reply_is ∙ ap reply_of done.0

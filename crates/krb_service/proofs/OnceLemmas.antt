@@ -1,0 +1,117 @@
+-- Over a gate whose step is determined, each event has one reply, and each run one list of replies.
+use Rattle.std.proofs.Common.{◌≡◌, ℕ, Bool, List, [], ◌∷◌, ◌++◌, Result, Ok, Err, refl, sym, ap, ◌∙◌, subst}
+use Rattle.std.specs.Ordering.{nat_cmp}
+use Rattle.std.specs.BTreeMap.{is_at}
+use Rattle.std.specs.Map.{set_value}
+use Rattle.krb_context.specs.declared.context.Kerberos.{Kerberos}
+use Rattle.krb_replay.specs.History.{History}
+use Rattle.krb_replay.specs.declared.ask.Ask.{Ask}
+use Rattle.krb_replay.specs.declared.ask.Verdict.{Verdict}
+use Rattle.krb_server.proofs.Once.{begins_once, one_outcome_lem}
+use Rattle.krb_server.specs.Accepts.{Begins, Finishes, Judged, Asks, Makes, Accepts, refusal, asks_dce_style}
+use Rattle.krb_server.specs.declared.admission.Accepted.{Accepted}
+use Rattle.krb_server.specs.declared.admission.Admission.{Admission}
+use Rattle.krb_server.specs.declared.request.Request.{Request}
+use Rattle.krb_text.specs.declared.item.Event.{Event}
+use Rattle.krb_text.specs.Script.{Declared, reading_of}
+use Rattle.sspi_core.specs.Checks.{Passes, Goes, ◌>>◌}
+use Rattle.sspi_core.specs.declared.cause.Cause.{Cause}
+use Rattle.sspi_core.specs.declared.draw.Draw.{Draw}
+use Rattle.krb_service.specs.declared.connection.Connection.{Connection}
+use Rattle.krb_service.specs.declared.reply.Reply.{Reply}
+use Rattle.krb_service.specs.Policy.{State, Says, Judges, Behind, Steps, Runs, reached, reply_of, server_flags, draw_of}
+use Rattle.krb_service.specs.Described.{Remembers, skew_of, service_of}
+use Rattle.krb_service.specs.Reply.{replies_text}
+use Rattle.krb_service.specs.Text.{Answered, IsText, last_line}
+
+-- where the checks before the gate refuse, the verdict does not matter
+pub judged_refused : (server : Kerberos) (dce : Bool) (token : List ℕ) (draw : Draw) (verdict : Verdict) (cause : Cause) (outcome : Result Admission Cause) → Begins server dce token (Err cause)
+    → Judged server dce token draw verdict outcome → outcome ≡ Err cause
+unfolding Judged
+judged_refused server dce token draw verdict cause outcome begun judged =
+    let same : judged.middle ≡ Err cause = (begins_once server dce token).same judged.middle (Err cause) judged.held begun in
+    let R : Result Request Cause → Type 0 = λ m. Goes (λ (request : Request). Passes (refusal verdict) >> Finishes server draw request) m outcome in
+    subst R same judged.rest
+
+makes_once : (server : Kerberos) (o : Result Admission Cause) (r s : Result Accepted Cause) (a b : Kerberos) → Makes server o r a → Makes server o s b → (r ≡ s) × (a ≡ b)
+makes_once server (Ok admission) r s a b h k = (h.0 ∙ sym k.0, h.1 ∙ sym k.1)
+makes_once server (Err cause) r s a b h k = (h.0 ∙ sym k.0, h.1 ∙ sym k.1)
+
+-- the gate's step is determined
+pub record IsDetermined {G : Type 0} (admits : G → Ask → Verdict → G → Type 0) : Type 0 where
+  pub same : (old : G) (ask : Ask) (v w : Verdict) (a b : G) → admits old ask v a → admits old ask w b → (v ≡ w) × (a ≡ b)
+
+pub says-determined : {G : Type 0} (verdict : Verdict) → IsDetermined (Says {G = G} verdict)
+says-determined verdict = record { same = λ old ask v w a b h k. (h.0 ∙ sym k.0, h.1 ∙ sym k.1) }
+
+pub remembers-determined : (skew : ℕ) → IsDetermined (Remembers skew)
+remembers-determined skew = record { same = λ old ask v w a b h k. (h.0 ∙ sym k.0, h.1 ∙ sym k.1) }
+
+module _ {G : Type 0} (admits : G → Ask → Verdict → G → Type 0) (determined : IsDetermined admits) where
+  outcome_once : (server : Kerberos) (dce : Bool) (token : List ℕ) (draw : Draw) (old : G) (p q : Result Request Cause) (v w : Verdict) (a b : G) (o u : Result Admission Cause) → p ≡ q
+      → Begins server dce token p → Asks admits draw.moment old p v a → Asks admits draw.moment old q w b
+      → Judged server dce token draw v o → Judged server dce token draw w u → (o ≡ u) × (a ≡ b)
+  outcome_once server dce token draw old (Ok x) (Ok y) v w a b o u e begun h k j l =
+      let P : Result Request Cause → Type 0 = λ r. Asks admits draw.moment old r w b in
+      let same = determined.same old _ v w a b h (subst P (sym e) k) in
+      let J : Verdict → Type 0 = λ x. Judged server dce token draw x o in
+      (one_outcome_lem server dce token draw w o u (subst J same.0 j) l, same.1)
+  outcome_once server dce token draw old (Err x) (Err y) v w a b o u e begun h k j l =
+      (judged_refused server dce token draw v x o begun j ∙ sym (judged_refused server dce token draw w x u begun l), h ∙ sym k)
+  outcome_once server dce token draw old (Ok x) (Err y) v w a b o u e begun h k j l = absurd (cc)
+  outcome_once server dce token draw old (Err x) (Ok y) v w a b o u e begun h k j l = absurd (cc)
+
+  accepts_once : (server : Kerberos) (dce : Bool) (token : List ℕ) (draw : Draw) (old : G) (r s : Result Accepted Cause) (x y : Kerberos) (a b : G) → Accepts admits server dce token draw old r x a
+      → Accepts admits server dce token draw old s y b → (r ≡ s) × (x ≡ y) × (a ≡ b)
+  accepts_once server dce token draw old r s x y a b h k =
+      let asked = (begins_once server dce token).same h.request k.request h.begun k.begun in
+      let same = outcome_once server dce token draw old h.request k.request h.verdict k.verdict a b h.outcome k.outcome asked h.begun h.gate k.gate h.judged k.judged in
+      let M : Result Admission Cause → Type 0 = λ o. Makes server o s y in
+      let made = makes_once server h.outcome r s x y h.made (subst M (sym same.0) k.made) in
+      (made.0, made.1, same.1)
+
+  judges_once : (state : State G) (event : Event) (connection : Connection) (token : List ℕ) (r s : Result Accepted Cause) (a b : State G) → Judges admits state event connection token r a
+      → Judges admits state event connection token s b → (r ≡ s) × (a ≡ b)
+  judges_once state event connection token r s a b h k =
+      let same = accepts_once connection.context (asks_dce_style (server_flags event.flags)) token (draw_of event) state.gate r s h.server k.server a.gate b.gate h.accepts k.accepts in
+      let put : Kerberos → List (ℕ × Connection) = λ server. set_value (is_at (nat_cmp event.connection)) state.connections (record connection { context = server }) in
+      let connections : a.connections ≡ b.connections = h.connections ∙ ap put same.1 ∙ sym k.connections in (
+        same.0,
+        ap (λ c. record { connections = c; env = a.env; gate = a.gate }) connections
+            ∙ ap (λ e. record { connections = b.connections; env = e; gate = a.gate }) (h.env ∙ sym k.env)
+            ∙ ap (λ g. record { connections = b.connections; env = b.env; gate = g }) same.2,
+      )
+
+  behind_once : (state : State G) (event : Event) (found : Result (Connection × List ℕ) Cause) (r s : Result Accepted Cause) (a b : State G) → Behind admits state event found r a
+      → Behind admits state event found s b → (r ≡ s) × (a ≡ b)
+  behind_once state event (Ok found) r s a b h k = judges_once state event found.0 found.1 r s a b h k
+  behind_once state event (Err cause) r s a b h k = (h.0 ∙ sym k.0, h.1 ∙ sym k.1)
+
+  pub step-once : (state : State G) (event : Event) (r s : Reply) (a b : State G) → Steps admits state event r a → Steps admits state event s b → (r ≡ s) × (a ≡ b)
+  step-once state event r s a b h k =
+      let same = behind_once state event (reached state.connections event) h.answer k.answer a b h.behind k.behind in
+      (h.reply_is ∙ ap reply_of same.0 ∙ sym k.reply_is, same.1)
+
+  pub runs-once : (state : State G) (events : List Event) (r s : List Reply) (a b : State G) → Runs admits state events r a → Runs admits state events s b → (r ≡ s) × (a ≡ b)
+  runs-once state [] [] [] a b h k = (refl, h ∙ sym k)
+  runs-once state [] [] (y ∷ s) a b h k = absurd k
+  runs-once state [] (x ∷ r) s a b h k = absurd h
+  runs-once state (event ∷ events) [] s a b h k = absurd h
+  runs-once state (event ∷ events) (x ∷ r) [] a b h k = absurd k
+  runs-once state (event ∷ events) (x ∷ r) (y ∷ s) a b h k =
+      let one = step-once state event x y h.0 k.0 h.1 k.1 in
+      let R : State G → Type 0 = λ t. Runs admits t events s b in
+      let rest = runs-once h.0 events r s a b h.2 (subst R (sym one.1) k.2) in
+      (ap (λ z. z ∷ r) one.0 ∙ ap (λ l. y ∷ l) rest.0, rest.1)
+
+-- each input has one text
+pub text-once : (input a b : List ℕ) → IsText input a → IsText input b → a ≡ b
+text-once input a b h k =
+    let so_far = (reading_of input).so_far in
+    let same = runs-once (Remembers (skew_of so_far.setup)) (remembers-determined (skew_of so_far.setup)) (service_of so_far.setup) so_far.events h.replies k.replies h.after k.after h.answered.runs k.answered.runs in
+    let line : List Reply → History → List ℕ = λ rs g. last_line (reading_of input).stop (reading_of input).number so_far.setup rs g in
+    h.is ∙ ap (λ l. l ++ line h.replies h.after.gate) h.answered.is
+    ∙ ap (λ rs. replies_text rs ++ line rs h.after.gate) same.0
+    ∙ ap (λ (s : State History). replies_text k.replies ++ line k.replies s.gate) same.1
+    ∙ sym (ap (λ l. l ++ line k.replies k.after.gate) k.answered.is)
+    ∙ sym k.is

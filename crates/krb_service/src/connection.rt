@@ -1,0 +1,11 @@
+//! One connection of a service.
+use krb_context::Kerberos;
+use krb_der::Name;
+
+/// A connection of a service: an acceptor, or an initiator with the name of whom it speaks to.
+#[derive(Drop)]
+pub struct Connection {
+    pub context: Kerberos,
+    /// The name of an initiator's peer. An acceptor has none.
+    pub target: Option<Name>,
+}
