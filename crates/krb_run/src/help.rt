@@ -7,7 +7,7 @@ krb_run answers the events of a Kerberos service, one line of text for each.
 
     krb_run serve        reads lines on standard input, and writes the reply to each event before it reads on
     krb_run threads      the same on two threads: not built yet
-    krb_run demo <n>     a made input of n events: not built yet
+    krb_run demo <n>     answers a made input of n events, 1 to 10000, in memory, and writes demo <n> <admitted> <kept>
     krb_run --help       this text
     krb_run --version    the version
 

@@ -7,5 +7,6 @@ pub mod OrderLemmas
 pub mod StandingLemmas
 pub mod ExitLemmas
 pub mod CloseLemmas
+pub mod DemoLemmas
 pub mod OnceLemmas
 pub mod LeftLemmas

@@ -7,3 +7,4 @@ pub mod Progress
 pub mod Closing
 pub mod Serve
 pub mod Halts
+pub mod Demo

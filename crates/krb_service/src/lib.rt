@@ -15,6 +15,7 @@
 mod closing;
 mod command;
 mod connection;
+mod demonstration;
 mod described;
 mod halt;
 pub mod laws;
@@ -24,6 +25,7 @@ mod session;
 
 pub use command::serve;
 pub use connection::Connection;
+pub use demonstration::demo;
 pub use krb_text::{
     Calls, CutFault, Event, Failed, Input, LineCutter, MemSink, MemSource, Sink, Source, Status,
     StdSink, StdSource, SureSink, SureSource, Words,
