@@ -36,6 +36,11 @@ pub record IsTurned (text header whole : List ℕ) (turn : ℕ) : Type 0 where
   pub fits : turn ≤ length text - 16
   pub back : whole ≡ drop turn (drop 16 text) ++ take turn (drop 16 text)
 
+-- a text is its header and its body
+front_and_body : {text header whole : List ℕ} {turn : ℕ} → IsTurned text header whole turn → (text ≡ header ++ drop 16 text) × (length header ≡ 16)
+front_and_body {text} t =
+    (sym (ap (λ (h : List ℕ). h ++ drop 16 text) t.front ∙ take-append-drop 16 text), ap length t.front ∙ length-take-le 16 text t.long)
+
 -- the two halves of a text are its header and its body
 pub halves : (text header body : List ℕ) → text ≡ header ++ body → length header ≡ 16 → (header ≡ take 16 text) × (body ≡ drop 16 text)
 halves text header body e size =
@@ -47,12 +52,13 @@ pub to_spelt : (keys : SealingPair) (peer : Bool) (ec : ℕ) (buffers : List Buf
     → IsSealedAs keys ec header buffers whole p → Spelt keys peer ec buffers p
 to_spelt keys peer ec buffers header whole turn p t et token sealed side count s =
     let body : List ℕ = drop 16 (spelled buffers) in
+    let parts = front_and_body t in
     let size : length body ≡ length (spelled buffers) - 16 = length-drop 16 (spelled buffers) in
     record {
       header = header;
       body = body;
-      text = sym (ap (λ (h : List ℕ). h ++ body) t.front ∙ take-append-drop 16 (spelled buffers));
-      header_size = ap length t.front ∙ length-take-le 16 (spelled buffers) t.long;
+      text = parts.0;
+      header_size = parts.1;
       token = token;
       sealed = sealed;
       side = side;
@@ -82,12 +88,13 @@ pub to_clear : (key : List ℕ) (peer : Bool) (buffers : List Buffer) (header wh
     → IsClearAs key header whole p → SpeltClear key peer buffers p
 to_clear key peer buffers header whole turn p t et token sealed side s =
     let body : List ℕ = drop 16 (spelled buffers) in
+    let parts = front_and_body t in
     let size : length body ≡ length (spelled buffers) - 16 = length-drop 16 (spelled buffers) in
     record {
       header = header;
       body = body;
-      text = sym (ap (λ (h : List ℕ). h ++ body) t.front ∙ take-append-drop 16 (spelled buffers));
-      header_size = ap length t.front ∙ length-take-le 16 (spelled buffers) t.long;
+      text = parts.0;
+      header_size = parts.1;
       token = token;
       sealed = sealed;
       side = side;
