@@ -1,0 +1,150 @@
+//! MIC tokens, and how a second implementation makes them.
+
+use super::cause_of;
+use super::ends::{ACCEPTOR, End, INITIATOR, SHORT_ACCEPTOR, context_of, octets};
+use sspi_core::{Cause, Error, ErrorKind};
+use std::alloc::Global;
+use std::test::Fail;
+
+/// The end that makes a token, what is signed, and the token in hex.
+struct Mic {
+    end: End,
+    payload: &'static str,
+    token: &'static str,
+}
+
+static MICS: [Mic; 4] = [
+    Mic {
+        end: INITIATOR,
+        payload: "payload",
+        token: "040404ffffffffff00000000000004d3e6124d18b05d9e8e56cea9d2",
+    },
+    Mic {
+        end: ACCEPTOR,
+        payload: "payload",
+        token: "040405ffffffffff0000000000000001aa96ad9897f55fd731d38f4e",
+    },
+    Mic {
+        end: End {
+            acceptor: false,
+            number: 4294967295,
+            ..SHORT_ACCEPTOR
+        },
+        payload: "",
+        token: "040404ffffffffff00000000000000006ed52c0647a25e244b330c98",
+    },
+    Mic {
+        end: End {
+            number: 4294967294,
+            ..SHORT_ACCEPTOR
+        },
+        payload: "",
+        token: "040405ffffffffff00000000ffffffffb5c3809c2d6964a7ee0c1e3e",
+    },
+];
+
+fn mics() -> &'static [Mic] {
+    &MICS
+}
+
+/// The first token with another header or without its end, as its acceptor refuses it.
+static CHANGED: [(&str, Cause); 7] = [
+    (
+        "040504ffffffffff00000000000004d3e6124d18b05d9e8e56cea9d2",
+        Cause::Header,
+    ),
+    (
+        "040404ffffffff0000000000000004d3e6124d18b05d9e8e56cea9d2",
+        Cause::Header,
+    ),
+    ("040404ffffffffff000000000000", Cause::Header),
+    (
+        "040407ffffffffff00000000000004d3e6124d18b05d9e8e56cea9d2",
+        Cause::Direction,
+    ),
+    (
+        "040406ffffffffff00000000000004d3e6124d18b05d9e8e56cea9d2",
+        Cause::Sealed,
+    ),
+    (
+        "040404ffffffffff00000000000004d4e6124d18b05d9e8e56cea9d2",
+        Cause::Altered,
+    ),
+    (
+        "040404ffffffffff00000000000004d3e6124d18b05d9e8e56cea9",
+        Cause::Altered,
+    ),
+];
+
+fn changed() -> &'static [(&'static str, Cause)] {
+    &CHANGED
+}
+
+/// Whether the row's end makes the row's token.
+fn makes(alloc: Global, row: &Mic) -> Result<bool, Fail> {
+    let mut context = context_of(alloc, &row.end)?;
+    let made = context.generate_mic_token(alloc, row.payload.as_bytes())?;
+    Ok(made == octets(alloc, row.token)?)
+}
+
+#[test]
+fn mic_tokens_are_those_of_a_second_implementation(rt: HostRuntime) -> Result<(), Fail> {
+    for row in mics() {
+        assert!(rt; makes(rt.alloc(), row)?);
+    }
+    Ok(())
+}
+
+/// What a new end answers to a token.
+fn verdict(alloc: Global, end: &End, token: &str, payload: &str) -> Result<Option<Cause>, Fail> {
+    let token = octets(alloc, token)?;
+    let context = context_of(alloc, end)?;
+    Ok(cause_of(context.verify_mic_token(token.as_slice(), payload.as_bytes())))
+}
+
+/// What the other side answers to the row's token, what its own side does, and what the other side does to it beside other octets.
+fn verdicts(alloc: Global, row: &Mic) -> Result<[Option<Cause>; 3], Fail> {
+    let peer = End {
+        acceptor: !row.end.acceptor,
+        ..row.end
+    };
+    Ok([
+        verdict(alloc, &peer, row.token, row.payload)?,
+        verdict(alloc, &row.end, row.token, row.payload)?,
+        verdict(alloc, &peer, row.token, "other")?,
+    ])
+}
+
+#[test]
+fn mic_tokens_are_taken_by_the_other_side(rt: HostRuntime) -> Result<(), Fail> {
+    let wanted = [None, Some(Cause::Direction), Some(Cause::Altered)];
+    for row in mics() {
+        assert_eq!(rt; verdicts(rt.alloc(), row)?, wanted);
+    }
+    Ok(())
+}
+
+#[test]
+fn changed_mic_tokens_are_refused(rt: HostRuntime) -> Result<(), Fail> {
+    for (token, cause) in changed() {
+        assert_eq!(rt;
+            verdict(rt.alloc(), &ACCEPTOR, token, "payload")?,
+            Some(*cause)
+        );
+    }
+    Ok(())
+}
+
+/// What a context without a sub-session key answers where a token is asked for.
+fn unsigned(alloc: Global) -> Result<Option<Error>, Fail> {
+    let mut context = context_of(alloc, &ACCEPTOR)?;
+    context.encryption_params.sub_session_key = None;
+    Ok(context.generate_mic_token(alloc, b"payload").err())
+}
+
+#[test]
+fn mic_tokens_want_a_sub_session_key(rt: HostRuntime) -> Result<(), Fail> {
+    let wanted = Error::new(ErrorKind::InternalError, Cause::NoSubKey);
+    assert_eq!(rt; unsigned(rt.alloc())?, Some(wanted));
+    Ok(())
+}
