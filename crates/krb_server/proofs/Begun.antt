@@ -1,9 +1,10 @@
 -- What is known of a request that passed the checks before the gate.
 use Rattle.std.proofs.Common.{◌≡◌, ℕ, ◌+◌, ◌<◌, ◌≤◌, ◌^◌, ◌==◌, nat_le, Bool, IsTrue, List, [], ◌∷◌, ◌++◌, length, Result, Ok, Err, refl, sym, ap, ◌∙◌, subst, arith, rules, length-append}
 use Rattle.std.proofs.lemmas.Bool.Decides.{nat_tests}
-use Rattle.krb_der.specs.Der.{length_octets, tlv}
+use Rattle.krb_der.specs.Der.{tlv}
 use Rattle.krb_der.specs.Schema.{contents, tag_of, Spells}
 use Rattle.krb_der.specs.Layout.{Layout}
+use Rattle.krb_der.proofs.Lengths.{length-tlv}
 use Rattle.krb_messages.specs.Table.{ap_req, authenticator as authenticator_kind, encrypted_data}
 use Rattle.krb_messages.specs.Layouts.{ap_req_layout, ap_req_row, authenticator_layout, authenticator_row, encrypted_data_row}
 use Rattle.krb_messages.specs.declared.ap_req.ApReq.{ApReq}
@@ -115,10 +116,6 @@ begun server dce token request h =
 
 -- ---- lengths
 
-length-tlv : (tag : ℕ) (octets : List ℕ) → length (tlv tag octets) ≡ 1 + (length (length_octets (length octets)) + length octets)
-unfolding tlv
-length-tlv tag octets = omega (arith, length-append (length_octets (length octets)) octets)
-
 cipher_within : (m : ApReq) → length m.authenticator.cipher ≤ length (tlv (tag_of ap_req) (contents ap_req (ap_req_row m)))
 unfolding ap_req ap_req_row encrypted_data encrypted_data_row
 cipher_within m = simp (length-tlv, length-append) (omega arith)
@@ -144,4 +141,4 @@ begun_answerable token request h =
     let d = cipher_within request.message in
     let e = ap (length {A = ℕ}) h.received.is.read.is in
     let f = message_within h.received.is.oid AP_REQ_TOKEN_ID h.received.is.octets token h.received.is.frame in
-    record { some = some_cusec request.authenticator h.opened.plain h.opened.read; short = omega (arith, h.received.short, a, b, c, d, e, f) }
+    record { fits = h.opened.fits; some = some_cusec request.authenticator h.opened.plain h.opened.read; short = omega (arith, h.received.short, a, b, c, d, e, f) }

@@ -1,11 +1,12 @@
 -- How long an AP-REP can be.
-use Rattle.std.proofs.Common.{◌≡◌, ℕ, ◌+◌, ◌<◌, ◌≤◌, ◌^◌, ◌%◌, ℤ, Bool, true, false, List, [], ◌∷◌, ◌++◌, length, Option, Some, None, option_map, IfSome, if◌then◌else◌, arith, lit≤, lit<, length-append, nat_lt, take, refl, sym, subst}
+use Rattle.std.proofs.Common.{◌≡◌, ℕ, ◌+◌, ◌<◌, ◌≤◌, ◌^◌, ◌%◌, ℤ, Bool, true, false, List, [], ◌∷◌, ◌++◌, length, Option, Some, None, option_map, IfSome, arith, lit≤, lit<, take, refl, sym, subst}
 use Rattle.std.proofs.lemmas.List.{length-take}
 use Rattle.std.specs.Int.{w32, to_be_bytes}
 use Rattle.std.specs.Option.{option_map_or}
-use Rattle.krb_der.specs.Der.{length_octets, tlv}
+use Rattle.krb_der.specs.Der.{tlv}
 use Rattle.krb_der.specs.Moment.{time_octets}
 use Rattle.krb_der.specs.Schema.{IsComplete, contents, tag_of}
+use Rattle.krb_der.proofs.Lengths.{tlv_le, field_le, append_le}
 use Rattle.krb_messages.specs.Table.{enc_ap_rep_part, ap_rep as ap_rep_kind, encryption_key, encrypted_data}
 use Rattle.krb_messages.specs.Layouts.{enc_ap_rep_part_row, enc_ap_rep_part_layout, ap_rep_row, ap_rep_layout, encryption_key_row, encrypted_data_row}
 use Rattle.krb_messages.specs.declared.ap_rep.ApRep.{ApRep}
@@ -17,26 +18,6 @@ use Rattle.sspi_core.specs.declared.draw.Draw.{Draw}
 use Rattle.krb_server.specs.declared.request.Request.{Request}
 use Rattle.krb_crypto.specs.declared.suite.CipherSuite.{CipherSuite}
 use Rattle.krb_server.specs.Admission.{key_with, ap_rep_part, ap_rep_with, IsShortPart, IsAnswerable, drawn_key, reply_part, mechanism}
-
-if_le : (b : Bool) (x y : List ℕ) (k : ℕ) → length x ≤ k → length y ≤ k → length (if b then x else y) ≤ k
-if_le true x y k h l = h
-if_le false x y k h l = l
-
-length_octets_short : (n : ℕ) → length (length_octets n) ≤ 5
-unfolding length_octets
-length_octets_short n =
-    if_le (nat_lt n 0x80) _ _ 5 (lit≤ tt) (if_le (nat_lt n 0x100) _ _ 5 (lit≤ tt) (if_le (nat_lt n 0x1_0000) _ _ 5 (lit≤ tt) (if_le (nat_lt n 0x100_0000) _ _ 5 (lit≤ tt) (lit≤ tt))))
-
-pub tlv_le : (tag : ℕ) (octets : List ℕ) (n : ℕ) → length octets ≤ n → length (tlv tag octets) ≤ n + 6
-unfolding tlv
-tlv_le tag octets n h = omega (arith, length_octets_short (length octets), length-append (length_octets (length octets)) octets)
-
-pub append_le : (a b : List ℕ) (m n : ℕ) → length a ≤ m → length b ≤ n → length (a ++ b) ≤ m + n
-append_le a b m n h k = omega (arith, length-append a b)
-
--- a field in its context tag
-field_le : (outer inner : ℕ) (octets : List ℕ) (n : ℕ) → length octets ≤ n → length (tlv outer (tlv inner octets)) ≤ n + 6 + 6
-field_le outer inner octets n h = tlv_le outer _ (n + 6) (tlv_le inner octets n h)
 
 le_trans : (a b c : ℕ) → a ≤ b → b ≤ c → a ≤ c
 le_trans a b c h k = omega arith

@@ -4,7 +4,7 @@ use Rattle.std.specs.Result.{IsErrAnd}
 use Rattle.sspi_core.specs.declared.cause.Cause.{Cause}
 use Rattle.sspi_core.specs.declared.cause.Cause.TheVariants.{ClientName, ApOptions, SubKey, Memory}
 use Rattle.sspi_core.specs.declared.draw.Draw.{Draw}
-use Rattle.sspi_core.specs.Checks.{Takes, Holds, Passes, Gives, Goes, Then, Answers}
+use Rattle.sspi_core.specs.Checks.{Takes, Holds, Passes, Gives, Goes, Then, Answers, ◌>>◌}
 use Rattle.sspi_core.proofs.Chain.{halts, follows, is_err, same_err}
 use Rattle.krb_replay.specs.declared.ask.Ask.{Ask}
 use Rattle.krb_replay.specs.declared.ask.Verdict.{Verdict}
@@ -36,43 +36,20 @@ module _ {G : Type 0} (admits : G → Ask → Verdict → G → Type 0) (server 
         made = (is_err answer e is, refl);
       }
 
-  pub refused_by_gate : (request : Request) (ask : Ask) (verdict : Verdict) (new : G) (e : Cause) (answer : Result Accepted Cause) → Answers (Begins server dce token) (Ok request) → ask ≡ ask_of request draw.moment → admits old ask verdict new → Passes (refusal verdict) (Err e) → IsErrAnd answer (λ d. d ≡ e) → Accepts admits server dce token draw old answer server new
+  -- a request that came to the gate: what is judged behind the gate's verdict, and what is made of it
+  pub answered_at_gate : (request : Request) (ask : Ask) (verdict : Verdict) (new : G) (outcome : Result Admission Cause) (answer : Result Accepted Cause) (server' : Kerberos)
+      → Answers (Begins server dce token) (Ok request) → ask ≡ ask_of request draw.moment → admits old ask verdict new
+      → (Passes (refusal verdict) >> Finishes server draw request) outcome → Makes server outcome answer server' → Accepts admits server dce token draw old answer server' new
   unfolding Judged
-  refused_by_gate request ask verdict new e answer h asked step pass is =
+  answered_at_gate request ask verdict new outcome answer server' h asked step judged made =
       let begun = answered _ _ h in record {
         verdict = verdict;
         request = Ok request;
         begun = begun;
         gate = subst (λ (q : Ask). admits old q verdict new) asked step;
-        outcome = Err e;
-        judged = follows _ _ request _ begun (halts _ _ e _ pass refl);
-        made = (is_err answer e is, refl);
-      }
-
-  pub refused_after : (request : Request) (ask : Ask) (verdict : Verdict) (new : G) (e : Cause) (answer : Result Accepted Cause) (u : Unit {0}) → Answers (Begins server dce token) (Ok request) → ask ≡ ask_of request draw.moment → admits old ask verdict new → Passes (refusal verdict) (Ok u) → Finishes server draw request (Err e) → IsErrAnd answer (λ d. d ≡ e) → Accepts admits server dce token draw old answer server new
-  unfolding Judged
-  refused_after request ask verdict new e answer u h asked step pass finished is =
-      let begun = answered _ _ h in record {
-        verdict = verdict;
-        request = Ok request;
-        begun = begun;
-        gate = subst (λ (q : Ask). admits old q verdict new) asked step;
-        outcome = Err e;
-        judged = follows _ _ request _ begun (follows _ _ u _ pass finished);
-        made = (is_err answer e is, refl);
-      }
-
-  pub admitted : (request : Request) (ask : Ask) (verdict : Verdict) (new : G) (admission : Admission) (accepted : Accepted) (server' : Kerberos) (u : Unit {0}) → Answers (Begins server dce token) (Ok request) → ask ≡ ask_of request draw.moment → admits old ask verdict new → Passes (refusal verdict) (Ok u) → Finishes server draw request (Ok admission) → accepted ≡ accepted_of admission → server' ≡ settled server admission → Accepts admits server dce token draw old (Ok accepted) server' new
-  unfolding Judged
-  admitted request ask verdict new admission accepted server' u h asked step pass finished is is' =
-      let begun = answered _ _ h in record {
-        verdict = verdict;
-        request = Ok request;
-        begun = begun;
-        gate = subst (λ (q : Ask). admits old q verdict new) asked step;
-        outcome = Ok admission;
-        judged = follows _ _ request _ begun (follows _ _ u _ pass finished);
-        made = (ap Ok is, is');
+        outcome = outcome;
+        judged = follows _ _ request _ begun judged;
+        made = made;
       }
 
   -- an AP-REQ that passes every check is accepted

@@ -145,7 +145,8 @@ pub record IsShortPart (part : EncApRepPart) : Type 0 where
   pub complete : IsComplete enc_ap_rep_part (enc_ap_rep_part_layout.view part)
   pub short : length (tlv (tag_of enc_ap_rep_part) (contents enc_ap_rep_part (enc_ap_rep_part_layout.view part))) ≤ 2 ^ 26
 
--- what an AP-REP repeats has an octet and is no longer than a token
+-- the session key is as long as the suite's keys, and what an AP-REP repeats has an octet and is no longer than a token
 pub record IsAnswerable (request : Request) : Type 0 where
+  pub fits : length request.part.key.key_value ≡ key_size request.suite
   pub some : 0 < length request.authenticator.cusec
   pub short : length request.authenticator.cusec ≤ 2 ^ 24

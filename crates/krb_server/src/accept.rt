@@ -1,18 +1,17 @@
 //! The acceptor's step.
 
-ghost use Rattle.std.specs.Prelude.{◌≡◌, length, not, IfOk, Err, Result};
+ghost use Rattle.std.specs.Prelude.{◌≡◌, not, IfOk, Err, Result};
 ghost use Rattle.std.specs.Result.{result_map_both};
 ghost use Rattle.sspi_core.specs.declared.cause.Cause.{Cause};
 ghost use Rattle.sspi_core.specs.declared.cause.Cause.TheVariants as causes;
 ghost use Rattle.sspi_core.specs.declared.error.Place.TheVariants as places;
 ghost use Rattle.sspi_core.specs.Kinds.{error_of};
 ghost use Rattle.sspi_core.specs.Checks.{Answers, Holds, Takes, Passes, told};
-ghost use Rattle.krb_crypto.specs.Suite.{key_size};
 ghost use Rattle.krb_server.specs.declared.admission.Accepted.{Accepted};
 ghost use Rattle.krb_server.specs.Admission.{IsAnswerable};
 ghost use Rattle.krb_server.specs.Accepts.{takes_token, asks_dce_style, refusal, Begins, Finishes, Accepts};
 
-use crate::admission::{Accepted, Admission, admission_of, settle};
+use crate::admission::{Accepted, Acceptor, Admission, admission_of, settle};
 use crate::complete::complete;
 use crate::request::{Request, ask_of, read_request};
 use bitflags::Flags;
@@ -84,20 +83,17 @@ fn finish(
     draw: &Draw,
     request: &Request,
 ) -> Result<Result<Admission, Cause>, OutOfMemory>
-    requires key { length request.now.part.key.key_value ≡ key_size request.now.suite }
-    requires answerable { IsAnswerable request.now }
+    requires { IsAnswerable request.now }
     ensures { IfOk result (Finishes server.now draw.now request.now) }
 {
     let completed = complete(alloc, request)?;
+    let acceptor = Acceptor {
+        user_to_user: server.krb5_user_to_user,
+        number: server.seq_number,
+        draw,
+    };
     match completed {
-        Ok(client) => Ok(Ok(admission_of(
-            alloc,
-            server.krb5_user_to_user,
-            server.seq_number,
-            draw,
-            request,
-            client,
-        )?)),
+        Ok(client) => Ok(Ok(admission_of(alloc, &acceptor, request, client)?)),
         Err(cause) => Ok(Err(cause)),
     }
 }

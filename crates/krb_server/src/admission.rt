@@ -1,7 +1,6 @@
 //! What an admission makes.
 
-ghost use Rattle.std.specs.Prelude.{◌≡◌, ◌+◌, ◌<◌, ◌≤◌, ◌^◌, ◌%◌, length, option_map, IfOk};
-ghost use Rattle.krb_crypto.specs.Suite.{key_size};
+ghost use Rattle.std.specs.Prelude.{◌≡◌, ◌+◌, ◌<◌, ◌≤◌, ◌^◌, ◌%◌, option_map, IfOk};
 ghost use Rattle.krb_der.specs.Reading.{number_of};
 ghost use Rattle.krb_messages.specs.Oid.{contents_of};
 ghost use Rattle.krb_server.specs.Admission.{drawn_key, drawn_confounder, mechanism, reply_part, reply_token, mutual_admission, subkey_suite, number_before, one_way_admission, admission_of, accepted_of, with_client, settled, IsAnswerable};
@@ -38,6 +37,16 @@ pub struct Admission {
     pub sub_session_key: Option<Octets>,
     pub seq_number: u32,
     pub token: Octets,
+}
+
+/// What an acceptor brings to an admission.
+#[derive(Drop)]
+pub(crate) struct Acceptor<'a> {
+    /// Whether a TGT-REQ was taken.
+    pub(crate) user_to_user: bool,
+    /// The context's own number.
+    pub(crate) number: u32,
+    pub(crate) draw: &'a Draw,
 }
 
 fn drawn_confounder(suite: CipherSuite, draw: &Draw) -> [u8; 16]
@@ -86,25 +95,18 @@ fn reply_part(
 
 /// The AP-REP to a request, framed.
 #[tactic(auto, unfolding(crate::specs::Admission::spelling, crate::specs::Admission::framed, crate::specs::Admission::reply_token))]
-fn reply_token(
-    alloc: Global,
-    user_to_user: bool,
-    number: u32,
-    draw: &Draw,
-    request: &Request,
-) -> Result<Octets, OutOfMemory>
-    requires key { length request.now.part.key.key_value ≡ key_size request.now.suite }
-    requires answerable { IsAnswerable request.now }
-    ensures { IfOk result (λ token. token ≡ reply_token user_to_user number draw.now request.now) }
+fn reply_token(alloc: Global, acceptor: &Acceptor, request: &Request) -> Result<Octets, OutOfMemory>
+    requires { IsAnswerable request.now }
+    ensures { IfOk result (λ token. token ≡ reply_token acceptor.now.user_to_user acceptor.now.number acceptor.now.draw.now request.now) }
 {
-    let part = reply_part(alloc, number, draw, request)?;
-    let confounder = drawn_confounder(request.suite, draw);
+    let part = reply_part(alloc, acceptor.number, acceptor.draw, request)?;
+    let confounder = drawn_confounder(request.suite, acceptor.draw);
     let key = request.part.key.key_value.as_slice();
     let reply = seal_ap_rep(alloc, request.suite, key, confounder, &part)?;
     let message = reply.write(alloc)?;
     write_framed(
         alloc,
-        mechanism(user_to_user),
+        mechanism(acceptor.user_to_user),
         AP_REP_TOKEN_ID,
         message.as_slice(),
     )
@@ -113,25 +115,22 @@ fn reply_token(
 #[tactic(auto, unfolding(crate::specs::Admission::mutual_admission))]
 fn mutual_admission(
     alloc: Global,
-    user_to_user: bool,
-    number: u32,
-    draw: &Draw,
+    acceptor: &Acceptor,
     request: &Request,
     client: Username,
 ) -> Result<Admission, OutOfMemory>
-    requires key { length request.now.part.key.key_value ≡ key_size request.now.suite }
-    requires answerable { IsAnswerable request.now }
-    ensures { IfOk result (λ admission. admission ≡ mutual_admission user_to_user number draw.now request.now client) }
+    requires { IsAnswerable request.now }
+    ensures { IfOk result (λ admission. admission ≡ mutual_admission acceptor.now.user_to_user acceptor.now.number acceptor.now.draw.now request.now client) }
 {
-    let token = reply_token(alloc, user_to_user, number, draw, request)?;
+    let token = reply_token(alloc, acceptor, request)?;
     let session_key = request.part.key.key_value.copy(alloc)?;
-    let sub_session_key = Octets::from_slice(alloc, drawn_key(request.suite, draw))?;
+    let sub_session_key = Octets::from_slice(alloc, drawn_key(request.suite, acceptor.draw))?;
     Ok(Admission {
         client,
         suite: request.suite,
         session_key,
         sub_session_key: Some(sub_session_key),
-        seq_number: number,
+        seq_number: acceptor.number,
         token,
     })
 }
@@ -203,20 +202,17 @@ fn one_way_admission(
 /// What admitting the client makes.
 pub(crate) fn admission_of(
     alloc: Global,
-    user_to_user: bool,
-    number: u32,
-    draw: &Draw,
+    acceptor: &Acceptor,
     request: &Request,
     client: Username,
 ) -> Result<Admission, OutOfMemory>
-    requires key { length request.now.part.key.key_value ≡ key_size request.now.suite }
-    requires answerable { IsAnswerable request.now }
-    ensures { IfOk result (λ admission. admission ≡ admission_of user_to_user number draw.now request.now client) }
+    requires { IsAnswerable request.now }
+    ensures { IfOk result (λ admission. admission ≡ admission_of acceptor.now.user_to_user acceptor.now.number acceptor.now.draw.now request.now client) }
 {
     if is_mutual(&request.message.ap_options) {
-        mutual_admission(alloc, user_to_user, number, draw, request, client)
+        mutual_admission(alloc, acceptor, request, client)
     } else {
-        one_way_admission(alloc, number, request, client)
+        one_way_admission(alloc, acceptor.number, request, client)
     }
 }
 
