@@ -1,8 +1,9 @@
 -- What the client writes is complete and short.
-use Rattle.std.proofs.Common.{◌≡◌, ℕ, ◌+◌, ◌<◌, ◌≤◌, ◌^◌, ℤ, List, [], ◌∷◌, ◌++◌, length, if◌then◌else◌, Bool, true, false, nat_lt, replicate, ap, ◌∙◌, arith, lit≤, lit<, length-append}
+use Rattle.std.proofs.Common.{◌≡◌, ℕ, ◌+◌, ◌<◌, ◌≤◌, ◌^◌, ℤ, List, [], ◌∷◌, ◌++◌, length, replicate, ap, ◌∙◌, arith, lit≤, lit<}
 use Rattle.krb_der.specs.Der.{length_octets, tlv}
 use Rattle.krb_der.specs.Moment.{time_octets}
 use Rattle.krb_der.specs.Schema.{IsComplete, tag_of, contents}
+use Rattle.krb_der.proofs.Lengths.{tlv_le, field_le, append_le}
 use Rattle.krb_crypto.specs.SealingPair.{SealingPair}
 use Rattle.krb_crypto.specs.Sealed.{sealed_text}
 use Rattle.krb_messages.specs.Table.{ap_req as ap_req_kind, authenticator as authenticator_kind, enc_ticket_part, ticket, encrypted_data, encryption_key, principal_name, transited_encoding}
@@ -11,26 +12,6 @@ use Rattle.krb_messages.specs.Frame.{IsFrame}
 use Rattle.krb_messages.specs.declared.constants.TheConstants.{KRB5_OID, AP_REQ_TOKEN_ID}
 use Rattle.krb_demo.specs.Spelling.{spelling, framed}
 use Rattle.krb_demo.specs.Client.{session_key, ticket_part, ticket_keys, authenticator_keys, client_ticket, authenticator, sealed_authenticator, ap_req, encrypted, token}
-
-if_le : (b : Bool) (x y : List ℕ) (k : ℕ) → length x ≤ k → length y ≤ k → length (if b then x else y) ≤ k
-if_le true x y k h l = h
-if_le false x y k h l = l
-
-length_octets_short : (n : ℕ) → length (length_octets n) ≤ 5
-unfolding length_octets
-length_octets_short n =
-    if_le (nat_lt n 0x80) _ _ 5 (lit≤ tt) (if_le (nat_lt n 0x100) _ _ 5 (lit≤ tt) (if_le (nat_lt n 0x1_0000) _ _ 5 (lit≤ tt) (if_le (nat_lt n 0x100_0000) _ _ 5 (lit≤ tt) (lit≤ tt))))
-
-tlv_le : (tag : ℕ) (octets : List ℕ) (n : ℕ) → length octets ≤ n → length (tlv tag octets) ≤ n + 6
-unfolding tlv
-tlv_le tag octets n h = omega (arith, length_octets_short (length octets), length-append (length_octets (length octets)) octets)
-
-append_le : (a b : List ℕ) (m n : ℕ) → length a ≤ m → length b ≤ n → length (a ++ b) ≤ m + n
-append_le a b m n h k = omega (arith, length-append a b)
-
--- a field in its context tag
-field_le : (outer inner : ℕ) (octets : List ℕ) (n : ℕ) → length octets ≤ n → length (tlv outer (tlv inner octets)) ≤ n + 6 + 6
-field_le outer inner octets n h = tlv_le outer _ (n + 6) (tlv_le inner octets n h)
 
 le_trans : (a b c : ℕ) → a ≤ b → b ≤ c → a ≤ c
 le_trans a b c h k = omega arith
