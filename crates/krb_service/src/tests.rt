@@ -10,6 +10,7 @@ use std::alloc::Global;
 use std::test::Fail;
 
 mod serve;
+mod stopped;
 
 /// An AP-REQ for host/server.example.com whose authenticator has the number 42, at 1700000000 s.
 static TOKEN: &str =
