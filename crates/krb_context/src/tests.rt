@@ -3,9 +3,19 @@
 mod across;
 mod ends;
 mod mics;
+mod rows;
+mod unwraps;
 mod windows;
+mod wraps;
 
-use sspi_core::{Cause, Error};
+use crate::Kerberos;
+use ends::{End, context_of};
+use rows::{holds, message_of};
+use sspi_core::{Cause, Error, Message};
+use std::alloc::Global;
+use std::test::Fail;
+use unwraps::unwraps;
+use wraps::wraps;
 
 const CONFOUNDER: [u8; 16] = [0, 1, 2, 3, 4, 5, 6, 7, 8, 9, 10, 11, 12, 13, 14, 15];
 
@@ -14,4 +24,103 @@ fn cause_of<T: Drop>(answer: Result<T, Error>) -> Option<Cause> {
         Ok(_) => None,
         Err(error) => Some(error.cause),
     }
+}
+
+/// What an end answers to a message.
+fn opening(alloc: Global, context: &mut Kerberos, message: &mut Message) -> Option<Cause> {
+    cause_of(context.decrypt_message(alloc, message))
+}
+
+/// Whether an end answers so, and the message is so afterwards.
+fn opens(
+    alloc: Global,
+    context: &mut Kerberos,
+    before: &str,
+    after: &str,
+    refusal: Option<Cause>,
+) -> Result<bool, Fail> {
+    let mut message = message_of(alloc, before)?;
+    let answer = opening(alloc, context, &mut message);
+    Ok(answer == refusal && holds(alloc, &message, after)?)
+}
+
+/// Whether an end answers so, and refuses the same message when it comes again.
+fn opens_once(
+    alloc: Global,
+    context: &mut Kerberos,
+    before: &str,
+    after: &str,
+    refusal: Option<Cause>,
+) -> Result<bool, Fail> {
+    let first = opens(alloc, context, before, after, refusal)?;
+    let again = refusal.or(Some(Cause::Repeated));
+    Ok(first && opens(alloc, context, before, before, again)?)
+}
+
+/// Whether a new end does.
+fn new_end_opens_once(
+    alloc: Global,
+    end: &End,
+    before: &str,
+    after: &str,
+    refusal: Option<Cause>,
+) -> Result<bool, Fail> {
+    let mut context = context_of(alloc, end)?;
+    opens_once(alloc, &mut context, before, after, refusal)
+}
+
+#[test]
+fn messages_of_others_are_opened_once_or_refused(rt: HostRuntime) -> Result<(), Fail> {
+    for row in unwraps() {
+        assert!(rt;
+            new_end_opens_once(rt.alloc(), &row.end, row.before, row.after, row.refusal)?,
+            "{}",
+            row.before
+        );
+    }
+    Ok(())
+}
+
+/// What an end answers where it is asked to seal a message.
+fn sealing(alloc: Global, context: &mut Kerberos, message: &mut Message) -> Option<Cause> {
+    cause_of(context.encrypt_message(alloc, message, CONFOUNDER))
+}
+
+/// Whether an end answers so, and the message is so afterwards.
+fn seals(
+    alloc: Global,
+    context: &mut Kerberos,
+    before: &str,
+    after: &str,
+    refusal: Option<Cause>,
+) -> Result<bool, Fail> {
+    let mut message = message_of(alloc, before)?;
+    let answer = sealing(alloc, context, &mut message);
+    Ok(answer == refusal && holds(alloc, &message, after)?)
+}
+
+/// Whether a new end seals so, and counts a message only where it seals it.
+fn seals_and_counts(
+    alloc: Global,
+    end: &End,
+    before: &str,
+    after: &str,
+    refusal: Option<Cause>,
+) -> Result<bool, Fail> {
+    let mut context = context_of(alloc, end)?;
+    let sealed = seals(alloc, &mut context, before, after, refusal)?;
+    let number = end.number.wrapping_add(refusal.is_none() as u32);
+    Ok(sealed && context.seq_number == number)
+}
+
+#[test]
+fn messages_are_sealed_as_by_a_second_implementation(rt: HostRuntime) -> Result<(), Fail> {
+    for row in wraps() {
+        assert!(rt;
+            seals_and_counts(rt.alloc(), &row.end, row.before, row.after, row.refusal)?,
+            "{}",
+            row.before
+        );
+    }
+    Ok(())
 }
