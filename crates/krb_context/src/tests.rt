@@ -1,6 +1,7 @@
 //! Messages of another maker and of a second implementation, and each call once.
 
 mod across;
+mod calls;
 mod ends;
 mod mics;
 mod rows;
