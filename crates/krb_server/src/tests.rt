@@ -1,3 +1,7 @@
+//! Tokens with the answers that are wanted.
+
+mod clients;
+mod established;
 mod samples;
 
 use crate::{Accepted, accept_security_context};
@@ -7,32 +11,52 @@ use krb_context::{Kerberos, ServerProperties};
 use krb_der::{Items, Octets, Text};
 use krb_replay::ReplayBook;
 use samples::{Sample, samples};
-use sspi_core::{Cause, Draw, Secret, ServerRequestFlags};
+use sspi_core::{Cause, Draw, Error, Secret, ServerRequestFlags};
 use std::alloc::Global;
 use std::test::Fail;
 
-/// The octets 0, 1, 2 ..
-fn octets(alloc: Global, count: u8) -> Result<Octets, Fail> {
+/// So many octets, each by one more than the one before.
+fn octets(alloc: Global, first: u8, count: u8) -> Result<Octets, Fail> {
     let mut octets = Vec::new(alloc);
-    for octet in 0..count {
-        octets.push(octet)?;
+    for place in 0..count {
+        octets.push(first.wrapping_add(place))?;
     }
     Ok(Octets::new(octets))
 }
 
-/// An acceptor of host/server.example.com with the number 100.
-fn acceptor(alloc: Global, key_size: u8) -> Result<Kerberos, Fail> {
-    let key = Secret::new(octets(alloc, key_size)?);
-    let server = ServerProperties::new(
-        alloc,
-        &["host", "server.example.com"],
-        None,
-        300,
-        Some(key),
-    )?;
+fn config(alloc: Global) -> Result<KerberosConfig, Fail> {
     let name = Text::new(String::from_str(alloc, "server")?);
-    let config = KerberosConfig::new(alloc, "", name)?;
-    Ok(Kerberos::new_server_from_config(config, server, [0, 0, 0, 100])?)
+    Ok(KerberosConfig::new(alloc, "", name)?)
+}
+
+fn properties(alloc: Global) -> Result<ServerProperties, Fail> {
+    let key = Secret::new(octets(alloc, 0, 32)?);
+    Ok(ServerProperties::new(alloc, &["host", "server.example.com"], None, 300, Some(key))?)
+}
+
+/// An acceptor of this service with this number.
+fn context_with(alloc: Global, server: ServerProperties, number: u32) -> Result<Kerberos, Fail> {
+    let config = config(alloc)?;
+    Ok(Kerberos::new_server_from_config(config, server, number.to_be_bytes())?)
+}
+
+/// An acceptor of host/server.example.com with this number.
+fn context_of(alloc: Global, number: u32) -> Result<Kerberos, Fail> {
+    context_with(alloc, properties(alloc)?, number)
+}
+
+fn no_env(alloc: Global) -> Env {
+    Env {
+        vars: Items::new(Vec::new(alloc)),
+        files: Items::new(Vec::new(alloc)),
+    }
+}
+
+fn cause_of<T: Drop>(answer: Result<T, Error>) -> Option<Cause> {
+    match answer {
+        Ok(_) => None,
+        Err(error) => Some(error.cause),
+    }
 }
 
 fn draw(moment: u64) -> Draw {
@@ -48,12 +72,8 @@ fn draw(moment: u64) -> Draw {
 /// What the token is answered, at a new acceptor with a new book.
 fn answer(alloc: Global, sample: &Sample) -> Result<Result<Octets, Cause>, Fail> {
     let token = hex::decode(alloc, sample.token)?;
-    let mut server = acceptor(alloc, 32)?;
+    let mut server = context_of(alloc, 100)?;
     let mut book = ReplayBook::new(alloc, 300)?;
-    let env = Env {
-        vars: Items::new(Vec::new(alloc)),
-        files: Items::new(Vec::new(alloc)),
-    };
     let flags = ServerRequestFlags::empty();
     match accept_security_context(
         alloc,
@@ -61,7 +81,7 @@ fn answer(alloc: Global, sample: &Sample) -> Result<Result<Octets, Cause>, Fail>
         &mut book,
         &token,
         flags,
-        &env,
+        &no_env(alloc),
         &draw(sample.moment),
     ) {
         Ok(Accepted::Done { token, .. }) => Ok(Ok(token)),
@@ -69,18 +89,19 @@ fn answer(alloc: Global, sample: &Sample) -> Result<Result<Octets, Cause>, Fail>
     }
 }
 
+/// Whether the token has the answer that is wanted.
+fn is_answered_so(alloc: Global, sample: &Sample) -> Result<bool, Fail> {
+    let answer = answer(alloc, sample)?;
+    match sample.answer {
+        Ok(wanted) => Ok(answer == Ok(Octets::new(hex::decode(alloc, wanted)?))),
+        Err(cause) => Ok(answer == Err(cause)),
+    }
+}
+
 #[test]
-fn tokens_are_answered_as_by_a_reference_acceptor(rt: HostRuntime) -> Result<(), Fail> {
-    let alloc = rt.alloc();
+fn each_token_has_the_answer_that_is_wanted(rt: HostRuntime) -> Result<(), Fail> {
     for sample in samples() {
-        match (answer(alloc, sample)?, sample.answer) {
-            (Ok(token), Ok(wanted)) => assert_eq!(rt;
-                token.as_slice(),
-                hex::decode(alloc, wanted)?.as_slice()
-            ),
-            (Err(cause), Err(wanted)) => assert_eq!(rt; cause, wanted),
-            _ => assert!(rt; false, "one is refused, the other is not"),
-        }
+        assert!(rt; is_answered_so(rt.alloc(), sample)?);
     }
     Ok(())
 }
