@@ -5,7 +5,10 @@
 //! long enough to measure.
 #![tactic(auto)]
 
+mod admissions;
+mod messages;
 mod replay;
+mod serving;
 mod suites;
 mod timing;
 
@@ -26,5 +29,8 @@ fn is_full(rt: &(impl Env + AllocGlobal)) -> Result<bool> {
 fn main(rt: HostRuntime) -> Result<()> {
     let full = is_full(&rt)?;
     suites::run(&rt, full)?;
-    replay::run(&rt, full)
+    messages::run(&rt, full)?;
+    replay::run(&rt, full)?;
+    admissions::run(&rt, full)?;
+    serving::run(&rt, full)
 }

@@ -103,13 +103,17 @@ fn ask_at(alloc: Global, stretch: &Stretch, index: u32) -> Option<Ask> {
     })
 }
 
+fn add_ask(asks: &mut Vec<Ask>, ask: Ask) -> Option<()> {
+    asks.push(ask).ok()
+}
+
 /// A batch of the stretch's asks.
 fn asks_of(alloc: Global, stretch: &Stretch, batch: u32) -> Option<Vec<Ask>> {
     let mut asks = Vec::with_capacity(alloc, BATCH as usize).ok()?;
     let start = batch.saturating_mul(BATCH);
     let end = start.saturating_add(BATCH).min(stretch.count);
     for index in start..end {
-        asks.push(ask_at(alloc, stretch, index)?).ok()?;
+        add_ask(&mut asks, ask_at(alloc, stretch, index)?)?;
     }
     Some(asks)
 }

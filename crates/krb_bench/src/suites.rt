@@ -3,7 +3,7 @@
 ghost use Rattle.std.specs.Prelude.{◌≡◌, length};
 ghost use Rattle.krb_crypto.specs.Suite.{key_size};
 
-use crate::timing::{Measurement, repetitions};
+use crate::timing::{Measurement, last_octets, repetitions};
 use anyhow::Result;
 use krb_crypto::{
     CipherSuite, CryptoError, SealingKey, decrypt, encrypt, generate_key_from_password, hmac_sha1,
@@ -21,14 +21,6 @@ const KEY: [u8; 32] = [
 
 /// A text of 1 MiB.
 const LONGEST: usize = 1_048_576;
-
-/// The last four octets, as a number.
-fn last_octets(text: &[u8]) -> u32 {
-    match text {
-        [.., a, b, c, d] => u32::from_be_bytes([*a, *b, *c, *d]),
-        _ => 0,
-    }
-}
 
 /// A suite with a key of its length.
 #[derive(Clone, Copy)]

@@ -20,6 +20,14 @@ pub struct Measurement<'a> {
     pub repetitions: usize,
 }
 
+/// The last four octets, as a number.
+pub fn last_octets(text: &[u8]) -> u32 {
+    match text {
+        [.., a, b, c, d] => u32::from_be_bytes([*a, *b, *c, *d]),
+        _ => 0,
+    }
+}
+
 /// How often work over so many octets is done.
 pub fn repetitions(octets: usize, full: bool) -> usize {
     if full {
@@ -43,15 +51,19 @@ impl Measurement<'_> {
         F: Drop,
         requires { F.IsAlwaysCallable work }
     {
-        let subject = self.subject;
-        let action = self.action;
-        let octets = self.octets;
         let mut checksum = 0;
         let start = Instant::now(rt)?;
         for _ in 0..self.repetitions {
             checksum = work()?;
         }
-        let spent = start.elapsed(rt)?.as_nanos();
+        self.report(rt, checksum, start.elapsed(rt)?.as_nanos())
+    }
+
+    /// Prints the checksum of the last result, and the time: so many nanoseconds for all repetitions.
+    pub fn report(&self, rt: &(impl Print + Eprint), checksum: u32, spent: u128) -> Result<()> {
+        let subject = self.subject;
+        let action = self.action;
+        let octets = self.octets;
         println!(rt; "{subject}: {action}, {octets} octets: {checksum:08x}")?;
         let each = spent.checked_div(self.repetitions as u128).unwrap_or(0);
         let a_second = 1_000_000_000u128.checked_div(each).unwrap_or(0);
