@@ -1,7 +1,7 @@
 //! What an admission leaves: the octets of the answer and of the first message that the acceptor seals, as a second
 //! implementation has them.
 
-use super::{context_with, draw, no_env, octets};
+use super::{context_of, context_with, draw, no_env, octets};
 use crate::{Accepted, accept_security_context};
 use bitflags::Flags;
 use krb_context::{Kerberos, ServerProperties};
@@ -19,6 +19,18 @@ struct Exchange {
     answer: &'static str,
     sealed_token: &'static str,
     sealed_data: &'static str,
+}
+
+/// An AP-REQ that asks for an answer, at an acceptor whose number is 2^32 - 1.
+static MUTUAL: Exchange = Exchange {
+    token: "608201b906092a864886f71201020201006e8201a8308201a4a003020105a10302010ea20703050020000000a3820115618201113082010da003020105a10d1b0b4558414d504c452e434f4da2253023a003020102a11c301a1b04686f73741b127365727665722e6578616d706c652e636f6da381cf3081cca003020112a281c40481c15c112a47a169c3267a9ff3afbdc5f126179eb939d1669b6d4c3033c2154b15e507170affa88bdd8b06aa49b779a104602531976088d214bc08a463fab523069fb7c94ea703b6e00281e48ed27136bca13d61c864e575f489e30a33c70c11b7bd9ba6027437381531a755ffae453277ca7a5eaaf8984e949155f774b66049188699095c77f195e32b49f019b3598f6601434cb5fe852befebef4ca476341c6b34d6fa7ce2fa1e5fa3a7da091cc1ea32013bca694ae5498b2645c1e94afb3888eed5a4763074a003020112a26d046b1ff72444274c816836e6309012203556e5cff8258d53b31409abe24459c6bc95ed5f7617f8309492bbb2cd02ed22dac4d510c48803e5bd9319679929712b670874c86bb9117ffa2395eecfb38cc5922055cd42465c5be3debf481fd0ed7a975cc255fcb4c013872857dca8",
+    answer: "60819a06092a864886f71201020202006f818a308187a003020105a10302010fa27b3079a003020112a2720470807297625500f63d4210f4a2cf15e3219cc5204dda7aa6f63d419262a1af2264426ab9962d4db7b24a0a8974ead22d9b246c2bd660df641c5713fde227bdde90eba975855737c3fb632806a7c5189694196afe38e297578c66541bbf336792a6ebefd683d9513178a276afac069aac91",
+    sealed_token: "050407ff0000001c00000000000000000736dbcf7e8b4ffe328a774a9e6127f7229440a73711dea1e5cc7970809faad35210f356c53b0b9a02f53c73",
+    sealed_data: "31e075761b0a79e4987f5209630941f9d015",
+};
+
+fn mutual() -> &'static Exchange {
+    &MUTUAL
 }
 
 /// The AP-REQ of a client in Java for kafka/localhost: its name of type 0, a checksum of RFC 4121, a subkey and a number.
@@ -134,5 +146,17 @@ fn a_service_without_a_key_is_refused(rt: HostRuntime) -> Result<(), Fail> {
         refusal_without_a_key(rt.alloc())?,
         Some(Cause::NoServiceKey)
     );
+    Ok(())
+}
+
+/// Whether an acceptor whose number is 2^32 - 1 answers with the number 0, and goes on from it.
+fn goes_round(alloc: Global) -> Result<bool, Fail> {
+    let mut server = context_of(alloc, 4294967295)?;
+    goes_so(alloc, &mut server, mutual())
+}
+
+#[test]
+fn an_answer_goes_round_at_the_last_number(rt: HostRuntime) -> Result<(), Fail> {
+    assert!(rt; goes_round(rt.alloc())?);
     Ok(())
 }
