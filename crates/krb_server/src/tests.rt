@@ -3,6 +3,7 @@
 mod clients;
 mod established;
 mod samples;
+mod states;
 
 use crate::{Accepted, accept_security_context};
 use bitflags::Flags;
