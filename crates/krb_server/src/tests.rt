@@ -2,6 +2,7 @@
 
 mod clients;
 mod established;
+mod gates;
 mod samples;
 mod states;
 
