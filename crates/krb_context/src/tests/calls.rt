@@ -1,8 +1,29 @@
 //! Calls that no table makes, once.
 
-use crate::{EncryptionParams, GssFlags, package_info};
-use sspi_core::ClientRequestFlags;
+use super::cause_of;
+use super::ends::{SHORT_ACCEPTOR, octets, properties};
+use crate::{EncryptionParams, GssFlags, ServerProperties, package_info};
+use sspi_core::{Cause, ClientRequestFlags, Secret};
+use std::alloc::Global;
 use std::test::Fail;
+
+/// Whether a further service past ASCII is refused.
+fn refuses_past_ascii(alloc: Global, server: &mut ServerProperties) -> Result<bool, Fail> {
+    let key = Secret::new(octets(alloc, SHORT_ACCEPTOR.key)?);
+    let answer = cause_of(server.add_service_key(alloc, &["kafk\u{e4}"], key));
+    Ok(answer == Some(Cause::NotAscii))
+}
+
+fn new_services_are_ascii(alloc: Global) -> Result<bool, Fail> {
+    let mut server = properties(alloc)?;
+    refuses_past_ascii(alloc, &mut server)
+}
+
+#[test]
+fn services_are_ascii(rt: HostRuntime) -> Result<(), Fail> {
+    assert!(rt; new_services_are_ascii(rt.alloc())?);
+    Ok(())
+}
 
 #[test]
 fn the_package_is_kerberos(rt: HostRuntime) -> Result<(), Fail> {
