@@ -3,9 +3,71 @@
 use super::cause_of;
 use super::ends::{SHORT_ACCEPTOR, octets, properties};
 use crate::{EncryptionParams, GssFlags, ServerProperties, package_info};
+use krb_der::TryCopy;
+use krb_messages::PrincipalName;
 use sspi_core::{Cause, ClientRequestFlags, Secret};
 use std::alloc::Global;
 use std::test::Fail;
+
+/// Whether the service of this name has a key.
+fn has_key(server: &ServerProperties, name: &PrincipalName) -> bool {
+    server.ticket_decryption_key_for(name).is_some()
+}
+
+fn copy_has_key(
+    alloc: Global,
+    server: &ServerProperties,
+    name: &PrincipalName,
+) -> Result<bool, Fail> {
+    let copied = server.copy(alloc)?;
+    Ok(has_key(&copied, name))
+}
+
+/// Whether it has or lacks one, as wanted, and in a copy too.
+fn both_have_key(
+    alloc: Global,
+    server: &ServerProperties,
+    name: &PrincipalName,
+    wanted: bool,
+) -> Result<bool, Fail> {
+    let copied = copy_has_key(alloc, server, name)?;
+    Ok(has_key(server, name) == wanted && copied == wanted)
+}
+
+/// The same for the service of these components.
+fn have_key(
+    alloc: Global,
+    server: &ServerProperties,
+    components: &[&str],
+    wanted: bool,
+) -> Result<bool, Fail> {
+    let named = ServerProperties::new(alloc, components, None, 0, None)?;
+    both_have_key(alloc, server, &named.service_name, wanted)
+}
+
+/// Whether a further service has its key, and the primary one none.
+fn one_has_key(alloc: Global, server: &ServerProperties) -> Result<bool, Fail> {
+    let further = have_key(alloc, server, &["kafka", "localhost"], true)?;
+    Ok(further && have_key(alloc, server, &["host", "server.example.com"], false)?)
+}
+
+/// The same once the further service was added.
+fn added_has_key(alloc: Global, server: &mut ServerProperties) -> Result<bool, Fail> {
+    let key = Secret::new(octets(alloc, SHORT_ACCEPTOR.key)?);
+    server.add_service_key(alloc, &["kafka", "localhost"], key)?;
+    one_has_key(alloc, server)
+}
+
+fn new_services_have_keys(alloc: Global) -> Result<bool, Fail> {
+    let mut server = properties(alloc)?;
+    added_has_key(alloc, &mut server)
+}
+
+#[test]
+fn services_have_keys_by_their_components(rt: HostRuntime) -> Result<(), Fail> {
+    assert!(rt; new_services_have_keys(rt.alloc())?);
+    Ok(())
+}
 
 /// Whether a further service past ASCII is refused.
 fn refuses_past_ascii(alloc: Global, server: &mut ServerProperties) -> Result<bool, Fail> {
