@@ -2,8 +2,9 @@
 
 use super::cause_of;
 use super::ends::{SHORT_ACCEPTOR, octets, properties};
-use crate::{EncryptionParams, GssFlags, ServerProperties, package_info};
-use krb_der::TryCopy;
+use crate::{EncryptionParams, GssFlags, Kerberos, ServerProperties, package_info};
+use krb_conf::{Env, KerberosConfig};
+use krb_der::{Items, Text, TryCopy};
 use krb_messages::PrincipalName;
 use sspi_core::{Cause, ClientRequestFlags, Secret};
 use std::alloc::Global;
@@ -84,6 +85,45 @@ fn new_services_are_ascii(alloc: Global) -> Result<bool, Fail> {
 #[test]
 fn services_are_ascii(rt: HostRuntime) -> Result<(), Fail> {
     assert!(rt; new_services_are_ascii(rt.alloc())?);
+    Ok(())
+}
+
+/// Whether it tells this realm, and this KDC of it.
+fn tells_kdc(alloc: Global, client: &Kerberos, env: &Env, kdc_url: &str) -> Result<bool, Fail> {
+    match client.get_kdc(alloc, env)? {
+        Some((realm, url)) => Ok(realm.as_str() == "EXAMPLE.COM" && url.as_str() == kdc_url),
+        None => Ok(false),
+    }
+}
+
+fn tells_kdc_anywhere(alloc: Global, client: &Kerberos, kdc_url: &str) -> Result<bool, Fail> {
+    let env = Env {
+        vars: Items::new(Vec::new(alloc)),
+        files: Items::new(Vec::new(alloc)),
+    };
+    tells_kdc(alloc, client, &env, kdc_url)
+}
+
+fn client_with_kdc(alloc: Global, kdc_url: &str) -> Result<Kerberos, Fail> {
+    let name = Text::new(String::from_str(alloc, "hostname")?);
+    let config = KerberosConfig::new(alloc, kdc_url, name)?;
+    Ok(Kerberos::new_client_from_config(config, [0; 4]))
+}
+
+/// Whether a client of a realm tells the KDC that it is configured with.
+fn realm_has_kdc(alloc: Global, client: &mut Kerberos, kdc_url: &str) -> Result<bool, Fail> {
+    client.realm = Some(Text::new(String::from_str(alloc, "EXAMPLE.COM")?));
+    tells_kdc_anywhere(alloc, client, kdc_url)
+}
+
+fn has_kdc(alloc: Global, kdc_url: &str) -> Result<bool, Fail> {
+    let mut client = client_with_kdc(alloc, kdc_url)?;
+    realm_has_kdc(alloc, &mut client, kdc_url)
+}
+
+#[test]
+fn a_client_knows_its_kdc(rt: HostRuntime) -> Result<(), Fail> {
+    assert!(rt; has_kdc(rt.alloc(), "tcp://kdc.example.com:88")?);
     Ok(())
 }
 
