@@ -1,8 +1,11 @@
 //! Calls that no table makes, once.
 
 use super::cause_of;
-use super::ends::{SHORT_ACCEPTOR, octets, properties};
-use crate::{EncryptionParams, GssFlags, Kerberos, ServerProperties, package_info};
+use super::ends::{SHORT_ACCEPTOR, config, octets, properties};
+use crate::{
+    ContextChange, EncryptionParams, GssFlags, Kerberos, KerberosState, ProtocolConfig,
+    ServerProperties, package_info,
+};
 use krb_conf::{Env, KerberosConfig};
 use krb_der::{Items, Text, TryCopy};
 use krb_messages::PrincipalName;
@@ -88,6 +91,15 @@ fn services_are_ascii(rt: HostRuntime) -> Result<(), Fail> {
     Ok(())
 }
 
+fn instance(alloc: Global, config: &ProtocolConfig, random: [u8; 4]) -> Result<Kerberos, Fail> {
+    Ok(config.new_instance(alloc, random)?)
+}
+
+fn new_client(alloc: Global) -> Result<Kerberos, Fail> {
+    let config = ProtocolConfig::Client(config(alloc)?);
+    instance(alloc, &config, [0, 0, 0, 1])
+}
+
 /// Whether it tells this realm, and this KDC of it.
 fn tells_kdc(alloc: Global, client: &Kerberos, env: &Env, kdc_url: &str) -> Result<bool, Fail> {
     match client.get_kdc(alloc, env)? {
@@ -138,5 +150,56 @@ fn the_package_is_kerberos(rt: HostRuntime) -> Result<(), Fail> {
         EncryptionParams::default_for_client().sspi_encrypt_key_usage,
         24
     );
+    Ok(())
+}
+
+/// Whether it refuses the calls that no context has.
+fn refuses_calls(context: &mut Kerberos) -> bool {
+    let made = cause_of(context.make_signature());
+    let verified = cause_of(context.verify_signature());
+    let status = cause_of(context.query_context_cert_trust_status());
+    made == Some(Cause::Unsupported)
+        && verified == Some(Cause::Unsupported)
+        && status == Some(Cause::Unsupported)
+}
+
+/// What an exchange makes of a context.
+fn change(alloc: Global) -> Result<ContextChange, Fail> {
+    Ok(ContextChange {
+        state: KerberosState::Final,
+        realm: Some(Text::new(String::from_str(alloc, "EXAMPLE.COM")?)),
+        encryption_params: EncryptionParams::default_for_client(),
+        seq_number: 7,
+        krb5_user_to_user: false,
+        ticket_decryption_key: None,
+    })
+}
+
+/// Whether the next number is the one after the exchange's, and nothing is left to complete.
+fn counts_on(alloc: Global, client: &mut Kerberos) -> bool {
+    client.next_seq_number() == 8
+        && client.complete_auth_token().is_ok()
+        && client.query_context_package_info(alloc).is_ok()
+}
+
+fn settles_and_counts_on(alloc: Global, client: &mut Kerberos) -> Result<bool, Fail> {
+    client.settle(change(alloc)?);
+    Ok(counts_on(alloc, client))
+}
+
+fn new_client_refuses_calls(alloc: Global) -> Result<bool, Fail> {
+    let mut client = new_client(alloc)?;
+    Ok(refuses_calls(&mut client))
+}
+
+fn new_client_counts_on(alloc: Global) -> Result<bool, Fail> {
+    let mut client = new_client(alloc)?;
+    settles_and_counts_on(alloc, &mut client)
+}
+
+#[test]
+fn a_settled_context_counts_on(rt: HostRuntime) -> Result<(), Fail> {
+    assert!(rt; new_client_refuses_calls(rt.alloc())?);
+    assert!(rt; new_client_counts_on(rt.alloc())?);
     Ok(())
 }
