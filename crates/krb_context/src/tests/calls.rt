@@ -1,15 +1,19 @@
 //! Calls that no table makes, once.
 
 use super::cause_of;
-use super::ends::{SHORT_ACCEPTOR, config, octets, properties};
+use super::ends::{INITIATOR, SHORT_ACCEPTOR, config, context_of, octets, properties};
 use crate::{
-    ContextChange, EncryptionParams, GssFlags, Kerberos, KerberosState, ProtocolConfig,
-    ServerProperties, package_info,
+    ContextChange, EncryptionParams, GssFlags, Kerberos, KerberosServerConfig, KerberosState,
+    ProtocolConfig, ServerProperties, package_info,
 };
 use krb_conf::{Env, KerberosConfig};
-use krb_der::{Items, Text, TryCopy};
+use krb_crypto::{AesSize, CipherSuite};
+use krb_der::{Items, Octets, Text, TryCopy};
 use krb_messages::PrincipalName;
-use sspi_core::{Cause, ClientRequestFlags, Secret};
+use sspi_core::{
+    AuthIdentity, Cause, ClientRequestFlags, CredentialUse, Credentials, CredentialsBuffers, Error,
+    Secret, Username,
+};
 use std::alloc::Global;
 use std::test::Fail;
 
@@ -98,6 +102,246 @@ fn instance(alloc: Global, config: &ProtocolConfig, random: [u8; 4]) -> Result<K
 fn new_client(alloc: Global) -> Result<Kerberos, Fail> {
     let config = ProtocolConfig::Client(config(alloc)?);
     instance(alloc, &config, [0, 0, 0, 1])
+}
+
+/// The acceptor that a copy of the configuration makes.
+fn server_of(alloc: Global, config: &KerberosServerConfig) -> Result<Kerberos, Fail> {
+    let copied = ProtocolConfig::Server(config.copy(alloc)?);
+    instance(alloc, &copied, [0, 0, 0, 0])
+}
+
+fn server_config(alloc: Global) -> Result<KerberosServerConfig, Fail> {
+    let kerberos_config = config(alloc)?;
+    Ok(KerberosServerConfig {
+        kerberos_config,
+        server_properties: properties(alloc)?,
+    })
+}
+
+/// Whether the three queries are refused.
+fn tells_nothing(alloc: Global, context: &Kerberos) -> bool {
+    let sizes = cause_of(context.query_context_sizes());
+    let names = cause_of(context.query_context_names(alloc));
+    let key = cause_of(context.query_context_session_key(alloc));
+    sizes == Some(Cause::Sequence)
+        && names == Some(Cause::NoIdentity)
+        && key == Some(Cause::Sequence)
+}
+
+fn is_new_client(alloc: Global, client: &Kerberos) -> bool {
+    client.is_client()
+        && client.state.is_waiting()
+        && client.config().client_computer_name.as_str() == "hostname"
+        && tells_nothing(alloc, client)
+}
+
+fn new_client_tells_nothing(alloc: Global) -> Result<bool, Fail> {
+    let client = new_client(alloc)?;
+    Ok(is_new_client(alloc, &client))
+}
+
+fn is_new_server(alloc: Global, server: &Kerberos) -> bool {
+    !server.is_client() && tells_nothing(alloc, server)
+}
+
+fn server_tells_nothing(alloc: Global, config: &KerberosServerConfig) -> Result<bool, Fail> {
+    let server = server_of(alloc, config)?;
+    Ok(is_new_server(alloc, &server))
+}
+
+fn new_server_tells_nothing(alloc: Global) -> Result<bool, Fail> {
+    let config = server_config(alloc)?;
+    server_tells_nothing(alloc, &config)
+}
+
+#[test]
+fn a_new_context_has_nothing_to_tell(rt: HostRuntime) -> Result<(), Fail> {
+    assert!(rt; new_client_tells_nothing(rt.alloc())?);
+    assert!(rt; new_server_tells_nothing(rt.alloc())?);
+    Ok(())
+}
+
+/// Whether its sizes are these, in the order in which they are declared.
+fn has_sizes(context: &Kerberos, wanted: [u32; 4]) -> Result<bool, Fail> {
+    let sizes = context.query_context_sizes()?;
+    let [max_token, max_signature, block, security_trailer] = wanted;
+    Ok(
+        sizes.max_token == max_token
+            && sizes.max_signature == max_signature
+            && sizes.block == block
+            && sizes.security_trailer == security_trailer,
+    )
+}
+
+fn has_session_key(context: &Kerberos, wanted: &Octets) -> bool {
+    match context.encryption_params.key() {
+        Some(key) => *key == *wanted,
+        None => false,
+    }
+}
+
+fn tells_key(alloc: Global, context: &Kerberos, wanted: &Octets) -> Result<bool, Fail> {
+    let keys = context.query_context_session_key(alloc)?;
+    Ok(*keys.session_key.as_ref() == *wanted)
+}
+
+fn copy_tells_key(alloc: Global, context: &Kerberos, wanted: &Octets) -> Result<bool, Fail> {
+    let copied = context.copy(alloc)?;
+    tells_key(alloc, &copied, wanted)
+}
+
+/// Whether its key is the shorter one, and a copy tells it.
+fn has_short_key(alloc: Global, context: &Kerberos) -> Result<bool, Fail> {
+    let wanted = octets(alloc, SHORT_ACCEPTOR.key)?;
+    Ok(has_session_key(context, &wanted) && copy_tells_key(alloc, context, &wanted)?)
+}
+
+/// Whether its exchange is over, with the shorter suite.
+fn is_short(context: &Kerberos) -> bool {
+    context.state.is_final()
+        && context.encryption_params.aes_size() == Some(AesSize::Aes128)
+        && context.encryption_params.suite() == CipherSuite::Aes128CtsHmacSha196
+}
+
+fn tells_of_itself(alloc: Global, acceptor: &Kerberos) -> Result<bool, Fail> {
+    let sizes = has_sizes(acceptor, [48000, 16, 0, 76])?;
+    Ok(sizes && is_short(acceptor) && has_short_key(alloc, acceptor)?)
+}
+
+fn acceptor_tells(alloc: Global) -> Result<bool, Fail> {
+    let acceptor = context_of(alloc, &SHORT_ACCEPTOR)?;
+    tells_of_itself(alloc, &acceptor)
+}
+
+fn initiator_tells(alloc: Global) -> Result<bool, Fail> {
+    let initiator = context_of(alloc, &INITIATOR)?;
+    has_sizes(&initiator, [48000, 16, 0, 60])
+}
+
+#[test]
+fn an_established_context_tells_its_sizes_and_its_key(rt: HostRuntime) -> Result<(), Fail> {
+    assert!(rt; acceptor_tells(rt.alloc())?);
+    assert!(rt; initiator_tells(rt.alloc())?);
+    Ok(())
+}
+
+/// Whether it tells this name.
+fn tells_name(alloc: Global, context: &Kerberos, wanted: &Username) -> Result<bool, Fail> {
+    let names = context.query_context_names(alloc)?;
+    Ok(names.username == *wanted)
+}
+
+fn admit(context: &mut Kerberos, client: Username) {
+    if let Some(server) = &mut context.server {
+        server.client = Some(client);
+    }
+}
+
+/// Whether it tells this name once it has admitted the client.
+fn tells_admitted(alloc: Global, context: &mut Kerberos, client: &Username) -> Result<bool, Fail> {
+    admit(context, client.copy(alloc)?);
+    tells_name(alloc, context, client)
+}
+
+fn acceptor_tells_admitted(alloc: Global, client: &Username) -> Result<bool, Fail> {
+    let mut context = context_of(alloc, &SHORT_ACCEPTOR)?;
+    tells_admitted(alloc, &mut context, client)
+}
+
+fn tells_whom_it_admitted(alloc: Global, client: &str) -> Result<bool, Fail> {
+    let client = Username::parse(alloc, client)?;
+    acceptor_tells_admitted(alloc, &client)
+}
+
+#[test]
+fn an_acceptor_tells_whom_it_admitted(rt: HostRuntime) -> Result<(), Fail> {
+    assert!(rt; tells_whom_it_admitted(rt.alloc(), "alice@example.com")?);
+    Ok(())
+}
+
+fn password_identity(alloc: Global) -> Result<Credentials, Fail> {
+    let password = Text::new(String::from_str(alloc, "secret")?);
+    let username = Username::parse(alloc, "user@example.com")?;
+    Ok(Credentials::AuthIdentity(AuthIdentity {
+        username,
+        password: Secret::new(password),
+    }))
+}
+
+/// What it gives back for these credentials.
+fn given(
+    alloc: Global,
+    client: &mut Kerberos,
+    credentials: Option<&Credentials>,
+) -> Result<Option<CredentialsBuffers>, Error> {
+    client.acquire_credentials_handle(alloc, CredentialUse::Outbound, credentials)
+}
+
+/// Whether it gives back these buffers, and keeps them.
+fn gives(
+    alloc: Global,
+    client: &mut Kerberos,
+    credentials: &Credentials,
+    wanted: &Option<CredentialsBuffers>,
+) -> Result<bool, Fail> {
+    let given = given(alloc, client, Some(credentials))?;
+    Ok(given == *wanted && client.auth_identity == *wanted)
+}
+
+/// Whether it takes these credentials.
+fn takes(alloc: Global, client: &mut Kerberos, credentials: &Credentials) -> Result<bool, Fail> {
+    let wanted = Some(CredentialsBuffers::from_credentials(alloc, credentials)?);
+    gives(alloc, client, credentials, &wanted)
+}
+
+fn new_client_takes(alloc: Global, credentials: &Credentials) -> Result<bool, Fail> {
+    let mut client = new_client(alloc)?;
+    takes(alloc, &mut client, credentials)
+}
+
+/// Whether it takes them as its identity, and tells their name.
+fn speaks_for(
+    alloc: Global,
+    client: &mut Kerberos,
+    credentials: &Credentials,
+    name: &str,
+) -> Result<bool, Fail> {
+    client.custom_set_auth_identity(alloc, credentials)?;
+    let name = Username::parse(alloc, name)?;
+    tells_name(alloc, client, &name)
+}
+
+fn new_client_speaks_for(
+    alloc: Global,
+    credentials: &Credentials,
+    name: &str,
+) -> Result<bool, Fail> {
+    let mut client = new_client(alloc)?;
+    speaks_for(alloc, &mut client, credentials, name)
+}
+
+/// What it is answered without credentials.
+fn nobody(alloc: Global, client: &mut Kerberos) -> Option<Cause> {
+    cause_of(given(alloc, client, None))
+}
+
+fn new_client_needs_somebody(alloc: Global) -> Result<bool, Fail> {
+    let mut client = new_client(alloc)?;
+    Ok(nobody(alloc, &mut client) == Some(Cause::NoIdentity))
+}
+
+/// The same for an identity with a password.
+fn client_speaks(alloc: Global) -> Result<bool, Fail> {
+    let credentials = password_identity(alloc)?;
+    let takes = new_client_takes(alloc, &credentials)?;
+    Ok(takes && new_client_speaks_for(alloc, &credentials, "user@example.com")?)
+}
+
+#[test]
+fn a_client_speaks_for_its_credentials(rt: HostRuntime) -> Result<(), Fail> {
+    assert!(rt; client_speaks(rt.alloc())?);
+    assert!(rt; new_client_needs_somebody(rt.alloc())?);
+    Ok(())
 }
 
 /// Whether it tells this realm, and this KDC of it.
