@@ -113,9 +113,10 @@ impl Kerberos {
         })
     }
 
-    /// What the package is.
+    /// What the package is; no refusal but want of memory.
     pub fn query_context_package_info(&self, alloc: Global) -> Result<PackageInfo, Error>
-        ensures { IfOk result (λ info. info ≡ kerberos_package) }
+        ensures info { IfOk result (λ info. info ≡ kerberos_package) }
+        ensures memory { IfErr result (λ error. error ≡ error_of causes.Memory) }
     {
         Ok(package_info(alloc)?)
     }

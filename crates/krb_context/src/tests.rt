@@ -27,21 +27,36 @@ fn cause_of<T: Drop>(answer: Result<T, Error>) -> Option<Cause> {
     }
 }
 
-/// What an end answers to a message.
-fn opening(alloc: Global, context: &mut Kerberos, message: &mut Message) -> Option<Cause> {
-    cause_of(context.decrypt_message(alloc, message))
+/// What an end is asked to do with a message.
+#[derive(Clone, Copy)]
+enum Call {
+    Open,
+    Seal,
+}
+
+fn answer(
+    alloc: Global,
+    context: &mut Kerberos,
+    call: Call,
+    message: &mut Message,
+) -> Option<Cause> {
+    match call {
+        Call::Open => cause_of(context.decrypt_message(alloc, message)),
+        Call::Seal => cause_of(context.encrypt_message(alloc, message, CONFOUNDER)),
+    }
 }
 
 /// Whether an end answers so, and the message is so afterwards.
-fn opens(
+fn answers(
     alloc: Global,
     context: &mut Kerberos,
+    call: Call,
     before: &str,
     after: &str,
     refusal: Option<Cause>,
 ) -> Result<bool, Fail> {
     let mut message = message_of(alloc, before)?;
-    let answer = opening(alloc, context, &mut message);
+    let answer = answer(alloc, context, call, &mut message);
     Ok(answer == refusal && holds(alloc, &message, after)?)
 }
 
@@ -53,9 +68,9 @@ fn opens_once(
     after: &str,
     refusal: Option<Cause>,
 ) -> Result<bool, Fail> {
-    let first = opens(alloc, context, before, after, refusal)?;
+    let first = answers(alloc, context, Call::Open, before, after, refusal)?;
     let again = refusal.or(Some(Cause::Repeated));
-    Ok(first && opens(alloc, context, before, before, again)?)
+    Ok(first && answers(alloc, context, Call::Open, before, before, again)?)
 }
 
 /// Whether a new end does.
@@ -82,24 +97,6 @@ fn messages_of_others_are_opened_once_or_refused(rt: HostRuntime) -> Result<(), 
     Ok(())
 }
 
-/// What an end answers where it is asked to seal a message.
-fn sealing(alloc: Global, context: &mut Kerberos, message: &mut Message) -> Option<Cause> {
-    cause_of(context.encrypt_message(alloc, message, CONFOUNDER))
-}
-
-/// Whether an end answers so, and the message is so afterwards.
-fn seals(
-    alloc: Global,
-    context: &mut Kerberos,
-    before: &str,
-    after: &str,
-    refusal: Option<Cause>,
-) -> Result<bool, Fail> {
-    let mut message = message_of(alloc, before)?;
-    let answer = sealing(alloc, context, &mut message);
-    Ok(answer == refusal && holds(alloc, &message, after)?)
-}
-
 /// Whether a new end seals so, and counts a message only where it seals it.
 fn seals_and_counts(
     alloc: Global,
@@ -109,7 +106,7 @@ fn seals_and_counts(
     refusal: Option<Cause>,
 ) -> Result<bool, Fail> {
     let mut context = context_of(alloc, end)?;
-    let sealed = seals(alloc, &mut context, before, after, refusal)?;
+    let sealed = answers(alloc, &mut context, Call::Seal, before, after, refusal)?;
     let number = end.number.wrapping_add(refusal.is_none() as u32);
     Ok(sealed && context.seq_number == number)
 }
