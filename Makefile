@@ -1,9 +1,16 @@
-# `make run` proves what is not proved yet, builds the program and runs it on an example; `make test` is the merge gate.
+# `make run` runs an example with every check at run time and no proof, `make build` proves and builds the program, `make test` is the
+# merge gate. Another example: make run EXAMPLE=examples/real-client
 EXAMPLE ?= examples/one-client
+PROGRAM = crates/krb_run/out/krb_run
 
-.PHONY: run test
+.PHONY: run build test
 run:
-	cd crates/krb_run && rt run -- serve < ../../$(EXAMPLE)
+	@cd crates/krb_run && rt try -- serve < ../../$(EXAMPLE)
+	@echo "This was not proved: it ran with every check at run time. make build proves."
+
+build:
+	@cd crates/krb_run && rt run -- --version
+	@echo "Proved and built: $(PROGRAM)"
 
 test:
 	rt ci
