@@ -1,8 +1,8 @@
 //! Octets from the standards and written out by hand.
 
-use crate::{
-    Asn1, Bits, ErrorCode, Fault, IntegerAsn1, Items, Name, Octets, Reader, Shape, Text, Time,
-    TryCopy, Writer,
+use krb_der::{
+    Asn1, Bits, ErrorCode, Fault, IntegerAsn1, Items, Name, Octets, OutOfMemory, Reader, Shape,
+    Text, Time, TryCopy, Writer,
 };
 use std::alloc::Global;
 
@@ -158,7 +158,7 @@ fn moments_of_the_calendar(rt: HostRuntime) {
 
 /// The value of an INTEGER (X.690 8.3.3).
 #[test]
-fn integers_have_their_value(rt: HostRuntime) -> Result<(), crate::OutOfMemory> {
+fn integers_have_their_value(rt: HostRuntime) -> Result<(), OutOfMemory> {
     let cases: [(&[u8], Option<i64>); 11] = [
         (&[0x00], Some(0)),
         (&[0x7f], Some(127)),
@@ -200,9 +200,9 @@ fn the_fields_of_a_principal_are_read(rt: HostRuntime) {
     let contents = Reader::new(&octets).tlv(0x30);
     assert!(rt; contents.is_ok());
     let mut fields = Reader::of_sequence(contents.unwrap());
-    let name_type: Result<IntegerAsn1, crate::Fault> = fields.required_field(rt.alloc(), 0);
+    let name_type: Result<IntegerAsn1, Fault> = fields.required_field(rt.alloc(), 0);
     assert!(rt; name_type.map(|integer| integer.value()) == Ok(Some(2)));
-    let names: Result<Items<Name>, crate::Fault> = fields.required_field(rt.alloc(), 1);
+    let names: Result<Items<Name>, Fault> = fields.required_field(rt.alloc(), 1);
     assert!(rt; names.is_ok());
     let names = names.unwrap();
     assert!(rt; names.as_slice().len() == 2);
@@ -213,7 +213,7 @@ fn the_fields_of_a_principal_are_read(rt: HostRuntime) {
 
 /// Equal copies, and the order of lists.
 #[test]
-fn copies_are_equal(rt: HostRuntime) -> Result<(), crate::OutOfMemory> {
+fn copies_are_equal(rt: HostRuntime) -> Result<(), OutOfMemory> {
     let text = Text::new(String::from_str(rt.alloc(), "é")?);
     assert!(rt; text.copy(rt.alloc())? == text);
     assert!(rt; text.as_str() == "é");

@@ -1,0 +1,7 @@
+//! Tests of the crates of octets and of values, each over the public items of the crate that it is named after.
+//!
+//! Expected values come from outside: the standards' own examples, and other implementations.
+#![tactic(auto)]
+
+#[cfg(test)]
+mod krb_der_tests;
