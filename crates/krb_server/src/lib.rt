@@ -15,10 +15,20 @@ mod open;
 mod request;
 mod token;
 
+// What an embedder needs beside, so that its imports come from here alone.
 pub use accept::accept_security_context;
 pub use admission::Accepted;
 pub use ap_rep::generate_ap_rep;
+pub use bitflags::Flags;
 pub use client::client_upn;
+pub use krb_conf::{Env, KerberosConfig};
+pub use krb_context::{Kerberos, KerberosState, ServerProperties};
+pub use krb_der::{Items, Name, Octets, OutOfMemory, Text, TryCopy};
+pub use krb_replay::{ReplayBook, ReplayGate};
+pub use sspi_core::{
+    Cause, Draw, Error, ErrorKind, MAX_MOMENT, Message, Part, Secret, SecurityBufferFlags,
+    SecurityBufferRef, ServerRequestFlags, Username, UsernameParts,
+};
 pub use token::MAX_TOKEN;
 
 #[cfg(test)]
