@@ -28,3 +28,9 @@ impl<A: TryCopy, B: TryCopy> TryCopy for (A, B) {
         Ok((first, second))
     }
 }
+
+impl TryCopy for bool {
+    fn copy(&self, _alloc: Global) -> Result<bool, OutOfMemory> {
+        Ok(*self)
+    }
+}

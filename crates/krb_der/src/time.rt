@@ -5,8 +5,11 @@ ghost use Rattle.krb_der.specs.Moment.{Day, IsTime, SpellsMoment, two_digits as 
 ghost use Rattle.krb_der.specs.MomentReading.{two_in, four_in, day_in, date_in, clock_in, time_in};
 ghost use Rattle.krb_der.specs.Reading.{Gives};
 
+use crate::copies::TryCopy;
+use crate::memory::OutOfMemory;
 use crate::shape::Shape;
 use jiff_core::civil::Date;
+use std::alloc::Global;
 use std::marker::Model;
 
 /// The days from 0000-01-01 to 1970-01-01.
@@ -222,5 +225,11 @@ impl Time {
         ensures exact { result ≡ time_octets self }
     {
         octets_since((self.seconds + SECONDS_BEFORE_1970) as u64)
+    }
+}
+
+impl TryCopy for Time {
+    fn copy(&self, _alloc: Global) -> Result<Time, OutOfMemory> {
+        Ok(*self)
     }
 }
