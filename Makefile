@@ -5,7 +5,7 @@ PROGRAM = crates/krb_run/out/krb_run
 
 .PHONY: run build test
 run:
-	@cd crates/krb_run && rt try -- serve < ../../$(EXAMPLE)
+	@cd crates/krb_run && rt try -- serve < $(abspath $(EXAMPLE))
 	@echo "This was not proved: it ran with every check at run time. make build proves."
 
 build:
