@@ -3,11 +3,7 @@ use Rattle.std.proofs.Common.{◌≡◌, Bool, true, false, IsTrue, rules, Resul
 use Rattle.std.specs.Result.{IsErrAnd}
 use Rattle.sspi_core.specs.declared.cause.Cause.{Cause}
 use Rattle.sspi_core.specs.declared.cause.Cause.TheVariants.{Memory}
-use Rattle.sspi_core.specs.declared.error.Error.{Error}
-use Rattle.sspi_core.specs.declared.error.Place.{Place}
-use Rattle.sspi_core.specs.declared.error.Place.TheVariants.{Query, MakeMic, Elsewhere}
-use Rattle.sspi_core.specs.Kinds.{error_at, error_of}
-use Rattle.sspi_core.specs.Checks.{Holds, Gives, Then, Answers, Told}
+use Rattle.sspi_core.specs.Checks.{Holds, Gives, Then, Answers}
 
 pub is_err : {A E : Type 0} (answer : Result A E) (e : E) → IsErrAnd answer (λ d. d ≡ e) → answer ≡ Err e
 is_err (Ok x) e h = absurd h
@@ -49,22 +45,3 @@ held cause false x h = let e = h.is in absurd cc
 pub ruleset chain = (stops, goes, answers, given)
 
 pub ruleset plain_chain = (halts, follows, gives)
-
-memory_at : (place : Place) → error_at place Memory ≡ error_of Memory
-memory_at Query = refl
-memory_at MakeMic = refl
-memory_at Elsewhere = refl
-
--- a public call hands on what was found
-pub told_ok : {A : Type 0} (place : Place) (checks : Result A Cause → Type 0) (x : A) → Answers checks (Ok x) → Told place checks (Ok x)
-told_ok place checks x h = record { so = λ ne. (Ok x, refl, h.so (λ z. absurd cc)) }
-
--- a public call hands on a refusal, with its kind
-pub told_err : {A : Type 0} (place : Place) (checks : Result A Cause → Type 0) (e : Cause) (answer : Result A Error) → Answers checks (Err e) → IsErrAnd answer (λ d. d ≡ error_at place e) → Told place checks answer
-told_err {A} place checks e answer h is = record {
-  so = λ ne.
-      let same = is_err answer (error_at place e) is in
-      (Err e, same, h.so (λ z. ne (same ∙ ap Err (ap (λ d. error_at place d) (same_err {A = A} e Memory z) ∙ memory_at place))));
-}
-
-pub ruleset public_call = (told_ok, told_err)

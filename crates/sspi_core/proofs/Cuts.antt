@@ -1,7 +1,7 @@
 -- Texts cut at a sign.
 use Rattle.std.proofs.Common.{◌≡◌, ◌≢◌, ℕ, zero, suc, ◌+◌, ◌-◌, ◌<◌, ◌≤◌, Bool, true, false, not, List, [], ◌∷◌, ◌==◌, ◌||◌, cond, length, take, drop, get_or, refl, sym, ap, ◌∙◌, arith}
 use Rattle.std.specs.Prelude.{MatchOption, Option, Some, None}
-use Rattle.std.specs.List.{position_or_len, suffix_len}
+use Rattle.std.specs.List.{list_any, position_or_len, suffix_len}
 use Rattle.std.specs.Str.Pattern.{RFindsChar, HasCharAt, SplitsAroundMatch}
 use Rattle.std.proofs.Math.Bool.{or-true}
 use Rattle.std.proofs.lemmas.List.{length-drop, get_or-drop}
@@ -31,9 +31,10 @@ none_step : (v : Bool) (n m : ℕ) (r : Bool) → cond (not v) (1 + n) 0 ≡ suc
 none_step true n m r e ih = absurd (omega arith)
 none_step false n m r e ih = ih (omega arith)
 
-none_before : (c : ℕ) (s : List ℕ) → position_or_len (λ b. b == c) s ≡ length s → has c s ≡ false
-none_before c [] e = refl
-none_before c (b ∷ s) e = none_step (b == c) (position_or_len (λ b. b == c) s) (length s) (has c s) e (none_before c s)
+-- where no place passes, no element does
+pub list_any-absent : (p : ℕ → Bool) (s : List ℕ) → position_or_len p s ≡ length s → list_any p s ≡ false
+list_any-absent p [] e = refl
+list_any-absent p (b ∷ s) e = none_step (p b) (position_or_len p s) (length s) (list_any p s) e (list_any-absent p s)
 
 some_step : (v : Bool) (n m : ℕ) (r : Bool) → cond (not v) (1 + n) 0 < suc m → (n < m → r ≡ true) → (v || r) ≡ true
 some_step true n m r h ih = refl
@@ -46,7 +47,7 @@ some_before c (b ∷ s) h = some_step (b == c) (position_or_len (λ b. b == c) s
 -- what `split_once` says at a backslash
 pub cut_at_first : (s : List ℕ) (r : Option (Bor (List ℕ) × Bor (List ℕ))) → IsSplitOnceResult backslash s r
     → MatchOption r (has backslash s ≡ false) (λ parts. IsCutAtFirst s parts.0.now parts.1.now)
-cut_at_first s None h = none_before backslash s (split_once_first backslash s None h (omega arith))
+cut_at_first s None h = list_any-absent (λ b. b == backslash) s (split_once_first backslash s None h (omega arith))
 cut_at_first s (Some x) h =
     let first = split_once_first backslash s (Some x) h (omega arith) in (some_before backslash s first.0, first.1, first.2)
 

@@ -1,11 +1,12 @@
 -- Codes that the table does not have.
-use Rattle.std.proofs.Common.{◌≡◌, ℕ, ◌<◌, ◌≤◌, Bool, true, false, nat_lt, nat_le, List, [], ◌∷◌, ◌==◌, ◌||◌, ◌&&◌, refl, sym, arith, inl, inr}
+use Rattle.std.proofs.Common.{◌≡◌, ℕ, ◌<◌, ◌≤◌, Bool, true, false, nat_lt, nat_le, List, [], ◌∷◌, ◌==◌, ◌||◌, refl, sym, arith, inl, inr}
 use Rattle.std.specs.Prelude.{◌⊎◌}
 use Rattle.std.specs.List.{list_any, list_all}
 use Rattle.std.proofs.lemmas.Grind.{common_steps}
 use Rattle.sspi_core.specs.declared.kind.ErrorKind.{ErrorKind}
 use Rattle.sspi_core.specs.declared.kind.ErrorKind.TheVariants.{Unknown, InternalError}
 use Rattle.sspi_core.specs.Kinds.{kind_in, code_table, kind_of_code}
+use Rattle.sspi_core.proofs.Truths.{both}
 
 -- no number of a list is from low to below high
 abbrev pub avoids : ℕ → ℕ → List ℕ → Bool
@@ -13,11 +14,6 @@ avoids low high ks = list_all (λ k. nat_lt k low || nat_le high k) ks
 
 other : (low high code k : ℕ) → (nat_lt k low || nat_le high k) ≡ true → low ≤ code → code < high → (k == code) ≡ false
 other low high code k h below above = grind (arith, common_steps)
-
-both : (a b : Bool) → (a && b) ≡ true → (a ≡ true) × (b ≡ true)
-both true true h = (refl, refl)
-both true false h = absurd cc
-both false b h = absurd cc
 
 none : (low high code : ℕ) (ks : List ℕ) → avoids low high ks ≡ true → low ≤ code → code < high → list_any (λ c. c == code) ks ≡ false
 none low high code [] h below above = refl

@@ -5,3 +5,4 @@ pub mod PartLemmas
 pub mod Cuts
 pub mod NameLemmas
 pub mod NameReturns
+pub mod Truths

@@ -1,5 +1,5 @@
 -- The parts of a name give the name back.
-use Rattle.std.proofs.Common.{◌≡◌, ℕ, zero, suc, ◌+◌, ◌-◌, ◌<◌, ◌≤◌, Bool, true, false, not, IsTrue, List, [], ◌∷◌, ◌++◌, ◌==◌, ◌&&◌, ◌||◌, length, take, drop, get_or, refl, ap, ◌∙◌, arith}
+use Rattle.std.proofs.Common.{◌≡◌, ℕ, zero, suc, ◌+◌, ◌-◌, ◌<◌, ◌≤◌, true, false, not, IsTrue, List, [], ◌∷◌, ◌++◌, ◌==◌, ◌||◌, length, take, drop, get_or, refl, ap, ◌∙◌, arith}
 use Rattle.std.specs.Prelude.{Some, None}
 use Rattle.std.specs.List.{before_last, after_last, suffix_len}
 use Rattle.std.proofs.Math.Seq.{take-append_seam, drop-append-add, get_or-append_seam}
@@ -7,19 +7,7 @@ use Rattle.std.proofs.lemmas.List.{length-append, get_or-append-add}
 use Rattle.std.proofs.lemmas.List.Sums.{suffix_len_is}
 use Rattle.sspi_core.specs.Usernames.{UserName, UserPrincipal, DownLevel, has, backslash, at_sign, is_plain, is_user_name, upn_text}
 use Rattle.sspi_core.specs.Identities.{user_text, domain_text, has_empty_domain, named}
-
-both : (a b : Bool) → (a && b) ≡ true → (a ≡ true) × (b ≡ true)
-both true true h = (refl, refl)
-both true false h = absurd cc
-both false b h = absurd cc
-
-no : (a : Bool) → not a ≡ true → a ≡ false
-no true h = absurd cc
-no false h = refl
-
-neither : (a b : Bool) → (a || b) ≡ false → (a ≡ false) × (b ≡ false)
-neither true b h = absurd cc
-neither false b h = (refl, h)
+use Rattle.sspi_core.proofs.Truths.{both, neither, no}
 
 has-append : (c : ℕ) (xs ys : List ℕ) → has c xs ≡ false → has c (xs ++ ys) ≡ has c ys
 has-append c [] ys h = refl

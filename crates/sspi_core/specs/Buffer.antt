@@ -1,10 +1,11 @@
 -- Buffers, as contracts see them.
-use Rattle.std.specs.Prelude.{ℕ, ◌^◌, List, Bool, true, false, not, ◌&&◌, ◌==◌, bit_and}
+use Rattle.std.specs.Prelude.{ℕ, List, Bool, true, false, not, ◌&&◌}
 use Rattle.sspi_core.specs.declared.buffer.BufferType.{BufferType}
 use Rattle.sspi_core.specs.declared.buffer.BufferType.TheVariants.{Token as TokenType, Data as DataType, Stream as StreamType}
 use Rattle.sspi_core.specs.declared.flags.SecurityBufferFlags.{SecurityBufferFlags}
 use Rattle.sspi_core.specs.declared.buffer.Part.{Part}
 use Rattle.sspi_core.specs.declared.buffer.Part.TheVariants.{Token, Stream, Plain}
+use Rattle.sspi_core.specs.Flags.{has_flag, readonly_with_checksum, readonly}
 
 -- what a buffer is, what it holds, and how many octets it can hold
 pub record Buffer : Type 0 where
@@ -16,13 +17,11 @@ pub record Buffer : Type 0 where
 abbrev pub no_flags : SecurityBufferFlags
 no_flags = record { 0 = 0 }
 
--- the bit of SECBUFFER_READONLY_WITH_CHECKSUM
 abbrev pub has_checksum_flag : SecurityBufferFlags → Bool
-has_checksum_flag flags = bit_and flags.0 (2 ^ 28) == 2 ^ 28
+has_checksum_flag flags = has_flag flags.0 readonly_with_checksum
 
--- the bit of SECBUFFER_READONLY
 abbrev pub has_readonly_flag : SecurityBufferFlags → Bool
-has_readonly_flag flags = bit_and flags.0 (2 ^ 31) == 2 ^ 31
+has_readonly_flag flags = has_flag flags.0 readonly
 
 abbrev pub is_token : BufferType → Bool
 is_token TokenType = true

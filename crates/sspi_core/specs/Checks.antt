@@ -4,7 +4,7 @@ use Rattle.sspi_core.specs.declared.cause.Cause.{Cause}
 use Rattle.sspi_core.specs.declared.cause.Cause.TheVariants.{Memory}
 use Rattle.sspi_core.specs.declared.error.Error.{Error}
 use Rattle.sspi_core.specs.declared.error.Place.{Place}
-use Rattle.sspi_core.specs.Kinds.{error_at, error_of}
+use Rattle.sspi_core.specs.Kinds.{error_at}
 
 -- one with the property, or the refusal where none has it
 abbrev pub FoundOr : {A : Type 0} → Cause → (A → Type 0) → Result A Cause → Type 0
@@ -65,7 +65,3 @@ pub record Answers {A : Type 0} (checks : Result A Cause → Type 0) (answer : R
 abbrev pub told : {A : Type 0} → Place → Result A Cause → Result A Error
 told place (Ok x) = Ok x
 told place (Err cause) = Err (error_at place cause)
-
--- what a public call answers is what the checks answer, with its kind, unless memory runs out
-pub record Told {A : Type 0} (place : Place) (checks : Result A Cause → Type 0) (answer : Result A Error) : Type 0 where
-  pub so : (answer ≡ Err (error_of Memory) → ⊥) → (outcome : Result A Cause) × (answer ≡ told place outcome) × checks outcome

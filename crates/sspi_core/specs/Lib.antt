@@ -3,6 +3,7 @@ pub mod Bindings
 pub mod Buffer
 pub mod Checks
 pub mod CredentialBuffers
+pub mod Flags
 pub mod FormBack
 pub mod Identities
 pub mod Kinds

@@ -24,7 +24,9 @@ pub struct ChannelBindings {
 impl ChannelBindings {
     ghost use Rattle.sspi_core.specs.Bindings.{is_bindings, bindings};
 
-    /// Reads eight numbers of four octets, the lowest octet first: type, length and place of the initiator's address, the same of the acceptor's, length and place of the application's data. Places count from the first octet of the numbers. Refused as `Bindings` exactly where a number is missing or a part reaches past the end.
+    /// Reads eight numbers of four octets, the lowest octet first: type, length and place of the initiator's address, the
+    /// same of the acceptor's, length and place of the application's data. Places count from the first octet of the
+    /// numbers, lengths in octets. Refused as `Bindings` exactly where a number is missing or a part reaches past the end.
     pub fn from_bytes(alloc: Global, octets: &[u8]) -> Result<ChannelBindings, Error>
         ensures read { IfOk result (λ read. IsTrue (is_bindings octets.now) × (read ≡ bindings octets.now)) }
         ensures inside { IsTrue (is_bindings octets.now) → IsOkUnless result (error_of Cause.Memory) }
@@ -70,7 +72,8 @@ fn word(octets: &[u8], at: usize) -> u32
 
 /// So many octets from a place on, where they are there.
 fn part(octets: &[u8], place: u32, size: u32) -> Option<&[u8]>
-    ensures { MatchOption result (is_inside octets.now place size ≡ false) (λ found. IsTrue (is_inside octets.now place size) × (found.now ≡ part octets.now place size)) }
+    ensures { MatchOption result (is_inside octets.now place size ≡ false)
+        (λ found. IsTrue (is_inside octets.now place size) × (found.now ≡ part octets.now place size)) }
 {
     let start = place as usize;
     let end = start + size as usize;

@@ -17,6 +17,7 @@ use std::marker::Model;
 pub enum BufferType {
     /// The token that is sent beside the data.
     Token,
+    /// A text that is sealed, or that the checksum covers.
     Data,
     /// A whole message, token and data together.
     Stream,
@@ -88,6 +89,7 @@ impl SecurityBufferRef {
         SecurityBufferRef::new(BufferType::Stream, octets, limit)
     }
 
+    /// The buffer with these flags in place of its own.
     pub fn with_flags(self, flags: SecurityBufferFlags) -> SecurityBufferRef
         ensures { result ≡ record self { flags = flags } }
     {
@@ -96,18 +98,21 @@ impl SecurityBufferRef {
         buffer
     }
 
+    /// What the buffer is for.
     pub fn kind(&self) -> BufferType
         ensures { result ≡ self.now.kind }
     {
         self.kind
     }
 
+    /// How the buffer is covered.
     pub fn flags(&self) -> SecurityBufferFlags
         ensures { result ≡ self.now.flags }
     {
         self.flags
     }
 
+    /// The most octets that the buffer can hold.
     pub fn limit(&self) -> usize
         ensures limit { result ≡ self.now.limit }
         ensures fits { length self.now.octets ≤ self.now.limit }
@@ -115,6 +120,7 @@ impl SecurityBufferRef {
         self.limit
     }
 
+    /// The octets that it holds.
     pub fn data(&self) -> &[u8]
         ensures { result.now ≡ self.now.octets }
     {
@@ -148,7 +154,8 @@ impl SecurityBufferRef {
                 .contains(SecurityBufferFlags::SECBUFFER_READONLY_WITH_CHECKSUM)
     }
 
-    /// Puts other octets into the buffer. They are refused as `TooSmall` exactly where they are longer than the limit, and a refusal leaves the buffer.
+    /// Puts other octets into the buffer. They are refused as `TooSmall` exactly where they are longer than the limit, and
+    /// a refusal leaves the buffer.
     pub fn write_data(&mut self, alloc: Global, octets: &[u8]) -> Result<(), Error>
         ensures ok { OnOk result ((length octets.now ≤ self.old.limit) × (self.new ≡ record self.old { octets = octets.now })) }
         ensures err { OnErr result (self.new ≡ self.old) }

@@ -4,7 +4,7 @@ ghost use Rattle.sspi_core.specs.Checks.{Holds, Passes, Takes};
 
 use crate::cause::Cause;
 
-/// Refuses where the test fails.
+/// Refuses with this cause where the test fails.
 pub fn hold(test: bool, cause: Cause) -> Result<(), Cause>
     ensures { Holds cause test result }
 {

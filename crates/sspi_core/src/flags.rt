@@ -1,6 +1,7 @@
 //! Sets of options.
 
 ghost use Rattle.std.specs.Prelude.{⊤, [], ◌∷◌, codes};
+ghost use Rattle.sspi_core.specs.Flags as bits;
 
 use bitflags::{Flag, Flags, bitflag_items};
 
@@ -22,14 +23,19 @@ bitflag_items! {
         const DELEGATE = 0x1;
         /// The target answers with a token of its own.
         const MUTUAL_AUTH = 0x2;
+        /// Messages that come twice are told (RFC 2743 section 1.2.3).
         const REPLAY_DETECT = 0x4;
+        /// Messages that come out of their order are told (RFC 2743 section 1.2.3).
         const SEQUENCE_DETECT = 0x8;
+        /// Messages are sealed.
         const CONFIDENTIALITY = 0x10;
         /// A ticket under the session key of the target's ticket, as user-to-user has it (RFC 4120 section 3.7).
         const USE_SESSION_KEY = 0x20;
         /// Tokens are bare, and the initiator has the last word.
         const USE_DCE_STYLE = 0x200;
+        /// Messages have a checksum.
         const INTEGRITY = 0x10000;
+        /// Messages need none, even with `INTEGRITY`.
         const NO_INTEGRITY = 0x800000;
     }
 
@@ -41,6 +47,7 @@ bitflag_items! {
     }
 
     impl SecurityBufferFlags: u32 {
+        /// The buffer is sealed, and the checksum covers it.
         const NONE = 0x0;
         /// The buffer is not sealed, and the checksum covers it.
         const SECBUFFER_READONLY_WITH_CHECKSUM = 0x10000000;
@@ -54,9 +61,11 @@ impl Flags for ClientRequestFlags {
 
     ghost exact = { ⊤ };
 
-    ghost table = { (codes "DELEGATE", 1) ∷ (codes "MUTUAL_AUTH", 2) ∷ (codes "REPLAY_DETECT", 4) ∷ (codes "SEQUENCE_DETECT", 8)
-        ∷ (codes "CONFIDENTIALITY", 16) ∷ (codes "USE_SESSION_KEY", 32) ∷ (codes "USE_DCE_STYLE", 512)
-        ∷ (codes "INTEGRITY", 65536) ∷ (codes "NO_INTEGRITY", 8388608) ∷ [] };
+    ghost table = { (codes "DELEGATE", bits.delegate) ∷ (codes "MUTUAL_AUTH", bits.mutual_auth)
+        ∷ (codes "REPLAY_DETECT", bits.replay_detect) ∷ (codes "SEQUENCE_DETECT", bits.sequence_detect)
+        ∷ (codes "CONFIDENTIALITY", bits.confidentiality) ∷ (codes "USE_SESSION_KEY", bits.use_session_key)
+        ∷ (codes "USE_DCE_STYLE", bits.use_dce_style) ∷ (codes "INTEGRITY", bits.integrity)
+        ∷ (codes "NO_INTEGRITY", bits.no_integrity) ∷ [] };
 
     ghost set_of = { λ flags. flags.0 };
 
@@ -78,7 +87,7 @@ impl Flags for ServerRequestFlags {
 
     ghost exact = { ⊤ };
 
-    ghost table = { (codes "USE_SESSION_KEY", 32) ∷ (codes "USE_DCE_STYLE", 512) ∷ [] };
+    ghost table = { (codes "USE_SESSION_KEY", bits.use_session_key) ∷ (codes "USE_DCE_STYLE", bits.use_dce_style) ∷ [] };
 
     ghost set_of = { λ flags. flags.0 };
 
@@ -100,7 +109,8 @@ impl Flags for SecurityBufferFlags {
 
     ghost exact = { ⊤ };
 
-    ghost table = { (codes "NONE", 0) ∷ (codes "SECBUFFER_READONLY_WITH_CHECKSUM", 268435456) ∷ (codes "SECBUFFER_READONLY", 2147483648) ∷ [] };
+    ghost table = { (codes "NONE", 0) ∷ (codes "SECBUFFER_READONLY_WITH_CHECKSUM", bits.readonly_with_checksum)
+        ∷ (codes "SECBUFFER_READONLY", bits.readonly) ∷ [] };
 
     ghost set_of = { λ flags. flags.0 };
 

@@ -5,7 +5,7 @@ ghost use Rattle.sspi_core.specs.Kinds.{kind_of_code};
 
 use crate::kind::ErrorKind;
 
-/// The kind of a KRB-ERROR with this code.
+/// The kind of a KRB-ERROR with this code; `Unknown` for a code that the table does not have.
 #[tactic(auto, unfolding(crate::specs::Kinds::kind_of_code))]
 pub fn map_keb_error_code_to_sspi_error(code: u32) -> ErrorKind
     ensures { result ≡ kind_of_code code }

@@ -37,6 +37,3 @@ pub use results::{
 };
 pub use secret::Secret;
 pub use username::{DownLevelLogonName, UserPrincipalName, Username, UsernameError, UsernameParts};
-
-#[cfg(test)]
-mod tests;

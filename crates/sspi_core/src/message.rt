@@ -43,7 +43,8 @@ fn has_readonly_alone(buffers: &[SecurityBufferRef]) -> bool
 }
 
 impl Message {
-    /// Refused as `Buffers` exactly where there are two tokens, two streams or two data buffers without flags, or a data buffer that is read-only without a checksum.
+    /// Refused as `Buffers` exactly where there are two tokens, two streams or two data buffers without flags, or a data
+    /// buffer that is read-only without a checksum.
     pub fn new(buffers: Items<SecurityBufferRef>) -> Result<Message, Error>
         ensures ok { IfOk result (λ m. (m ≡ buffers) × IsTrue (is_message buffers)) }
         ensures err { OnErr result ((result ≡ Err (error_of Cause.Buffers)) × (is_message buffers ≡ false)) }
@@ -61,6 +62,7 @@ impl Message {
         }
     }
 
+    /// The buffers, in their order.
     pub fn buffers(&self) -> &[SecurityBufferRef]
         ensures buffers { result.now ≡ self.now }
         ensures parts { IsTrue (is_message self.now) }

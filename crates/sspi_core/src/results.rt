@@ -16,7 +16,9 @@ pub enum SecurityStatus {
 /// What a security package is.
 #[derive(Debug, PartialEq, Eq, Drop)]
 pub struct PackageInfo {
+    /// What the package can do, a bit each (`SECPKG_FLAG_*` of Windows).
     pub capabilities: u32,
+    /// The identifier of the package for DCE RPC; 65535 where it has none.
     pub rpc_id: u16,
     /// The longest token of the handshake, in octets.
     pub max_token_len: u32,

@@ -6,7 +6,8 @@ use krb_der::{OutOfMemory, TryCopy};
 use std::alloc::Global;
 use std::marker::Model;
 
-/// A password or a key. It has no printed form, so that it does not stand in a log by accident. Contracts see the value itself.
+/// A password or a key. It has no printed form, so that it does not stand in a log by accident. Contracts see the value
+/// itself. Its memory is not wiped.
 #[derive(PartialEq, Eq, Drop)]
 pub struct Secret<T> {
     value: T,
@@ -21,12 +22,14 @@ impl<T> Model for Secret<T> {
 }
 
 impl<T> Secret<T> {
+    /// Keeps the value.
     pub fn new(value: T) -> Secret<T>
         ensures { result ≡ value }
     {
         Secret { value }
     }
 
+    /// The value, for the calls that need it.
     pub fn as_ref(&self) -> &T
         ensures { result.now ≡ self.now }
     {

@@ -4,7 +4,8 @@ ghost use Rattle.std.specs.Prelude.{◌≡◌, ◌↔◌, IfOk, IsTrue, MatchOpt
 ghost use Rattle.std.specs.Option.{option_copied};
 ghost use Rattle.std.specs.String.{string_bytes};
 ghost use Rattle.sspi_core.specs.Shown.{shown, ShowsWhole};
-ghost use Rattle.sspi_core.specs.Usernames.{DownLevel, UserPrincipal, has, is_user_name, is_plain, is_plain_option, user_name, parsed, at_sign, backslash, upn_text, IsCutAtFirst, IsCutAtLast};
+ghost use Rattle.sspi_core.specs.Usernames.{DownLevel, UserPrincipal, has, is_user_name, is_plain, is_plain_option, user_name, parsed};
+ghost use Rattle.sspi_core.specs.Usernames.{at_sign, backslash, upn_text, IsCutAtFirst, IsCutAtLast};
 
 use krb_der::{OutOfMemory, Text, TryCopy, has_octet};
 use std::alloc::{AllocError, Global};
@@ -113,17 +114,21 @@ impl<'a> UserPrincipalName<'a> {
 /// An account, with a NetBIOS domain or none.
 #[derive(Clone, Copy, Debug, PartialEq, Eq)]
 pub struct DownLevelLogonName<'a> {
+    /// What stands behind the first `\`, or the whole text.
     pub account_name: &'a str,
+    /// What stands before the first `\`, which may be empty.
     pub netbios_domain: Option<&'a str>,
 }
 
 impl<'a> DownLevelLogonName<'a> {
+    /// What stands behind the first `\`, or the whole text.
     pub fn account_name(&self) -> &'a str
         ensures { result.now ≡ self.now.account_name.now }
     {
         self.account_name
     }
 
+    /// What stands before the first `\`, which may be empty; None where the text has no `\`.
     pub fn netbios_domain(&self) -> Option<&'a str>
         ensures { result ≡ self.now.netbios_domain }
     {
@@ -179,7 +184,7 @@ fn joined(alloc: Global, account: &str, suffix: &str) -> Result<Text, OutOfMemor
 }
 
 impl Username {
-    /// An account with a NetBIOS domain or none. Neither part may have a `\` or an `@`.
+    /// An account with a NetBIOS domain or none. Where a part has a `\` or an `@` it is refused as `MixedFormat`.
     pub fn new(
         alloc: Global,
         account: &str,
@@ -201,7 +206,7 @@ impl Username {
         })
     }
 
-    /// A user principal name. Neither part may have a `\`, and the suffix no `@`.
+    /// A user principal name. Where a part has a `\`, or the suffix an `@`, it is refused as `MixedFormat`.
     pub fn new_upn(alloc: Global, account: &str, suffix: &str) -> Result<Username, UsernameError>
         ensures name { IfOk result (λ name. user_name (UserPrincipal account.now suffix.now) ≡ Some name) }
         ensures mixed { (result ≡ Err UsernameError.MixedFormat) ↔ (user_name (UserPrincipal account.now suffix.now) ≡ None) }
@@ -215,7 +220,8 @@ impl Username {
         })
     }
 
-    /// The name that a text is: a domain and an account round the first `\`, an account and a suffix round the last `@`, or an account alone. A text with both signs is none.
+    /// The name that a text is: a domain and an account round the first `\`, an account and a suffix round the last `@`,
+    /// or an account alone. A text with both signs is none, and refused as `MixedFormat`.
     pub fn parse(alloc: Global, value: &str) -> Result<Username, UsernameError>
         ensures name { IfOk result (λ name. parsed value.now ≡ Some name) }
         ensures mixed { (result ≡ Err UsernameError.MixedFormat) ↔ (parsed value.now ≡ None) }
