@@ -1,0 +1,5 @@
+pub mod Draws
+pub mod Faults
+pub mod Steps
+pub mod Runs
+pub mod Memory

@@ -1,0 +1,28 @@
+-- A whole run of a task: its steps, and between them the answers of a client.
+use Rattle.std.specs.Prelude.{◌≡◌, ℕ, List, [], ◌∷◌, Result}
+use Rattle.sspi_core.specs.declared.draw.Draw.{Draw}
+use Rattle.sspi_generator.specs.declared.network.NetworkRequest.{NetworkRequest}
+use Rattle.sspi_generator.specs.declared.network.NetFault.{NetFault}
+use Rattle.sspi_generator.specs.declared.task.GeneratorState.{GeneratorState}
+use Rattle.sspi_generator.specs.Faults.{HasCause}
+use Rattle.sspi_generator.specs.declared.task.GeneratorState.TheVariants.{Suspended, Completed}
+
+-- a client of which its count of faults is seen: any answer may come, and a failure only where the count rises
+abbrev pub Counts : ℕ → NetworkRequest → Result (List ℕ) NetFault → ℕ → Type 0
+Counts before request reply after = HasCause before after reply
+
+module _ {T C O : Type 0} (resumes : T → Result (List ℕ) NetFault → Draw → GeneratorState NetworkRequest O → T → Type 0) (sends : C → NetworkRequest → Result (List ℕ) NetFault → C → Type 0) where
+  -- from a step that ended here: each request is sent, and its answer is the next step's, with the next draw
+  abbrev pub Finishes : GeneratorState NetworkRequest O → T → C → List Draw → O → T → C → Type 0
+  Finishes (Completed end) task client draws out task' client' = (out ≡ end) × (task' ≡ task) × (client' ≡ client)
+  Finishes (Suspended request) task client [] out task' client' = ⊥
+  Finishes (Suspended request) task client (draw ∷ draws) out task' client' =
+      (reply : Result (List ℕ) NetFault) × (after : C) × (state : GeneratorState NetworkRequest O) × (next : T)
+      × sends client request reply after × resumes task reply draw state next × Finishes state next after draws out task' client'
+
+-- a whole run, whose first step uses the first draw
+abbrev pub Resolves : {T C O : Type 0} → (T → Draw → GeneratorState NetworkRequest O → T → Type 0) → (T → Result (List ℕ) NetFault → Draw → GeneratorState NetworkRequest O → T → Type 0)
+    → (C → NetworkRequest → Result (List ℕ) NetFault → C → Type 0) → T → C → List Draw → O → T → C → Type 0
+Resolves starts resumes sends task client [] out task' client' = ⊥
+Resolves {T} {C} {O} starts resumes sends task client (draw ∷ draws) out task' client' =
+    (state : GeneratorState NetworkRequest O) × (next : T) × starts task draw state next × Finishes resumes sends state next client draws out task' client'
