@@ -1,6 +1,8 @@
 //! The option sets of requests (RFC 4120, sections 5.4.1 and 5.5.1) and of the checksum of an initiator's first token (RFC 4121, section 4.1.1.1).
 
-ghost use Rattle.std.specs.Prelude.{⊤, [], ◌∷◌, ◌≡◌, ◌==◌, codes, bit_and, if◌then◌else◌};
+ghost use Rattle.std.specs.Prelude.{⊤, [], ◌∷◌, ◌≡◌, codes, if◌then◌else◌};
+ghost use Rattle.sspi_core.specs.Flags.{has_flag};
+ghost use Rattle.krb_options.specs.Options as bits;
 ghost use Rattle.krb_options.specs.Options.{ap_options_of, gss_flags_of};
 
 use bitflags::{Flag, Flags, bitflag_items};
@@ -91,7 +93,7 @@ impl Flags for ApOptions {
 
     ghost exact = { ⊤ };
 
-    ghost table = { (codes "USE_SESSION_KEY", 0x40000000) ∷ (codes "MUTUAL_REQUIRED", 0x20000000) ∷ [] };
+    ghost table = { (codes "USE_SESSION_KEY", bits.use_session_key) ∷ (codes "MUTUAL_REQUIRED", bits.mutual_required) ∷ [] };
 
     ghost set_of = { λ options. options.0 };
 
@@ -113,10 +115,11 @@ impl Flags for GssFlags {
 
     ghost exact = { ⊤ };
 
-    ghost table = { (codes "GSS_C_DELEG_FLAG", 0x1) ∷ (codes "GSS_C_MUTUAL_FLAG", 0x2) ∷ (codes "GSS_C_REPLAY_FLAG", 0x4)
-        ∷ (codes "GSS_C_SEQUENCE_FLAG", 0x8) ∷ (codes "GSS_C_CONF_FLAG", 0x10) ∷ (codes "GSS_C_INTEG_FLAG", 0x20)
+    ghost table = { (codes "GSS_C_DELEG_FLAG", bits.gss_deleg) ∷ (codes "GSS_C_MUTUAL_FLAG", bits.gss_mutual)
+        ∷ (codes "GSS_C_REPLAY_FLAG", bits.gss_replay) ∷ (codes "GSS_C_SEQUENCE_FLAG", bits.gss_sequence)
+        ∷ (codes "GSS_C_CONF_FLAG", bits.gss_conf) ∷ (codes "GSS_C_INTEG_FLAG", bits.gss_integ)
         ∷ (codes "GSS_C_ANON_FLAG", 0x40) ∷ (codes "GSS_C_PROT_READY_FLAG", 0x80) ∷ (codes "GSS_C_TRANS_FLAG", 0x100)
-        ∷ (codes "GSS_C_DCE_STYLE", 0x1000) ∷ (codes "GSS_C_IDENTIFY_FLAG", 0x2000) ∷ (codes "GSS_C_EXTENDED_ERROR_FLAG", 0x4000)
+        ∷ (codes "GSS_C_DCE_STYLE", bits.gss_dce_style) ∷ (codes "GSS_C_IDENTIFY_FLAG", 0x2000) ∷ (codes "GSS_C_EXTENDED_ERROR_FLAG", 0x4000)
         ∷ (codes "GSS_C_DELEG_POLICY_FLAG", 0x8000) ∷ [] };
 
     ghost set_of = { λ flags. flags.0 };
@@ -136,7 +139,7 @@ impl Flags for GssFlags {
 
 /// The option, where the flag is set.
 fn option_if(flags: ClientRequestFlags, flag: ClientRequestFlags, option: u32) -> u32
-    ensures { result ≡ (if bit_and flags.0 flag.0 == flag.0 then option else 0) }
+    ensures { result ≡ (if has_flag flags.0 flag.0 then option else 0) }
 {
     if flags.contains(flag) { option } else { 0 }
 }
