@@ -37,6 +37,3 @@ pub use queries::package_info;
 pub use server::ServerProperties;
 pub use state::KerberosState;
 pub use window::{NumberVerdict, NumberWindow};
-
-#[cfg(test)]
-mod tests;

@@ -26,6 +26,3 @@ pub use host_address::{HostAddress, HostAddresses};
 pub use oid::Oid;
 pub use principal_name::PrincipalName;
 pub use ticket::Ticket;
-
-#[cfg(test)]
-mod tests;

@@ -29,8 +29,3 @@ pub use book::ReplayBook;
 pub use cache::{AuthenticatorCacheRecord, AuthenticatorsCache, CacheGate};
 pub use gate::ReplayGate;
 pub use record::Record;
-
-#[cfg(test)]
-mod list_book;
-#[cfg(test)]
-mod tests;

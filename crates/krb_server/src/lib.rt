@@ -30,6 +30,3 @@ pub use sspi_core::{
     SecurityBufferRef, ServerRequestFlags, Username, UsernameParts,
 };
 pub use token::MAX_TOKEN;
-
-#[cfg(test)]
-mod tests;

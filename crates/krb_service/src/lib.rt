@@ -32,6 +32,3 @@ pub use krb_text::{
 };
 pub use reply::Reply;
 pub use service::{Service, Stopped};
-
-#[cfg(test)]
-mod tests;

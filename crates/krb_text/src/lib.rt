@@ -35,6 +35,3 @@ pub use script::Script;
 pub use status::Status;
 pub use stop::Stop;
 pub use words::Words;
-
-#[cfg(test)]
-mod tests;

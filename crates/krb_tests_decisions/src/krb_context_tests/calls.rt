@@ -1,0 +1,151 @@
+//! Calls that change a context, that no context has, and that tell of the package.
+
+use super::cause_of;
+use super::queries::{new_client, password_identity};
+use krb_conf::{Env, KerberosConfig};
+use krb_context::{
+    ContextChange, EncryptionParams, GssFlags, Kerberos, KerberosState, package_info,
+};
+use krb_der::{Items, Text};
+use sspi_core::{Cause, ClientRequestFlags, CredentialUse, Credentials, CredentialsBuffers};
+use std::alloc::Global;
+use std::test::Fail;
+
+/// A call that is refused.
+#[derive(Clone, Copy)]
+enum Call {
+    MakeSignature,
+    VerifySignature,
+    TellTrust,
+    SpeakForNobody,
+}
+
+static REFUSED: [(Call, Cause); 4] = [
+    (Call::MakeSignature, Cause::Unsupported),
+    (Call::VerifySignature, Cause::Unsupported),
+    (Call::TellTrust, Cause::Unsupported),
+    (Call::SpeakForNobody, Cause::NoIdentity),
+];
+
+fn refused() -> &'static [(Call, Cause)] {
+    &REFUSED
+}
+
+fn refusal(alloc: Global, context: &mut Kerberos, call: Call) -> Option<Cause> {
+    match call {
+        Call::MakeSignature => cause_of(context.make_signature()),
+        Call::VerifySignature => cause_of(context.verify_signature()),
+        Call::TellTrust => cause_of(context.query_context_cert_trust_status()),
+        Call::SpeakForNobody => cause_of(context.acquire_credentials_handle(
+            alloc,
+            CredentialUse::Outbound,
+            None,
+        )),
+    }
+}
+
+#[test]
+fn calls_are_refused(rt: HostRuntime) -> Result<(), Fail> {
+    let mut client = new_client(rt.alloc())?;
+    for &(call, cause) in refused() {
+        assert_eq!(rt; refusal(rt.alloc(), &mut client, call), Some(cause));
+    }
+    Ok(())
+}
+
+/// Whether it gives back these buffers, and keeps them.
+fn takes(
+    alloc: Global,
+    client: &mut Kerberos,
+    credentials: &Credentials,
+    wanted: &Option<CredentialsBuffers>,
+) -> Result<bool, Fail> {
+    let given = client.acquire_credentials_handle(
+        alloc,
+        CredentialUse::Outbound,
+        Some(credentials),
+    )?;
+    Ok(given == *wanted && client.auth_identity == *wanted)
+}
+
+fn takes_credentials(alloc: Global, client: &mut Kerberos) -> Result<bool, Fail> {
+    let credentials = password_identity(alloc)?;
+    let wanted = Some(CredentialsBuffers::from_credentials(alloc, &credentials)?);
+    takes(alloc, client, &credentials, &wanted)
+}
+
+/// What an exchange makes of a context.
+fn change(alloc: Global) -> Result<ContextChange, Fail> {
+    Ok(ContextChange {
+        state: KerberosState::Final,
+        realm: Some(Text::new(String::from_str(alloc, "EXAMPLE.COM")?)),
+        encryption_params: EncryptionParams::default_for_client(),
+        seq_number: 7,
+        krb5_user_to_user: false,
+        ticket_decryption_key: None,
+    })
+}
+
+/// Whether the next number is the one after the exchange's, and nothing is left to complete.
+fn counts_on(alloc: Global, client: &mut Kerberos) -> Result<bool, Fail> {
+    client.settle(change(alloc)?);
+    Ok(
+        client.next_seq_number() == 8
+            && client.complete_auth_token().is_ok()
+            && client.query_context_package_info(alloc).is_ok(),
+    )
+}
+
+#[test]
+fn a_client_speaks_for_its_credentials_and_counts_on(rt: HostRuntime) -> Result<(), Fail> {
+    let mut client = new_client(rt.alloc())?;
+    assert!(rt; takes_credentials(rt.alloc(), &mut client)?);
+    assert!(rt; counts_on(rt.alloc(), &mut client)?);
+    Ok(())
+}
+
+/// Whether it tells its realm, and this KDC of it.
+fn tells_kdc(alloc: Global, client: &Kerberos, env: &Env, kdc_url: &str) -> Result<bool, Fail> {
+    match client.get_kdc(alloc, env)? {
+        Some((realm, url)) => Ok(realm.as_str() == "EXAMPLE.COM" && url.as_str() == kdc_url),
+        None => Ok(false),
+    }
+}
+
+/// A client of EXAMPLE.COM.
+fn client_with_kdc(alloc: Global, kdc_url: &str) -> Result<Kerberos, Fail> {
+    let name = Text::new(String::from_str(alloc, "hostname")?);
+    let config = KerberosConfig::new(alloc, kdc_url, name)?;
+    let mut client = Kerberos::new_client_from_config(config, [0; 4]);
+    client.realm = Some(Text::new(String::from_str(alloc, "EXAMPLE.COM")?));
+    Ok(client)
+}
+
+fn has_kdc(alloc: Global, kdc_url: &str) -> Result<bool, Fail> {
+    let env = Env {
+        vars: Items::new(Vec::new(alloc)),
+        files: Items::new(Vec::new(alloc)),
+    };
+    let client = client_with_kdc(alloc, kdc_url)?;
+    tells_kdc(alloc, &client, &env, kdc_url)
+}
+
+#[test]
+fn a_client_knows_its_kdc(rt: HostRuntime) -> Result<(), Fail> {
+    assert!(rt; has_kdc(rt.alloc(), "tcp://kdc.example.com:88")?);
+    Ok(())
+}
+
+#[test]
+fn the_package_is_kerberos(rt: HostRuntime) -> Result<(), Fail> {
+    let info = package_info(rt.alloc())?;
+    assert_eq!(rt; info.name.as_str(), "Kerberos");
+    assert_eq!(rt; info.comment.as_str(), "Kerberos Security Package");
+    let flags = GssFlags::from_client_flags(ClientRequestFlags::MUTUAL_AUTH);
+    assert_eq!(rt; flags, GssFlags::GSS_C_MUTUAL_FLAG);
+    assert_eq!(rt;
+        EncryptionParams::default_for_client().sspi_encrypt_key_usage,
+        24
+    );
+    Ok(())
+}

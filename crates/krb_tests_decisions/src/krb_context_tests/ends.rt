@@ -1,0 +1,89 @@
+//! Ends of established connections.
+
+use krb_conf::KerberosConfig;
+use krb_context::{Kerberos, KerberosState, ServerProperties};
+use krb_crypto::CipherSuite;
+use krb_der::{Octets, Text};
+use sspi_core::Secret;
+use std::alloc::Global;
+use std::test::Fail;
+
+/// One end: its side, its suite and its key in hex, its filler, and the number before that of its next message.
+#[derive(Clone, Copy)]
+pub struct End {
+    pub acceptor: bool,
+    pub suite: CipherSuite,
+    pub key: &'static str,
+    pub ec: u16,
+    pub number: u32,
+}
+
+/// An initiator with a key of 32 octets.
+pub const INITIATOR: End = End {
+    acceptor: false,
+    suite: CipherSuite::Aes256CtsHmacSha196,
+    key: "202122232425262728292a2b2c2d2e2f303132333435363738393a3b3c3d3e3f",
+    ec: 0,
+    number: 1234,
+};
+
+/// Its acceptor.
+pub const ACCEPTOR: End = End {
+    acceptor: true,
+    number: 0,
+    ..INITIATOR
+};
+
+/// An acceptor with a key of 16 octets and a filler.
+pub const SHORT_ACCEPTOR: End = End {
+    acceptor: true,
+    suite: CipherSuite::Aes128CtsHmacSha196,
+    key: "101112131415161718191a1b1c1d1e1f",
+    ec: 16,
+    number: 0,
+};
+
+pub fn octets(alloc: Global, text: &str) -> Result<Octets, Fail> {
+    Ok(Octets::new(hex::decode(alloc, text)?))
+}
+
+pub fn config(alloc: Global) -> Result<KerberosConfig, Fail> {
+    Ok(KerberosConfig {
+        kdc_url: None,
+        client_computer_name: Text::new(String::from_str(alloc, "hostname")?),
+    })
+}
+
+pub fn properties(alloc: Global) -> Result<ServerProperties, Fail> {
+    Ok(ServerProperties::new(alloc, &["host", "server.example.com"], None, 300, None)?)
+}
+
+fn new_acceptor(alloc: Global, random: [u8; 4]) -> Result<Kerberos, Fail> {
+    let properties = properties(alloc)?;
+    Ok(Kerberos::new_server_from_config(config(alloc)?, properties, random)?)
+}
+
+fn new_initiator(alloc: Global, random: [u8; 4]) -> Result<Kerberos, Fail> {
+    Ok(Kerberos::new_client_from_config(config(alloc)?, random))
+}
+
+/// The context once the exchange is over.
+fn established(context: Kerberos, end: &End, key: Octets) -> Kerberos {
+    let mut context = context;
+    context.state = KerberosState::Final;
+    context.encryption_params.encryption_type = Some(end.suite);
+    context.encryption_params.sub_session_key = Some(Secret::new(key));
+    context.encryption_params.ec = end.ec;
+    context
+}
+
+pub fn context_of(alloc: Global, end: &End) -> Result<Kerberos, Fail> {
+    let key = octets(alloc, end.key)?;
+    let random = end.number.to_be_bytes();
+    let context = if end.acceptor {
+        new_acceptor(alloc, random)?
+    } else {
+        new_initiator(alloc, random)?
+    };
+    Ok(established(context, end, key))
+}

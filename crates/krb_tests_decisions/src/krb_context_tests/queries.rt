@@ -1,0 +1,228 @@
+//! What contexts tell of themselves.
+
+use super::ends::{INITIATOR, SHORT_ACCEPTOR, config, context_of, octets, properties};
+use krb_context::{Kerberos, KerberosServerConfig, ProtocolConfig};
+use krb_crypto::{AesSize, CipherSuite};
+use krb_der::{Text, TryCopy};
+use sspi_core::{AuthIdentity, Cause, Credentials, Secret, Username};
+use std::alloc::Global;
+use std::test::Fail;
+
+/// A context that is asked.
+#[derive(Clone, Copy)]
+enum Asked {
+    NewClient,
+    NewServer,
+    /// A client that speaks for user@example.com.
+    Speaking,
+    Initiator,
+    /// An acceptor with a key of 16 octets and a filler.
+    Acceptor,
+    /// The same once it has admitted alice@example.com.
+    Admitting,
+}
+
+/// A context and what it tells: whether it is an initiator, whether its exchange awaits an AP-REQ and whether it is over, its
+/// suite and the size of its keys, its four sizes in the order in which they are declared, its key in hex, and its user.
+struct Told {
+    asked: Asked,
+    is_client: bool,
+    is_waiting: bool,
+    is_final: bool,
+    suite: CipherSuite,
+    size: Option<AesSize>,
+    sizes: Result<[u32; 4], Cause>,
+    key: Result<&'static str, Cause>,
+    name: Result<&'static str, Cause>,
+}
+
+/// Before its exchange.
+const NEW: Told = Told {
+    asked: Asked::NewClient,
+    is_client: true,
+    is_waiting: true,
+    is_final: false,
+    suite: CipherSuite::Aes256CtsHmacSha196,
+    size: None,
+    sizes: Err(Cause::Sequence),
+    key: Err(Cause::Sequence),
+    name: Err(Cause::NoIdentity),
+};
+
+/// Behind it.
+const OVER: Told = Told {
+    asked: Asked::Acceptor,
+    is_client: false,
+    is_waiting: false,
+    is_final: true,
+    suite: CipherSuite::Aes128CtsHmacSha196,
+    size: Some(AesSize::Aes128),
+    sizes: Ok([48000, 16, 0, 76]),
+    key: Ok("101112131415161718191a1b1c1d1e1f"),
+    name: Err(Cause::NoIdentity),
+};
+
+static TOLD: [Told; 6] = [
+    NEW,
+    Told {
+        asked: Asked::NewServer,
+        is_client: false,
+        ..NEW
+    },
+    Told {
+        asked: Asked::Speaking,
+        name: Ok("user@example.com"),
+        ..NEW
+    },
+    Told {
+        asked: Asked::Initiator,
+        is_client: true,
+        suite: CipherSuite::Aes256CtsHmacSha196,
+        size: Some(AesSize::Aes256),
+        sizes: Ok([48000, 16, 0, 60]),
+        key: Ok("202122232425262728292a2b2c2d2e2f303132333435363738393a3b3c3d3e3f"),
+        ..OVER
+    },
+    OVER,
+    Told {
+        asked: Asked::Admitting,
+        name: Ok("alice@example.com"),
+        ..OVER
+    },
+];
+
+fn contexts() -> &'static [Told] {
+    &TOLD
+}
+
+pub fn new_client(alloc: Global) -> Result<Kerberos, Fail> {
+    let config = ProtocolConfig::Client(config(alloc)?);
+    Ok(config.new_instance(alloc, [0, 0, 0, 1])?)
+}
+
+fn server_config(alloc: Global) -> Result<KerberosServerConfig, Fail> {
+    let kerberos_config = config(alloc)?;
+    Ok(KerberosServerConfig {
+        kerberos_config,
+        server_properties: properties(alloc)?,
+    })
+}
+
+/// The acceptor that a copy of its configuration makes.
+fn new_server(alloc: Global) -> Result<Kerberos, Fail> {
+    let config = server_config(alloc)?;
+    let copied = ProtocolConfig::Server(config.copy(alloc)?);
+    Ok(copied.new_instance(alloc, [0, 0, 0, 0])?)
+}
+
+/// user@example.com and its password.
+pub fn password_identity(alloc: Global) -> Result<Credentials, Fail> {
+    let password = Text::new(String::from_str(alloc, "secret")?);
+    let username = Username::parse(alloc, "user@example.com")?;
+    Ok(Credentials::AuthIdentity(AuthIdentity {
+        username,
+        password: Secret::new(password),
+    }))
+}
+
+fn speak(alloc: Global, client: &mut Kerberos) -> Result<(), Fail> {
+    let identity = password_identity(alloc)?;
+    client.custom_set_auth_identity(alloc, &identity)?;
+    Ok(())
+}
+
+fn admit(alloc: Global, acceptor: &mut Kerberos) -> Result<(), Fail> {
+    let client = Username::parse(alloc, "alice@example.com")?;
+    if let Some(server) = &mut acceptor.server {
+        server.client = Some(client);
+    }
+    Ok(())
+}
+
+fn context(alloc: Global, which: Asked) -> Result<Kerberos, Fail> {
+    match which {
+        Asked::NewClient | Asked::Speaking => new_client(alloc),
+        Asked::NewServer => new_server(alloc),
+        Asked::Initiator => context_of(alloc, &INITIATOR),
+        Asked::Acceptor | Asked::Admitting => context_of(alloc, &SHORT_ACCEPTOR),
+    }
+}
+
+/// Lets a client speak, or an acceptor admit.
+fn begin(alloc: Global, context: &mut Kerberos, which: Asked) -> Result<(), Fail> {
+    match which {
+        Asked::Speaking => speak(alloc, context),
+        Asked::Admitting => admit(alloc, context),
+        _ => Ok(()),
+    }
+}
+
+fn sizes(context: &Kerberos) -> Result<[u32; 4], Cause> {
+    match context.query_context_sizes() {
+        Ok(sizes) => Ok([
+            sizes.max_token,
+            sizes.max_signature,
+            sizes.block,
+            sizes.security_trailer,
+        ]),
+        Err(error) => Err(error.cause),
+    }
+}
+
+fn tells_state(context: &Kerberos, row: &Told) -> bool {
+    context.is_client() == row.is_client
+        && context.state.is_waiting() == row.is_waiting
+        && context.state.is_final() == row.is_final
+        && context.config().client_computer_name.as_str() == "hostname"
+        && context.encryption_params.suite() == row.suite
+        && context.encryption_params.aes_size() == row.size
+        && sizes(context) == row.sizes
+}
+
+fn tells_key(alloc: Global, context: &Kerberos, wanted: Result<&str, Cause>) -> Result<bool, Fail> {
+    match (context.query_context_session_key(alloc), wanted) {
+        (Ok(keys), Ok(wanted)) => Ok(*keys.session_key.as_ref() == octets(alloc, wanted)?),
+        (Err(error), Err(cause)) => Ok(error.cause == cause),
+        _ => Ok(false),
+    }
+}
+
+fn tells_name(
+    alloc: Global,
+    context: &Kerberos,
+    wanted: Result<&str, Cause>,
+) -> Result<bool, Fail> {
+    match (context.query_context_names(alloc), wanted) {
+        (Ok(names), Ok(wanted)) => Ok(names.username == Username::parse(alloc, wanted)?),
+        (Err(error), Err(cause)) => Ok(error.cause == cause),
+        _ => Ok(false),
+    }
+}
+
+fn tells(alloc: Global, context: &Kerberos, row: &Told) -> Result<bool, Fail> {
+    Ok(
+        tells_state(context, row)
+            && tells_key(alloc, context, row.key)?
+            && tells_name(alloc, context, row.name)?,
+    )
+}
+
+fn copy_tells(alloc: Global, context: &Kerberos, row: &Told) -> Result<bool, Fail> {
+    let copied = context.copy(alloc)?;
+    tells(alloc, &copied, row)
+}
+
+/// Whether the row's context tells what the row says, and a copy of it does.
+fn is_told(alloc: Global, row: &Told) -> Result<bool, Fail> {
+    let mut context = context(alloc, row.asked)?;
+    begin(alloc, &mut context, row.asked)?;
+    Ok(tells(alloc, &context, row)? && copy_tells(alloc, &context, row)?)
+}
+
+#[test]
+fn contexts_tell_of_themselves(rt: HostRuntime) -> Result<(), Fail> {
+    for row in contexts() {
+        assert!(rt; is_told(rt.alloc(), row)?);
+    }
+    Ok(())
+}

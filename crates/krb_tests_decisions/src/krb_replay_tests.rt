@@ -1,0 +1,217 @@
+//! Lists of asks, with the answers worked out by hand.
+
+mod table;
+
+use krb_der::{IntegerAsn1, Items, Name, Octets, OutOfMemory, Time, TryCopy};
+use krb_messages::PrincipalName;
+use krb_replay::Verdict::{self, Admitted, Expired, NotYet, Replayed, Skew};
+use krb_replay::{Ask, CacheGate, Record, ReplayBook, ReplayGate};
+use std::alloc::Global;
+use std::process::Abort;
+use std::test::Fail;
+
+/// 2023-11-14T22:13:20Z, in seconds.
+const T0: i64 = 1_700_000_000;
+
+/// The same in microseconds.
+const M0: u64 = 1_700_000_000_000_000;
+
+/// A time after each other one.
+const FAR: i64 = i64::MAX;
+
+/// The last moment that the acceptor takes, in microseconds: the end of 9999-12-28.
+const LAST: u64 = 253_402_041_599_999_999;
+
+/// A time of these seconds, or the nearest one that there is.
+fn time(seconds: i64) -> Time {
+    Time::new(seconds.clamp(-62_167_219_200, 253_402_300_799))
+}
+
+/// A name without components, of this type.
+fn principal(alloc: Global, name_type: u8) -> Result<PrincipalName, OutOfMemory> {
+    Ok(PrincipalName {
+        name_type: IntegerAsn1::from_bytes_be(Vec::from_slice(alloc, &[name_type])?),
+        name_string: Items::new(Vec::new(alloc)),
+    })
+}
+
+/// The ask of a ticket that lives from `start` to `end`, all in seconds but the moment.
+fn ask(alloc: Global, ctime: i64, start: i64, end: i64, moment: u64) -> Result<Ask, Fail> {
+    let realm = Name::new(Vec::from_slice(alloc, b"EXAMPLE.COM")?).ok_or("not ASCII")?;
+    Ok(Ask {
+        entry: Record {
+            ctime: time(ctime),
+            cusec: Octets::new(Vec::from_slice(alloc, &[0])?),
+            realm,
+            name: principal(alloc, 1)?,
+        },
+        sname: principal(alloc, 2)?,
+        start: time(start),
+        end: time(end),
+        moment,
+    })
+}
+
+/// The verdict of any gate.
+fn verdict_of<G: ReplayGate>(gate: &mut G, ask: Ask) -> Result<Verdict, Fail> {
+    Ok(gate.admit(ask)?)
+}
+
+/// The verdict of a new book.
+fn first_of_a_book(alloc: Global, skew: u32, ask: Ask) -> Result<Verdict, Fail> {
+    let mut book = ReplayBook::new(alloc, skew)?;
+    verdict_of(&mut book, ask)
+}
+
+/// The verdict of a new cache.
+fn first_of_a_cache(alloc: Global, skew: u32, ask: Ask) -> Result<Verdict, Fail> {
+    let mut cache = CacheGate::new(alloc, skew);
+    verdict_of(&mut cache, ask)
+}
+
+/// The verdicts of a new book and a new cache.
+fn first_verdicts(alloc: Global, skew: u32, ask: Ask) -> Result<[Verdict; 2], Fail> {
+    let by_the_book = first_of_a_book(alloc, skew, ask.copy(alloc)?)?;
+    Ok([by_the_book, first_of_a_cache(alloc, skew, ask)?])
+}
+
+/// A skew, an authenticator's time, a ticket's start and end, all in seconds, a moment in microseconds, and the verdict.
+type Judged = (u32, i64, i64, i64, u64, Verdict);
+
+static JUDGED: [Judged; 21] = [
+    (300, T0, T0, FAR, M0 + 300_000_000, Admitted),
+    (300, T0, T0, FAR, M0 + 300_000_001, Skew),
+    (300, T0 + 300, T0, FAR, M0, Admitted),
+    (300, T0 + 301, T0, FAR, M0 + 999_999, Skew),
+    (300, T0, T0 + 300, FAR, M0, Admitted),
+    (300, T0, T0 + 301, FAR, M0, NotYet),
+    (300, T0, 0, T0 - 300, M0, Admitted),
+    (300, T0, 0, T0 - 301, M0, Expired),
+    (300, T0, T0 + 301, T0 - 301, M0, NotYet),
+    (300, T0 + 301, T0 + 301, T0 - 301, M0, Skew),
+    (0, 0, 0, 0, 0, Admitted),
+    (0, 0, 0, 0, 1, Skew),
+    (0, 1, 0, 0, 0, Skew),
+    (0, 0, 1, 1, 0, NotYet),
+    (0, 0, -1, -1, 0, Expired),
+    (86_400, -86_400, 0, 0, 0, Admitted),
+    (86_400, -86_401, 0, 0, 0, Skew),
+    (0, 253_402_041_599, 0, FAR, LAST, Skew),
+    (1, 253_402_041_599, 0, FAR, LAST, Admitted),
+    (86_400, 253_402_127_999, 0, FAR, LAST, Admitted),
+    (86_400, 253_402_128_000, 0, FAR, LAST, Skew),
+];
+
+fn judged() -> &'static [Judged] {
+    &JUDGED
+}
+
+#[test]
+fn every_gate_judges_by_the_clock(rt: HostRuntime) -> Result<(), Fail> {
+    for &(skew, ctime, start, end, moment, verdict) in judged() {
+        let ask = ask(rt.alloc(), ctime, start, end, moment)?;
+        let verdicts = first_verdicts(rt.alloc(), skew, ask)?;
+        assert_eq!(rt; verdicts, [verdict; 2], "{ctime} {start} {end} {moment}");
+    }
+    Ok(())
+}
+
+/// An ask by the type of the service's name in the clear part of the ticket.
+fn ask_for(alloc: Global, name_type: u8) -> Result<Ask, Fail> {
+    let mut ask = ask(alloc, T0, T0, T0 + 36_000, M0)?;
+    ask.sname = principal(alloc, name_type)?;
+    Ok(ask)
+}
+
+#[test]
+fn a_changed_service_name_deceives_the_cache_alone(rt: HostRuntime) -> Result<(), Fail> {
+    let alloc = rt.alloc();
+    let mut book = ReplayBook::new(alloc, 300)?;
+    let mut cache = CacheGate::new(alloc, 300);
+    for (name_type, by_the_book, by_the_cache) in [
+        (2, Admitted, Admitted),
+        (2, Replayed, Replayed),
+        (1, Replayed, Admitted),
+    ] {
+        let ask = ask_for(alloc, name_type)?;
+        assert_eq!(rt; book.admit(ask.copy(alloc)?)?, by_the_book);
+        assert_eq!(rt; cache.admit(ask)?, by_the_cache);
+    }
+    assert_eq!(rt; (book.kept(), cache.cache.len()), (1, 2));
+    assert_eq!(rt; (book.moment(), cache.last_moment()), (M0, M0));
+    Ok(())
+}
+
+/// Seconds after T0, which are the authenticator's time and the moment, the verdict, and how many records are then in the
+/// window.
+type Told = (u16, u16, Verdict, u64);
+
+/// Puts such an ask to the book.
+fn told(
+    alloc: Global,
+    book: &mut ReplayBook,
+    ctime: u16,
+    moment: u16,
+) -> Result<(Verdict, u64), Fail> {
+    let moment = M0 + u64::from(moment) * 1_000_000;
+    let ask = ask(alloc, T0 + i64::from(ctime), T0, T0 + 36_000, moment)?;
+    let verdict = book.admit(ask)?;
+    Ok((verdict, book.kept()))
+}
+
+/// Puts a list of asks to a new book that has room for three records.
+fn follow(rt: &(impl AllocGlobal + Abort), list: &[Told]) -> Result<(), Fail> {
+    let mut book = ReplayBook::new(rt.alloc(), 300)?;
+    book.reserve(3)?;
+    for &(ctime, moment, verdict, kept) in list {
+        let answer = told(rt.alloc(), &mut book, ctime, moment)?;
+        assert_eq!(rt; answer, (verdict, kept));
+    }
+    Ok(())
+}
+
+#[test]
+fn the_greatest_moment_decides(rt: HostRuntime) -> Result<(), Fail> {
+    let falls_back = [
+        (0, 0, Admitted, 1),
+        (200, 200, Admitted, 2),
+        (301, 301, Admitted, 2),
+        (0, 0, Skew, 2),
+        (200, 0, Replayed, 2),
+    ];
+    follow(&rt, &falls_back)?;
+    // Two equal asks and a later one, in each order.
+    let (first, again, early) = ((0, 0, Admitted, 1), (0, 0, Replayed, 1), (0, 0, Skew, 1));
+    let later = (3_600, 3_600, Admitted, 1);
+    follow(&rt, &[first, later, early])?;
+    follow(&rt, &[first, again, later])?;
+    follow(&rt, &[later, early, early])
+}
+
+#[test]
+fn records_go_by_their_parts(rt: HostRuntime) -> Result<(), Fail> {
+    let alloc = rt.alloc();
+    let first = ask(alloc, T0, T0, T0, 0)?.entry;
+    let mut later = first.copy(alloc)?;
+    assert!(rt; first == later);
+    later.ctime = time(T0 + 1);
+    let mut other = first.copy(alloc)?;
+    other.cusec = Octets::new(Vec::from_slice(alloc, &[1])?);
+    assert!(rt; first < later && first != other && first < other && other < later);
+    Ok(())
+}
+
+#[test]
+fn verdicts_are_written_by_name(rt: HostRuntime) -> Result<(), Fail> {
+    for (verdict, word) in [
+        (Admitted, "Admitted"),
+        (Skew, "Skew"),
+        (NotYet, "NotYet"),
+        (Expired, "Expired"),
+        (Replayed, "Replayed"),
+    ] {
+        let written = format!(in rt.alloc(); "{verdict}")?;
+        assert_eq!(rt; written.as_str(), word);
+    }
+    Ok(())
+}
