@@ -1,5 +1,5 @@
 -- The order of records, and lists in that order.
-use Rattle.std.proofs.Common.{◌≡◌, ℕ, zero, suc, ◌+◌, ◌-◌, ◌<◌, ℤ, Bool, true, false, ◌&&◌, ◌||◌, cond, List, [], ◌∷◌, length, drop, get_or, Ok, Err, Result, Ordering, Less, Equal, Greater, is_eq, refl, sym, ap, ◌∙◌, subst, arith, inl, inr}
+use Rattle.std.proofs.Common.{◌≡◌, ℕ, zero, suc, ◌+◌, ◌-◌, ◌<◌, ℤ, Bool, true, false, ◌&&◌, ◌||◌, cond, List, [], ◌∷◌, length, get_or, Ok, Err, Result, Ordering, Less, Equal, Greater, is_eq, refl, sym, ap, ◌∙◌, subst, arith, inl, inr}
 use Rattle.std.proofs.lemmas.Bool.{cases_lt, false≢true}
 use Rattle.std.proofs.lemmas.Int.{ints}
 use Rattle.std.proofs.lemmas.List.{get_or_default}
@@ -209,13 +209,6 @@ at_end xs r last a e h = record {
     up k d high =
         subst (λ (y : Record). is_gt (record_cmp (get_or xs k d) y) ≡ false) (get_or_default xs (length xs - 1) d last (omega arith) ∙ sym e)
         (sym (turned (get_or xs k d) (get_or xs (length xs - 1) d)) ∙ sorted_far _ (ranks_by record_total (λ (x : Record). x)) xs (λ i c low h. adjacent xs (i + 1) i c refl h a) k (length xs - 1) d (omega arith) (omega arith))
-
-pub at_front : (r : Record) → IsPlace [] r 0
-at_front r = record { within = omega arith; less = λ k d low high. absurd (omega arith); greater = λ k d low high. absurd (omega arith) }
-
-pub Ascends-rest : (xs : List Record) → Ascends xs → Ascends (drop 1 xs)
-Ascends-rest [] a = tt
-Ascends-rest (x ∷ xs) a = a.1
 
 less_is : (r : Ordering) → is_lt r ≡ true → r ≡ Less
 less_is Less e = refl

@@ -12,6 +12,15 @@ use Rattle.krb_replay.specs.Book.{Book, Follows, StandsFor, NeedsRoom}
 use Rattle.krb_replay.specs.Runs.{verdicts_of, history_past, IsNeverAbove, admitted_of}
 use Rattle.krb_replay.proofs.Window.{admitted_open, IsDistinct-push}
 
+-- ---- any gate
+
+module _ {G : Type 0} (admits : G → Ask → Verdict → G → Type 0) (skew : G → ℕ) (keeps : (old new : G) (ask : Ask) (verdict : Verdict) → admits old ask verdict new → skew new ≡ skew old) where
+  pub run_keeps : (old new : G) (asks : List Ask) (verdicts : List Verdict) → Run admits old asks verdicts new → skew new ≡ skew old
+  run_keeps old new [] [] e = ap skew e
+  run_keeps old new (ask ∷ asks) (verdict ∷ verdicts) run = run_keeps run.0 new asks verdicts run.2 ∙ keeps old run.0 ask verdict run.1
+  run_keeps old new [] (verdict ∷ verdicts) e = elim e [ ]
+  run_keeps old new (ask ∷ asks) [] e = elim e [ ]
+
 -- ---- the pruned book
 
 pub record FollowsAll (old : Book) (asks : List Ask) (verdicts : List Verdict) (new : Book) (h : History) : Type 0 where

@@ -6,8 +6,9 @@ use Rattle.std.specs.Cmp.Lexicographic.{pointwise, pointwise_decides}
 use Rattle.std.specs.Ordering.{int_eq}
 use Rattle.krb_messages.specs.declared.principal_name.PrincipalName.{PrincipalName}
 use Rattle.krb_replay.specs.declared.record.Record.{Record}
+use Rattle.krb_replay.specs.declared.ask.Ask.{Ask}
 use Rattle.krb_replay.specs.declared.cache.AuthenticatorCacheRecord.{AuthenticatorCacheRecord}
-use Rattle.krb_replay.specs.Records.{principal_eq, record_eq}
+use Rattle.krb_replay.specs.Records.{principal_eq, record_eq, ask_eq}
 use Rattle.krb_replay.specs.Cache.{cache_eq}
 
 texts : (xs ys : List ℕ) → Decides (pointwise nat_eq xs ys) (xs ≡ ys)
@@ -48,6 +49,24 @@ records a b = (
       let r = parts (pointwise nat_eq a.realm b.realm) (principal_eq a.name b.name) q.1 in
       one_record a b ((signed_Decides a.ctime b.ctime).0 p.0) ((texts a.cusec b.cusec).0 q.0) ((texts a.realm b.realm).0 r.0) ((principals a.name b.name).0 r.1),
   λ e. subst (λ (x : Record). record_eq a x ≡ true) e (rw ((signed_Decides a.ctime a.ctime).1 refl, (texts a.cusec a.cusec).1 refl, (texts a.realm a.realm).1 refl, own_principal a.name)),
+)
+
+one_ask : (a b : Ask) → a.entry ≡ b.entry → a.sname ≡ b.sname → a.start ≡ b.start → a.end ≡ b.end → a.moment ≡ b.moment → a ≡ b
+one_ask a b e f g h i =
+    ap (λ (r : Record). let x : Ask = record { entry = r; sname = a.sname; start = a.start; end = a.end; moment = a.moment } in x) e
+    ∙ ap (λ (n : PrincipalName). let x : Ask = record { entry = b.entry; sname = n; start = a.start; end = a.end; moment = a.moment } in x) f
+    ∙ ap (λ (t : ℤ). let x : Ask = record { entry = b.entry; sname = b.sname; start = t; end = a.end; moment = a.moment } in x) g
+    ∙ ap (λ (t : ℤ). let x : Ask = record { entry = b.entry; sname = b.sname; start = b.start; end = t; moment = a.moment } in x) h
+    ∙ ap (λ (m : ℕ). let x : Ask = record { entry = b.entry; sname = b.sname; start = b.start; end = b.end; moment = m } in x) i
+
+pub asks : (a b : Ask) → Decides (ask_eq a b) (a ≡ b)
+asks a b = (
+  λ h. let p = parts (record_eq a.entry b.entry) (principal_eq a.sname b.sname && (int_eq a.start b.start && (int_eq a.end b.end && nat_eq a.moment b.moment))) h in
+      let q = parts (principal_eq a.sname b.sname) (int_eq a.start b.start && (int_eq a.end b.end && nat_eq a.moment b.moment)) p.1 in
+      let r = parts (int_eq a.start b.start) (int_eq a.end b.end && nat_eq a.moment b.moment) q.1 in
+      let s = parts (int_eq a.end b.end) (nat_eq a.moment b.moment) r.1 in
+      one_ask a b ((records a.entry b.entry).0 p.0) ((principals a.sname b.sname).0 q.0) ((signed_Decides a.start b.start).0 r.0) ((signed_Decides a.end b.end).0 s.0) ((unsigned_Decides a.moment b.moment).0 s.1),
+  λ e. subst (λ (x : Ask). ask_eq a x ≡ true) e (rw ((records a.entry a.entry).1 refl, own_principal a.sname, (signed_Decides a.start a.start).1 refl, (signed_Decides a.end a.end).1 refl, (unsigned_Decides a.moment a.moment).1 refl)),
 )
 
 one_cache_record : (a b : AuthenticatorCacheRecord) → a.cname ≡ b.cname → a.sname ≡ b.sname → a.ctime ≡ b.ctime → a.microseconds ≡ b.microseconds → a ≡ b

@@ -1,5 +1,5 @@
 -- The pruned book and the window of the history.
-use Rattle.std.proofs.Common.{◌≡◌, ℕ, zero, suc, ◌+◌, ◌-◌, ◌<◌, ◌≤◌, max, ℤ, pos, ◌≤ℤ◌, ◌<ℤ◌, Bool, true, false, not, ◌&&◌, ◌||◌, cond, if◌then◌else◌, List, [], ◌∷◌, ◌++◌, length, drop, Option, Some, None, unwrap_or, Ordering, Less, Equal, Greater, refl, sym, ap, ◌∙◌, subst, arith}
+use Rattle.std.proofs.Common.{◌≡◌, ℕ, zero, suc, ◌+◌, ◌-◌, ◌<◌, ◌≤◌, max, ℤ, pos, ◌≤ℤ◌, ◌<ℤ◌, Bool, true, false, not, ◌&&◌, ◌||◌, cond, if◌then◌else◌, List, [], ◌∷◌, ◌++◌, length, drop, Option, Some, None, MatchOption, unwrap_or, Ordering, Less, Equal, Greater, refl, sym, ap, ◌∙◌, subst, arith}
 use Rattle.std.proofs.lemmas.Bool.{false≢true}
 use Rattle.std.proofs.lemmas.Int.{ints}
 use Rattle.std.proofs.lemmas.Cmp.{int_ranked}
@@ -18,6 +18,7 @@ use Rattle.krb_replay.specs.declared.ask.Verdict.TheVariants.{Admitted, Skew, No
 use Rattle.krb_replay.specs.Records.{record_eq, record_cmp, has_record, IsDistinct}
 use Rattle.krb_replay.specs.Clock.{in_microseconds, is_later, is_current, clock_refusal, judged}
 use Rattle.krb_replay.specs.Verdicts.{is_admitted}
+use Rattle.krb_replay.specs.Gate.{IsOpen, IsJudged, is_judged}
 use Rattle.krb_replay.specs.History.{History, recorded, verdict_of, history_after, window}
 use Rattle.krb_replay.specs.Order.{Ascends, place, in_order, IsPlace, is_front_stale, stale_count}
 use Rattle.krb_replay.specs.Book.{Book, Follows, StandsFor, NeedsRoom}
@@ -134,6 +135,7 @@ follows old new ask verdict skew moment answer kept room = record {
         (subst (λ (v : Verdict). new.kept ≡ in_order (filter (is_current old.skew new.moment) (recorded h.admitted ask.entry v))) (right h s)
         (kept ∙ stays h s (is_admitted verdict) refl)));
   };
+  judged = is_judged old.skew new.moment _ ask verdict (omega (arith, moment)) answer;
   room = room;
 }
   where
@@ -177,14 +179,6 @@ stale_fails false e = refl
 fresh_passes : (b : Bool) → not b ≡ false → b ≡ true
 fresh_passes true e = refl
 fresh_passes false e = absurd (false≢true (sym e))
-
-pub count-stale : (skew moment : ℕ) (xs : List Record) → is_front_stale skew moment xs ≡ true → (stale_count skew moment xs ≡ 1 + stale_count skew moment (drop 1 xs)) × (0 < length xs)
-count-stale skew moment [] e = absurd (false≢true e)
-count-stale skew moment (x ∷ xs) e = (rw (stale_fails (is_current skew moment x) e) (omega arith), omega arith)
-
-pub count-fresh : (skew moment : ℕ) (xs : List Record) → is_front_stale skew moment xs ≡ false → stale_count skew moment xs ≡ 0
-count-fresh skew moment [] e = refl
-count-fresh skew moment (x ∷ xs) e = rw (fresh_passes (is_current skew moment x) e)
 
 -- the current records are those behind the stale front
 pub filter-ascending : (skew moment : ℕ) (xs : List Record) → Ascends xs → filter (is_current skew moment) xs ≡ drop (stale_count skew moment xs) xs
@@ -230,6 +224,18 @@ refused_by false true c d v e = ap (λ (o : Option Verdict). is_admitted (unwrap
 refused_by false false true d v e = ap (λ (o : Option Verdict). is_admitted (unwrap_or o Skew)) (sym e)
 refused_by false false false true v e = ap (λ (o : Option Verdict). is_admitted (unwrap_or o Skew)) (sym e)
 refused_by false false false false v e = cc
+
+-- what the clock refuses is not admitted
+refused_not : (skew moment : ℕ) (ask : Ask) (v : Verdict) → clock_refusal skew moment ask ≡ Some v → is_admitted v ≡ false
+refused_not skew moment ask v e = refused_by (is_later (in_microseconds ask.entry.ctime) (pos moment) skew) (is_later (pos moment) (in_microseconds ask.entry.ctime) skew) (is_later (in_microseconds ask.start) (pos moment) skew) (is_later (pos moment) (in_microseconds ask.end) skew) v e
+
+none_refused : (refusal : Option Verdict) (verdict : Verdict) → ((v : Verdict) → refusal ≡ Some v → is_admitted v ≡ false) → MatchOption refusal (IsOpen verdict) (λ v. verdict ≡ v) → is_admitted verdict ≡ true → refusal ≡ None
+none_refused None verdict f m e = refl
+none_refused (Some v) verdict f m e = absurd (false≢true (sym (f v refl) ∙ ap is_admitted (sym m) ∙ e))
+
+-- whatever the gate: where it admits, the clock refuses nothing
+pub admitted_in_time : (skew moment : ℕ) (ask : Ask) (verdict : Verdict) → IsJudged skew moment ask verdict → is_admitted verdict ≡ true → clock_refusal skew moment ask ≡ None
+admitted_in_time skew moment ask verdict judged e = none_refused (clock_refusal skew moment ask) verdict (λ v is. refused_not skew moment ask v is) judged.first e
 
 -- the book after it dropped the stale front
 pub record IsPruned (old new : Book) (ask : Ask) : Type 0 where

@@ -5,6 +5,7 @@ use Rattle.krb_replay.specs.declared.record.Record.{Record}
 use Rattle.krb_replay.specs.declared.ask.Ask.{Ask}
 use Rattle.krb_replay.specs.declared.ask.Verdict.{Verdict}
 use Rattle.krb_replay.specs.declared.ask.Verdict.TheVariants.{Admitted}
+use Rattle.krb_replay.specs.Gate.{IsJudged}
 use Rattle.krb_replay.specs.History.{History, verdict_of, history_after, window}
 use Rattle.krb_replay.specs.Records.{IsDistinct}
 use Rattle.krb_replay.specs.Order.{in_order}
@@ -17,11 +18,13 @@ pub record Book : Type 0 where
   pub spare : ℕ
 
 -- one call answers as the book that never forgets does, for every history that the book stands for, and leaves a book that
--- stands for the history after it; the number of records that the book has room for never falls
+-- stands for the history after it; whatever it stands for, the verdict is one that its moment allows; the number of records
+-- that the book has room for never falls
 pub record Follows (Stands : Book → History → Type 0) (old : Book) (ask : Ask) (verdict : Verdict) (new : Book) : Type 0 where
   pub skew : new.skew ≡ old.skew
   pub answer : (h : History) → Stands old h → verdict ≡ verdict_of old.skew h ask
   pub history : (h : History) → Stands old h → Stands new (history_after old.skew h ask)
+  pub judged : IsJudged old.skew new.moment ask verdict
   pub room : old.spare + length old.kept ≤ new.spare + length new.kept
 
 -- nothing that a caller can tell has changed; there may be more room
@@ -56,5 +59,6 @@ goes_on a b c ask verdict same step =
       skew = step.skew ∙ same.skew;
       answer = λ h s. step.answer h (stands h s) ∙ ap (λ (k : ℕ). verdict_of k h ask) same.skew;
       history = λ h s. subst (λ (k : ℕ). StandsFor c (history_after k h ask)) same.skew (step.history h (stands h s));
+      judged = subst (λ (k : ℕ). IsJudged k c.moment ask verdict) same.skew step.judged;
       room = omega (arith, step.room, same.spare, ap length same.kept);
     }

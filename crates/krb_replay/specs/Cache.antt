@@ -1,6 +1,6 @@
 -- The cache of the crate that is ported: it judges by the asked moment, and keeps all.
 use Rattle.std.specs.Prelude.{◌≡◌, refl, ℕ, Bool, ◌&&◌, ◌||◌, List, nat_eq}
-use Rattle.std.proofs.Common.{ap, ◌∙◌}
+use Rattle.std.proofs.Common.{ap, sym, ◌∙◌, subst, arith}
 use Rattle.std.specs.List.{list_any}
 use Rattle.std.specs.Ordering.{int_eq}
 use Rattle.std.specs.Cmp.Lexicographic.{pointwise}
@@ -10,6 +10,7 @@ use Rattle.krb_replay.specs.declared.cache.AuthenticatorCacheRecord.{Authenticat
 use Rattle.krb_replay.specs.declared.cache.CacheGate.{CacheGate}
 use Rattle.krb_replay.specs.Records.{principal_eq}
 use Rattle.krb_replay.specs.Clock.{judged}
+use Rattle.krb_replay.specs.Gate.{IsJudged, is_judged}
 use Rattle.krb_replay.specs.Verdicts.{is_admitted}
 
 -- what the cache keeps of an ask
@@ -45,3 +46,6 @@ cache_goes_on a b c ask verdict same step = record {
   verdict = step.verdict ∙ ap (λ (k : ℕ). judged k ask.moment (has_cached b.cache.keys (cache_record_of ask)) ask) same.skew ∙ ap (λ (l : List AuthenticatorCacheRecord). judged a.skew ask.moment (has_cached l (cache_record_of ask)) ask) same.cache;
   cache = λ r. step.cache r ∙ ap (λ (l : List AuthenticatorCacheRecord). has_cached l r || (is_admitted verdict && cache_eq (cache_record_of ask) r)) same.cache;
 }
+
+pub cache_judges : (old new : CacheGate) (ask : Ask) (verdict : Verdict) → AdmitsByCache old ask verdict new → IsJudged old.skew new.moment ask verdict
+cache_judges old new ask verdict step = subst (λ (m : ℕ). IsJudged old.skew m ask verdict) (sym step.moment) (is_judged old.skew ask.moment _ ask verdict (omega arith) step.verdict)

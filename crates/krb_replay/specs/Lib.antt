@@ -5,6 +5,5 @@ pub mod History
 pub mod Gate
 pub mod Order
 pub mod Book
-pub mod ListBook
 pub mod Cache
 pub mod Runs

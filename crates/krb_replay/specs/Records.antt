@@ -6,6 +6,7 @@ use Rattle.std.specs.Cmp.Lexicographic.{slice_cmp, pointwise}
 use Rattle.std.specs.declared.cmp.Ordering.{Ordering}
 use Rattle.krb_messages.specs.declared.principal_name.PrincipalName.{PrincipalName}
 use Rattle.krb_replay.specs.declared.record.Record.{Record}
+use Rattle.krb_replay.specs.declared.ask.Ask.{Ask}
 
 -- two names are the same where their types' octets and their components are
 abbrev pub principal_eq : PrincipalName → PrincipalName → Bool
@@ -14,6 +15,10 @@ principal_eq a b = pointwise nat_eq a.name_type b.name_type && pointwise (pointw
 -- two records are the same where all five parts are: the time, its microseconds, the realm, the name's type and its components
 abbrev pub record_eq : Record → Record → Bool
 record_eq a b = int_eq a.ctime b.ctime && (pointwise nat_eq a.cusec b.cusec && (pointwise nat_eq a.realm b.realm && principal_eq a.name b.name))
+
+-- two asks are the same where all five parts are
+abbrev pub ask_eq : Ask → Ask → Bool
+ask_eq a b = record_eq a.entry b.entry && (principal_eq a.sname b.sname && (int_eq a.start b.start && (int_eq a.end b.end && nat_eq a.moment b.moment)))
 
 -- whether the same record is in the list
 abbrev pub has_record : List Record → Record → Bool

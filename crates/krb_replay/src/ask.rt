@@ -10,7 +10,7 @@ use std::alloc::Global;
 use std::fmt;
 
 /// A question to a replay gate: may this authenticator be admitted now?
-#[derive(Drop)]
+#[derive(PartialEq, Eq, Drop)]
 pub struct Ask {
     /// What is remembered where the answer is yes.
     pub entry: Record,

@@ -159,6 +159,14 @@ impl ReplayGate for ReplayBook {
 
     ghost same = { IsUnchanged-same };
 
+    ghost same_moment = { λ a b same. same.moment };
+
+    ghost same_skew = { λ a b same. same.skew };
+
+    ghost judges = { λ old new ask verdict step. step.judged };
+
+    ghost keeps_skew = { λ old new ask verdict step. step.skew };
+
     ghost goes_on = { goes_on };
 
     fn admit(&mut self, ask: Ask) -> Result<Verdict, OutOfMemory>

@@ -80,7 +80,7 @@ fn cache_record(ask: Ask) -> AuthenticatorCacheRecord
 }
 
 impl ReplayGate for CacheGate {
-    ghost use Rattle.krb_replay.specs.Cache.{AdmitsByCache, IsSameCache, IsSameCache-same, cache_goes_on};
+    ghost use Rattle.krb_replay.specs.Cache.{AdmitsByCache, IsSameCache, IsSameCache-same, cache_judges, cache_goes_on};
 
     ghost skew = { λ gate. gate.skew };
 
@@ -91,6 +91,14 @@ impl ReplayGate for CacheGate {
     ghost is_same = { IsSameCache };
 
     ghost same = { IsSameCache-same };
+
+    ghost same_moment = { λ a b same. same.moment };
+
+    ghost same_skew = { λ a b same. same.skew };
+
+    ghost judges = { cache_judges };
+
+    ghost keeps_skew = { λ old new ask verdict step. step.skew };
 
     ghost goes_on = { cache_goes_on };
 

@@ -37,6 +37,18 @@ pub trait ReplayGate {
 
     ghost same: { (a : Self) → is_same a a };
 
+    /// A gate that no caller can tell from another judged its last call by the same moment.
+    ghost same_moment: { (a b : Self) → is_same a b → moment b ≡ moment a };
+
+    /// And it tolerates the same skew.
+    ghost same_skew: { (a b : Self) → is_same a b → skew b ≡ skew a };
+
+    /// Whatever may be answered is the clock's refusal at the gate's moment, and else Admitted or Replayed.
+    ghost judges: { (old new : Self) (ask : Ask) (verdict : Verdict) → admits old ask verdict new → IsJudged (skew old) (moment new) ask verdict };
+
+    /// No call changes the skew.
+    ghost keeps_skew: { (old new : Self) (ask : Ask) (verdict : Verdict) → admits old ask verdict new → skew new ≡ skew old };
+
     /// A call after one that ran out of memory does what it would have done without that one.
     ghost goes_on: { (a b c : Self) (ask : Ask) (verdict : Verdict) → is_same a b → admits b ask verdict c → admits a ask verdict c };
 }

@@ -1,41 +1,60 @@
 //! What holds for all values and all lists of asks.
 
-ghost use Rattle.std.specs.Prelude.{◌≡◌, ◌↔◌, ℕ, ◌+◌, ◌≤◌, List, [], ◌∷◌, ◌++◌, length, IsTrue};
+ghost use Rattle.std.specs.Prelude.{◌≡◌, ◌↔◌, ℕ, ◌+◌, ◌≤◌, List, [], ◌∷◌, ◌++◌, length, None, IsTrue};
 ghost use Rattle.std.specs.Ordering.{int_cmp, is_eq};
 ghost use Rattle.std.specs.declared.cmp.Ordering.TheVariants.{Less};
 ghost use Rattle.krb_replay.specs.declared.record.Record.{Record};
 ghost use Rattle.krb_replay.specs.declared.ask.Ask.{Ask};
 ghost use Rattle.krb_replay.specs.declared.ask.Verdict.{Verdict};
 ghost use Rattle.krb_replay.specs.declared.cache.AuthenticatorCacheRecord.{AuthenticatorCacheRecord};
-ghost use Rattle.krb_replay.specs.Records.{record_eq, record_cmp, IsDistinct};
+ghost use Rattle.krb_replay.specs.Records.{record_eq, record_cmp, ask_eq, IsDistinct};
 ghost use Rattle.krb_replay.specs.Cache.{cache_eq};
+ghost use Rattle.krb_replay.specs.declared.ask.Verdict.TheVariants.{Admitted};
+ghost use Rattle.krb_replay.specs.Clock.{clock_refusal};
 ghost use Rattle.krb_replay.specs.Gate.{Run};
 ghost use Rattle.krb_replay.specs.History.{History};
 ghost use Rattle.krb_replay.specs.Book.{Book, Follows, StandsFor, NeedsRoom};
 ghost use Rattle.krb_replay.specs.Runs.{verdicts_of, history_past, IsNeverAbove, admitted_of};
 
+use crate::ask::Ask;
 use crate::cache::AuthenticatorCacheRecord;
+use crate::gate::ReplayGate;
 use crate::record::Record;
 use std::hash::Hash;
 
 /// Over every list of asks, moments that fall back among them, a book answers as the book that never forgets, and keeps
 /// exactly its window.
 pub fn books_never_forget()
-    ensures verdicts { (old new : Book) (asks : List Ask) (verdicts : List Verdict) (h : History) → StandsFor old h → Run (Follows StandsFor) old asks verdicts new → verdicts ≡ verdicts_of old.skew h asks }
-    ensures stands { (old new : Book) (asks : List Ask) (verdicts : List Verdict) (h : History) → StandsFor old h → Run (Follows StandsFor) old asks verdicts new → StandsFor new (history_past old.skew h asks) }
+    ensures verdicts { (old new : Book) (asks : List Ask) (verdicts : List Verdict) (h : History)
+        → StandsFor old h → Run (Follows StandsFor) old asks verdicts new → verdicts ≡ verdicts_of old.skew h asks }
+    ensures stands { (old new : Book) (asks : List Ask) (verdicts : List Verdict) (h : History)
+        → StandsFor old h → Run (Follows StandsFor) old asks verdicts new → StandsFor new (history_past old.skew h asks) }
 {}
 
 /// A book that has room for n records, as a new one has after `reserve(n)`, never wants memory over a list of asks whose
 /// window never holds more than n: after any of them, the next is answered.
 pub fn room_lasts()
-    ensures { (n : ℕ) (old mid : Book) (asks : List Ask) (verdicts : List Verdict) (ask : Ask) (h : History) → StandsFor old h → Run (Follows StandsFor) old asks verdicts mid → n ≤ old.spare + length old.kept → IsNeverAbove n old.skew h (asks ++ ask ∷ []) → NeedsRoom mid ask → ⊥ }
+    ensures { (n : ℕ) (old mid : Book) (asks : List Ask) (verdicts : List Verdict) (ask : Ask) (h : History)
+        → StandsFor old h → Run (Follows StandsFor) old asks verdicts mid → n ≤ old.spare + length old.kept
+        → IsNeverAbove n old.skew h (asks ++ ask ∷ []) → NeedsRoom mid ask → ⊥ }
+{}
+
+/// Whatever the gate, from what every gate owes alone: a list of calls leaves the skew, and where a call admits, the clock
+/// refuses nothing of its ask at the moment that the gate judged by, which is no earlier than the asked one.
+pub fn gates_judge_by_the_clock<G: ReplayGate>()
+    ensures skew { (old new : G) (asks : List Ask) (verdicts : List Verdict)
+        → Run G.admits old asks verdicts new → G.skew new ≡ G.skew old }
+    ensures in_time { (old new : G) (ask : Ask) → G.admits old ask Admitted new → clock_refusal (G.skew old) (G.moment new) ask ≡ None }
+    ensures reached { (old new : G) (ask : Ask) (verdict : Verdict) → G.admits old ask verdict new → ask.moment ≤ G.moment new }
 {}
 
 /// No record is admitted twice: those that were admitted before a list of asks, and those that are admitted in it, are
 /// distinct.
 pub fn records_are_admitted_once()
-    ensures by_the_history { (skew : ℕ) (h : History) (asks : List Ask) → IsDistinct h.admitted → IsDistinct (h.admitted ++ admitted_of asks (verdicts_of skew h asks)) }
-    ensures by_a_book { (old new : Book) (asks : List Ask) (verdicts : List Verdict) (h : History) → StandsFor old h → Run (Follows StandsFor) old asks verdicts new → IsDistinct (h.admitted ++ admitted_of asks verdicts) }
+    ensures by_the_history { (skew : ℕ) (h : History) (asks : List Ask)
+        → IsDistinct h.admitted → IsDistinct (h.admitted ++ admitted_of asks (verdicts_of skew h asks)) }
+    ensures by_a_book { (old new : Book) (asks : List Ask) (verdicts : List Verdict) (h : History)
+        → StandsFor old h → Run (Follows StandsFor) old asks verdicts new → IsDistinct (h.admitted ++ admitted_of asks verdicts) }
 {}
 
 /// Two records are equal exactly where all their parts are, and their order agrees with that and goes by time first.
@@ -45,12 +64,20 @@ pub fn records_compare_by_their_parts()
     ensures cmp { (a b : Record) → ⟦<Record as Ord>⟧.cmp a b ≡ record_cmp a b }
     ensures ties { (a b : Record) → ⟦<Record as PartialEq>⟧.eq a b ≡ is_eq (⟦<Record as Ord>⟧.cmp a b) }
     ensures time_first { (a b : Record) → int_cmp a.ctime b.ctime ≡ Less → ⟦<Record as Ord>⟧.cmp a b ≡ Less }
-    ensures hash { (a b : Record) → IsTrue (⟦<Record as PartialEq>⟧.eq a b) → ⟦<Record as Hash>⟧.hash_input a ≡ ⟦<Record as Hash>⟧.hash_input b }
+    ensures hash { (a b : Record)
+        → IsTrue (⟦<Record as PartialEq>⟧.eq a b) → ⟦<Record as Hash>⟧.hash_input a ≡ ⟦<Record as Hash>⟧.hash_input b }
+{}
+
+/// Two asks are equal exactly where all their parts are.
+pub fn asks_compare_by_their_parts()
+    ensures eq { (a b : Ask) → ⟦<Ask as PartialEq>⟧.eq a b ≡ ask_eq a b }
+    ensures same { (a b : Ask) → IsTrue (⟦<Ask as PartialEq>⟧.eq a b) ↔ (a ≡ b) }
 {}
 
 /// Two of the cache's records are equal exactly where all four fields are, and equal ones hash equally.
 pub fn cache_records_compare_by_their_fields()
     ensures eq { (a b : AuthenticatorCacheRecord) → ⟦<AuthenticatorCacheRecord as PartialEq>⟧.eq a b ≡ cache_eq a b }
     ensures same { (a b : AuthenticatorCacheRecord) → IsTrue (⟦<AuthenticatorCacheRecord as PartialEq>⟧.eq a b) ↔ (a ≡ b) }
-    ensures hash { (a b : AuthenticatorCacheRecord) → IsTrue (⟦<AuthenticatorCacheRecord as PartialEq>⟧.eq a b) → ⟦<AuthenticatorCacheRecord as Hash>⟧.hash_input a ≡ ⟦<AuthenticatorCacheRecord as Hash>⟧.hash_input b }
+    ensures hash { (a b : AuthenticatorCacheRecord) → IsTrue (⟦<AuthenticatorCacheRecord as PartialEq>⟧.eq a b)
+        → ⟦<AuthenticatorCacheRecord as Hash>⟧.hash_input a ≡ ⟦<AuthenticatorCacheRecord as Hash>⟧.hash_input b }
 {}

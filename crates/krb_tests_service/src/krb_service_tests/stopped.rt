@@ -27,6 +27,14 @@ impl ReplayGate for ScantGate {
 
     ghost same = { λ gate. IsUnchanged-same gate.book };
 
+    ghost same_moment = { λ a b same. same.moment };
+
+    ghost same_skew = { λ a b same. same.skew };
+
+    ghost judges = { λ old new ask verdict step. step.judged };
+
+    ghost keeps_skew = { λ old new ask verdict step. step.skew };
+
     ghost goes_on = { λ a b c ask verdict same step. goes_on a.book b.book c.book ask verdict same step };
 
     fn admit(&mut self, ask: Ask) -> Result<Verdict, OutOfMemory> {
