@@ -1,5 +1,5 @@
 -- What a line declares: the table of lines.
-use Rattle.std.specs.Prelude.{ℕ, ◌-◌, ◌^◌, Bool, ◌||◌, ◌==◌, if◌then◌else◌, List, [], ◌∷◌, length, codes, Option, Some, None, option_and_then}
+use Rattle.std.specs.Prelude.{ℕ, ◌-◌, ◌^◌, Bool, ◌||◌, if◌then◌else◌, List, [], ◌∷◌, codes, Option, Some, None, option_and_then}
 use Rattle.std.specs.Str.{bytes_eq}
 use Rattle.krb_text.specs.Lines.{fields}
 use Rattle.krb_text.specs.Fields.{decimal_up_to, u32_of, octets_of, octets_or_none_of, name_of, flags_of, random_of}

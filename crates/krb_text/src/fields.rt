@@ -15,7 +15,9 @@ use std::alloc::{AllocError, AllocFailed, Global};
 /// Why a field or a line could not be read.
 #[derive(Clone, Copy, Debug, PartialEq, Eq)]
 pub enum FieldError {
+    /// It is not in the table of lines, or does not meet its conditions.
     Bad,
+    /// There was no memory to read it.
     OutOfMemory,
 }
 

@@ -28,6 +28,7 @@ impl Script {
     ghost use Rattle.krb_text.specs.Script.{empty_setup, set_up, is_declared, is_own_key, has_key};
     ghost use Rattle.krb_text.specs.Gives.{GivesAfter};
 
+    /// Nothing is declared. It takes no memory yet.
     pub fn new(alloc: Global) -> Script
         ensures { result ≡ empty_setup }
     {
