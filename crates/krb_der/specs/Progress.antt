@@ -2,7 +2,8 @@
 use Rattle.std.specs.Prelude.{◌≡◌, ℕ, List, ◌++◌, Bool, true, IfSome, Option, Some, None, Result, Ok, Err, option_map}
 use Rattle.krb_der.specs.declared.fault.Fault.{Fault}
 use Rattle.krb_der.specs.declared.fault.Fault.TheVariants.{Shape, OutOfMemory}
-use Rattle.krb_der.specs.Schema.{Kind, Fields, nothing, required, optional, sequence, application, Of, Row, IsSound, row_octets}
+use Rattle.krb_der.specs.Schema.{Fields, nothing, required, optional, sequence, application, Row, IsSound, row_octets}
+use Rattle.krb_der.specs.Field.{FieldNext, NoFieldNext, OptionalNext, NoOptionalNext}
 use Rattle.krb_der.specs.Layout.{Layout}
 use Rattle.krb_der.specs.Records.{value_in, row_in}
 
@@ -28,14 +29,19 @@ Opens contents at = (fields : Fields) → value_in (sequence fields) contents �
 abbrev pub OpensIn : List ℕ → List ℕ × Option Fault → Type 0
 OpensIn contents at = (n : ℕ) (fields : Fields) → value_in (application n (sequence fields)) contents ≡ row_left fields at
 
--- A field was read, whatever fields follow it.
+-- A field was read, or it was refused, or reading had failed before: what stands there, and for proofs the same whatever
+-- fields follow it.
 pub record Next {A : Type 0} (layout : Layout A) (n : ℕ) (x : A) (old new : List ℕ × Option Fault) : Type 0 where
   pub known : IsKnown new.1 → IsKnown old.1
   pub row : IsKnown new.1 → (fields : Fields) → row_left (required n layout.kind fields) old ≡ option_map (λ row. (layout.view x, row)) (row_left fields new)
+  pub found : new.1 ≡ None → (old.1 ≡ None) × FieldNext n layout.kind (layout.view x) old.0 new.0
+  pub none : old.1 ≡ None → new.1 ≡ Some Shape → NoFieldNext n layout.kind old.0
 
 pub record NextOptional {A : Type 0} (layout : Layout A) (n : ℕ) (x : Option A) (old new : List ℕ × Option Fault) : Type 0 where
   pub known : IsKnown new.1 → IsKnown old.1
   pub row : IsKnown new.1 → (fields : Fields) → row_left (optional n layout.kind fields) old ≡ option_map (λ row. (option_map layout.view x, row)) (row_left fields new)
+  pub found : new.1 ≡ None → (old.1 ≡ None) × OptionalNext n layout.kind (option_map layout.view x) old.0 new.0
+  pub none : old.1 ≡ None → new.1 ≡ Some Shape → NoOptionalNext n layout.kind old.0
 
 -- The answer, where no fields are left to be read.
 abbrev pub Finishes : {X : Type 0} → X → Result X Fault → List ℕ × Option Fault → Type 0

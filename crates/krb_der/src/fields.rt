@@ -6,6 +6,7 @@ ghost use Rattle.krb_der.specs.Der.{tlv};
 ghost use Rattle.krb_der.specs.Schema.{IsSound, sequence, tag_of};
 ghost use Rattle.krb_der.specs.Schema as schema;
 ghost use Rattle.krb_der.specs.Records.{explicit, explicit_option, value_in, row_in};
+ghost use Rattle.krb_der.specs.Field.{FieldNext, NoFieldNext, OptionalNext, NoOptionalNext};
 ghost use Rattle.krb_der.specs.Layout.{Reads, ReadsRequired, ReadsOptional, OpensApplication, FieldIsWritable, field_octets};
 
 use crate::asn1::{Asn1, only};
@@ -20,7 +21,9 @@ use std::alloc::Global;
 #[tactic(auto, unfolding(crate::specs::Records::explicit, crate::specs::Records::next_of))]
 fn required_value<T: Asn1>(alloc: Global, fields: &mut Reader<'_>, n: u8) -> Result<T, Fault>
     requires { n < 32 }
-    ensures { Reads (λ x. (T.layout.view x, fields.new)) result (explicit (0xa0 + n) (tag_of T.layout.kind) (value_in T.layout.kind) fields.old) }
+    ensures found { IfOk result (λ x. FieldNext n T.layout.kind (T.layout.view x) fields.old fields.new) }
+    ensures shape { result ≡ Err Fault.Shape → NoFieldNext n T.layout.kind fields.old }
+    ensures exact { Reads (λ x. (T.layout.view x, fields.new)) result (explicit (0xa0 + n) (tag_of T.layout.kind) (value_in T.layout.kind) fields.old) }
 {
     let field = fields.tlv(0xa0 + n)?;
     only(alloc, field)
@@ -33,7 +36,9 @@ fn optional_value<T: Asn1>(
     n: u8,
 ) -> Result<Option<T>, Fault>
     requires { n < 32 }
-    ensures { Reads (λ x. (option_map T.layout.view x, fields.new)) result (explicit_option (0xa0 + n) (tag_of T.layout.kind) (value_in T.layout.kind) fields.old) }
+    ensures found { IfOk result (λ x. OptionalNext n T.layout.kind (option_map T.layout.view x) fields.old fields.new) }
+    ensures shape { result ≡ Err Fault.Shape → NoOptionalNext n T.layout.kind fields.old }
+    ensures exact { Reads (λ x. (option_map T.layout.view x, fields.new)) result (explicit_option (0xa0 + n) (tag_of T.layout.kind) (value_in T.layout.kind) fields.old) }
 {
     if !fields.begins_with(0xa0 + n) {
         return Ok(None);
@@ -64,7 +69,12 @@ impl<'a> Reader<'a> {
     #[tactic(auto, unfolding(crate::specs::Records::value_in))]
     pub fn required_field<T: Asn1>(&mut self, alloc: Global, n: u8) -> Result<T, Fault>
         requires { n < 32 }
-        ensures { ReadsRequired T.layout n result self.old self.new }
+        // What is read stands there.
+        ensures found { IfOk result (λ x. FieldNext n T.layout.kind (T.layout.view x) self.old self.new) }
+        // Where it is refused no value stands there.
+        ensures shape { result ≡ Err Fault.Shape → NoFieldNext n T.layout.kind self.old }
+        // For proofs of records: the same whatever fields follow.
+        ensures exact { ReadsRequired T.layout n result self.old self.new }
     {
         required_value(alloc, self, n)
     }
@@ -73,7 +83,12 @@ impl<'a> Reader<'a> {
     #[tactic(auto, unfolding(crate::specs::Records::value_in))]
     pub fn optional_field<T: Asn1>(&mut self, alloc: Global, n: u8) -> Result<Option<T>, Fault>
         requires { n < 32 }
-        ensures { ReadsOptional T.layout n result self.old self.new }
+        // What is read stands there, or another tag or none is next.
+        ensures found { IfOk result (λ x. OptionalNext n T.layout.kind (option_map T.layout.view x) self.old self.new) }
+        // Where it is refused the tag is next, and no value stands there.
+        ensures shape { result ≡ Err Fault.Shape → NoOptionalNext n T.layout.kind self.old }
+        // For proofs of records: the same whatever fields follow.
+        ensures exact { ReadsOptional T.layout n result self.old self.new }
     {
         optional_value(alloc, self, n)
     }
