@@ -1,4 +1,2 @@
 pub mod FrameLemmas
 pub mod Spellings
-pub mod Complete
-pub mod Groups

@@ -1,6 +1,5 @@
 pub mod Table
 pub mod Layouts
-pub mod Groups
 pub mod OneSpelling
 pub mod Oid
 pub mod Frame

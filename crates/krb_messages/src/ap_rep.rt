@@ -1,7 +1,9 @@
 //! The reply of the AP exchange (RFC 4120 5.5.2).
 
 use crate::encryption::{EncryptedData, EncryptionKey};
-use krb_der::{Asn1, Fault, IntegerAsn1, Octets, OutOfMemory, Reader, Time, TryCopy, Writer};
+use krb_der::{
+    Asn1, Copier, Fault, FieldReader, FieldWriter, IntegerAsn1, Octets, OutOfMemory, Time, TryCopy,
+};
 use std::alloc::Global;
 
 /// AP-REP (RFC 4120 5.5.2): a service shows that it opened the ticket.
@@ -27,35 +29,34 @@ impl Asn1 for ApRep {
 
     #[tactic(auto, unfolding(crate::specs::Table::ap_rep, crate::specs::Layouts::ap_rep_row))]
     fn from_contents(alloc: Global, contents: &[u8]) -> Result<Self, Fault> {
-        let mut fields = Reader::of_application(contents)?;
-        let pvno = fields.required_field(alloc, 0)?;
-        let msg_type = fields.required_field(alloc, 1)?;
-        let enc_part = fields.required_field(alloc, 2)?;
-        fields.end()?;
-        Ok(ApRep {
-            pvno,
-            msg_type,
-            enc_part,
-        })
+        let mut fields = FieldReader::of_application(alloc, contents);
+        let record = ApRep {
+            pvno: fields.required(0),
+            msg_type: fields.required(1),
+            enc_part: fields.required(2),
+        };
+        fields.finish(record)
     }
 
-    #[tactic(auto, using(std::proofs::Common::append_assoc), unfolding(crate::specs::Table::ap_rep, crate::specs::Layouts::ap_rep_row))]
+    #[tactic(auto, unfolding(crate::specs::Table::ap_rep, crate::specs::Layouts::ap_rep_row))]
     fn to_contents(&self, alloc: Global) -> Result<Octets, OutOfMemory> {
-        let mut fields = Writer::new(alloc);
-        fields.required_field(0, &self.pvno)?;
-        fields.required_field(1, &self.msg_type)?;
-        fields.required_field(2, &self.enc_part)?;
-        fields.into_sequence()
+        let mut fields = FieldWriter::new(alloc);
+        fields.required(0, &self.pvno);
+        fields.required(1, &self.msg_type);
+        fields.required(2, &self.enc_part);
+        fields.finish_application()
     }
 }
 
 impl TryCopy for ApRep {
     fn copy(&self, alloc: Global) -> Result<ApRep, OutOfMemory> {
-        Ok(ApRep {
-            pvno: self.pvno.copy(alloc)?,
-            msg_type: self.msg_type.copy(alloc)?,
-            enc_part: self.enc_part.copy(alloc)?,
-        })
+        let mut copier = Copier::new(alloc);
+        let copy = ApRep {
+            pvno: copier.copy(&self.pvno),
+            msg_type: copier.copy(&self.msg_type),
+            enc_part: copier.copy(&self.enc_part),
+        };
+        copier.finish(copy)
     }
 }
 
@@ -84,38 +85,36 @@ impl Asn1 for EncApRepPart {
 
     #[tactic(auto, unfolding(crate::specs::Table::enc_ap_rep_part, crate::specs::Layouts::enc_ap_rep_part_row))]
     fn from_contents(alloc: Global, contents: &[u8]) -> Result<Self, Fault> {
-        let mut fields = Reader::of_application(contents)?;
-        let ctime = fields.required_field(alloc, 0)?;
-        let cusec = fields.required_field(alloc, 1)?;
-        let subkey = fields.optional_field(alloc, 2)?;
-        let seq_number = fields.optional_field(alloc, 3)?;
-        fields.end()?;
-        Ok(EncApRepPart {
-            ctime,
-            cusec,
-            subkey,
-            seq_number,
-        })
+        let mut fields = FieldReader::of_application(alloc, contents);
+        let record = EncApRepPart {
+            ctime: fields.required(0),
+            cusec: fields.required(1),
+            subkey: fields.optional(2),
+            seq_number: fields.optional(3),
+        };
+        fields.finish(record)
     }
 
-    #[tactic(auto, using(std::proofs::Common::append_assoc, krb_der::proofs::Each::optional_rows), unfolding(crate::specs::Table::enc_ap_rep_part, crate::specs::Layouts::enc_ap_rep_part_row))]
+    #[tactic(auto, unfolding(crate::specs::Table::enc_ap_rep_part, crate::specs::Layouts::enc_ap_rep_part_row))]
     fn to_contents(&self, alloc: Global) -> Result<Octets, OutOfMemory> {
-        let mut fields = Writer::new(alloc);
-        fields.required_field(0, &self.ctime)?;
-        fields.required_field(1, &self.cusec)?;
-        fields.optional_field(2, &self.subkey)?;
-        fields.optional_field(3, &self.seq_number)?;
-        fields.into_sequence()
+        let mut fields = FieldWriter::new(alloc);
+        fields.required(0, &self.ctime);
+        fields.required(1, &self.cusec);
+        fields.optional(2, &self.subkey);
+        fields.optional(3, &self.seq_number);
+        fields.finish_application()
     }
 }
 
 impl TryCopy for EncApRepPart {
     fn copy(&self, alloc: Global) -> Result<EncApRepPart, OutOfMemory> {
-        Ok(EncApRepPart {
+        let mut copier = Copier::new(alloc);
+        let copy = EncApRepPart {
             ctime: self.ctime,
-            cusec: self.cusec.copy(alloc)?,
-            subkey: self.subkey.copy(alloc)?,
-            seq_number: self.seq_number.copy(alloc)?,
-        })
+            cusec: copier.copy(&self.cusec),
+            subkey: copier.copy(&self.subkey),
+            seq_number: copier.copy(&self.seq_number),
+        };
+        copier.finish(copy)
     }
 }

@@ -2,7 +2,9 @@
 
 use crate::encryption::EncryptedData;
 use crate::ticket::Ticket;
-use krb_der::{Asn1, Bits, Fault, IntegerAsn1, Octets, OutOfMemory, Reader, TryCopy, Writer};
+use krb_der::{
+    Asn1, Bits, Copier, Fault, FieldReader, FieldWriter, IntegerAsn1, Octets, OutOfMemory, TryCopy,
+};
 use std::alloc::Global;
 
 /// AP-REQ (RFC 4120 5.5.1): a client shows its ticket to a service.
@@ -32,42 +34,39 @@ impl Asn1 for ApReq {
 
     #[tactic(auto, unfolding(crate::specs::Table::ap_req, crate::specs::Layouts::ap_req_row))]
     fn from_contents(alloc: Global, contents: &[u8]) -> Result<Self, Fault> {
-        let mut fields = Reader::of_application(contents)?;
-        let pvno = fields.required_field(alloc, 0)?;
-        let msg_type = fields.required_field(alloc, 1)?;
-        let ap_options = fields.required_field(alloc, 2)?;
-        let ticket = fields.required_field(alloc, 3)?;
-        let authenticator = fields.required_field(alloc, 4)?;
-        fields.end()?;
-        Ok(ApReq {
-            pvno,
-            msg_type,
-            ap_options,
-            ticket,
-            authenticator,
-        })
+        let mut fields = FieldReader::of_application(alloc, contents);
+        let record = ApReq {
+            pvno: fields.required(0),
+            msg_type: fields.required(1),
+            ap_options: fields.required(2),
+            ticket: fields.required(3),
+            authenticator: fields.required(4),
+        };
+        fields.finish(record)
     }
 
-    #[tactic(auto, using(std::proofs::Common::append_assoc), unfolding(crate::specs::Table::ap_req, crate::specs::Layouts::ap_req_row))]
+    #[tactic(auto, unfolding(crate::specs::Table::ap_req, crate::specs::Layouts::ap_req_row))]
     fn to_contents(&self, alloc: Global) -> Result<Octets, OutOfMemory> {
-        let mut fields = Writer::new(alloc);
-        fields.required_field(0, &self.pvno)?;
-        fields.required_field(1, &self.msg_type)?;
-        fields.required_field(2, &self.ap_options)?;
-        fields.required_field(3, &self.ticket)?;
-        fields.required_field(4, &self.authenticator)?;
-        fields.into_sequence()
+        let mut fields = FieldWriter::new(alloc);
+        fields.required(0, &self.pvno);
+        fields.required(1, &self.msg_type);
+        fields.required(2, &self.ap_options);
+        fields.required(3, &self.ticket);
+        fields.required(4, &self.authenticator);
+        fields.finish_application()
     }
 }
 
 impl TryCopy for ApReq {
     fn copy(&self, alloc: Global) -> Result<ApReq, OutOfMemory> {
-        Ok(ApReq {
-            pvno: self.pvno.copy(alloc)?,
-            msg_type: self.msg_type.copy(alloc)?,
-            ap_options: self.ap_options.copy(alloc)?,
-            ticket: self.ticket.copy(alloc)?,
-            authenticator: self.authenticator.copy(alloc)?,
-        })
+        let mut copier = Copier::new(alloc);
+        let copy = ApReq {
+            pvno: copier.copy(&self.pvno),
+            msg_type: copier.copy(&self.msg_type),
+            ap_options: copier.copy(&self.ap_options),
+            ticket: copier.copy(&self.ticket),
+            authenticator: copier.copy(&self.authenticator),
+        };
+        copier.finish(copy)
     }
 }

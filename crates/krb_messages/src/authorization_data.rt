@@ -1,6 +1,9 @@
 //! Authorization data (RFC 4120 5.2.6).
 
-use krb_der::{Asn1, Fault, IntegerAsn1, Items, Octets, OutOfMemory, Reader, TryCopy, Writer};
+use krb_der::{
+    Asn1, Blank, Copier, Fault, FieldReader, FieldWriter, IntegerAsn1, Items, Octets, OutOfMemory,
+    TryCopy,
+};
 use std::alloc::Global;
 
 /// AuthorizationData (RFC 4120 5.2.6).
@@ -27,27 +30,39 @@ impl Asn1 for AuthorizationDataElement {
 
     #[tactic(auto, unfolding(crate::specs::Table::authorization_data_element, crate::specs::Layouts::authorization_data_element_row))]
     fn from_contents(alloc: Global, contents: &[u8]) -> Result<Self, Fault> {
-        let mut fields = Reader::of_sequence(contents);
-        let ad_type = fields.required_field(alloc, 0)?;
-        let ad_data = fields.required_field(alloc, 1)?;
-        fields.end()?;
-        Ok(AuthorizationDataElement { ad_type, ad_data })
+        let mut fields = FieldReader::of_sequence(alloc, contents);
+        let record = AuthorizationDataElement {
+            ad_type: fields.required(0),
+            ad_data: fields.required(1),
+        };
+        fields.finish(record)
     }
 
-    #[tactic(auto, using(std::proofs::Common::append_assoc), unfolding(crate::specs::Table::authorization_data_element, crate::specs::Layouts::authorization_data_element_row))]
+    #[tactic(auto, unfolding(crate::specs::Table::authorization_data_element, crate::specs::Layouts::authorization_data_element_row))]
     fn to_contents(&self, alloc: Global) -> Result<Octets, OutOfMemory> {
-        let mut fields = Writer::new(alloc);
-        fields.required_field(0, &self.ad_type)?;
-        fields.required_field(1, &self.ad_data)?;
-        Ok(fields.finish())
+        let mut fields = FieldWriter::new(alloc);
+        fields.required(0, &self.ad_type);
+        fields.required(1, &self.ad_data);
+        fields.finish()
     }
 }
 
 impl TryCopy for AuthorizationDataElement {
     fn copy(&self, alloc: Global) -> Result<AuthorizationDataElement, OutOfMemory> {
-        Ok(AuthorizationDataElement {
-            ad_type: self.ad_type.copy(alloc)?,
-            ad_data: self.ad_data.copy(alloc)?,
-        })
+        let mut copier = Copier::new(alloc);
+        let copy = AuthorizationDataElement {
+            ad_type: copier.copy(&self.ad_type),
+            ad_data: copier.copy(&self.ad_data),
+        };
+        copier.finish(copy)
+    }
+}
+
+impl Blank for AuthorizationDataElement {
+    fn blank(alloc: Global) -> AuthorizationDataElement {
+        AuthorizationDataElement {
+            ad_type: Blank::blank(alloc),
+            ad_data: Blank::blank(alloc),
+        }
     }
 }

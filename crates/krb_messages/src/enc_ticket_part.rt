@@ -1,16 +1,12 @@
 //! The sealed part of a ticket (RFC 4120 5.3).
 
-ghost use Rattle.std.specs.Prelude.{◌≡◌, ◌++◌, OnOk};
-ghost use Rattle.krb_der.specs.Schema.{nothing, IsWritableRow, IsSoundRow, row_octets};
-ghost use Rattle.krb_der.specs.Layout.{ReadsGroup};
-ghost use Rattle.krb_messages.specs.Groups.{subject_fields, subject_row, subject_values, validity_fields, validity_row, validity_values};
-
 use crate::authorization_data::AuthorizationData;
 use crate::encryption::EncryptionKey;
 use crate::host_address::HostAddresses;
 use crate::principal_name::PrincipalName;
 use krb_der::{
-    Asn1, Bits, Fault, IntegerAsn1, Name, Octets, OutOfMemory, Reader, Time, TryCopy, Writer,
+    Asn1, Bits, Blank, Copier, Fault, FieldReader, FieldWriter, IntegerAsn1, Name, Octets,
+    OutOfMemory, Time, TryCopy,
 };
 use std::alloc::Global;
 
@@ -62,115 +58,41 @@ impl Asn1 for TransitedEncoding {
 
     #[tactic(auto, unfolding(crate::specs::Table::transited_encoding, crate::specs::Layouts::transited_encoding_row))]
     fn from_contents(alloc: Global, contents: &[u8]) -> Result<Self, Fault> {
-        let mut fields = Reader::of_sequence(contents);
-        let tr_type = fields.required_field(alloc, 0)?;
-        let contents = fields.required_field(alloc, 1)?;
-        fields.end()?;
-        Ok(TransitedEncoding { tr_type, contents })
+        let mut fields = FieldReader::of_sequence(alloc, contents);
+        let record = TransitedEncoding {
+            tr_type: fields.required(0),
+            contents: fields.required(1),
+        };
+        fields.finish(record)
     }
 
-    #[tactic(auto, using(std::proofs::Common::append_assoc), unfolding(crate::specs::Table::transited_encoding, crate::specs::Layouts::transited_encoding_row))]
+    #[tactic(auto, unfolding(crate::specs::Table::transited_encoding, crate::specs::Layouts::transited_encoding_row))]
     fn to_contents(&self, alloc: Global) -> Result<Octets, OutOfMemory> {
-        let mut fields = Writer::new(alloc);
-        fields.required_field(0, &self.tr_type)?;
-        fields.required_field(1, &self.contents)?;
-        Ok(fields.finish())
+        let mut fields = FieldWriter::new(alloc);
+        fields.required(0, &self.tr_type);
+        fields.required(1, &self.contents);
+        fields.finish()
     }
 }
 
 impl TryCopy for TransitedEncoding {
     fn copy(&self, alloc: Global) -> Result<TransitedEncoding, OutOfMemory> {
-        Ok(TransitedEncoding {
-            tr_type: self.tr_type.copy(alloc)?,
-            contents: self.contents.copy(alloc)?,
-        })
+        let mut copier = Copier::new(alloc);
+        let copy = TransitedEncoding {
+            tr_type: copier.copy(&self.tr_type),
+            contents: copier.copy(&self.contents),
+        };
+        copier.finish(copy)
     }
 }
 
-/// Whom the ticket speaks of: the fields up to the transited realms.
-#[derive(Drop)]
-pub(crate) struct Subject {
-    flags: Bits,
-    key: EncryptionKey,
-    crealm: Name,
-    cname: PrincipalName,
-    transited: TransitedEncoding,
-}
-
-fn read_subject(alloc: Global, fields: &mut Reader<'_>) -> Result<Subject, Fault>
-    ensures { ReadsGroup subject_fields subject_row result fields.old fields.new }
-{
-    let flags = fields.required_field(alloc, 0)?;
-    let key = fields.required_field(alloc, 1)?;
-    let crealm = fields.required_field(alloc, 2)?;
-    let cname = fields.required_field(alloc, 3)?;
-    let transited = fields.required_field(alloc, 4)?;
-    Ok(Subject {
-        flags,
-        key,
-        crealm,
-        cname,
-        transited,
-    })
-}
-
-/// When and where the ticket is valid: the fields from the first authentication on.
-#[derive(Drop)]
-pub(crate) struct Validity {
-    authtime: Time,
-    starttime: Option<Time>,
-    endtime: Time,
-    renew_till: Option<Time>,
-    caddr: Option<HostAddresses>,
-    authorization_data: Option<AuthorizationData>,
-}
-
-fn read_validity(alloc: Global, fields: &mut Reader<'_>) -> Result<Validity, Fault>
-    ensures { ReadsGroup validity_fields validity_row result fields.old fields.new }
-{
-    let authtime = fields.required_field(alloc, 5)?;
-    let starttime = fields.optional_field(alloc, 6)?;
-    let endtime = fields.required_field(alloc, 7)?;
-    let renew_till = fields.optional_field(alloc, 8)?;
-    let caddr = fields.optional_field(alloc, 9)?;
-    let authorization_data = fields.optional_field(alloc, 10)?;
-    Ok(Validity {
-        authtime,
-        starttime,
-        endtime,
-        renew_till,
-        caddr,
-        authorization_data,
-    })
-}
-
-/// Writes the fields up to the transited realms.
-#[tactic(auto, using(std::proofs::Common::append_assoc, krb_der::proofs::Each::optional_rows))]
-fn write_subject(fields: &mut Writer, part: &EncTicketPart) -> Result<(), OutOfMemory>
-    requires { IsWritableRow (subject_fields nothing) (subject_values part.now) }
-    ensures { OnOk result (IsSoundRow (subject_fields nothing) (subject_values part.now) × (fields.new ≡ fields.old ++ row_octets (subject_fields nothing) (subject_values part.now))) }
-{
-    fields.required_field(0, &part.flags)?;
-    fields.required_field(1, &part.key)?;
-    fields.required_field(2, &part.crealm)?;
-    fields.required_field(3, &part.cname)?;
-    fields.required_field(4, &part.transited)?;
-    Ok(())
-}
-
-/// Writes the fields from the first authentication on.
-#[tactic(auto, using(std::proofs::Common::append_assoc, krb_der::proofs::Each::optional_rows))]
-fn write_validity(fields: &mut Writer, part: &EncTicketPart) -> Result<(), OutOfMemory>
-    requires { IsWritableRow (validity_fields nothing) (validity_values part.now) }
-    ensures { OnOk result (IsSoundRow (validity_fields nothing) (validity_values part.now) × (fields.new ≡ fields.old ++ row_octets (validity_fields nothing) (validity_values part.now))) }
-{
-    fields.required_field(5, &part.authtime)?;
-    fields.optional_field(6, &part.starttime)?;
-    fields.required_field(7, &part.endtime)?;
-    fields.optional_field(8, &part.renew_till)?;
-    fields.optional_field(9, &part.caddr)?;
-    fields.optional_field(10, &part.authorization_data)?;
-    Ok(())
+impl Blank for TransitedEncoding {
+    fn blank(alloc: Global) -> TransitedEncoding {
+        TransitedEncoding {
+            tr_type: Blank::blank(alloc),
+            contents: Blank::blank(alloc),
+        }
+    }
 }
 
 impl Asn1 for EncTicketPart {
@@ -185,61 +107,57 @@ impl Asn1 for EncTicketPart {
 
     #[tactic(auto, unfolding(crate::specs::Table::enc_ticket_part, crate::specs::Layouts::enc_ticket_part_row))]
     fn from_contents(alloc: Global, contents: &[u8]) -> Result<Self, Fault> {
-        let mut fields = Reader::of_application(contents)?;
-        let Subject {
-            flags,
-            key,
-            crealm,
-            cname,
-            transited,
-        } = read_subject(alloc, &mut fields)?;
-        let Validity {
-            authtime,
-            starttime,
-            endtime,
-            renew_till,
-            caddr,
-            authorization_data,
-        } = read_validity(alloc, &mut fields)?;
-        fields.end()?;
-        Ok(EncTicketPart {
-            flags,
-            key,
-            crealm,
-            cname,
-            transited,
-            authtime,
-            starttime,
-            endtime,
-            renew_till,
-            caddr,
-            authorization_data,
-        })
+        let mut fields = FieldReader::of_application(alloc, contents);
+        let record = EncTicketPart {
+            flags: fields.required(0),
+            key: fields.required(1),
+            crealm: fields.required(2),
+            cname: fields.required(3),
+            transited: fields.required(4),
+            authtime: fields.required(5),
+            starttime: fields.optional(6),
+            endtime: fields.required(7),
+            renew_till: fields.optional(8),
+            caddr: fields.optional(9),
+            authorization_data: fields.optional(10),
+        };
+        fields.finish(record)
     }
 
-    #[tactic(auto, using(std::proofs::Common::append_assoc), unfolding(crate::specs::Table::enc_ticket_part, crate::specs::Layouts::enc_ticket_part_row))]
+    #[tactic(auto, unfolding(crate::specs::Table::enc_ticket_part, crate::specs::Layouts::enc_ticket_part_row))]
     fn to_contents(&self, alloc: Global) -> Result<Octets, OutOfMemory> {
-        let mut fields = Writer::new(alloc);
-        write_subject(&mut fields, self)?;
-        write_validity(&mut fields, self)?;
-        fields.into_sequence()
+        let mut fields = FieldWriter::new(alloc);
+        fields.required(0, &self.flags);
+        fields.required(1, &self.key);
+        fields.required(2, &self.crealm);
+        fields.required(3, &self.cname);
+        fields.required(4, &self.transited);
+        fields.required(5, &self.authtime);
+        fields.optional(6, &self.starttime);
+        fields.required(7, &self.endtime);
+        fields.optional(8, &self.renew_till);
+        fields.optional(9, &self.caddr);
+        fields.optional(10, &self.authorization_data);
+        fields.finish_application()
     }
 }
 
 impl TryCopy for EncTicketPart {
     fn copy(&self, alloc: Global) -> Result<EncTicketPart, OutOfMemory> {
-        Ok(EncTicketPart {
-            flags: self.flags.copy(alloc)?,
-            key: self.key.copy(alloc)?,
-            crealm: self.crealm.copy(alloc)?,
-            cname: self.cname.copy(alloc)?,
-            transited: self.transited.copy(alloc)?,
+        let mut copier = Copier::new(alloc);
+        let copy = EncTicketPart {
+            flags: copier.copy(&self.flags),
+            key: copier.copy(&self.key),
+            crealm: copier.copy(&self.crealm),
+            cname: copier.copy(&self.cname),
+            transited: copier.copy(&self.transited),
             authtime: self.authtime,
             starttime: self.starttime,
             endtime: self.endtime,
             renew_till: self.renew_till,
-            caddr: self.caddr.copy(alloc)?,
-            authorization_data: self.authorization_data.copy(alloc)?,
-        })
+            caddr: copier.copy(&self.caddr),
+            authorization_data: copier.copy(&self.authorization_data),
+        };
+        copier.finish(copy)
     }
 }

@@ -1,6 +1,8 @@
 //! Sealed data, keys and checksums (RFC 4120 5.2.9).
 
-use krb_der::{Asn1, Fault, IntegerAsn1, Octets, OutOfMemory, Reader, TryCopy, Writer};
+use krb_der::{
+    Asn1, Blank, Copier, Fault, FieldReader, FieldWriter, IntegerAsn1, Octets, OutOfMemory, TryCopy,
+};
 use std::alloc::Global;
 
 /// EncryptedData (RFC 4120 5.2.9): what is sealed under a key.
@@ -26,35 +28,44 @@ impl Asn1 for EncryptedData {
 
     #[tactic(auto, unfolding(crate::specs::Table::encrypted_data, crate::specs::Layouts::encrypted_data_row))]
     fn from_contents(alloc: Global, contents: &[u8]) -> Result<Self, Fault> {
-        let mut fields = Reader::of_sequence(contents);
-        let etype = fields.required_field(alloc, 0)?;
-        let kvno = fields.optional_field(alloc, 1)?;
-        let cipher = fields.required_field(alloc, 2)?;
-        fields.end()?;
-        Ok(EncryptedData {
-            etype,
-            kvno,
-            cipher,
-        })
+        let mut fields = FieldReader::of_sequence(alloc, contents);
+        let record = EncryptedData {
+            etype: fields.required(0),
+            kvno: fields.optional(1),
+            cipher: fields.required(2),
+        };
+        fields.finish(record)
     }
 
-    #[tactic(auto, using(std::proofs::Common::append_assoc, krb_der::proofs::Each::optional_rows), unfolding(crate::specs::Table::encrypted_data, crate::specs::Layouts::encrypted_data_row))]
+    #[tactic(auto, unfolding(crate::specs::Table::encrypted_data, crate::specs::Layouts::encrypted_data_row))]
     fn to_contents(&self, alloc: Global) -> Result<Octets, OutOfMemory> {
-        let mut fields = Writer::new(alloc);
-        fields.required_field(0, &self.etype)?;
-        fields.optional_field(1, &self.kvno)?;
-        fields.required_field(2, &self.cipher)?;
-        Ok(fields.finish())
+        let mut fields = FieldWriter::new(alloc);
+        fields.required(0, &self.etype);
+        fields.optional(1, &self.kvno);
+        fields.required(2, &self.cipher);
+        fields.finish()
     }
 }
 
 impl TryCopy for EncryptedData {
     fn copy(&self, alloc: Global) -> Result<EncryptedData, OutOfMemory> {
-        Ok(EncryptedData {
-            etype: self.etype.copy(alloc)?,
-            kvno: self.kvno.copy(alloc)?,
-            cipher: self.cipher.copy(alloc)?,
-        })
+        let mut copier = Copier::new(alloc);
+        let copy = EncryptedData {
+            etype: copier.copy(&self.etype),
+            kvno: copier.copy(&self.kvno),
+            cipher: copier.copy(&self.cipher),
+        };
+        copier.finish(copy)
+    }
+}
+
+impl Blank for EncryptedData {
+    fn blank(alloc: Global) -> EncryptedData {
+        EncryptedData {
+            etype: Blank::blank(alloc),
+            kvno: Blank::blank(alloc),
+            cipher: Blank::blank(alloc),
+        }
     }
 }
 
@@ -79,31 +90,40 @@ impl Asn1 for EncryptionKey {
 
     #[tactic(auto, unfolding(crate::specs::Table::encryption_key, crate::specs::Layouts::encryption_key_row))]
     fn from_contents(alloc: Global, contents: &[u8]) -> Result<Self, Fault> {
-        let mut fields = Reader::of_sequence(contents);
-        let key_type = fields.required_field(alloc, 0)?;
-        let key_value = fields.required_field(alloc, 1)?;
-        fields.end()?;
-        Ok(EncryptionKey {
-            key_type,
-            key_value,
-        })
+        let mut fields = FieldReader::of_sequence(alloc, contents);
+        let record = EncryptionKey {
+            key_type: fields.required(0),
+            key_value: fields.required(1),
+        };
+        fields.finish(record)
     }
 
-    #[tactic(auto, using(std::proofs::Common::append_assoc), unfolding(crate::specs::Table::encryption_key, crate::specs::Layouts::encryption_key_row))]
+    #[tactic(auto, unfolding(crate::specs::Table::encryption_key, crate::specs::Layouts::encryption_key_row))]
     fn to_contents(&self, alloc: Global) -> Result<Octets, OutOfMemory> {
-        let mut fields = Writer::new(alloc);
-        fields.required_field(0, &self.key_type)?;
-        fields.required_field(1, &self.key_value)?;
-        Ok(fields.finish())
+        let mut fields = FieldWriter::new(alloc);
+        fields.required(0, &self.key_type);
+        fields.required(1, &self.key_value);
+        fields.finish()
     }
 }
 
 impl TryCopy for EncryptionKey {
     fn copy(&self, alloc: Global) -> Result<EncryptionKey, OutOfMemory> {
-        Ok(EncryptionKey {
-            key_type: self.key_type.copy(alloc)?,
-            key_value: self.key_value.copy(alloc)?,
-        })
+        let mut copier = Copier::new(alloc);
+        let copy = EncryptionKey {
+            key_type: copier.copy(&self.key_type),
+            key_value: copier.copy(&self.key_value),
+        };
+        copier.finish(copy)
+    }
+}
+
+impl Blank for EncryptionKey {
+    fn blank(alloc: Global) -> EncryptionKey {
+        EncryptionKey {
+            key_type: Blank::blank(alloc),
+            key_value: Blank::blank(alloc),
+        }
     }
 }
 
@@ -128,30 +148,39 @@ impl Asn1 for Checksum {
 
     #[tactic(auto, unfolding(crate::specs::Table::checksum, crate::specs::Layouts::checksum_row))]
     fn from_contents(alloc: Global, contents: &[u8]) -> Result<Self, Fault> {
-        let mut fields = Reader::of_sequence(contents);
-        let cksumtype = fields.required_field(alloc, 0)?;
-        let checksum = fields.required_field(alloc, 1)?;
-        fields.end()?;
-        Ok(Checksum {
-            cksumtype,
-            checksum,
-        })
+        let mut fields = FieldReader::of_sequence(alloc, contents);
+        let record = Checksum {
+            cksumtype: fields.required(0),
+            checksum: fields.required(1),
+        };
+        fields.finish(record)
     }
 
-    #[tactic(auto, using(std::proofs::Common::append_assoc), unfolding(crate::specs::Table::checksum, crate::specs::Layouts::checksum_row))]
+    #[tactic(auto, unfolding(crate::specs::Table::checksum, crate::specs::Layouts::checksum_row))]
     fn to_contents(&self, alloc: Global) -> Result<Octets, OutOfMemory> {
-        let mut fields = Writer::new(alloc);
-        fields.required_field(0, &self.cksumtype)?;
-        fields.required_field(1, &self.checksum)?;
-        Ok(fields.finish())
+        let mut fields = FieldWriter::new(alloc);
+        fields.required(0, &self.cksumtype);
+        fields.required(1, &self.checksum);
+        fields.finish()
     }
 }
 
 impl TryCopy for Checksum {
     fn copy(&self, alloc: Global) -> Result<Checksum, OutOfMemory> {
-        Ok(Checksum {
-            cksumtype: self.cksumtype.copy(alloc)?,
-            checksum: self.checksum.copy(alloc)?,
-        })
+        let mut copier = Copier::new(alloc);
+        let copy = Checksum {
+            cksumtype: copier.copy(&self.cksumtype),
+            checksum: copier.copy(&self.checksum),
+        };
+        copier.finish(copy)
+    }
+}
+
+impl Blank for Checksum {
+    fn blank(alloc: Global) -> Checksum {
+        Checksum {
+            cksumtype: Blank::blank(alloc),
+            checksum: Blank::blank(alloc),
+        }
     }
 }

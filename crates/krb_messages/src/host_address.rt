@@ -1,6 +1,9 @@
 //! Network addresses (RFC 4120 5.2.5).
 
-use krb_der::{Asn1, Fault, IntegerAsn1, Items, Octets, OutOfMemory, Reader, TryCopy, Writer};
+use krb_der::{
+    Asn1, Blank, Copier, Fault, FieldReader, FieldWriter, IntegerAsn1, Items, Octets, OutOfMemory,
+    TryCopy,
+};
 use std::alloc::Global;
 
 /// HostAddresses (RFC 4120 5.2.5).
@@ -27,27 +30,39 @@ impl Asn1 for HostAddress {
 
     #[tactic(auto, unfolding(crate::specs::Table::host_address, crate::specs::Layouts::host_address_row))]
     fn from_contents(alloc: Global, contents: &[u8]) -> Result<Self, Fault> {
-        let mut fields = Reader::of_sequence(contents);
-        let addr_type = fields.required_field(alloc, 0)?;
-        let address = fields.required_field(alloc, 1)?;
-        fields.end()?;
-        Ok(HostAddress { addr_type, address })
+        let mut fields = FieldReader::of_sequence(alloc, contents);
+        let record = HostAddress {
+            addr_type: fields.required(0),
+            address: fields.required(1),
+        };
+        fields.finish(record)
     }
 
-    #[tactic(auto, using(std::proofs::Common::append_assoc), unfolding(crate::specs::Table::host_address, crate::specs::Layouts::host_address_row))]
+    #[tactic(auto, unfolding(crate::specs::Table::host_address, crate::specs::Layouts::host_address_row))]
     fn to_contents(&self, alloc: Global) -> Result<Octets, OutOfMemory> {
-        let mut fields = Writer::new(alloc);
-        fields.required_field(0, &self.addr_type)?;
-        fields.required_field(1, &self.address)?;
-        Ok(fields.finish())
+        let mut fields = FieldWriter::new(alloc);
+        fields.required(0, &self.addr_type);
+        fields.required(1, &self.address);
+        fields.finish()
     }
 }
 
 impl TryCopy for HostAddress {
     fn copy(&self, alloc: Global) -> Result<HostAddress, OutOfMemory> {
-        Ok(HostAddress {
-            addr_type: self.addr_type.copy(alloc)?,
-            address: self.address.copy(alloc)?,
-        })
+        let mut copier = Copier::new(alloc);
+        let copy = HostAddress {
+            addr_type: copier.copy(&self.addr_type),
+            address: copier.copy(&self.address),
+        };
+        copier.finish(copy)
+    }
+}
+
+impl Blank for HostAddress {
+    fn blank(alloc: Global) -> HostAddress {
+        HostAddress {
+            addr_type: Blank::blank(alloc),
+            address: Blank::blank(alloc),
+        }
     }
 }

@@ -1,7 +1,8 @@
 //! Names of principals (RFC 4120 5.2.2).
 
 use krb_der::{
-    Asn1, Fault, IntegerAsn1, Items, Name, Octets, OutOfMemory, Reader, TryCopy, Writer,
+    Asn1, Blank, Copier, Fault, FieldReader, FieldWriter, IntegerAsn1, Items, Name, Octets,
+    OutOfMemory, TryCopy,
 };
 use std::alloc::Global;
 
@@ -26,30 +27,39 @@ impl Asn1 for PrincipalName {
 
     #[tactic(auto, unfolding(crate::specs::Table::principal_name, crate::specs::Layouts::principal_name_row))]
     fn from_contents(alloc: Global, contents: &[u8]) -> Result<Self, Fault> {
-        let mut fields = Reader::of_sequence(contents);
-        let name_type = fields.required_field(alloc, 0)?;
-        let name_string = fields.required_field(alloc, 1)?;
-        fields.end()?;
-        Ok(PrincipalName {
-            name_type,
-            name_string,
-        })
+        let mut fields = FieldReader::of_sequence(alloc, contents);
+        let record = PrincipalName {
+            name_type: fields.required(0),
+            name_string: fields.required(1),
+        };
+        fields.finish(record)
     }
 
-    #[tactic(auto, using(std::proofs::Common::append_assoc), unfolding(crate::specs::Table::principal_name, crate::specs::Layouts::principal_name_row))]
+    #[tactic(auto, unfolding(crate::specs::Table::principal_name, crate::specs::Layouts::principal_name_row))]
     fn to_contents(&self, alloc: Global) -> Result<Octets, OutOfMemory> {
-        let mut fields = Writer::new(alloc);
-        fields.required_field(0, &self.name_type)?;
-        fields.required_field(1, &self.name_string)?;
-        Ok(fields.finish())
+        let mut fields = FieldWriter::new(alloc);
+        fields.required(0, &self.name_type);
+        fields.required(1, &self.name_string);
+        fields.finish()
     }
 }
 
 impl TryCopy for PrincipalName {
     fn copy(&self, alloc: Global) -> Result<PrincipalName, OutOfMemory> {
-        Ok(PrincipalName {
-            name_type: self.name_type.copy(alloc)?,
-            name_string: self.name_string.copy(alloc)?,
-        })
+        let mut copier = Copier::new(alloc);
+        let copy = PrincipalName {
+            name_type: copier.copy(&self.name_type),
+            name_string: copier.copy(&self.name_string),
+        };
+        copier.finish(copy)
+    }
+}
+
+impl Blank for PrincipalName {
+    fn blank(alloc: Global) -> PrincipalName {
+        PrincipalName {
+            name_type: Blank::blank(alloc),
+            name_string: Blank::blank(alloc),
+        }
     }
 }

@@ -2,7 +2,10 @@
 
 use crate::encryption::EncryptedData;
 use crate::principal_name::PrincipalName;
-use krb_der::{Asn1, Fault, IntegerAsn1, Name, Octets, OutOfMemory, Reader, TryCopy, Writer};
+use krb_der::{
+    Asn1, Blank, Copier, Fault, FieldReader, FieldWriter, IntegerAsn1, Name, Octets, OutOfMemory,
+    TryCopy,
+};
 use std::alloc::Global;
 
 /// Ticket (RFC 4120 5.3).
@@ -30,38 +33,47 @@ impl Asn1 for Ticket {
 
     #[tactic(auto, unfolding(crate::specs::Table::ticket, crate::specs::Layouts::ticket_row))]
     fn from_contents(alloc: Global, contents: &[u8]) -> Result<Self, Fault> {
-        let mut fields = Reader::of_application(contents)?;
-        let tkt_vno = fields.required_field(alloc, 0)?;
-        let realm = fields.required_field(alloc, 1)?;
-        let sname = fields.required_field(alloc, 2)?;
-        let enc_part = fields.required_field(alloc, 3)?;
-        fields.end()?;
-        Ok(Ticket {
-            tkt_vno,
-            realm,
-            sname,
-            enc_part,
-        })
+        let mut fields = FieldReader::of_application(alloc, contents);
+        let record = Ticket {
+            tkt_vno: fields.required(0),
+            realm: fields.required(1),
+            sname: fields.required(2),
+            enc_part: fields.required(3),
+        };
+        fields.finish(record)
     }
 
-    #[tactic(auto, using(std::proofs::Common::append_assoc), unfolding(crate::specs::Table::ticket, crate::specs::Layouts::ticket_row))]
+    #[tactic(auto, unfolding(crate::specs::Table::ticket, crate::specs::Layouts::ticket_row))]
     fn to_contents(&self, alloc: Global) -> Result<Octets, OutOfMemory> {
-        let mut fields = Writer::new(alloc);
-        fields.required_field(0, &self.tkt_vno)?;
-        fields.required_field(1, &self.realm)?;
-        fields.required_field(2, &self.sname)?;
-        fields.required_field(3, &self.enc_part)?;
-        fields.into_sequence()
+        let mut fields = FieldWriter::new(alloc);
+        fields.required(0, &self.tkt_vno);
+        fields.required(1, &self.realm);
+        fields.required(2, &self.sname);
+        fields.required(3, &self.enc_part);
+        fields.finish_application()
     }
 }
 
 impl TryCopy for Ticket {
     fn copy(&self, alloc: Global) -> Result<Ticket, OutOfMemory> {
-        Ok(Ticket {
-            tkt_vno: self.tkt_vno.copy(alloc)?,
-            realm: self.realm.copy(alloc)?,
-            sname: self.sname.copy(alloc)?,
-            enc_part: self.enc_part.copy(alloc)?,
-        })
+        let mut copier = Copier::new(alloc);
+        let copy = Ticket {
+            tkt_vno: copier.copy(&self.tkt_vno),
+            realm: copier.copy(&self.realm),
+            sname: copier.copy(&self.sname),
+            enc_part: copier.copy(&self.enc_part),
+        };
+        copier.finish(copy)
+    }
+}
+
+impl Blank for Ticket {
+    fn blank(alloc: Global) -> Ticket {
+        Ticket {
+            tkt_vno: Blank::blank(alloc),
+            realm: Blank::blank(alloc),
+            sname: Blank::blank(alloc),
+            enc_part: Blank::blank(alloc),
+        }
     }
 }
