@@ -8,20 +8,20 @@ pub finish_application-requires : goal.finish_application-requires
 unfolding enc_ap_rep_part enc_ap_rep_part_row
 finish_application-requires c =
     short
-      (then_optional (then_optional (then (then (begun _ (enc_ap_rep_part_row c.args.self.now) c.new-fields.ensures)
-        c.required.ensures)
-        c.required-2.ensures)
-        refl c.optional.ensures)
-        (option_id c.args.self.now.seq_number) c.optional-2.ensures)
-      c.requires.0
+    (then_optional (then_optional (then (then (begun _ (enc_ap_rep_part_row c.args.self.now) c.new-fields.ensures)
+    c.required.ensures)
+    c.required-2.ensures)
+    refl c.optional.ensures)
+    (option_id c.args.self.now.seq_number) c.optional-2.ensures)
+    c.requires.0
 
 pub returns : goal.returns
 unfolding enc_ap_rep_part enc_ap_rep_part_row
 returns c =
     completed_in c.finish_application.result
-      (then_optional (then_optional (then (then (begun _ (enc_ap_rep_part_row c.args.self.now) c.new-fields.ensures)
-        c.required.ensures)
-        c.required-2.ensures)
-        refl c.optional.ensures)
-        (option_id c.args.self.now.seq_number) c.optional-2.ensures)
-      c.finish_application.ensures
+    (then_optional (then_optional (then (then (begun _ (enc_ap_rep_part_row c.args.self.now) c.new-fields.ensures)
+    c.required.ensures)
+    c.required-2.ensures)
+    refl c.optional.ensures)
+    (option_id c.args.self.now.seq_number) c.optional-2.ensures)
+    c.finish_application.ensures

@@ -8,30 +8,30 @@ pub finish_application-requires : goal.finish_application-requires
 unfolding authenticator authenticator_row
 finish_application-requires c =
     short
-      (then_optional (then_optional (then_optional (then (then (then_optional (then (then (then (begun _ (authenticator_row c.args.self.now) c.new-fields.ensures)
-        c.required.ensures)
-        c.required-2.ensures)
-        c.required-3.ensures)
-        refl c.optional.ensures)
-        c.required-4.ensures)
-        c.required-5.ensures)
-        refl c.optional-2.ensures)
-        (option_id c.args.self.now.seq_number) c.optional-3.ensures)
-        refl c.optional-4.ensures)
-      c.requires.0
+    (then_optional (then_optional (then_optional (then (then (then_optional (then (then (then (begun _ (authenticator_row c.args.self.now) c.new-fields.ensures)
+    c.required.ensures)
+    c.required-2.ensures)
+    c.required-3.ensures)
+    refl c.optional.ensures)
+    c.required-4.ensures)
+    c.required-5.ensures)
+    refl c.optional-2.ensures)
+    (option_id c.args.self.now.seq_number) c.optional-3.ensures)
+    refl c.optional-4.ensures)
+    c.requires.0
 
 pub returns : goal.returns
 unfolding authenticator authenticator_row
 returns c =
     completed_in c.finish_application.result
-      (then_optional (then_optional (then_optional (then (then (then_optional (then (then (then (begun _ (authenticator_row c.args.self.now) c.new-fields.ensures)
-        c.required.ensures)
-        c.required-2.ensures)
-        c.required-3.ensures)
-        refl c.optional.ensures)
-        c.required-4.ensures)
-        c.required-5.ensures)
-        refl c.optional-2.ensures)
-        (option_id c.args.self.now.seq_number) c.optional-3.ensures)
-        refl c.optional-4.ensures)
-      c.finish_application.ensures
+    (then_optional (then_optional (then_optional (then (then (then_optional (then (then (then (begun _ (authenticator_row c.args.self.now) c.new-fields.ensures)
+    c.required.ensures)
+    c.required-2.ensures)
+    c.required-3.ensures)
+    refl c.optional.ensures)
+    c.required-4.ensures)
+    c.required-5.ensures)
+    refl c.optional-2.ensures)
+    (option_id c.args.self.now.seq_number) c.optional-3.ensures)
+    refl c.optional-4.ensures)
+    c.finish_application.ensures

@@ -8,34 +8,34 @@ pub finish_application-requires : goal.finish_application-requires
 unfolding enc_ticket_part enc_ticket_part_row
 finish_application-requires c =
     short
-      (then_optional (then_optional (then_optional (then (then_optional (then (then (then (then (then (then (begun _ (enc_ticket_part_row c.args.self.now) c.new-fields.ensures)
-        c.required.ensures)
-        c.required-2.ensures)
-        c.required-3.ensures)
-        c.required-4.ensures)
-        c.required-5.ensures)
-        c.required-6.ensures)
-        (option_id c.args.self.now.starttime) c.optional.ensures)
-        c.required-7.ensures)
-        (option_id c.args.self.now.renew_till) c.optional-2.ensures)
-        refl c.optional-3.ensures)
-        refl c.optional-4.ensures)
-      c.requires.0
+    (then_optional (then_optional (then_optional (then (then_optional (then (then (then (then (then (then (begun _ (enc_ticket_part_row c.args.self.now) c.new-fields.ensures)
+    c.required.ensures)
+    c.required-2.ensures)
+    c.required-3.ensures)
+    c.required-4.ensures)
+    c.required-5.ensures)
+    c.required-6.ensures)
+    (option_id c.args.self.now.starttime) c.optional.ensures)
+    c.required-7.ensures)
+    (option_id c.args.self.now.renew_till) c.optional-2.ensures)
+    refl c.optional-3.ensures)
+    refl c.optional-4.ensures)
+    c.requires.0
 
 pub returns : goal.returns
 unfolding enc_ticket_part enc_ticket_part_row
 returns c =
     completed_in c.finish_application.result
-      (then_optional (then_optional (then_optional (then (then_optional (then (then (then (then (then (then (begun _ (enc_ticket_part_row c.args.self.now) c.new-fields.ensures)
-        c.required.ensures)
-        c.required-2.ensures)
-        c.required-3.ensures)
-        c.required-4.ensures)
-        c.required-5.ensures)
-        c.required-6.ensures)
-        (option_id c.args.self.now.starttime) c.optional.ensures)
-        c.required-7.ensures)
-        (option_id c.args.self.now.renew_till) c.optional-2.ensures)
-        refl c.optional-3.ensures)
-        refl c.optional-4.ensures)
-      c.finish_application.ensures
+    (then_optional (then_optional (then_optional (then (then_optional (then (then (then (then (then (then (begun _ (enc_ticket_part_row c.args.self.now) c.new-fields.ensures)
+    c.required.ensures)
+    c.required-2.ensures)
+    c.required-3.ensures)
+    c.required-4.ensures)
+    c.required-5.ensures)
+    c.required-6.ensures)
+    (option_id c.args.self.now.starttime) c.optional.ensures)
+    c.required-7.ensures)
+    (option_id c.args.self.now.renew_till) c.optional-2.ensures)
+    refl c.optional-3.ensures)
+    refl c.optional-4.ensures)
+    c.finish_application.ensures

@@ -7,7 +7,7 @@ pub returns : goal.returns
 unfolding transited_encoding transited_encoding_row
 returns c =
     completed c.finish.result
-      (then (then (begun _ (transited_encoding_row c.args.self.now) c.new-fields.ensures)
-        c.required.ensures)
-        c.required-2.ensures)
-      c.finish.ensures
+    (then (then (begun _ (transited_encoding_row c.args.self.now) c.new-fields.ensures)
+    c.required.ensures)
+    c.required-2.ensures)
+    c.finish.ensures

@@ -7,7 +7,7 @@ pub returns : goal.returns
 unfolding checksum checksum_row
 returns c =
     completed c.finish.result
-      (then (then (begun _ (checksum_row c.args.self.now) c.new-fields.ensures)
-        c.required.ensures)
-        c.required-2.ensures)
-      c.finish.ensures
+    (then (then (begun _ (checksum_row c.args.self.now) c.new-fields.ensures)
+    c.required.ensures)
+    c.required-2.ensures)
+    c.finish.ensures

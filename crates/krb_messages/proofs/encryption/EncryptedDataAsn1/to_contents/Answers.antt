@@ -7,8 +7,8 @@ pub returns : goal.returns
 unfolding encrypted_data encrypted_data_row
 returns c =
     completed c.finish.result
-      (then (then_optional (then (begun _ (encrypted_data_row c.args.self.now) c.new-fields.ensures)
-        c.required.ensures)
-        (option_id c.args.self.now.kvno) c.optional.ensures)
-        c.required-2.ensures)
-      c.finish.ensures
+    (then (then_optional (then (begun _ (encrypted_data_row c.args.self.now) c.new-fields.ensures)
+    c.required.ensures)
+    (option_id c.args.self.now.kvno) c.optional.ensures)
+    c.required-2.ensures)
+    c.finish.ensures

@@ -7,7 +7,7 @@ pub returns : goal.returns
 unfolding encryption_key encryption_key_row
 returns c =
     completed c.finish.result
-      (then (then (begun _ (encryption_key_row c.args.self.now) c.new-fields.ensures)
-        c.required.ensures)
-        c.required-2.ensures)
-      c.finish.ensures
+    (then (then (begun _ (encryption_key_row c.args.self.now) c.new-fields.ensures)
+    c.required.ensures)
+    c.required-2.ensures)
+    c.finish.ensures

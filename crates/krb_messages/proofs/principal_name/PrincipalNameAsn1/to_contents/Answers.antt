@@ -7,7 +7,7 @@ pub returns : goal.returns
 unfolding principal_name principal_name_row
 returns c =
     completed c.finish.result
-      (then_seen (then (begun _ (principal_name_row c.args.self.now) c.new-fields.ensures)
-        c.required.ensures)
-        (items_id c.args.self.now.name_string) c.required-2.ensures)
-      c.finish.ensures
+    (then_seen (then (begun _ (principal_name_row c.args.self.now) c.new-fields.ensures)
+    c.required.ensures)
+    (items_id c.args.self.now.name_string) c.required-2.ensures)
+    c.finish.ensures
