@@ -5,7 +5,7 @@ ghost use Rattle.krb_aes.specs.Aes.{block_cipher};
 ghost use Rattle.krb_crypto.specs.Cts.{cts};
 
 use crate::octets::xor_octets;
-use krb_aes::KeySchedule;
+use krb_aes::{KeySchedule, add_columns, load_columns, store_columns};
 
 const BLOCK_LEN: usize = 16;
 
@@ -40,13 +40,14 @@ pub fn cts_encrypt(key: &KeySchedule, text: &mut [u8])
         text.copy_from_slice(&block);
         return;
     }
-    let mut previous = [0; 16];
+    let mut columns = [0; 4];
     for i in 0..count - 2 {
         let at = BLOCK_LEN * i;
-        let block = key.encrypt_block(xor_octets(&previous, &block_at(text, at)));
-        text[at..at + BLOCK_LEN].copy_from_slice(&block);
-        previous = block;
+        let next = key.encrypt_columns(add_columns(columns, load_columns(&block_at(text, at))));
+        text[at..at + BLOCK_LEN].copy_from_slice(&store_columns(next));
+        columns = next;
     }
+    let previous = store_columns(columns);
     let at = BLOCK_LEN * (count - 2);
     let stolen = key.encrypt_block(xor_octets(&previous, &block_at(text, at)));
     let last = key.encrypt_block(xor_octets(&stolen, &last_block(text, at + BLOCK_LEN)));
@@ -66,14 +67,15 @@ pub fn cts_decrypt(key: &KeySchedule, text: &mut [u8])
         text.copy_from_slice(&block);
         return;
     }
-    let mut previous = [0; 16];
+    let mut columns = [0; 4];
     for i in 0..count - 2 {
         let at = BLOCK_LEN * i;
-        let block = block_at(text, at);
-        let plain = xor_octets(&key.decrypt_block(block), &previous);
-        text[at..at + BLOCK_LEN].copy_from_slice(&plain);
-        previous = block;
+        let block = load_columns(&block_at(text, at));
+        let plain = add_columns(key.decrypt_columns(block), columns);
+        text[at..at + BLOCK_LEN].copy_from_slice(&store_columns(plain));
+        columns = block;
     }
+    let previous = store_columns(columns);
     let at = BLOCK_LEN * (count - 2);
     let opened = key.decrypt_block(block_at(text, at));
     let stolen = with_front(&opened, &text[at + BLOCK_LEN..]);
