@@ -1,6 +1,6 @@
 -- A sealed text and its parts (RFC 3962, section 6).
-use Rattle.std.proofs.Common.{◌≡◌, ℕ, ◌+◌, ◌-◌, ◌<◌, ◌≤◌, List, [], ◌++◌, length, take, drop, slice_index, refl, sym, ap, ap₂, ◌∙◌, arith}
-use Rattle.std.proofs.lemmas.List.{append-nil, length-append, length-take-le, take-append-drop, take_at, drop_at}
+use Rattle.std.proofs.Common.{◌≡◌, ℕ, ◌+◌, ◌<◌, ◌≤◌, List, ◌++◌, length, take, drop, slice_index, refl, sym, ap, ap₂, ◌∙◌, arith}
+use Rattle.std.proofs.lemmas.List.{length-append, length-take-le, take-append-drop, take_at, drop_at}
 use Rattle.krb_aes.specs.Aes.{aes, block_cipher, IsScheduleOf}
 use Rattle.krb_aes.specs.Octets.{IsOctets}
 use Rattle.krb_aes.specs.declared.schedule.KeySchedule.{KeySchedule}

@@ -1,5 +1,5 @@
 -- Derived keys of one and of two blocks (RFC 3961, section 5.1).
-use Rattle.std.proofs.Common.{◌≡◌, ℕ, List, [], ◌++◌, length, drop, sym, ap, ap₂, ◌∙◌, arith}
+use Rattle.std.proofs.Common.{◌≡◌, ℕ, List, ◌++◌, length, sym, ap, ap₂, ◌∙◌, arith}
 use Rattle.std.proofs.lemmas.List.{append-nil}
 use Rattle.krb_crypto.proofs.ListLemmas.{put_mid_end}
 use borrow.Rule.Slice.PartMut.{put_mid}

@@ -1,5 +1,5 @@
 -- HMAC under a key that is digested already, of a message that comes in pieces.
-use Rattle.std.specs.Prelude.{◌≡◌, ℕ, List, ◌++◌}
+use Rattle.std.specs.Prelude.{ℕ, List, ◌++◌}
 use Rattle.sha1.specs.Sha1.{Holds}
 use Rattle.krb_crypto.specs.Hmac.{xor_each, block_key}
 use Rattle.krb_crypto.specs.declared.hmac.HmacKey.{HmacKey}

@@ -1,5 +1,5 @@
-use Rattle.std.proofs.Common.{◌≡◌, ◌+◌, ◌-◌, ◌*◌, ℕ, List, length, ap, sym, ◌∙◌, arith}
-use Rattle.krb_aes.specs.Round.{column_octets, shifted, xor_octets}
+use Rattle.std.proofs.Common.{◌+◌, ◌-◌, ◌*◌, ℕ, List, ap, sym, ◌∙◌, arith}
+use Rattle.krb_aes.specs.Round.{column_octets, shifted}
 use Rattle.krb_aes.specs.Aes.{state_after}
 use Rattle.krb_aes.proofs.CipherLemmas.{state_after_first, shifted_before, cipher_of_shifted}
 use Rattle.krb_aes.proofs.RoundLemmas.{length-column_octets}

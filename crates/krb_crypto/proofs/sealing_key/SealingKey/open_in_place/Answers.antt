@@ -1,4 +1,4 @@
-use Rattle.std.proofs.Common.{rules, ◌-◌, length, refl, arith}
+use Rattle.std.proofs.Common.{◌-◌, length, refl, arith}
 use Rattle.std.proofs.lemmas.Bool.{both_ways}
 use Rattle.krb_crypto.proofs.SealedLemmas.{revealed_is_sealed, not_sealed}
 use Rattle.krb_crypto.proofs.sealing_key.SealingKey.open_in_place.Goals as goal
