@@ -5,17 +5,8 @@ use Rattle.std.specs.List.{list_any, position_or_len, prefix_len}
 use Rattle.std.proofs.lemmas.Bool.Decides.{nat_tests}
 use Rattle.std.proofs.lemmas.List.{get_or_push, take_more}
 use Rattle.std.proofs.Math.Seq.{take-append_seam, take-length}
+use Rattle.sspi_core.proofs.Cuts.{list_any-absent}
 use Rattle.krb_conf.specs.Line.{section_name, relation}
-
-absent-cons : (b r : Bool) (n m : ℕ) → cond (not b) (1 + n) 0 ≡ 1 + m → (n ≡ m → r ≡ false) → (b || r) ≡ false
-absent-cons true r n m h rest = absurd (omega arith)
-absent-cons false r n m h rest = rest (omega arith)
-
--- where no place passes, no element does
-pub list_any-absent : (p : ℕ → Bool) (xs : List ℕ) → position_or_len p xs ≡ length xs → list_any p xs ≡ false
-list_any-absent p [] h = refl
-list_any-absent p (x ∷ xs) h =
-    absent-cons (p x) (list_any p xs) (position_or_len p xs) (length xs) (h ∙ omega arith) (list_any-absent p xs)
 
 -- the section that stands between brackets
 between : (name : List ℕ) → section_name (91 ∷ (name ++ 93 ∷ [])) ≡ Some name

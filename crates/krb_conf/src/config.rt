@@ -16,6 +16,7 @@ use url::Url;
 pub struct KerberosConfig {
     /// The URL of the client's own KDC, if it is known.
     pub kdc_url: Option<Url>,
+    /// The name of the client's machine.
     pub client_computer_name: Text,
 }
 

@@ -1,6 +1,6 @@
 //! Variables and files, handed in by the caller: nothing here reads the environment or a file.
 
-ghost use Rattle.std.specs.Prelude.{◌≡◌, ◌==◌, IfOk, map, option_copied, option_map};
+ghost use Rattle.std.specs.Prelude.{◌≡◌, ◌==◌, [], IfOk, map, option_copied, option_map};
 ghost use Rattle.std.specs.List.{find, filter_map, slice_split};
 ghost use Rattle.krb_conf.specs.Env.{named, conf_texts};
 ghost use Rattle.krb_conf.specs.Ascii.{colon};
@@ -12,7 +12,9 @@ use std::alloc::Global;
 /// with a name counts.
 #[derive(Drop)]
 pub struct Env {
+    /// Variables and their values.
     pub vars: Items<(Text, Text)>,
+    /// Paths and the texts of the files there.
     pub files: Items<(Text, Text)>,
 }
 
@@ -52,6 +54,16 @@ fn texts_of<'a>(
 }
 
 impl Env {
+    /// No variable and no file.
+    pub fn new(alloc: Global) -> Env
+        ensures { result ≡ record { vars = []; files = [] } }
+    {
+        Env {
+            vars: Items::new(Vec::new(alloc)),
+            files: Items::new(Vec::new(alloc)),
+        }
+    }
+
     /// The texts of the files of `krb5.conf`, in the order in which they are read.
     pub(crate) fn conf_texts(&self, alloc: Global) -> Result<Vec<&str>, OutOfMemory>
         ensures { IfOk result (λ texts. map (λ text. text.now) texts.items

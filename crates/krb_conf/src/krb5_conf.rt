@@ -33,8 +33,8 @@ impl Krb5Conf {
     {
         let mut values = Vec::new(alloc);
         let mut place = Place::Outside;
-        for line in text.split('\n') {
-            let line = line.trim();
+        for whole in text.split('\n') {
+            let line = whole.trim();
             if is_skipped(line) {
                 continue;
             }

@@ -23,6 +23,3 @@ pub use names::{
     parse_target_name,
 };
 pub use realm::get_client_principal_realm;
-
-#[cfg(test)]
-mod tests;

@@ -17,6 +17,7 @@ const NT_ENTERPRISE: u8 = 10;
 /// A client's name as it is sent to a KDC.
 #[derive(Clone, Copy, Debug, PartialEq, Eq)]
 pub struct ClientPrincipalName<'a> {
+    /// The whole user principal name, or the account.
     pub name: &'a str,
     /// The domain of the client's realm; empty where the name has none.
     pub realm_domain: &'a str,
@@ -55,7 +56,8 @@ pub fn get_client_principal_name(username: &Username) -> ClientPrincipalName<'_>
     }
 }
 
-/// The service and the host of a target's name, which stand before and after its first `/`.
+/// The service and the host of a target's name, which stand before and after its first `/`. Refused as `Target` where
+/// there is no `/`, or either part is empty.
 pub fn parse_target_name(target_name: &str) -> Result<(&str, &str), Error>
     ensures parts { IfOk result (λ parts. target_parts target_name.entry.now
         ≡ Some (parts.0.now, parts.1.now)) }
