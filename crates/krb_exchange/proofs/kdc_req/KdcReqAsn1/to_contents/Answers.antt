@@ -1,0 +1,16 @@
+use Rattle.std.proofs.Common.{refl}
+use Rattle.krb_der.proofs.Progress.{begun, then, then_optional, completed}
+use Rattle.krb_exchange.specs.Table.{kdc_req}
+use Rattle.krb_exchange.specs.Layouts.{kdc_req_row}
+use Rattle.krb_exchange.proofs.kdc_req.KdcReqAsn1.to_contents.Goals as goal
+
+pub returns : goal.returns
+unfolding kdc_req kdc_req_row
+returns c =
+    completed c.finish.result
+    (then (then_optional (then (then (begun _ (kdc_req_row c.args.self.now) c.new-fields.ensures)
+    c.required.ensures)
+    c.required-2.ensures)
+    refl c.optional.ensures)
+    c.required-3.ensures)
+    c.finish.ensures
