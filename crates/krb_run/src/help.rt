@@ -1,7 +1,5 @@
 //! What the program prints of itself.
 
-pub const VERSION: &str = "krb_run 0.1.0\n";
-
 pub const HELP: &str = "\
 krb_run answers the events of a Kerberos service, one line of text for each.
 

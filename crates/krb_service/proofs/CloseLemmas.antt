@@ -1,11 +1,10 @@
 -- What is written with the last line.
-use Rattle.std.proofs.Common.{◌≡◌, ◌≢◌, ℕ, ◌+◌, ◌≤◌, ◌⊎◌, inl, inr, Bool, true, false, List, [], ◌∷◌, ◌++◌, length, Option, Some, None, IfSome, is_some, refl, ap, sym, ◌∙◌, subst, arith}
+use Rattle.std.proofs.Common.{◌≡◌, ◌≢◌, ℕ, ◌+◌, ◌⊎◌, inl, inr, Bool, true, false, List, [], ◌++◌, length, Option, Some, None, IfSome, refl, ap, sym, ◌∙◌, subst}
 use Rattle.std.specs.Prelude.{if◌then◌else◌}
-use Rattle.std.specs.Io.KnownBytes.{Consumes, Appends}
+use Rattle.std.specs.Io.KnownBytes.{Appends}
 use Rattle.std.proofs.lemmas.List.{append-nil}
 use Rattle.krb_text.specs.Output.{IsFront, AppendsFront}
-use Rattle.krb_text.specs.Script.{Setup, Declared, Reading, reading_of}
-use Rattle.krb_text.specs.declared.item.Event.{Event}
+use Rattle.krb_text.specs.Script.{Declared, Reading, reading_of}
 use Rattle.krb_text.specs.declared.stop.Stop.{Stop}
 use Rattle.krb_text.specs.declared.stop.Stop.TheVariants.{Whole, Bad, Long}
 use Rattle.krb_text.specs.declared.status.Status.{Status}
@@ -18,11 +17,11 @@ use Rattle.krb_replay.proofs.Order.{length-in_order}
 use Rattle.krb_service.specs.Policy.{State}
 use Rattle.krb_service.specs.Described.{skew_of, service_of, with_gate}
 use Rattle.krb_service.specs.Reply.{replies_text, admissions}
-use Rattle.krb_service.specs.Text.{Answered, IsText, IsStopped, last_line, end_line}
+use Rattle.krb_service.specs.Text.{Answered, IsText, last_line, end_line}
 use Rattle.krb_service.specs.Progress.{Progress}
 use Rattle.krb_service.specs.Closing.{closing, status_at, has_begun, kept_by}
 use Rattle.krb_service.specs.Serve.{Written, Serves, status_of, end_of}
-use Rattle.krb_service.specs.Halts.{Halts, HaltsAt, EndsAt, IsBefore, IsAmid, Follows}
+use Rattle.krb_service.specs.Halts.{Halts, HaltsAt, IsBefore, IsAmid, Follows}
 use Rattle.krb_service.proofs.ProgressLemmas.{before-answered, all-answered}
 use Rattle.krb_service.specs.declared.halt.Halt.{Halt}
 use Rattle.krb_service.specs.declared.halt.Halt.TheVariants.{End, BadLine, LongLine, ReadFault, WriteFault, OutOfMemory}
@@ -149,19 +148,6 @@ serves-front left b before between after progress halt line h line_is wrote r w 
     let whole = k.1 ++ closing progress halt in
     let front = AppendsFront-next before between after whole k.1 (closing progress halt) [] (ap (λ l. k.1 ++ l) (sym (append-nil (closing progress halt)))) k.3 (subst L line_is wrote) in
     (k.0, front.0, k.2, front.2, closed_front input k.0 whole front.0 progress halt (closed input k.0 k.1 progress halt k.4 r w) front.1 r w)) h
-
--- a write failed before
-pub serves-write : (left b before after : Option (List ℕ)) (progress : Progress) → Halts left b before after progress WriteFault → Serves left b before after WriteStatus
-serves-write left b before after progress h = map_some _ _ left (λ input k. (k.0, k.1, k.2, k.3, k.4)) h
-
-Appends-nothing : (a : Option (List ℕ)) → Appends a a []
-Appends-nothing None = tt
-Appends-nothing (Some xs) = sym (append-nil xs)
-
--- nothing is read or written
-pub serves-nothing : (left before : Option (List ℕ)) → Serves left left before before BadWords
-serves-nothing None before = tt
-serves-nothing (Some input) before = ([], [], (refl, omega arith), Appends-nothing before, (refl, refl))
 
 -- an input with no bad and no long line
 pub answered-whole : (input taken written : List ℕ) (status : Status) → end_of input ≡ Done → Written input taken status written → status ≢ BadWords

@@ -1,30 +1,26 @@
 -- Where the answering of lines ends.
-use Rattle.std.proofs.Common.{◌≡◌, ◌≢◌, ℕ, ◌+◌, ◌<◌, ◌≤◌, ◌^◌, ◌⊎◌, inl, inr, min, nat_lt, Bool, true, false, List, [], ◌∷◌, ◌++◌, length, length-append, Option, Some, None, IfSome, is_some, Result, Ok, Err, OnOk, OnErr, refl, ap, sym, ◌∙◌, subst, append_assoc, arith}
+use Rattle.std.proofs.Common.{◌≡◌, ℕ, ◌+◌, ◌<◌, ◌≤◌, inr, true, false, List, [], ◌∷◌, ◌++◌, length, length-append, Option, Some, None, IfSome, refl, ap, sym, ◌∙◌, subst, append_assoc, arith}
 use Rattle.std.specs.Io.KnownBytes.{Consumes, Appends, IsAtEnd, prepend_known}
-use Rattle.std.proofs.lemmas.Bool.{le-ltb}
 use Rattle.std.proofs.lemmas.List.{append-nil}
-use Rattle.krb_text.specs.Limits.{max_line, max_input}
-use Rattle.krb_text.specs.Lines.{Cut, cut, lines, unended}
-use Rattle.krb_text.specs.Cutter.{is_unbroken, IsLine}
-use Rattle.krb_text.specs.Output.{IsFront, AppendsFront}
-use Rattle.krb_text.specs.Script.{Declared, Reading, nothing_declared, declare_line, read_lines, read_on, reading_at, reading_of, is_long}
-use Rattle.krb_text.specs.Reader.{Reader, new_reader, ahead, IsBetweenLines, IsWithin, CutsOn, TakesLine, TakesRest, LongComes}
-use Rattle.krb_text.specs.declared.stop.Stop.{Stop}
+use Rattle.krb_text.specs.Limits.{max_input}
+use Rattle.krb_text.specs.Lines.{Cut, cut, lines}
+use Rattle.krb_text.specs.Output.{AppendsFront}
+use Rattle.krb_text.specs.Script.{Declared, Reading, read_lines, read_on, reading_at, reading_of, is_long}
+use Rattle.krb_text.specs.Reader.{Reader, ahead, IsWithin, CutsOn, TakesLine, TakesRest, LongComes}
 use Rattle.krb_text.specs.declared.stop.Stop.TheVariants.{Whole, Bad, Long}
-use Rattle.krb_text.specs.declared.status.Status.TheVariants.{ReadFault as ReadStatus, WriteFault as WriteStatus}
 use Rattle.krb_text.proofs.CutLemmas.{lines_line, lines_rest, cut_rest, some_end}
 use Rattle.krb_text.proofs.OutputLemmas.{Appends-trans, AppendsFront-next}
 use Rattle.krb_replay.specs.History.{History}
 use Rattle.krb_service.specs.Policy.{State}
 use Rattle.krb_service.specs.Reply.{replies_text}
-use Rattle.krb_service.specs.Text.{Answered, IsText, IsStopped, first_events, stopped_line}
-use Rattle.krb_service.specs.Serve.{Written, IsCutShort, IsTaken, whole_reading, IsSound}
+use Rattle.krb_service.specs.Text.{Answered, first_events, stopped_line}
+use Rattle.krb_service.specs.Serve.{IsTaken, whole_reading, IsSound}
 use Rattle.krb_service.specs.Progress.{Progress, Takes, Refuses}
-use Rattle.krb_service.specs.Halts.{Halts, HaltsAt, EndsAt, StopsAt, Follows}
+use Rattle.krb_service.specs.Halts.{Halts, StopsAt}
 use Rattle.krb_service.specs.declared.halt.Halt.{Halt}
 use Rattle.krb_service.specs.declared.halt.Halt.TheVariants.{End, BadLine, LongLine, ReadFault, WriteFault, OutOfMemory}
 use Rattle.krb_service.proofs.GrowthLemmas.{Grows, Grows-length, read-grows}
-use Rattle.krb_service.proofs.ProgressLemmas.{Made, line-made, line-refused, first-answered, all-answered}
+use Rattle.krb_service.proofs.ProgressLemmas.{line-made, line-refused, first-answered, all-answered}
 use Rattle.krb_service.proofs.StandingLemmas.{Standing, short, read-short, read-next, reading-ahead}
 
 known_cut : (left front b : Option (List ℕ)) (pending handled bytes : List ℕ) → Consumes left front handled → Consumes front (prepend_known pending b) bytes

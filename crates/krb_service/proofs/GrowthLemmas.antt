@@ -1,10 +1,10 @@
 -- What is declared grows from line to line.
-use Rattle.std.proofs.Common.{◌≡◌, ℕ, ◌+◌, ◌≤◌, ◌⊎◌, inl, inr, Bool, true, false, List, [], ◌∷◌, ◌++◌, length, length-append, take, Option, Some, None, is_some, option_map, refl, ap, sym, ◌∙◌, subst, append_assoc, arith}
+use Rattle.std.proofs.Common.{◌≡◌, ℕ, ◌+◌, ◌≤◌, ◌⊎◌, inl, inr, Bool, true, false, List, [], ◌∷◌, ◌++◌, length, length-append, Option, Some, None, is_some, refl, ap, sym, ◌∙◌, subst, append_assoc, arith}
 use Rattle.std.specs.Prelude.{if◌then◌else◌}
-use Rattle.std.proofs.lemmas.List.{append-nil, take_at}
+use Rattle.std.proofs.lemmas.List.{append-nil}
 use Rattle.krb_text.specs.Lines.{is_skipped}
 use Rattle.krb_text.specs.Items.{◌>>=◌, item_of}
-use Rattle.krb_text.specs.Script.{Setup, Declared, Reading, set_up, set_up_before, declare, declare_line, read_lines, read_on, is_long}
+use Rattle.krb_text.specs.Script.{Setup, Declared, Reading, set_up_before, declare, declare_line, read_lines, read_on, is_long}
 use Rattle.krb_text.specs.declared.item.Item.{Item}
 use Rattle.krb_text.specs.declared.item.Item.TheVariants.{Skew, Acceptor as AcceptorItem, Key as KeyItem, Event as EventItem}
 use Rattle.krb_text.specs.declared.item.Event.{Event}

@@ -1,10 +1,10 @@
 -- What the events of a run leave in the gate that never forgets, and when an event is answered Done.
-use Rattle.std.proofs.Common.{◌≡◌, ℕ, Bool, true, false, List, [], ◌∷◌, ◌++◌, length, Option, Some, None, Result, Ok, Err, refl, sym, ap, ◌∙◌, subst, append_assoc}
+use Rattle.std.proofs.Common.{◌≡◌, ℕ, Bool, true, false, List, [], ◌∷◌, ◌++◌, length, Result, Ok, Err, refl, sym, ap, ◌∙◌, subst, append_assoc}
 use Rattle.std.specs.Prelude.{if◌then◌else◌}
 use Rattle.std.proofs.lemmas.List.{append-nil}
 use Rattle.krb_context.specs.declared.context.Kerberos.{Kerberos}
 use Rattle.krb_replay.proofs.Runs.{admits_once}
-use Rattle.krb_replay.specs.History.{History, verdict_of, history_after}
+use Rattle.krb_replay.specs.History.{History, verdict_of}
 use Rattle.krb_replay.specs.Records.{IsDistinct}
 use Rattle.krb_replay.specs.Verdicts.{is_admitted}
 use Rattle.krb_replay.specs.declared.ask.Ask.{Ask}
@@ -13,7 +13,7 @@ use Rattle.krb_replay.specs.declared.ask.Verdict.TheVariants.{Admitted, Skew, No
 use Rattle.krb_replay.specs.declared.record.Record.{Record}
 use Rattle.krb_server.proofs.Once.{begins_once}
 use Rattle.krb_server.proofs.Steps.{completed}
-use Rattle.krb_server.specs.Accepts.{Begins, Finishes, Judged, Asks, Makes, Accepts, refusal, asks_dce_style}
+use Rattle.krb_server.specs.Accepts.{Begins, Finishes, Judged, Asks, Makes, refusal, asks_dce_style}
 use Rattle.krb_server.specs.Admission.{accepted_of}
 use Rattle.krb_server.specs.Requests.{ask_of}
 use Rattle.krb_server.specs.declared.admission.Accepted.{Accepted}
@@ -26,7 +26,6 @@ use Rattle.sspi_core.specs.declared.cause.Cause.{Cause}
 use Rattle.sspi_core.specs.declared.draw.Draw.{Draw}
 use Rattle.krb_service.specs.declared.connection.Connection.{Connection}
 use Rattle.krb_service.specs.declared.reply.Reply.{Reply}
-use Rattle.krb_service.specs.declared.reply.Reply.TheVariants.{Done, Refused}
 use Rattle.krb_service.specs.Policy.{State, Judges, Behind, Steps, Runs, reached, reply_of, server_flags, draw_of}
 use Rattle.krb_service.specs.Described.{Remembers}
 use Rattle.krb_service.specs.Left.{left_by, left_behind, record_left, records_left}
@@ -79,7 +78,7 @@ left-once skew state after (event ∷ events) (reply ∷ replies) runs distinct 
     subst IsDistinct (ap (λ l. l ++ rest) one.is ∙ append_assoc state.gate.admitted left rest) (left-once skew runs.0 after events replies runs.2 one.distinct)
 
 -- what passes behind the gate was admitted by it
-passed_admitted : (verdict : Verdict) (middle : Result (Unit {0}) Cause) (next : Unit {0} → Result Admission Cause → Type 0) (admission : Admission) → middle ≡ err_of (refusal verdict) → Goes next middle (Ok admission)
+pub passed_admitted : (verdict : Verdict) (middle : Result (Unit {0}) Cause) (next : Unit {0} → Result Admission Cause → Type 0) (admission : Admission) → middle ≡ err_of (refusal verdict) → Goes next middle (Ok admission)
     → is_admitted verdict ≡ true
 passed_admitted Admitted middle next admission is goes = refl
 passed_admitted Skew (Ok u) next admission is goes = absurd (cc)
@@ -108,26 +107,33 @@ goes_left server dce token draw verdict (Err cause) admission begun judged =
     let refused : ◌≡◌ {A = Result Admission Cause} (Ok admission) (Err cause) = subst R same judged.rest in
     absurd (cc)
 
-made_left : {G : Type 0} (admits : G → Ask → Verdict → G → Type 0) (server : Kerberos) (dce : Bool) (token : List ℕ) (draw : Draw) (old new : G) (outcome : Result Admission Cause) (answer : Result Accepted Cause) (after : Kerberos)
-    (request : Result Request Cause) (verdict : Verdict) → Begins server dce token request → Judged server dce token draw verdict outcome → Makes server outcome answer after → is_done (reply_of answer) ≡ true
-    → length (left_by request verdict draw.moment) ≡ 1
-made_left admits server dce token draw old new (Ok admission) answer after request verdict begun judged made done = goes_left server dce token draw verdict request admission begun judged
-made_left admits server dce token draw old new (Err cause) answer after request verdict begun judged made done =
+made_left : (server : Kerberos) (dce : Bool) (token : List ℕ) (draw : Draw) (outcome : Result Admission Cause) (answer : Result Accepted Cause) (after : Kerberos) (request : Result Request Cause) (verdict : Verdict) → Begins server dce token request
+    → Judged server dce token draw verdict outcome → Makes server outcome answer after → is_done (reply_of answer) ≡ true → (admission : Admission) × (outcome ≡ Ok admission)
+made_left server dce token draw (Ok admission) answer after request verdict begun judged made done = (admission, refl)
+made_left server dce token draw (Err cause) answer after request verdict begun judged made done =
     let is = made.0 in let refused : is_done (reply_of (Err cause)) ≡ true = ap (λ a. is_done (reply_of a)) (sym is) ∙ done in absurd (cc)
 
-done_behind : (skew : ℕ) (state : State History) (event : Event) (found : Result (Connection × List ℕ) Cause) (answer : Result Accepted Cause) (after : State History)
-    → (b : Behind (Remembers skew) state event found answer after) → is_done (reply_of answer) ≡ true → length (left_behind (Remembers skew) state event found answer after b) ≡ 1
-done_behind skew state event (Ok found) answer after b done =
-    made_left (Remembers skew) found.0.context (asks_dce_style (server_flags event.flags)) found.1 (draw_of event) state.gate after.gate b.accepts.outcome answer b.server b.accepts.request b.accepts.verdict
-    b.accepts.begun b.accepts.judged b.accepts.made done
-done_behind skew state event (Err cause) answer after b done =
-    let refused : is_done (reply_of (Err cause)) ≡ true = ap (λ a. is_done (reply_of a)) (sym b.0) ∙ done in absurd (cc)
+module _ {G : Type 0} (admits : G → Ask → Verdict → G → Type 0) where
+  -- an acceptor's answer Done is an admission
+  pub done_admission : (state after : State G) (event : Event) (connection : Connection) (token : List ℕ) (answer : Result Accepted Cause) (j : Judges admits state event connection token answer after)
+      → is_done (reply_of answer) ≡ true → (admission : Admission) × (j.accepts.outcome ≡ Ok admission)
+  done_admission state after event connection token answer j done =
+      made_left connection.context (asks_dce_style (server_flags event.flags)) token (draw_of event) j.accepts.outcome answer j.server j.accepts.request j.accepts.verdict j.accepts.begun j.accepts.judged j.accepts.made done
 
--- an event that is answered Done leaves one record
-pub done-left : (skew : ℕ) (state after : State History) (event : Event) (reply : Reply) (step : Steps (Remembers skew) state event reply after) → is_done reply ≡ true
-    → length (record_left (Remembers skew) state event reply after step) ≡ 1
-done-left skew state after event reply step done =
-    done_behind skew state event (reached state.connections event) step.answer after step.behind (ap is_done (sym step.reply_is) ∙ done)
+  done_behind : (state : State G) (event : Event) (found : Result (Connection × List ℕ) Cause) (answer : Result Accepted Cause) (after : State G) → (b : Behind admits state event found answer after) → is_done (reply_of answer) ≡ true
+      → length (left_behind admits state event found answer after b) ≡ 1
+  done_behind state event (Ok found) answer after b done =
+      let a = done_admission state after event found.0 found.1 answer b done in
+      let dce = asks_dce_style (server_flags event.flags) in
+      let J : Result Admission Cause → Type 0 = λ o. Judged found.0.context dce found.1 (draw_of event) b.accepts.verdict o in
+      goes_left found.0.context dce found.1 (draw_of event) b.accepts.verdict b.accepts.request a.0 b.accepts.begun (subst J a.1 b.accepts.judged)
+  done_behind state event (Err cause) answer after b done =
+      let refused : is_done (reply_of (Err cause)) ≡ true = ap (λ a. is_done (reply_of a)) (sym b.0) ∙ done in absurd (cc)
+
+  -- an event that is answered Done leaves one record
+  pub done-left : (state after : State G) (event : Event) (reply : Reply) (step : Steps admits state event reply after) → is_done reply ≡ true → length (record_left admits state event reply after step) ≡ 1
+  done-left state after event reply step done =
+      done_behind state event (reached state.connections event) step.answer after step.behind (ap is_done (sym step.reply_is) ∙ done)
 
 judged_admitted : (server : Kerberos) (dce : Bool) (token : List ℕ) (draw : Draw) (request : Request) (admission : Admission) → Begins server dce token (Ok request) → Finishes server draw request (Ok admission)
     → Judged server dce token draw Admitted (Ok admission)

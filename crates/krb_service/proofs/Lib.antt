@@ -10,3 +10,5 @@ pub mod CloseLemmas
 pub mod DemoLemmas
 pub mod OnceLemmas
 pub mod LeftLemmas
+pub mod BookLemmas
+pub mod GateLemmas

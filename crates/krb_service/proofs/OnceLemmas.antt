@@ -13,7 +13,7 @@ use Rattle.krb_server.specs.declared.admission.Accepted.{Accepted}
 use Rattle.krb_server.specs.declared.admission.Admission.{Admission}
 use Rattle.krb_server.specs.declared.request.Request.{Request}
 use Rattle.krb_text.specs.declared.item.Event.{Event}
-use Rattle.krb_text.specs.Script.{Declared, reading_of}
+use Rattle.krb_text.specs.Script.{reading_of}
 use Rattle.sspi_core.specs.Checks.{Passes, Goes, ◌>>◌}
 use Rattle.sspi_core.specs.declared.cause.Cause.{Cause}
 use Rattle.sspi_core.specs.declared.draw.Draw.{Draw}
@@ -22,7 +22,7 @@ use Rattle.krb_service.specs.declared.reply.Reply.{Reply}
 use Rattle.krb_service.specs.Policy.{State, Says, Judges, Behind, Steps, Runs, reached, reply_of, server_flags, draw_of}
 use Rattle.krb_service.specs.Described.{Remembers, skew_of, service_of}
 use Rattle.krb_service.specs.Reply.{replies_text}
-use Rattle.krb_service.specs.Text.{Answered, IsText, last_line}
+use Rattle.krb_service.specs.Text.{IsText, last_line}
 
 -- where the checks before the gate refuse, the verdict does not matter
 pub judged_refused : (server : Kerberos) (dce : Bool) (token : List ℕ) (draw : Draw) (verdict : Verdict) (cause : Cause) (outcome : Result Admission Cause) → Begins server dce token (Err cause)

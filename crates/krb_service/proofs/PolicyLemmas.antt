@@ -1,6 +1,5 @@
 -- Runs of the policy machine, one event more.
-use Rattle.std.proofs.Common.{◌≡◌, ℕ, suc, List, [], ◌∷◌, ◌++◌, length, refl, ap, sym, ◌∙◌, subst, append_assoc}
-use Rattle.std.proofs.lemmas.List.{append-nil}
+use Rattle.std.proofs.Common.{◌≡◌, suc, List, [], ◌∷◌, ◌++◌, length, refl, ap, ◌∙◌, subst, append_assoc}
 use Rattle.krb_replay.specs.declared.ask.Ask.{Ask}
 use Rattle.krb_replay.specs.declared.ask.Verdict.{Verdict}
 use Rattle.krb_text.specs.declared.item.Event.{Event}
@@ -25,9 +24,6 @@ module _ {G : Type 0} (admits : G → Ask → Verdict → G → Type 0) where
   Runs-length state (event ∷ events) (reply ∷ replies) after runs = ap suc (Runs-length runs.0 events replies after runs.2)
 
   -- replies that are made behind others
-  pub RunsOn-none : (state : State G) (old : List Reply) → RunsOn admits state [] old old state
-  RunsOn-none state old = record { made = []; replies = sym (append-nil old); runs = refl }
-
   pub RunsOn-push : (state : State G) (events : List Event) (old now new : List Reply) (between : State G) (event : Event) (reply : Reply) (after : State G)
       → RunsOn admits state events old now between → Steps admits between event reply after → new ≡ now ++ reply ∷ [] → RunsOn admits state (events ++ event ∷ []) old new after
   RunsOn-push state events old now new between event reply after r steps is = record {

@@ -6,7 +6,7 @@ use Rattle.std.proofs.lemmas.List.Concat.{flat_map-append}
 use Rattle.std.proofs.lemmas.List.Sums.{sum_by_push}
 use Rattle.krb_text.specs.Lines.{is_skipped}
 use Rattle.krb_text.specs.Items.{◌>>=◌, item_of}
-use Rattle.krb_text.specs.Script.{Setup, Declared, empty_setup, set_up, set_up_before, declare, declare_line}
+use Rattle.krb_text.specs.Script.{Setup, Declared, set_up, set_up_before, declare, declare_line}
 use Rattle.krb_text.specs.declared.item.Item.{Item}
 use Rattle.krb_text.specs.declared.item.Item.TheVariants.{Skew, Acceptor as AcceptorItem, Key as KeyItem, Event as EventItem}
 use Rattle.krb_text.specs.declared.item.Event.{Event}
@@ -17,11 +17,11 @@ use Rattle.krb_service.specs.Policy.{State, Runs}
 use Rattle.krb_service.specs.Described.{Remembers, skew_of, connections_of, service_of, with_gate}
 use Rattle.krb_service.specs.Reply.{reply_line, replies_text, is_done}
 use Rattle.krb_service.specs.Text.{Answered, first_events}
-use Rattle.krb_service.specs.Progress.{Progress, IsNew, Begins, CannotBegin, one_if_done, Answers, prepare, prepare_by, Prepares, TakesItem, RefusesItem, TakesContent, RefusesContent, counted, Takes, Refuses}
+use Rattle.krb_service.specs.Progress.{Progress, IsNew, Begins, CannotBegin, one_if_done, Answers, prepare, prepare_by, Prepares, TakesItem, RefusesItem, TakesContent, counted, Takes, Refuses}
 use Rattle.krb_service.specs.Halts.{IsBefore, IsAmid, Follows}
 use Rattle.krb_service.proofs.PolicyLemmas.{Runs-push}
 use Rattle.krb_service.proofs.HistoryLemmas.{step-remembered}
-use Rattle.krb_service.proofs.GrowthLemmas.{Grows, Grows-length}
+use Rattle.krb_service.proofs.GrowthLemmas.{Grows}
 
 -- what a line makes that is taken
 pub record Made (progress : Progress) (so_far : Declared) (replies : List Reply) (declared : Option Declared) (text : List ℕ) (lines : ℕ) (after : Progress) : Type 0 where

@@ -1,25 +1,22 @@
 -- What has been read and written between two lines, and where it ends.
-use Rattle.std.proofs.Common.{◌≡◌, ◌≢◌, ℕ, ◌+◌, ◌<◌, ◌≤◌, ◌^◌, ◌⊎◌, inl, inr, min, nat_lt, Bool, true, false, List, [], ◌∷◌, ◌++◌, length, length-append, Option, Some, None, IfSome, is_some, Result, Ok, Err, OnOk, OnErr, refl, ap, sym, ◌∙◌, subst, append_assoc, arith}
+use Rattle.std.proofs.Common.{◌≡◌, ℕ, ◌+◌, ◌<◌, ◌≤◌, inl, min, true, false, List, [], ◌∷◌, ◌++◌, length, length-append, Option, Some, None, refl, ap, sym, ◌∙◌, subst, append_assoc, arith}
 use Rattle.std.specs.Prelude.{◌==◌}
-use Rattle.std.specs.Io.KnownBytes.{Consumes, Appends, IsAtEnd, prepend_known}
+use Rattle.std.specs.Io.KnownBytes.{Consumes, Appends, prepend_known}
 use Rattle.std.proofs.lemmas.Bool.{le-ltb, eqb-true, true≢false}
 use Rattle.std.proofs.lemmas.List.{append-nil}
 use Rattle.krb_text.specs.Limits.{max_line, max_input}
 use Rattle.krb_text.specs.Lines.{Cut, cut, lines, unended}
-use Rattle.krb_text.specs.Cutter.{is_unbroken, IsLine}
-use Rattle.krb_text.specs.Output.{IsFront, AppendsFront}
-use Rattle.krb_text.specs.Script.{Declared, Reading, nothing_declared, declare_line, read_lines, read_on, reading_at, reading_of, is_long}
-use Rattle.krb_text.specs.Reader.{Reader, new_reader, ahead, IsBetweenLines, TakesLine, TakesRest, LongComes}
-use Rattle.krb_text.specs.declared.stop.Stop.{Stop}
-use Rattle.krb_text.specs.declared.stop.Stop.TheVariants.{Whole, Bad, Long}
-use Rattle.krb_text.proofs.CutLemmas.{cut_line, cut_rest, some_end}
+use Rattle.krb_text.specs.Script.{Declared, nothing_declared, declare_line, read_lines, read_on, reading_at, reading_of, is_long}
+use Rattle.krb_text.specs.Reader.{Reader, new_reader, ahead, TakesLine, TakesRest}
+use Rattle.krb_text.specs.declared.stop.Stop.TheVariants.{Bad}
+use Rattle.krb_text.proofs.CutLemmas.{cut_line}
 use Rattle.krb_text.proofs.ReaderLemmas.{Consumes-trans}
 use Rattle.krb_text.proofs.OutputLemmas.{Appends-trans}
 use Rattle.krb_service.specs.declared.reply.Reply.{Reply}
 use Rattle.krb_service.specs.Reply.{replies_text}
 use Rattle.krb_service.specs.Progress.{Progress, new_progress, Takes}
 use Rattle.krb_service.specs.Halts.{Follows}
-use Rattle.krb_service.proofs.ProgressLemmas.{Made, line-made}
+use Rattle.krb_service.proofs.ProgressLemmas.{line-made}
 
 -- only whole lines were taken, each is declared, and the replies to their events are written
 pub record Standing (left front before now : Option (List ℕ)) (octets : ℕ) (progress : Progress) : Type 0 where

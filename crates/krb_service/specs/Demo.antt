@@ -1,5 +1,5 @@
 -- What the demonstration writes.
-use Rattle.std.specs.Prelude.{◌≡◌, ℕ, ◌-◌, ◌^◌, nat_lt, nat_le, ◌&&◌, List, [], ◌++◌, codes, length, Option, Some, None, option_and_then, if◌then◌else◌, IfSome}
+use Rattle.std.specs.Prelude.{◌≡◌, ℕ, ◌-◌, ◌^◌, nat_lt, nat_le, ◌&&◌, List, ◌++◌, codes, length, Option, Some, None, option_and_then, if◌then◌else◌, IfSome}
 use Rattle.std.specs.Fmt.{decimal}
 use Rattle.std.specs.Io.KnownBytes.{Appends}
 use Rattle.krb_demo.specs.Input.{demonstration}

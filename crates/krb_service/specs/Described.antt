@@ -1,12 +1,12 @@
 -- The service that the lines describe, over the book that never forgets.
-use Rattle.std.specs.Prelude.{◌≡◌, ℕ, ◌==◌, List, [], ◌++◌, map, length, Option, None, Some, option_map, unwrap_or}
-use Rattle.std.specs.List.{slice_split, count_by}
+use Rattle.std.specs.Prelude.{◌≡◌, ℕ, ◌==◌, List, [], map, Option, None, Some, option_map, unwrap_or}
+use Rattle.std.specs.List.{slice_split}
 use Rattle.krb_conf.specs.declared.env.Env.{Env}
 use Rattle.krb_context.specs.Contexts.{new_context}
 use Rattle.krb_context.specs.Params.{default_params}
 use Rattle.krb_context.specs.ServiceKeys.{new_properties}
 use Rattle.krb_context.specs.declared.context.Kerberos.{Kerberos}
-use Rattle.krb_replay.specs.History.{History, no_history, verdict_of, history_after, window}
+use Rattle.krb_replay.specs.History.{History, no_history, verdict_of, history_after}
 use Rattle.krb_replay.specs.declared.ask.Ask.{Ask}
 use Rattle.krb_replay.specs.declared.ask.Verdict.{Verdict}
 use Rattle.krb_text.specs.Script.{Setup, at_id}

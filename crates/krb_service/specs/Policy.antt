@@ -1,16 +1,18 @@
 -- The policy machine: what a service answers to an event, and what it is afterwards.
-use Rattle.std.specs.Prelude.{◌≡◌, ℕ, nat_le, Bool, true, false, if◌then◌else◌, List, [], ◌∷◌, ◌++◌, Option, Some, None, is_some, Result, Ok, Err}
+use Rattle.std.specs.Prelude.{◌≡◌, ℕ, nat_le, Bool, true, false, if◌then◌else◌, List, [], ◌∷◌, ◌++◌, Option, Some, None, is_some, Result, Ok, Err, IfErr}
 use Rattle.std.specs.Ordering.{nat_cmp}
-use Rattle.std.specs.BTreeMap.{is_at}
+use Rattle.std.specs.BTreeMap.{is_at, insert_entry}
+use Rattle.std.specs.Result.{result_map_both}
 use Rattle.std.specs.Map.{set_value}
 use Rattle.krb_conf.specs.declared.env.Env.{Env}
 use Rattle.krb_context.specs.Contexts.{is_acceptor}
 use Rattle.krb_context.specs.declared.context.Kerberos.{Kerberos}
 use Rattle.krb_replay.specs.declared.ask.Ask.{Ask}
 use Rattle.krb_replay.specs.declared.ask.Verdict.{Verdict}
-use Rattle.krb_server.specs.Accepts.{asks_dce_style, Accepts}
+use Rattle.krb_server.specs.Accepts.{asks_dce_style, Accepts, Begins}
 use Rattle.krb_server.specs.declared.admission.Accepted.{Accepted}
 use Rattle.krb_server.specs.declared.admission.Accepted.TheVariants.{Done as Admitted}
+use Rattle.krb_server.specs.declared.request.Request.{Request}
 use Rattle.krb_text.specs.Script.{at_id}
 use Rattle.krb_text.specs.declared.item.Event.{Event}
 use Rattle.krb_text.specs.declared.item.Input.{Input}
@@ -21,7 +23,6 @@ use Rattle.sspi_core.specs.declared.cause.Cause.{Cause}
 use Rattle.sspi_core.specs.declared.cause.Cause.TheVariants as causes
 use Rattle.sspi_core.specs.declared.draw.Draw.{Draw}
 use Rattle.sspi_core.specs.declared.error.Error.{Error}
-use Rattle.sspi_core.specs.declared.draw.TheConstants.{MAX_MOMENT}
 use Rattle.sspi_core.specs.declared.flags.ClientRequestFlags.{ClientRequestFlags}
 use Rattle.sspi_core.specs.declared.flags.ServerRequestFlags.{ServerRequestFlags}
 use Rattle.krb_service.specs.declared.connection.Connection.{Connection}
@@ -48,11 +49,15 @@ abbrev pub token_of : Input → Option (List ℕ)
 token_of (Token octets) = Some octets
 token_of LaterForm = None
 
+-- the last moment that is taken: the end of 9999-12-28, in microseconds since 1970-01-01T00:00:00Z
+abbrev pub last_moment : ℕ
+last_moment = 253402041599999999
+
 -- the first checks: the moment is in range, the form is built, there is such a connection, and it is an acceptor, since
 -- what an initiator does with a token is not built
 abbrev pub reached : List (ℕ × Connection) → Event → Result (Connection × List ℕ) Cause
 reached connections event = do
-  in_range ← check causes.Moment (nat_le event.moment MAX_MOMENT)
+  in_range ← check causes.Moment (nat_le event.moment last_moment)
   token ← ok_or causes.NotBuilt (token_of event.input)
   connection ← ok_or causes.Connection (at_id event.connection connections)
   built ← check causes.NotBuilt (is_acceptor connection.context)
@@ -65,6 +70,13 @@ server_flags flags = record { 0 = flags.0 }
 -- what an event hands to the step
 abbrev pub draw_of : Event → Draw
 draw_of event = record { moment = event.moment; random = event.random }
+
+-- the request that an event brings to the gate: the first checks let its token through, and so do those before the gate
+pub record Brings (connections : List (ℕ × Connection)) (event : Event) (request : Request) : Type 0 where
+  pub connection : Connection
+  pub token : List ℕ
+  pub reaches : reached connections event ≡ Ok (connection, token)
+  pub begun : Begins connection.context (asks_dce_style (server_flags event.flags)) token (Ok request)
 
 -- the reply that an acceptor's answer makes
 abbrev pub reply_of : Result Accepted Cause → Reply
@@ -85,6 +97,19 @@ abbrev pub refusal_to_add : Bool → Bool → Option Cause
 refusal_to_add true fits = Some causes.Connection
 refusal_to_add false false = Some causes.Role
 refusal_to_add false true = None
+
+-- a refusal with its cause; where nothing refuses, memory alone is answered
+abbrev pub IsRefusedFor : {A : Type 0} → Option Cause → Result A Error → Type 0
+IsRefusedFor (Some cause) result = result ≡ Err (error_of cause)
+IsRefusedFor None result = IfErr result (λ e. e ≡ error_of causes.Memory)
+
+-- the token that the first checks let through
+abbrev pub token_reached : List (ℕ × Connection) → Event → Result (List ℕ) Cause
+token_reached connections event = result_map_both (λ found. found.1) (λ cause. cause) (reached connections event)
+
+-- a service with this connection at the number, in the place of one that has it
+abbrev pub with_connection : {G : Type 0} → State G → ℕ → Connection → State G
+with_connection state id connection = record state { connections = insert_entry nat_cmp state.connections id connection }
 
 -- no caller can tell the second service from the first
 pub record IsSameState {G : Type 0} (is_same : G → G → Type 0) (old new : State G) : Type 0 where
@@ -127,3 +152,11 @@ module _ {G : Type 0} (admits : G → Ask → Verdict → G → Type 0) where
     pub made : List Reply
     pub replies : new ≡ old ++ made
     pub runs : Runs state events made after
+
+  -- one event more, whose reply stands behind those that were there
+  abbrev pub StepsOn : State G → Event → List Reply → List Reply → State G → Type 0
+  StepsOn state event old new after = (reply : Reply) × (new ≡ old ++ reply ∷ []) × Steps state event reply after
+
+  -- a run that stopped behind these events: no caller can tell the service from the one behind them
+  abbrev pub StopsBehind : (G → G → Type 0) → State G → List Event → List Reply → List Reply → State G → Type 0
+  StopsBehind is_same state taken old new now = (after : State G) × RunsOn state taken old new after × IsSameState is_same after now

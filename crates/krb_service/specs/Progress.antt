@@ -1,5 +1,5 @@
 -- What a session knows after some lines, and what one line more does.
-use Rattle.std.specs.Prelude.{◌≡◌, ℕ, ◌+◌, Bool, true, false, List, [], Option, Some, None, is_some, option_map, if◌then◌else◌, IfSome, MatchOption, MatchBool}
+use Rattle.std.specs.Prelude.{◌≡◌, ℕ, ◌+◌, true, false, List, [], Option, Some, None, is_some, option_map, if◌then◌else◌, IfSome, MatchOption, MatchBool}
 use Rattle.krb_replay.specs.Book.{Book, Follows, StandsFor}
 use Rattle.krb_replay.specs.History.{no_history}
 use Rattle.krb_text.specs.Lines.{is_skipped}

@@ -27,11 +27,12 @@ fn answer_line<K: Sink>(
     ensures ok { OnOk result ((text : List ℕ) × Takes session.old line.now text session.new × Appends (K.taken sink.old) (K.taken sink.new) text) }
     ensures bad { result ≡ Err Halt.BadLine → Refuses session.old line.now × (session.new ≡ session.old) × (sink.new ≡ sink.old) }
     ensures memory { result ≡ Err Halt.OutOfMemory → (session.new.answered ≡ session.old.answered) × (sink.new ≡ sink.old) }
-    ensures write { result ≡ Err Halt.WriteFault → (text : List ℕ) × Takes session.old line.now text session.new × AppendsFront (K.taken sink.old) (K.taken sink.new) text }
+    ensures write { result ≡ Err Halt.WriteFault
+        → (text : List ℕ) × Takes session.old line.now text session.new × AppendsFront (K.taken sink.old) (K.taken sink.new) text }
     ensures own { (result ≢ Err Halt.End) × (result ≢ Err Halt.LongLine) × (result ≢ Err Halt.ReadFault) }
     ensures lines { session.new.lines ≤ session.old.lines + 1 }
     ensures fault { result ≡ Err Halt.WriteFault → Rose (K.faults sink.old) (K.faults sink.new) }
-    ensures later { K.faults sink.old ≤ K.faults sink.new }
+    ensures still { result ≢ Err Halt.WriteFault → K.faults sink.new ≡ K.faults sink.old }
 {
     let text = match session.take_line(alloc, line) {
         Ok(text) => text,
@@ -58,7 +59,8 @@ pub(crate) fn answer_lines<S: Source, K: Sink>(
     ensures lines { session.new.lines < 2 ^ 32 }
     ensures read { result ≡ Halt.ReadFault → Rose (S.faults source.old) (S.faults source.new) }
     ensures write { result ≡ Halt.WriteFault → Rose (K.faults sink.old) (K.faults sink.new) }
-    ensures later { K.faults sink.old ≤ K.faults sink.new }
+    ensures read_still { result ≢ Halt.ReadFault → S.faults source.new ≡ S.faults source.old }
+    ensures write_still { result ≢ Halt.WriteFault → K.faults sink.new ≡ K.faults sink.old }
 {
     'lines: loop {
         match reader.next_line(source) {
@@ -98,6 +100,10 @@ pub fn serve<S: Source, K: Sink>(
     // A fault is told only where the outside failed in this call.
     ensures read { result ≡ Status.ReadFault → Rose (S.faults source.old) (S.faults source.new) }
     ensures write { result ≡ Status.WriteFault → Rose (K.faults sink.old) (K.faults sink.new) }
+
+    // And wherever the outside failed, it is told: no read and no write that failed is passed over, or tried again.
+    ensures read_still { result ≢ Status.ReadFault → S.faults source.new ≡ S.faults source.old }
+    ensures write_still { result ≢ Status.WriteFault → K.faults sink.new ≡ K.faults sink.old }
 
     // What is taken of the input that the source had left, and what is written for it, by the status.
     ensures text { Serves (S.left source.old) (S.left source.new) (K.taken sink.old) (K.taken sink.new) result }

@@ -5,6 +5,7 @@ use krb_der::Name;
 /// A connection of a service: an acceptor, or an initiator with the name of whom it speaks to.
 #[derive(Drop)]
 pub struct Connection {
+    /// Its end of the Kerberos exchange, with its keys and numbers.
     pub context: Kerberos,
     /// The name of an initiator's peer. An acceptor has none.
     pub target: Option<Name>,

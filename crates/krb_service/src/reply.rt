@@ -14,6 +14,7 @@ pub enum Reply {
         status: SecurityStatus,
         token: Octets,
     },
+    /// It was refused, for the first check that fails. Want of memory is never told so.
     Refused(Error),
 }
 

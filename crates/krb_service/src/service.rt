@@ -1,6 +1,5 @@
 //! The service: many connections, one replay gate, one event after another.
 ghost use Rattle.std.specs.Prelude.{◌≡◌, ◌≢◌, ◌↔◌, Err, IsTrue, IfOk, OnErr};
-ghost use Rattle.std.specs.Ordering.{nat_cmp};
 ghost use Rattle.sspi_core.specs.Kinds.{error_of};
 ghost use Rattle.sspi_core.specs.declared.cause.Cause.TheVariants as causes;
 ghost use Rattle.krb_service.specs.Policy.{server_flags, draw_of, Replies};
@@ -41,6 +40,7 @@ impl<G> Model for Service<G> {
 /// Memory ran out behind so many events.
 #[derive(Clone, Copy, Debug, PartialEq, Eq)]
 pub struct Stopped {
+    /// How many events were taken, each with its reply.
     pub taken: usize,
 }
 
@@ -87,15 +87,12 @@ fn reply_to(answer: Result<Accepted, Error>) -> Result<Reply, OutOfMemory>
 }
 
 impl<G: ReplayGate> Service<G> {
-    ghost use Rattle.std.specs.Prelude.{◌≡◌, ◌<◌, [], ◌∷◌, ◌++◌, length, take, not, Err, Some, None, option_map, IfOk, IfErr, OnOk, OnErr};
+    ghost use Rattle.std.specs.Prelude.{◌≡◌, ◌<◌, [], length, take, not, None, option_map, IfOk, IfErr, OnOk, OnErr};
     ghost use Rattle.std.specs.Result.{result_map_both};
-    ghost use Rattle.std.specs.BTreeMap.{insert_entry};
     ghost use Rattle.krb_context.specs.Contexts.{is_acceptor};
     ghost use Rattle.krb_text.specs.Script.{at_id};
     ghost use Rattle.krb_service.specs.Described.{no_env};
-    ghost use Rattle.krb_service.specs.declared.reply.Reply.{Reply};
-    ghost use Rattle.sspi_core.specs.declared.cause.Cause.{Cause};
-    ghost use Rattle.krb_service.specs.Policy.{State, reached, is_taken, refusal_to_add, IsSameState, Steps, RunsOn};
+    ghost use Rattle.krb_service.specs.Policy.{with_connection, token_reached, is_taken, refusal_to_add, IsRefusedFor, IsSameState, Steps, StepsOn, RunsOn, StopsBehind};
 
     /// A service without connections, whose environment has no variable and no file.
     pub fn new(alloc: Global, gate: G) -> Service<G>
@@ -111,7 +108,7 @@ impl<G: ReplayGate> Service<G> {
         }
     }
 
-    /// The context of the connection with this number.
+    /// The context of the connection with this number, and None exactly where there is no such connection.
     pub fn connection(&self, id: u32) -> Option<&Kerberos>
         ensures { option_map (λ context. context.now) result ≡ option_map (λ connection. connection.context) (at_id id self.now.connections) }
     {
@@ -121,12 +118,14 @@ impl<G: ReplayGate> Service<G> {
         }
     }
 
+    /// The replay gate of all connections.
     pub fn gate(&self) -> &G
         ensures { result.now ≡ self.now.gate }
     {
         &self.gate
     }
 
+    /// Sets the variables and files that contexts read, in the place of those that it had.
     pub fn set_env(&mut self, env: Env)
         ensures { self.new ≡ record self.old { env = env } }
     {
@@ -135,7 +134,7 @@ impl<G: ReplayGate> Service<G> {
 
     /// Puts a connection where its number stands, in the place of one that has it.
     pub(crate) fn put(&mut self, id: u32, connection: Connection) -> Result<(), OutOfMemory>
-        ensures put { OnOk result (self.new ≡ record self.old { connections = insert_entry nat_cmp self.old.connections id connection }) }
+        ensures put { OnOk result (self.new ≡ with_connection self.old id connection) }
         ensures err { OnErr result (self.new ≡ self.old) }
     {
         self.connections.insert(id, connection)?;
@@ -145,9 +144,8 @@ impl<G: ReplayGate> Service<G> {
     /// Adds an acceptor in its own context. A refusal leaves the service: `Connection` where the number is taken, and then
     /// `Role` where the context is an initiator's.
     pub fn add_acceptor(&mut self, id: u32, server: Kerberos) -> Result<(), Error>
-        ensures added { OnOk result (self.new ≡ record self.old { connections = insert_entry nat_cmp self.old.connections id (record { context = server; target = None }) }) }
-        ensures refused { (cause : Cause) → refusal_to_add (is_taken id self.old.connections) (is_acceptor server) ≡ Some cause → result ≡ Err (error_of cause) }
-        ensures memory { refusal_to_add (is_taken id self.old.connections) (is_acceptor server) ≡ None → IfErr result (λ e. e ≡ error_of causes.Memory) }
+        ensures added { OnOk result (self.new ≡ with_connection self.old id (record { context = server; target = None })) }
+        ensures refused { IsRefusedFor (refusal_to_add (is_taken id self.old.connections) (is_acceptor server)) result }
         ensures err { OnErr result (self.new ≡ self.old) }
     {
         match self.refusal(id, !server.is_client()) {
@@ -164,9 +162,8 @@ impl<G: ReplayGate> Service<G> {
         client: Kerberos,
         target: Option<Name>,
     ) -> Result<(), Error>
-        ensures added { OnOk result (self.new ≡ record self.old { connections = insert_entry nat_cmp self.old.connections id (record { context = client; target = target }) }) }
-        ensures refused { (cause : Cause) → refusal_to_add (is_taken id self.old.connections) (not (is_acceptor client)) ≡ Some cause → result ≡ Err (error_of cause) }
-        ensures memory { refusal_to_add (is_taken id self.old.connections) (not (is_acceptor client)) ≡ None → IfErr result (λ e. e ≡ error_of causes.Memory) }
+        ensures added { OnOk result (self.new ≡ with_connection self.old id (record { context = client; target = target })) }
+        ensures refused { IsRefusedFor (refusal_to_add (is_taken id self.old.connections) (not (is_acceptor client))) result }
         ensures err { OnErr result (self.new ≡ self.old) }
     {
         match self.refusal(id, client.is_client()) {
@@ -177,7 +174,7 @@ impl<G: ReplayGate> Service<G> {
 
     /// A new connection, which only memory can refuse.
     fn place(&mut self, id: u32, context: Kerberos, target: Option<Name>) -> Result<(), Error>
-        ensures placed { OnOk result (self.new ≡ record self.old { connections = insert_entry nat_cmp self.old.connections id (record { context = context; target = target }) }) }
+        ensures placed { OnOk result (self.new ≡ with_connection self.old id (record { context = context; target = target })) }
         ensures memory { IfErr result (λ e. e ≡ error_of causes.Memory) }
         ensures err { OnErr result (self.new ≡ self.old) }
     {
@@ -196,7 +193,7 @@ impl<G: ReplayGate> Service<G> {
 
     /// The first checks of an event. What stays for the acceptor is the token.
     fn reach<'a>(&self, event: &'a Event) -> Result<&'a [u8], Cause>
-        ensures { result_map_both (λ token. token.now) (λ cause. cause) result ≡ result_map_both (λ found. found.1) (λ cause. cause) (reached self.now.connections event.now) }
+        ensures { result_map_both (λ token. token.now) (λ cause. cause) result ≡ token_reached self.now.connections event.now }
     {
         if event.moment > MAX_MOMENT {
             return Err(Cause::Moment);
@@ -244,7 +241,7 @@ impl<G: ReplayGate> Service<G> {
         event: &Event,
         replies: &mut Vec<Reply>,
     ) -> Result<(), OutOfMemory>
-        ensures ok { OnOk result ((reply : Reply) × (replies.new.items ≡ replies.old.items ++ reply ∷ []) × Steps G.admits self.old event.now reply self.new) }
+        ensures ok { OnOk result (StepsOn G.admits self.old event.now replies.old.items replies.new.items self.new) }
         ensures err { OnErr result ((replies.new.items ≡ replies.old.items) × IsSameState G.is_same self.old self.new) }
     {
         replies.reserve(1)?;
@@ -253,8 +250,9 @@ impl<G: ReplayGate> Service<G> {
         Ok(())
     }
 
-    /// Answers the events, one after another. The replies grow by one for each event that is taken. Where memory runs out,
-    /// connections, gate and replies are those behind the events taken.
+    /// Answers the events, one after another, over whichever gate. The replies grow by one for each event that is taken. Where
+    /// memory runs out, connections, gate and replies are those behind the events taken, and a later run goes on from there.
+    /// What that means over a replay book, and over a gate of which nothing else is known, stands in [`laws`](crate::laws).
     pub fn run(
         &mut self,
         alloc: Global,
@@ -263,7 +261,10 @@ impl<G: ReplayGate> Service<G> {
     ) -> Result<(), Stopped>
         ensures ok { OnOk result (RunsOn G.admits self.old events.now replies.old.items replies.new.items self.new) }
         ensures stopped { IfErr result (λ stopped. stopped.taken < length events.now) }
-        ensures front { IfErr result (λ stopped. (after : State G) × RunsOn G.admits self.old (take stopped.taken events.now) replies.old.items replies.new.items after × IsSameState G.is_same after self.new) }
+        ensures front { IfErr result (λ stopped.
+            StopsBehind G.admits G.is_same self.old (take stopped.taken events.now) replies.old.items replies.new.items self.new) }
+        // Whatever the gate, and wherever the run ends.
+        ensures skew { G.skew self.new.gate ≡ G.skew self.old.gate }
     {
         for (taken, event) in events.iter().enumerate() {
             match self.answer(alloc, event, replies) {

@@ -1,3 +1,4 @@
+use Rattle.krb_service.specs.Described.{Remembers}
 use Rattle.krb_service.proofs.LeftLemmas.{left-once, done-left}
 use Rattle.krb_service.proofs.laws.records_are_left_once.Goals as goal
 
@@ -5,4 +6,4 @@ pub returns-clause-once : goal.returns-clause-once
 returns-clause-once c = left-once
 
 pub returns-clause-done : goal.returns-clause-done
-returns-clause-done c = done-left
+returns-clause-done c = λ skew. done-left (Remembers skew)
