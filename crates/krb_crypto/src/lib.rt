@@ -23,8 +23,6 @@ mod password;
 mod sealing;
 mod sealing_key;
 mod suite;
-#[cfg(test)]
-mod tests;
 
 pub use checksum::{checksum_key, checksum_sha_aes, encryption_checksum, start_checksum};
 pub use cts::{cts_decrypt, cts_encrypt};

@@ -4,4 +4,14 @@
 #![tactic(auto)]
 
 #[cfg(test)]
+mod krb_aes_tests;
+#[cfg(test)]
+mod krb_conf_tests;
+#[cfg(test)]
+mod krb_crypto_tests;
+#[cfg(test)]
 mod krb_der_tests;
+#[cfg(test)]
+mod krb_options_tests;
+#[cfg(test)]
+mod sspi_core_tests;

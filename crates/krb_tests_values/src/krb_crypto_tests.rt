@@ -1,14 +1,15 @@
 //! The suites on outside vectors, and what no clause says: that calls succeed with ample memory, and printed words.
 
-ghost use Rattle.std.specs.Prelude.{◌≡◌, length};
+ghost use Rattle.std.specs.Prelude.{◌≡◌, ◌≤◌, length};
 ghost use Rattle.krb_crypto.specs.Suite.{key_size};
 
-use crate::{
+use hex::FromHex;
+use krb_aes::KeySchedule;
+use krb_crypto::{
     AesSize, CipherSuite, CryptoError, DerivedKey, SealingKey, checksum_sha_aes, cts_decrypt,
     cts_encrypt, decrypt, decrypt_no_checksum, derive_key, encrypt, encrypt_no_checksum,
     encryption_checksum, generate_key_from_password, hmac_sha1, n_fold, pbkdf2, start_checksum,
 };
-use krb_aes::KeySchedule;
 use std::alloc::Global;
 use std::process::Abort;
 use std::test::Fail;
@@ -119,27 +120,78 @@ const SEALED: &str = "\
 18 000102030405060708090a0b0c0d0e0f101112131415161718191a1b1c1d1e1f 11 92ec8fbfd5526bdd1d1cc42b91f7c119 852f8d3460af828a8b434edcd080817972619e819e502b41c61f5ba08c82486bf7 b2a19d44ce1afdd2c63840239b18e7b3fc111da05c5aebeffa08fc91a45c3e312775c24307dbb4915b44319ed113d099bc74ef5c6a28b967bc9b605563\n\
 18 000102030405060708090a0b0c0d0e0f101112131415161718191a1b1c1d1e1f 11 006aeacaf55285da20daaa54ceb2fb1f f9071d8ce64621f0ca07c070e164e02c93d78dce46f1655a13254a81258a3b42ade40ff5ae367a45ac0ed68926c0cc2f5d72970872a2a6c9e5289c2e4fc972bf34f4870496ccbbb7949432c3e66388c9784877d14f78fa62e92a3989dd51d92fc9b8fa59 0dff3f0fde9062eb8f76960963e918dc785093e5705afd14de19e5d56dcf980aee9f2fc55b58bcae390ef3d8b261ece0c0a85f20b05ff4d5794d84c4b2ecfc996166ffb1f7d5bcff48334a50ccaf9d7298c48f6b4a3b9850cf2729aecb1fb596614899cda1b0099bb91088c2d4cc8968a806f91d9dd250aa86d5ce625cd007f4";
 
-/// The octets of a field in hex; `-` is none.
-fn octets(alloc: Global, field: Option<&str>) -> Result<Vec<u8>, Fail> {
-    let field = field.ok_or("a field is missing")?;
-    if field == "-" {
-        return Ok(Vec::new(alloc));
+/// An etype, a key, a usage, a confounder, a plain text (`-`: none), and what it is encrypted to without a checksum,
+/// computed by Python and OpenSSL.
+const BARE: &str = "\
+17 000102030405060708090a0b0c0d0e0f 3 05050505050505050505050505050505 - afd09146b37c49acfb9e36d0db9efe49\n\
+17 000102030405060708090a0b0c0d0e0f 3 05050505050505050505050505050505 00 2f3b1efd7fc40aff0f63c5c798133c43af\n\
+17 000102030405060708090a0b0c0d0e0f 3 05050505050505050505050505050505 000102030405060708090a0b0c0d0e d804a7acddb8d0dd7d4d11b2a72ae3aaafd09146b37c49acfb9e36d0db9efe\n\
+18 000102030405060708090a0b0c0d0e0f101112131415161718191a1b1c1d1e1f 3 05050505050505050505050505050505 000102030405060708090a0b0c0d0e0f d45a571d98004e5f504036020b3e28c2315f2b985c16f038b93be11eb6cfad00\n\
+18 000102030405060708090a0b0c0d0e0f101112131415161718191a1b1c1d1e1f 3 05050505050505050505050505050505 000102030405060708090a0b0c0d0e0f10 315f2b985c16f038b93be11eb6cfad0047d2609d0ca4e95db0f5865f06358049d4\n\
+18 000102030405060708090a0b0c0d0e0f101112131415161718191a1b1c1d1e1f 3 05050505050505050505050505050505 000102030405060708090a0b0c0d0e0f101112131415161718191a1b1c1d1e1f20 315f2b985c16f038b93be11eb6cfad00d45a571d98004e5f504036020b3e28c27783249fecb83f74978368b27511940deb";
+
+/// An etype, a key, a usage, a message, and its checksum beside a sealed text (under Ki) and alone (under Kc), computed
+/// by Python's `hashlib` and OpenSSL.
+const CHECKSUMS: &str = "\
+17 07070707070707070707070707070707 24 736f6d65206f6374657473 3f054a513ed39debca588e9c 0d2b8029596107b91dc31c3d\n\
+17 07070707070707070707070707070707 25 736f6d65206f6374657473 2b0094aa7419e506f89bfc1f 06e506e7556898b6eab2493f\n\
+18 0707070707070707070707070707070707070707070707070707070707070707 24 736f6d65206f6374657473 aab5ea12c5d02d0830c32558 8b743b5419bed714fee375e6\n\
+18 0707070707070707070707070707070707070707070707070707070707070707 25 736f6d65206f6374657473 9c850f0496114701ca37ed7b 76c5fc6752d070a736e606ea";
+
+/// The keys of `password` with the salt `ATHENA.MIT.EDUraeburn` after 4,096 iterations, computed by Python's `hashlib` and OpenSSL.
+const PASSWORD_KEYS: [(CipherSuite, &str); 2] = [
+    (
+        CipherSuite::Aes128CtsHmacSha196,
+        "fca822951813fb252154c883f5ee1cf4",
+    ),
+    (
+        CipherSuite::Aes256CtsHmacSha196,
+        "01b897121d933ab44b47eb5494db15e50eb74530dbdae9b634d65020ff5d88c1",
+    ),
+];
+
+/// The octets of a field. They lie in place, so that a row owns nothing.
+#[derive(Clone, Copy)]
+struct Field {
+    octets: [u8; 256],
+    length: usize,
+    ghost fits: { length ≤ 256 },
+}
+
+impl Field {
+    fn as_slice(&self) -> &[u8]
+        ensures { length result.now ≡ self.now.length }
+    {
+        &self.octets[..self.length]
     }
-    Ok(hex::decode(alloc, field)?)
+}
+
+/// The octets that the next field has in hex; `-` is none.
+fn octets(field: Option<&str>) -> Result<Field, Fail> {
+    let digits = field.ok_or("a field is missing")?;
+    let length = if digits == "-" { 0 } else { digits.len() / 2 };
+    let mut octets = [0; 256];
+    if length > 256 {
+        return Err(Fail::from("a field is too long"));
+    }
+    if length > 0 {
+        hex::decode_to_slice(digits, &mut octets[..length])?;
+    }
+    Ok(Field { octets, length })
+}
+
+fn block(field: Option<&str>) -> Result<[u8; 16], Fail> {
+    let digits = field.ok_or("a block is missing")?;
+    Ok(<[u8; 16]>::from_hex(digits)?)
 }
 
 fn number(field: Option<&str>) -> Result<u32, Fail> {
-    let field = field.ok_or("a number is missing")?;
-    Ok(field.parse::<u32>()?)
+    let digits = field.ok_or("a number is missing")?;
+    Ok(digits.parse::<u32>()?)
 }
 
 fn suite(field: Option<&str>) -> Result<CipherSuite, Fail> {
     Ok(CipherSuite::try_from(i64::from(number(field)?))?)
-}
-
-fn block(field: Option<&str>) -> Result<[u8; 16], Fail> {
-    let field = field.ok_or("a block is missing")?;
-    Ok(<[u8; 16] as hex::FromHex>::from_hex(field)?)
 }
 
 /// Encrypts and decrypts the first octets of a text, and compares with the expected ones.
@@ -151,7 +203,7 @@ fn steals(
 ) -> Result<(), Fail> {
     let mut fields = line.split_ascii_whitespace();
     let length = number(fields.next())? as usize;
-    let expected = octets(rt.alloc(), fields.next())?;
+    let expected = octets(fields.next())?;
     assert!(rt; 16 <= length && length <= text.len());
     let mut found = Vec::from_slice(rt.alloc(), &text[..length])?;
     cts_encrypt(key, found.as_mut_slice());
@@ -171,7 +223,7 @@ fn texts_are_stolen_from_as_in_rfc_3962(rt: HostRuntime) -> Result<(), Fail> {
     for i in 0..65 {
         counted[i as usize] = i;
     }
-    let key = <[u8; 32] as hex::FromHex>::from_hex(
+    let key = <[u8; 32]>::from_hex(
         "000102030405060708090a0b0c0d0e0f101112131415161718191a1b1c1d1e1f",
     )?;
     let long = KeySchedule::new(&key);
@@ -185,20 +237,17 @@ fn texts_are_stolen_from_as_in_rfc_3962(rt: HostRuntime) -> Result<(), Fail> {
 fn inputs_are_folded(rt: HostRuntime) -> Result<(), Fail> {
     for line in FOLDED.lines() {
         let mut fields = line.split_ascii_whitespace();
-        let input = octets(rt.alloc(), fields.next())?;
+        let input = octets(fields.next())?;
         let expected = block(fields.next())?;
+        let input = input.as_slice();
         assert!(rt; 1 <= input.len() && input.len() <= 1024);
-        assert_eq!(rt; n_fold(input.as_slice()), expected);
+        assert_eq!(rt; n_fold(input), expected);
     }
     Ok(())
 }
 
-fn assert_key(
-    rt: &(impl Abort + AllocGlobal),
-    key: &DerivedKey,
-    field: Option<&str>,
-) -> Result<(), Fail> {
-    let expected = octets(rt.alloc(), field)?;
+fn assert_key(rt: &impl Abort, key: &DerivedKey, field: Option<&str>) -> Result<(), Fail> {
+    let expected = octets(field)?;
     assert_eq!(rt; key.as_slice(), expected.as_slice());
     Ok(())
 }
@@ -208,19 +257,15 @@ fn passwords_give_the_keys_of_rfc_3962(rt: HostRuntime) -> Result<(), Fail> {
     for line in PASSWORDS.lines() {
         let mut fields = line.split_ascii_whitespace();
         let iterations = number(fields.next())?;
-        let password = octets(rt.alloc(), fields.next())?;
-        let salt = octets(rt.alloc(), fields.next())?;
+        let password = octets(fields.next())?;
+        let salt = octets(fields.next())?;
         assert!(rt; 1 <= iterations);
         for suite in [
             CipherSuite::Aes128CtsHmacSha196,
             CipherSuite::Aes256CtsHmacSha196,
         ] {
-            let key = pbkdf2(
-                password.as_slice(),
-                salt.as_slice(),
-                iterations,
-                suite.key_size(),
-            );
+            let size = suite.key_size();
+            let key = pbkdf2(password.as_slice(), salt.as_slice(), iterations, size);
             assert_key(&rt, &key, fields.next())?;
             let derived = derive_key(suite, key.as_slice(), b"kerberos");
             assert_key(&rt, &derived, fields.next())?;
@@ -228,18 +273,6 @@ fn passwords_give_the_keys_of_rfc_3962(rt: HostRuntime) -> Result<(), Fail> {
     }
     Ok(())
 }
-
-/// The keys of `password` with the salt `ATHENA.MIT.EDUraeburn` after 4,096 iterations, computed by Python's `hashlib` and OpenSSL.
-const PASSWORD_KEYS: [(CipherSuite, &str); 2] = [
-    (
-        CipherSuite::Aes128CtsHmacSha196,
-        "fca822951813fb252154c883f5ee1cf4",
-    ),
-    (
-        CipherSuite::Aes256CtsHmacSha196,
-        "01b897121d933ab44b47eb5494db15e50eb74530dbdae9b634d65020ff5d88c1",
-    ),
-];
 
 #[test]
 fn a_password_key_takes_4096_iterations(rt: HostRuntime) -> Result<(), Fail> {
@@ -254,9 +287,9 @@ fn a_password_key_takes_4096_iterations(rt: HostRuntime) -> Result<(), Fail> {
 fn codes_are_those_of_rfc_2202(rt: HostRuntime) -> Result<(), Fail> {
     for line in CODES.lines() {
         let mut fields = line.split_ascii_whitespace();
-        let key = octets(rt.alloc(), fields.next())?;
-        let message = octets(rt.alloc(), fields.next())?;
-        let expected = octets(rt.alloc(), fields.next())?;
+        let key = octets(fields.next())?;
+        let message = octets(fields.next())?;
+        let expected = octets(fields.next())?;
         let message = message.as_slice();
         let middle = message.len() / 2;
         let whole = hmac_sha1(key.as_slice(), message, &[]);
@@ -280,7 +313,7 @@ fn usages_have_their_keys(rt: HostRuntime) -> Result<(), Fail> {
     for line in DERIVED.lines() {
         let mut fields = line.split_ascii_whitespace();
         let suite = suite(fields.next())?;
-        let key = octets(rt.alloc(), fields.next())?;
+        let key = octets(fields.next())?;
         let usage = number(fields.next())?;
         let key = key.as_slice();
         assert!(rt; key.len() == suite.key_size());
@@ -294,114 +327,170 @@ fn usages_have_their_keys(rt: HostRuntime) -> Result<(), Fail> {
     Ok(())
 }
 
-/// A checksum is the first 12 octets of a code.
-fn assert_code(rt: &impl Abort, checksum: &[u8; 12], key: &DerivedKey) {
-    let code = hmac_sha1(key.as_slice(), b"some", b" octets");
-    assert_eq!(rt; checksum.as_slice(), &code[..12]);
+/// The checksum by each call that makes one beside a sealed text.
+fn seals_a_checksum(
+    rt: &impl Abort,
+    suite: CipherSuite,
+    key: &[u8],
+    usage: u32,
+    message: &[u8],
+    expected: &[u8],
+) -> Result<(), Fail>
+    requires { length key.now ≡ key_size suite }
+{
+    let (front, back) = message.split_at(message.len() / 2);
+    let whole = encryption_checksum(suite, key, usage, front, back)?;
+    assert_eq!(rt; whole.as_slice(), expected);
+    let kept = SealingKey::new(suite, key, usage);
+    assert_eq!(rt; kept.checksum(message, &[]).as_slice(), expected);
+    Ok(())
+}
+
+/// The checksum by each call that makes one alone.
+fn makes_a_checksum(
+    rt: &impl Abort,
+    suite: CipherSuite,
+    key: &[u8],
+    usage: u32,
+    message: &[u8],
+    expected: &[u8],
+) -> Result<(), Fail>
+    requires { length key.now ≡ key_size suite }
+{
+    let (front, back) = message.split_at(message.len() / 2);
+    let size = match suite {
+        CipherSuite::Aes128CtsHmacSha196 => AesSize::Aes128,
+        CipherSuite::Aes256CtsHmacSha196 => AesSize::Aes256,
+    };
+    let whole = checksum_sha_aes(key, usage, front, back, size)?;
+    assert_eq!(rt; whole.as_slice(), expected);
+    let mut state = start_checksum(suite, key, usage);
+    state.update(front);
+    state.update(back);
+    assert_eq!(rt; state.finalize_short().as_slice(), expected);
+    Ok(())
 }
 
 #[test]
 fn checksums_take_the_keys_of_their_kind(rt: HostRuntime) -> Result<(), Fail> {
-    for (suite, size, key) in [
-        (
-            CipherSuite::Aes128CtsHmacSha196,
-            AesSize::Aes128,
-            &[7u8; 32][..16],
-        ),
-        (
-            CipherSuite::Aes256CtsHmacSha196,
-            AesSize::Aes256,
-            &[7u8; 32][..],
-        ),
-    ] {
+    for line in CHECKSUMS.lines() {
+        let mut fields = line.split_ascii_whitespace();
+        let suite = suite(fields.next())?;
+        let key = octets(fields.next())?;
+        let usage = number(fields.next())?;
+        let message = octets(fields.next())?;
+        let sealing = octets(fields.next())?;
+        let alone = octets(fields.next())?;
+        let (key, message) = (key.as_slice(), message.as_slice());
         assert!(rt; key.len() == suite.key_size());
-        let sealing = encryption_checksum(suite, key, 24, b"some", b" octets")?;
-        assert_code(&rt, &sealing, &usage_key(suite, key, 24, 0x55));
-        let kept = SealingKey::new(suite, key, 24);
-        assert_eq!(rt; kept.checksum(b"some octets", &[]), sealing);
-        let alone = checksum_sha_aes(key, 25, b"some", b" octets", size)?;
-        assert_code(&rt, &alone, &usage_key(suite, key, 25, 0x99));
-        let mut state = start_checksum(suite, key, 25);
-        state.update(b"some ");
-        state.update(b"octets");
-        assert_eq!(rt; state.finalize_short(), alone);
+        seals_a_checksum(&rt, suite, key, usage, message, sealing.as_slice())?;
+        makes_a_checksum(&rt, suite, key, usage, message, alone.as_slice())?;
     }
     Ok(())
 }
 
-/// Seals and opens a text by each call, and compares with the expected one.
-fn seals(
-    rt: &(impl Abort + AllocGlobal),
-    kept: &SealingKey,
+/// A row of texts that are sealed or encrypted.
+#[derive(Clone, Copy)]
+struct Row {
+    suite: CipherSuite,
+    key: Field,
+    usage: u32,
     confounder: [u8; 16],
-    plain: &[u8],
-    expected: &[u8],
-) -> Result<(), Fail> {
-    let alloc = rt.alloc();
-    let sealed = kept.seal(alloc, confounder, plain)?;
+    plain: Field,
+    expected: Field,
+}
+
+fn parsed(line: &str) -> Result<Row, Fail> {
+    let mut fields = line.split_ascii_whitespace();
+    Ok(Row {
+        suite: suite(fields.next())?,
+        key: octets(fields.next())?,
+        usage: number(fields.next())?,
+        confounder: block(fields.next())?,
+        plain: octets(fields.next())?,
+        expected: octets(fields.next())?,
+    })
+}
+
+/// Seals and opens a text by the calls that derive the keys.
+fn seals(rt: &(impl Abort + AllocGlobal), row: &Row) -> Result<(), Fail> {
+    let (key, plain, expected) = (
+        row.key.as_slice(),
+        row.plain.as_slice(),
+        row.expected.as_slice(),
+    );
+    let sealed = encrypt(rt.alloc(), row.suite, key, row.usage, row.confounder, plain)?;
     assert_eq!(rt; sealed.as_slice(), expected);
-    let opened = kept.open(alloc, expected)?;
+    let opened = decrypt(rt.alloc(), row.suite, key, row.usage, expected)?;
     assert_eq!(rt; opened.as_slice(), plain);
-    let mut text = Vec::from_slice(alloc, expected)?;
-    kept.open_in_place(text.as_mut_slice())?;
-    assert!(rt; text.len() == plain.len() + 28);
-    assert_eq!(rt; &text.as_slice()[16..16 + plain.len()], plain);
-    kept.seal_in_place(text.as_mut_slice());
-    assert_eq!(rt; text.as_slice(), expected);
+    Ok(())
+}
+
+/// The same by a key that keeps them.
+fn keeps(rt: &(impl Abort + AllocGlobal), kept: &SealingKey, row: &Row) -> Result<(), Fail> {
+    let (plain, expected) = (row.plain.as_slice(), row.expected.as_slice());
+    let sealed = kept.seal(rt.alloc(), row.confounder, plain)?;
+    assert_eq!(rt; sealed.as_slice(), expected);
+    let opened = kept.open(rt.alloc(), expected)?;
+    assert_eq!(rt; opened.as_slice(), plain);
+    Ok(())
+}
+
+/// The same in place.
+fn keeps_in_place(rt: &impl Abort, kept: &SealingKey, row: &Row) -> Result<(), Fail> {
+    let mut field = row.expected;
+    let length = field.length;
+    assert!(rt; 28 <= length && length == row.plain.length + 28);
+    kept.open_in_place(&mut field.octets[..length])?;
+    assert_eq!(rt; &field.octets[16..length - 12], row.plain.as_slice());
+    kept.seal_in_place(&mut field.octets[..length]);
+    assert_eq!(rt; field.as_slice(), row.expected.as_slice());
     Ok(())
 }
 
 #[test]
 fn texts_are_sealed_and_opened(rt: HostRuntime) -> Result<(), Fail> {
-    let alloc = rt.alloc();
     for line in SEALED.lines() {
-        let mut fields = line.split_ascii_whitespace();
-        let suite = suite(fields.next())?;
-        let key = octets(alloc, fields.next())?;
-        let usage = number(fields.next())?;
-        let confounder = block(fields.next())?;
-        let plain = octets(alloc, fields.next())?;
-        let expected = octets(alloc, fields.next())?;
-        let (key, plain, expected) = (key.as_slice(), plain.as_slice(), expected.as_slice());
-        assert!(rt; key.len() == suite.key_size());
-        let sealed = encrypt(alloc, suite, key, usage, confounder, plain)?;
-        assert_eq!(rt; sealed.as_slice(), expected);
-        let opened = decrypt(alloc, suite, key, usage, expected)?;
-        assert_eq!(rt; opened.as_slice(), plain);
-        seals(
-            &rt,
-            &SealingKey::new(suite, key, usage),
-            confounder,
-            plain,
-            expected,
-        )?;
+        let row = parsed(line)?;
+        let key = row.key.as_slice();
+        assert!(rt; key.len() == row.suite.key_size());
+        seals(&rt, &row)?;
+        let kept = SealingKey::new(row.suite, key, row.usage);
+        keeps(&rt, &kept, &row)?;
+        keeps_in_place(&rt, &kept, &row)?;
+    }
+    Ok(())
+}
+
+/// Encrypts a text, and decrypts it with twelve octets behind it.
+fn encrypts(rt: &(impl Abort + AllocGlobal), row: &Row) -> Result<(), Fail> {
+    let (suite, key, usage, plain) = (
+        row.suite,
+        row.key.as_slice(),
+        row.usage,
+        row.plain.as_slice(),
+    );
+    let bare = encrypt_no_checksum(rt.alloc(), suite, key, usage, row.confounder, plain)?;
+    assert_eq!(rt; bare.as_slice(), row.expected.as_slice());
+    let mut bare = bare.into_inner();
+    bare.extend_from_slice(b"twelve more.")?;
+    let opened = decrypt_no_checksum(rt.alloc(), suite, key, usage, bare.as_slice())?;
+    assert_eq!(rt; opened.confounder, row.confounder);
+    assert_eq!(rt; opened.plain.as_slice(), plain);
+    assert_eq!(rt; opened.checksum, *b"twelve more.");
+    Ok(())
+}
+
+#[test]
+fn texts_are_encrypted_without_a_checksum(rt: HostRuntime) -> Result<(), Fail> {
+    for line in BARE.lines() {
+        encrypts(&rt, &parsed(line)?)?;
     }
     Ok(())
 }
 
 #[test]
-fn each_length_comes_back(rt: HostRuntime) -> Result<(), Fail> {
-    let alloc = rt.alloc();
-    let suite = CipherSuite::Aes256CtsHmacSha196;
-    let plain = [9u8; 33];
-    for length in [0, 1, 15, 16, 17, 33] {
-        assert!(rt; length <= 33);
-        let plain = &plain[..length];
-        let sealed = encrypt(alloc, suite, &[7; 32], 3, [5; 16], plain)?;
-        let opened = decrypt(alloc, suite, &[7; 32], 3, sealed.as_slice())?;
-        assert_eq!(rt; opened.as_slice(), plain);
-        let mut bare = encrypt_no_checksum(alloc, suite, &[7; 32], 3, [5; 16], plain)?.into_inner();
-        bare.extend_from_slice(b"twelve more.")?;
-        let opened = decrypt_no_checksum(alloc, suite, &[7; 32], 3, bare.as_slice())?;
-        assert_eq!(rt; opened.confounder, [5; 16]);
-        assert_eq!(rt; opened.plain.as_slice(), plain);
-        assert_eq!(rt; opened.checksum, *b"twelve more.");
-    }
-    Ok(())
-}
-
-#[test]
-fn refusals_come_in_their_order(rt: HostRuntime) -> Result<(), Fail> {
+fn refusals_come_in_their_order(rt: HostRuntime) {
     let alloc = rt.alloc();
     let suite = CipherSuite::Aes256CtsHmacSha196;
     assert_eq!(rt; CipherSuite::try_from(16).err(), Some(CryptoError::Etype));
@@ -410,15 +499,26 @@ fn refusals_come_in_their_order(rt: HostRuntime) -> Result<(), Fail> {
     assert_eq!(rt; short, Some(CryptoError::KeyLength));
     let short = decrypt(alloc, suite, &[7; 32], 3, &[0; 27]).err();
     assert_eq!(rt; short, Some(CryptoError::TooShort));
-    let sealed = encrypt(alloc, suite, &[7; 32], 3, [5; 16], b"plain")?;
-    for i in 0..sealed.as_slice().len() {
-        let mut other = Vec::from_slice(alloc, sealed.as_slice())?;
-        assert!(rt; i < other.len());
-        other[i] ^= 1;
-        let refused = decrypt(alloc, suite, &[7; 32], 3, other.as_slice()).err();
+}
+
+/// Each octet of a sealed text counts.
+#[test]
+fn an_altered_text_is_refused(rt: HostRuntime) -> Result<(), Fail> {
+    let suite = CipherSuite::Aes256CtsHmacSha196;
+    let sealed = encrypt(rt.alloc(), suite, &[7; 32], 3, [5; 16], b"plain")?;
+    let mut octets = sealed.into_inner();
+    for i in 0..octets.len() {
+        octets[i] ^= 1;
+        let refused = decrypt(rt.alloc(), suite, &[7; 32], 3, octets.as_slice()).err();
         assert_eq!(rt; refused, Some(CryptoError::Altered));
+        octets[i] ^= 1;
     }
-    let printed = format!(in alloc; "{}", CryptoError::KeyLength)?;
+    Ok(())
+}
+
+#[test]
+fn an_error_is_printed_by_its_name(rt: HostRuntime) -> Result<(), Fail> {
+    let printed = format!(in rt.alloc(); "{}", CryptoError::KeyLength)?;
     assert_eq!(rt; printed.as_str(), "KeyLength");
     Ok(())
 }
