@@ -2,9 +2,10 @@
 
 use super::cause_of;
 use super::queries::{new_client, password_identity};
+use bitflags::Flags;
 use krb_conf::{Env, KerberosConfig};
 use krb_context::{
-    ContextChange, EncryptionParams, GssFlags, Kerberos, KerberosState, package_info,
+    ApOptions, ContextChange, EncryptionParams, GssFlags, Kerberos, KerberosState, package_info,
 };
 use krb_der::{Items, Text};
 use sspi_core::{Cause, ClientRequestFlags, CredentialUse, Credentials, CredentialsBuffers};
@@ -143,6 +144,9 @@ fn the_package_is_kerberos(rt: HostRuntime) -> Result<(), Fail> {
     assert_eq!(rt; info.comment.as_str(), "Kerberos Security Package");
     let flags = GssFlags::from_client_flags(ClientRequestFlags::MUTUAL_AUTH);
     assert_eq!(rt; flags, GssFlags::GSS_C_MUTUAL_FLAG);
+    // The third bit of the four octets (RFC 4120, section 5.5.1).
+    let options = ApOptions::from_client_flags(ClientRequestFlags::MUTUAL_AUTH);
+    assert_eq!(rt; options.bits(), 0x2000_0000);
     assert_eq!(rt;
         EncryptionParams::default_for_client().sspi_encrypt_key_usage,
         24

@@ -257,16 +257,16 @@ fn a_book_answers_as_the_reference(rt: HostRuntime) -> Result<(), Fail> {
 
 /// Whether the first is later by more than the skew, both in microseconds.
 fn is_later(a: i128, b: i128) -> bool {
-    a > b + 5_000_000
+    a > b.saturating_add(5_000_000)
 }
 
 fn clock_refuses(moment: i128, &(_, _, ctime, start, end, _): &Row) -> Option<Verdict> {
-    let ctime = i128::from(ctime) * 1_000_000;
+    let ctime = i128::from(ctime).saturating_mul(1_000_000);
     if is_later(ctime, moment) || is_later(moment, ctime) {
         Some(Skew)
-    } else if is_later(i128::from(start) * 1_000_000, moment) {
+    } else if is_later(i128::from(start).saturating_mul(1_000_000), moment) {
         Some(NotYet)
-    } else if is_later(moment, i128::from(end) * 1_000_000) {
+    } else if is_later(moment, i128::from(end).saturating_mul(1_000_000)) {
         Some(Expired)
     } else {
         None
