@@ -1,17 +1,16 @@
 -- What is known of a request that passed the checks before the gate.
-use Rattle.std.proofs.Common.{◌≡◌, ℕ, ◌+◌, ◌<◌, ◌≤◌, ◌^◌, ◌==◌, nat_le, Bool, IsTrue, List, [], ◌∷◌, ◌++◌, length, Result, Ok, Err, refl, sym, ap, ◌∙◌, subst, arith, rules, length-append}
+use Rattle.std.proofs.Common.{◌≡◌, ℕ, ◌<◌, ◌≤◌, ◌^◌, ◌==◌, nat_le, Bool, IsTrue, List, ◌++◌, length, Result, Ok, Err, sym, ap, subst, arith, length-append}
 use Rattle.std.proofs.lemmas.Bool.Decides.{nat_tests}
 use Rattle.krb_der.specs.Der.{tlv}
-use Rattle.krb_der.specs.Schema.{contents, tag_of, Spells}
+use Rattle.krb_der.specs.Schema.{contents, tag_of}
 use Rattle.krb_der.specs.Layout.{Layout}
 use Rattle.krb_der.proofs.Lengths.{length-tlv}
 use Rattle.krb_messages.specs.Table.{ap_req, authenticator as authenticator_kind, encrypted_data}
-use Rattle.krb_messages.specs.Layouts.{ap_req_layout, ap_req_row, authenticator_layout, authenticator_row, encrypted_data_row}
+use Rattle.krb_messages.specs.Layouts.{ap_req_row, authenticator_layout, authenticator_row, encrypted_data_row}
 use Rattle.krb_messages.specs.declared.ap_req.ApReq.{ApReq}
 use Rattle.krb_messages.specs.declared.encryption.EncryptedData.{EncryptedData}
 use Rattle.krb_messages.specs.declared.authenticator.Authenticator.{Authenticator}
 use Rattle.krb_messages.specs.Frame.{IsFrame}
-use Rattle.krb_messages.specs.declared.constants.TheConstants.{AP_REQ_TOKEN_ID}
 use Rattle.krb_crypto.specs.Suite.{key_size}
 use Rattle.krb_crypto.specs.Sealed.{IsSealed}
 use Rattle.krb_crypto.specs.declared.suite.CipherSuite.{CipherSuite}
@@ -19,14 +18,14 @@ use Rattle.krb_crypto.proofs.SealedLemmas.{plain_shorter}
 use Rattle.krb_context.specs.declared.context.Kerberos.{Kerberos}
 use Rattle.krb_context.specs.declared.state.KerberosState.{KerberosState}
 use Rattle.sspi_core.specs.declared.cause.Cause.{Cause}
-use Rattle.sspi_core.specs.Checks.{Finds, Takes, Holds, Gives, Goes, Then, Answers, ok_or}
+use Rattle.sspi_core.specs.Checks.{Takes, Goes, Then}
 use Rattle.sspi_core.proofs.Chain.{held}
 use Rattle.krb_server.specs.declared.request.Request.{Request}
 use Rattle.krb_server.specs.declared.token.Incoming.{Incoming}
 use Rattle.krb_server.specs.declared.token.Incoming.TheVariants.{ApReq as ApReqToken, TgtReq}
 use Rattle.krb_server.specs.Opens.{IsRead, Unseals, Opens}
-use Rattle.krb_server.specs.Tokens.{IsApReq, IsIncoming, ap_req_of, Receives}
-use Rattle.krb_server.specs.Requests.{OpensTicket, OpensAuthenticator, Requests}
+use Rattle.krb_server.specs.Tokens.{ap_req_id, IsApReq, IsIncoming, ap_req_of, Receives}
+use Rattle.krb_server.specs.Requests.{OpensAuthenticator, Requests}
 use Rattle.krb_server.specs.Admission.{IsAnswerable}
 use Rattle.krb_server.specs.Accepts.{Begins}
 
@@ -140,5 +139,5 @@ begun_answerable token request h =
     let c = plain_shorter request.suite request.part.key.key_value 11 request.message.authenticator.cipher h.opened.plain h.opened.sealed in
     let d = cipher_within request.message in
     let e = ap (length {A = ℕ}) h.received.is.read.is in
-    let f = message_within h.received.is.oid AP_REQ_TOKEN_ID h.received.is.octets token h.received.is.frame in
+    let f = message_within h.received.is.oid ap_req_id h.received.is.octets token h.received.is.frame in
     record { fits = h.opened.fits; some = some_cusec request.authenticator h.opened.plain h.opened.read; short = omega (arith, h.received.short, a, b, c, d, e, f) }

@@ -1,5 +1,5 @@
 -- A token is a frame of one message, with one token id.
-use Rattle.std.proofs.Common.{◌≡◌, ℕ, List, [], ◌∷◌, ◌++◌, refl, sym, subst, ap, ◌∙◌, Result, Err}
+use Rattle.std.proofs.Common.{◌≡◌, ℕ, List, [], ◌++◌, refl, sym, subst, ap, ◌∙◌, Result, Err}
 use Rattle.std.specs.Result.{IsErrAnd}
 use Rattle.sspi_core.specs.declared.cause.Cause.{Cause}
 use Rattle.sspi_core.specs.declared.cause.Cause.TheVariants.{Shape, Memory}
@@ -8,15 +8,14 @@ use Rattle.sspi_core.proofs.Chain.{is_err, same_err}
 use Rattle.std.proofs.lemmas.List.{append-nil, append_cancel_left}
 use Rattle.krb_der.specs.Der.{tlv, StandsNext}
 use Rattle.krb_messages.specs.Frame.{IsFrame}
-use Rattle.krb_messages.specs.declared.constants.TheConstants.{AP_REQ_TOKEN_ID, TGT_REQ_TOKEN_ID}
 use Rattle.krb_messages.specs.declared.ap_req.ApReq.{ApReq}
 use Rattle.krb_messages.specs.Layouts.{ap_req_layout}
 use Rattle.krb_context.specs.declared.state.KerberosState.{KerberosState}
 use Rattle.krb_server.specs.declared.token.Incoming.{Incoming}
 use Rattle.krb_server.specs.declared.token.Incoming.TheVariants.{ApReq as ApReqToken, TgtReq}
 use Rattle.krb_server.specs.Opens.{IsRead}
-use Rattle.krb_server.specs.Tokens.{IsIncoming}
-use Rattle.krb_messages.proofs.FrameLemmas.{frame_opens, oid_opens, oid_is_shorter}
+use Rattle.krb_server.specs.Tokens.{ap_req_id, tgt_req_id, IsIncoming}
+use Rattle.krb_messages.proofs.FrameLemmas.{oid_opens, oid_is_shorter}
 
 stands : (oid token_id message octets : List ℕ) → IsFrame oid token_id message octets → StandsNext 0x60 (tlv 0x06 oid ++ (token_id ++ message)) octets []
 stands oid token_id message octets frame = record { value = octets; is_value = frame.is; parts = sym (append-nil octets) }
@@ -35,16 +34,16 @@ pub same_message : (o p i m n octets : List ℕ) → IsFrame o i m octets → Is
 same_message o p i m n octets first second = append_cancel_left i m n (same_behind o p i i m n octets first second)
 
 -- an AP-REQ is no TGT-REQ
-pub other_token_id : (o p m n octets : List ℕ) → IsFrame o AP_REQ_TOKEN_ID m octets → IsFrame p TGT_REQ_TOKEN_ID n octets → ⊥
-other_token_id o p m n octets first second = let e = same_behind o p AP_REQ_TOKEN_ID TGT_REQ_TOKEN_ID m n octets first second in absurd cc
+pub other_token_id : (o p m n octets : List ℕ) → IsFrame o ap_req_id m octets → IsFrame p tgt_req_id n octets → ⊥
+other_token_id o p m n octets first second = let e = same_behind o p ap_req_id tgt_req_id m n octets first second in absurd cc
 
 -- a token that frames what is no AP-REQ is nothing to an acceptor
-pub nothing_comes : (state : KerberosState) (token oid octets : List ℕ) → IsFrame oid AP_REQ_TOKEN_ID octets token → ((message : ApReq) → IsRead ap_req_layout octets message → ⊥) → (x : Incoming) → IsIncoming state token x → ⊥
+pub nothing_comes : (state : KerberosState) (token oid octets : List ℕ) → IsFrame oid ap_req_id octets token → ((message : ApReq) → IsRead ap_req_layout octets message → ⊥) → (x : Incoming) → IsIncoming state token x → ⊥
 nothing_comes state token oid octets frame none (ApReqToken message) h =
     none message (subst (λ (o : List ℕ). IsRead ap_req_layout o message) (same_message _ _ _ _ _ token h.frame frame) h.read)
 nothing_comes state token oid octets frame none TgtReq h = other_token_id oid _ octets _ token frame h.1.frame
 
-pub refuses_incoming : (state : KerberosState) (token oid octets : List ℕ) (e : Cause) (answer : Result Incoming Cause) → IsFrame oid AP_REQ_TOKEN_ID octets token → Answers (Finds Shape (IsRead ap_req_layout octets)) (Err e) → IsErrAnd answer (λ d. d ≡ e) → Answers (Finds Shape (IsIncoming state token)) answer
+pub refuses_incoming : (state : KerberosState) (token oid octets : List ℕ) (e : Cause) (answer : Result Incoming Cause) → IsFrame oid ap_req_id octets token → Answers (Finds Shape (IsRead ap_req_layout octets)) (Err e) → IsErrAnd answer (λ d. d ≡ e) → Answers (Finds Shape (IsIncoming state token)) answer
 refuses_incoming state token oid octets e answer frame h is = record {
   so = λ ne.
       let f = h.so (λ z. ne (is_err answer e is ∙ ap Err (same_err {A = ApReq} e Memory z))) in

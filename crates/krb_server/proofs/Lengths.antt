@@ -1,5 +1,5 @@
 -- How long an AP-REP can be.
-use Rattle.std.proofs.Common.{◌≡◌, ℕ, ◌+◌, ◌<◌, ◌≤◌, ◌^◌, ◌%◌, ℤ, Bool, true, false, List, [], ◌∷◌, ◌++◌, length, Option, Some, None, option_map, IfSome, arith, lit≤, lit<, take, refl, sym, subst}
+use Rattle.std.proofs.Common.{◌≡◌, ℕ, ◌+◌, ◌<◌, ◌≤◌, ◌^◌, ◌%◌, ℤ, Bool, true, false, List, [], ◌∷◌, ◌++◌, length, Option, Some, None, option_map, IfSome, arith, lit≤, lit<, refl, sym, subst}
 use Rattle.std.proofs.lemmas.List.{length-take}
 use Rattle.std.specs.Int.{w32, to_be_bytes}
 use Rattle.std.specs.Option.{option_map_or}
@@ -8,16 +8,13 @@ use Rattle.krb_der.specs.Moment.{time_octets}
 use Rattle.krb_der.specs.Schema.{IsComplete, contents, tag_of}
 use Rattle.krb_der.proofs.Lengths.{tlv_le, field_le, append_le}
 use Rattle.krb_messages.specs.Table.{enc_ap_rep_part, ap_rep as ap_rep_kind, encryption_key, encrypted_data}
-use Rattle.krb_messages.specs.Layouts.{enc_ap_rep_part_row, enc_ap_rep_part_layout, ap_rep_row, ap_rep_layout, encryption_key_row, encrypted_data_row}
-use Rattle.krb_messages.specs.declared.ap_rep.ApRep.{ApRep}
-use Rattle.krb_messages.specs.declared.ap_rep.EncApRepPart.{EncApRepPart}
+use Rattle.krb_messages.specs.Layouts.{enc_ap_rep_part_row, ap_rep_row, encryption_key_row, encrypted_data_row}
 use Rattle.krb_crypto.specs.Suite.{suite_number, key_size}
 use Rattle.krb_crypto.specs.declared.suite.CipherSuite.TheVariants.{Aes128CtsHmacSha196, Aes256CtsHmacSha196}
-use Rattle.krb_messages.specs.declared.constants.TheConstants.{AP_REP_TOKEN_ID}
 use Rattle.sspi_core.specs.declared.draw.Draw.{Draw}
 use Rattle.krb_server.specs.declared.request.Request.{Request}
 use Rattle.krb_crypto.specs.declared.suite.CipherSuite.{CipherSuite}
-use Rattle.krb_server.specs.Admission.{key_with, ap_rep_part, ap_rep_with, IsShortPart, IsAnswerable, drawn_key, reply_part, mechanism}
+use Rattle.krb_server.specs.Admission.{key_with, ap_rep_part, ap_rep_with, ap_rep_id, number_after, IsShortPart, IsAnswerable, drawn_key, reply_part, mechanism}
 
 le_trans : (a b c : ℕ) → a ≤ b → b ≤ c → a ≤ c
 le_trans a b c h k = omega arith
@@ -81,17 +78,17 @@ key_size_small Aes256CtsHmacSha196 = lit≤ tt
 pub reply_short : (number : ℕ) (draw : Draw) (request : Request) → IsAnswerable request → IsShortPart (reply_part number draw request)
 reply_short number draw request h =
     let k : length (drawn_key request.suite draw) ≤ 2 ^ 24 = omega (arith, key_size_small request.suite, length-take (key_size request.suite) draw.random) in
-    part_short request.suite request.authenticator.ctime request.authenticator.cusec (to_be_bytes w32 ((number + 1) % 2 ^ 32)) (Some (drawn_key request.suite draw)) h.some h.short (length-number ((number + 1) % 2 ^ 32)) k
+    part_short request.suite request.authenticator.ctime request.authenticator.cusec (number_after number) (Some (drawn_key request.suite draw)) h.some h.short (length-number ((number + 1) % 2 ^ 32)) k
 
 mechanism_short : (user_to_user : Bool) → length (mechanism user_to_user) ≤ 10
 mechanism_short true = lit≤ tt
 mechanism_short false = lit≤ tt
 
 -- what is framed, behind the mechanism's name
-pub framed_short : (user_to_user : Bool) (oid message : List ℕ) → oid ≡ mechanism user_to_user → length message ≤ 2 ^ 28 → length (tlv 0x06 oid ++ (AP_REP_TOKEN_ID ++ message)) < 2 ^ 31
+pub framed_short : (user_to_user : Bool) (oid message : List ℕ) → oid ≡ mechanism user_to_user → length message ≤ 2 ^ 28 → length (tlv 0x06 oid ++ (ap_rep_id ++ message)) < 2 ^ 31
 framed_short user_to_user oid message e h =
     let name : length oid ≤ 10 = subst (λ (o : List ℕ). length o ≤ 10) (sym e) (mechanism_short user_to_user) in
-    omega (arith, append_le (tlv 0x06 oid) (AP_REP_TOKEN_ID ++ message) 16 (2 + 2 ^ 28) (tlv_le 0x06 oid 10 name) (append_le AP_REP_TOKEN_ID message 2 (2 ^ 28) (lit≤ tt) h))
+    omega (arith, append_le (tlv 0x06 oid) (ap_rep_id ++ message) 16 (2 + 2 ^ 28) (tlv_le 0x06 oid 10 name) (append_le ap_rep_id message 2 (2 ^ 28) (lit≤ tt) h))
 
 pub rep_below : (suite : CipherSuite) (cipher : List ℕ) → length cipher ≤ 2 ^ 27 → length (tlv (tag_of ap_rep_kind) (contents ap_rep_kind (ap_rep_row (ap_rep_with suite cipher)))) < 2 ^ 31
 rep_below suite cipher h = let k = rep_short suite cipher h in omega (arith, k)

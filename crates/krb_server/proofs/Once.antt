@@ -1,5 +1,5 @@
 -- Each chain of checks has at most one answer.
-use Rattle.std.proofs.Common.{◌≡◌, ℕ, Bool, List, ◌++◌, [], Result, Ok, Err, refl, sym, ap, ◌∙◌, subst}
+use Rattle.std.proofs.Common.{◌≡◌, ℕ, Bool, List, [], Result, refl, sym, ap, ◌∙◌, subst}
 use Rattle.krb_der.specs.Layout.{Layout}
 use Rattle.krb_der.proofs.Records.{one_spelling_lem}
 use Rattle.krb_messages.specs.Layouts.{ap_req_layout, enc_ticket_part_layout, authenticator_layout}
@@ -14,14 +14,13 @@ use Rattle.krb_context.specs.declared.state.KerberosState.{KerberosState}
 use Rattle.krb_replay.specs.declared.ask.Verdict.{Verdict}
 use Rattle.sspi_core.specs.declared.cause.Cause.{Cause}
 use Rattle.sspi_core.specs.declared.draw.Draw.{Draw}
-use Rattle.sspi_core.specs.Checks.{Finds, Takes, Holds, Passes, Gives, Goes, Then}
 use Rattle.sspi_core.proofs.Once.{Once, then_once, finds_once, takes_once, holds_once, passes_once, gives_once}
 use Rattle.krb_server.specs.declared.request.Request.{Request}
 use Rattle.krb_server.specs.declared.admission.Admission.{Admission}
 use Rattle.krb_server.specs.declared.token.Incoming.{Incoming}
 use Rattle.krb_server.specs.declared.token.Incoming.TheVariants.{ApReq as ApReqToken, TgtReq}
 use Rattle.krb_server.specs.Opens.{IsRead, Unseals, Opens}
-use Rattle.krb_server.specs.Tokens.{IsApReq, IsTgtReq, IsIncoming, Receives}
+use Rattle.krb_server.specs.Tokens.{IsApReq, IsIncoming, Receives}
 use Rattle.krb_server.specs.Requests.{OpensTicket, OpensAuthenticator, Requests}
 use Rattle.krb_server.specs.Complete.{Completes}
 use Rattle.krb_server.specs.Accepts.{Begins, Finishes, Judged}

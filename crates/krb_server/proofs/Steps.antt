@@ -15,7 +15,6 @@ use Rattle.krb_server.specs.declared.admission.Admission.{Admission}
 use Rattle.krb_server.specs.declared.admission.Accepted.{Accepted}
 use Rattle.krb_server.specs.Requests.{ask_of}
 use Rattle.krb_server.specs.Complete.{Completes}
-use Rattle.krb_server.specs.Admission.{accepted_of, settled}
 use Rattle.krb_server.specs.Accepts.{Begins, Finishes, Judged, Accepts, Makes, refusal}
 use Rattle.krb_server.proofs.Once.{one_outcome_lem}
 
@@ -53,7 +52,8 @@ module _ {G : Type 0} (admits : G → Ask → Verdict → G → Type 0) (server 
       }
 
   -- an AP-REQ that passes every check is accepted
-  pub completed : (new : G) (answer : Result Accepted Cause) (server' : Kerberos) (admission : Admission) (step : Accepts admits server dce token draw old answer server' new) → step.verdict ≡ Admitted → Judged server dce token draw Admitted (Ok admission) → (answer ≡ Ok (accepted_of admission)) × (server' ≡ settled server admission)
+  pub completed : (new : G) (answer : Result Accepted Cause) (server' : Kerberos) (admission : Admission) (step : Accepts admits server dce token draw old answer server' new) → step.verdict ≡ Admitted → Judged server dce token draw Admitted (Ok admission)
+      → Makes server (Ok admission) answer server'
   completed new answer server' admission step admits_it passes =
       let e = one_outcome_lem server dce token draw Admitted step.outcome (Ok admission) (subst (λ (v : Verdict). Judged server dce token draw v step.outcome) admits_it step.judged) passes in
       subst (λ (r : Result Admission Cause). Makes server r answer server') e step.made

@@ -10,7 +10,7 @@ use Rattle.sspi_core.specs.declared.draw.Draw.{Draw}
 use Rattle.sspi_core.specs.declared.flags.ServerRequestFlags.{ServerRequestFlags}
 use Rattle.sspi_core.specs.declared.cause.Cause.{Cause}
 use Rattle.sspi_core.specs.declared.cause.Cause.TheVariants.{Sequence, NotBuilt, Skew, NotYet, Expired, Replayed}
-use Rattle.sspi_core.specs.Checks.{Holds, Takes, Passes, Gives, Goes, Then, ◌>>=◌, ◌>>◌}
+use Rattle.sspi_core.specs.Checks.{Holds, Takes, Passes, Gives, ◌>>=◌, ◌>>◌}
 use Rattle.krb_server.specs.declared.request.Request.{Request}
 use Rattle.krb_server.specs.declared.admission.Admission.{Admission}
 use Rattle.krb_server.specs.declared.admission.Accepted.{Accepted}

@@ -11,7 +11,6 @@ use Rattle.krb_crypto.specs.declared.suite.CipherSuite.{CipherSuite}
 use Rattle.krb_messages.specs.declared.encryption.EncryptionKey.{EncryptionKey}
 use Rattle.krb_messages.specs.declared.ap_rep.ApRep.{ApRep}
 use Rattle.krb_messages.specs.declared.ap_rep.EncApRepPart.{EncApRepPart}
-use Rattle.krb_messages.specs.declared.constants.TheConstants.{AP_REP_TOKEN_ID, AP_REP_USAGE, AP_REP_MSG_TYPE, KERBEROS_VERSION, KRB5_OID, USER_TO_USER_OID}
 use Rattle.krb_messages.specs.Layouts.{ap_rep_layout, enc_ap_rep_part_layout}
 use Rattle.krb_messages.specs.Table.{enc_ap_rep_part}
 use Rattle.krb_context.specs.declared.context.Kerberos.{Kerberos}
@@ -43,17 +42,17 @@ key_with suite key = record { key_type = suite_number suite ∷ []; key_value = 
 abbrev pub ap_rep_part : CipherSuite → ℤ → List ℕ → List ℕ → Option (List ℕ) → EncApRepPart
 ap_rep_part suite ctime cusec number subkey = record { ctime = ctime; cusec = cusec; subkey = option_map (key_with suite) subkey; seq_number = Some number }
 
--- an AP-REP with this cipher
+-- an AP-REP with this cipher: version 5, message type 15
 abbrev pub ap_rep_with : CipherSuite → List ℕ → ApRep
 ap_rep_with suite cipher = record {
-  pvno = KERBEROS_VERSION ∷ [];
-  msg_type = AP_REP_MSG_TYPE ∷ [];
+  pvno = 5 ∷ [];
+  msg_type = 15 ∷ [];
   enc_part = record { etype = suite_number suite ∷ []; kvno = None; cipher = cipher };
 }
 
--- an AP-REP in which this is sealed under the session key
+-- an AP-REP in which this is sealed under the session key, with usage 12 (RFC 4120, section 7.5.1)
 abbrev pub ap_rep : CipherSuite → List ℕ → List ℕ → EncApRepPart → ApRep
-ap_rep suite key confounder part = ap_rep_with suite (sealed suite key AP_REP_USAGE confounder (spelling enc_ap_rep_part_layout part))
+ap_rep suite key confounder part = ap_rep_with suite (sealed suite key 12 confounder (spelling enc_ap_rep_part_layout part))
 
 -- the sub-session key that is drawn, and the confounder behind it
 abbrev pub drawn_key : CipherSuite → Draw → List ℕ
@@ -62,19 +61,31 @@ drawn_key suite draw = take (key_size suite) draw.random
 abbrev pub drawn_confounder : CipherSuite → Draw → List ℕ
 drawn_confounder suite draw = take 16 (drop (key_size suite) draw.random)
 
--- the mechanism that a token names: user-to-user once a TGT-REQ was taken
+-- 1.2.840.113554.1.2.2, the Kerberos mechanism (RFC 4121, section 4.1), by the octets of its contents
+abbrev pub kerberos_mechanism : List ℕ
+kerberos_mechanism = 0x2a ∷ 0x86 ∷ 0x48 ∷ 0x86 ∷ 0xf7 ∷ 0x12 ∷ 1 ∷ 2 ∷ 2 ∷ []
+
+-- the mechanism that a token names: user-to-user, 1.2.840.113554.1.2.2.3, once a TGT-REQ was taken
 abbrev pub mechanism : Bool → List ℕ
-mechanism user_to_user = if user_to_user then USER_TO_USER_OID else KRB5_OID
+mechanism user_to_user = if user_to_user then kerberos_mechanism ++ 3 ∷ [] else kerberos_mechanism
+
+-- the token id in front of an AP-REP (RFC 4121, section 4.1)
+abbrev pub ap_rep_id : List ℕ
+ap_rep_id = 2 ∷ 0 ∷ []
+
+-- the number in four octets, the highest first, after the context's own
+abbrev pub number_after : ℕ → List ℕ
+number_after number = to_be_bytes w32 ((number + 1) % 2 ^ 32)
 
 -- what the AP-REP to a request seals: its authenticator's time, the drawn subkey, and the number after the context's own
 abbrev pub reply_part : ℕ → Draw → Request → EncApRepPart
 reply_part number draw request =
-    ap_rep_part request.suite request.authenticator.ctime request.authenticator.cusec (to_be_bytes w32 ((number + 1) % 2 ^ 32)) (Some (drawn_key request.suite draw))
+    ap_rep_part request.suite request.authenticator.ctime request.authenticator.cusec (number_after number) (Some (drawn_key request.suite draw))
 
 -- the AP-REP to a request, framed
 unfoldable pub reply_token : Bool → ℕ → Draw → Request → List ℕ
 reply_token user_to_user number draw request =
-    framed (mechanism user_to_user) AP_REP_TOKEN_ID
+    framed (mechanism user_to_user) ap_rep_id
     (spelling ap_rep_layout (ap_rep request.suite request.part.key.key_value (drawn_confounder request.suite draw) (reply_part number draw request)))
 
 -- mutual-required: the drawn key is the sub-session key, the own number stays, and the AP-REP is the answer

@@ -10,7 +10,7 @@ use Rattle.krb_server.specs.Clients.{client_of}
 use Rattle.sspi_core.specs.Usernames.{UserName}
 use Rattle.sspi_core.specs.declared.cause.Cause.{Cause}
 use Rattle.sspi_core.specs.declared.cause.Cause.TheVariants.{ClientName, ApOptions, SubKey}
-use Rattle.sspi_core.specs.Checks.{Holds, Takes, Gives, Goes, ◌>>=◌, ◌>>◌}
+use Rattle.sspi_core.specs.Checks.{Holds, Takes, Gives, ◌>>=◌, ◌>>◌}
 
 -- APOptions (RFC 4120, section 5.5.1): 32 bits, of which use-session-key (1) and mutual-required (2) are known
 abbrev pub are_known : List ℕ → Bool

@@ -1,5 +1,5 @@
 -- What is sealed to a key, opened (RFC 4120, section 3.2.3). Nothing here decrypts: a text is opened as the one that is sealed to it.
-use Rattle.std.specs.Prelude.{◌≡◌, ℕ, nat_le, ◌==◌, pos, ℤ, List, length, Option, Some, None, Result, if◌then◌else◌}
+use Rattle.std.specs.Prelude.{ℕ, nat_le, ◌==◌, pos, ℤ, List, length, Option, Some, None, Result, if◌then◌else◌}
 use Rattle.std.specs.Ordering.{int_eq}
 use Rattle.krb_der.specs.Integer.{integer_value}
 use Rattle.krb_der.specs.Schema.{Spells}
@@ -11,7 +11,7 @@ use Rattle.krb_crypto.specs.declared.suite.CipherSuite.TheVariants.{Aes128CtsHma
 use Rattle.krb_messages.specs.declared.encryption.EncryptedData.{EncryptedData}
 use Rattle.sspi_core.specs.declared.cause.Cause.{Cause}
 use Rattle.sspi_core.specs.declared.cause.Cause.TheVariants.{Etype, KeyLength, Short, Altered, Inner}
-use Rattle.sspi_core.specs.Checks.{Finds, Holds, Takes, Gives, Goes, ◌>>=◌, ◌>>◌}
+use Rattle.sspi_core.specs.Checks.{Finds, Holds, Takes, Gives, ◌>>=◌, ◌>>◌}
 
 -- the suite of a number (RFC 3962, section 7)
 abbrev pub suite_numbered : ℤ → Option CipherSuite

@@ -1,10 +1,9 @@
 -- An AP-REQ, up to the question to the replay gate (RFC 4120, section 3.2.3).
-use Rattle.std.specs.Prelude.{◌≡◌, ℕ, ◌==◌, Bool, ◌&&◌, List, Result, unwrap_or}
+use Rattle.std.specs.Prelude.{ℕ, ◌==◌, Bool, ◌&&◌, List, Result, unwrap_or}
 use Rattle.std.specs.Cmp.Lexicographic.{pointwise}
 use Rattle.krb_messages.specs.declared.ap_req.ApReq.{ApReq}
 use Rattle.krb_messages.specs.declared.enc_ticket_part.EncTicketPart.{EncTicketPart}
 use Rattle.krb_messages.specs.declared.authenticator.Authenticator.{Authenticator}
-use Rattle.krb_messages.specs.declared.constants.TheConstants.{TICKET_USAGE, AP_REQ_AUTHENTICATOR_USAGE}
 use Rattle.krb_messages.specs.Layouts.{enc_ticket_part_layout, authenticator_layout}
 use Rattle.krb_crypto.specs.declared.suite.CipherSuite.{CipherSuite}
 use Rattle.krb_replay.specs.declared.ask.Ask.{Ask}
@@ -16,7 +15,7 @@ use Rattle.krb_server.specs.Opens.{Opens}
 use Rattle.krb_server.specs.Tokens.{Receives}
 use Rattle.sspi_core.specs.declared.cause.Cause.{Cause}
 use Rattle.sspi_core.specs.declared.cause.Cause.TheVariants.{NoServiceKey, Names}
-use Rattle.sspi_core.specs.Checks.{Holds, Takes, Gives, Goes, ◌>>=◌, ◌>>◌}
+use Rattle.sspi_core.specs.Checks.{Holds, Takes, Gives, ◌>>=◌, ◌>>◌}
 
 -- realm, name type and components are the same
 abbrev pub is_same_client : EncTicketPart → Authenticator → Bool
@@ -25,17 +24,18 @@ is_same_client part authenticator =
     && (pointwise ◌==◌ part.cname.name_type authenticator.cname.name_type
     && pointwise (pointwise ◌==◌) part.cname.name_string authenticator.cname.name_string)
 
--- what is sealed in the ticket, under the key of the service that the ticket names in the clear
+-- what is sealed in the ticket, under the key of the service that the ticket names in the clear, with usage 2 (RFC 4120,
+-- section 7.5.1)
 unfoldable pub OpensTicket : ServerProperties → ApReq → Result EncTicketPart Cause → Type 0
 OpensTicket server message = do
   key ← Takes NoServiceKey (service_key server message.ticket.sname.name_string)
-  ticket ← Opens enc_ticket_part_layout key TICKET_USAGE message.ticket.enc_part
+  ticket ← Opens enc_ticket_part_layout key 2 message.ticket.enc_part
   Gives ticket.1
 
--- the authenticator, under the key inside the ticket, of the same client
+-- the authenticator, under the key inside the ticket, with usage 11 (RFC 4120, section 7.5.1), of the same client
 unfoldable pub OpensAuthenticator : ApReq → EncTicketPart → Result (CipherSuite × Authenticator) Cause → Type 0
 OpensAuthenticator message part = do
-  sealed ← Opens authenticator_layout part.key.key_value AP_REQ_AUTHENTICATOR_USAGE message.authenticator
+  sealed ← Opens authenticator_layout part.key.key_value 11 message.authenticator
   Holds Names (is_same_client part sealed.1)
   Gives sealed
 

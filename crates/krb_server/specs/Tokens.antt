@@ -1,31 +1,36 @@
 -- The message in a token of the handshake, behind the mechanism's name (RFC 4121, section 4.1).
-use Rattle.std.specs.Prelude.{◌≡◌, ℕ, nat_le, Bool, true, false, List, length, Option, Some, None, Result}
+use Rattle.std.specs.Prelude.{◌≡◌, ℕ, nat_le, Bool, true, false, List, [], ◌∷◌, length, Option, Some, None, Result}
 use Rattle.krb_messages.specs.Frame.{IsFrame}
 use Rattle.krb_messages.specs.Layouts.{ap_req_layout}
 use Rattle.krb_messages.specs.declared.ap_req.ApReq.{ApReq}
-use Rattle.krb_messages.specs.declared.constants.TheConstants.{AP_REQ_TOKEN_ID, TGT_REQ_TOKEN_ID}
 use Rattle.krb_context.specs.declared.state.KerberosState.{KerberosState}
 use Rattle.krb_context.specs.declared.state.KerberosState.TheVariants.{TgtExchange, Preauthentication, ApExchange, Final}
 use Rattle.krb_server.specs.declared.token.Incoming.{Incoming}
 use Rattle.krb_server.specs.declared.token.Incoming.TheVariants.{ApReq as ApReqToken, TgtReq}
-use Rattle.krb_server.specs.declared.token.TheConstants.{MAX_TOKEN}
 use Rattle.krb_server.specs.Opens.{IsRead}
 use Rattle.sspi_core.specs.declared.cause.Cause.{Cause}
 use Rattle.sspi_core.specs.declared.cause.Cause.TheVariants.{Shape, NotBuilt}
-use Rattle.sspi_core.specs.Checks.{Finds, Holds, Takes, Goes, ◌>>=◌, ◌>>◌}
+use Rattle.sspi_core.specs.Checks.{Finds, Holds, Takes, ◌>>=◌, ◌>>◌}
+
+-- the token ids in front of an AP-REQ (RFC 4121, section 4.1) and of a TGT-REQ (draft-swift-win2k-krb-user2user, section 3)
+abbrev pub ap_req_id : List ℕ
+ap_req_id = 1 ∷ 0 ∷ []
+
+abbrev pub tgt_req_id : List ℕ
+tgt_req_id = 4 ∷ 0 ∷ []
 
 -- the token is a frame of this AP-REQ, whatever mechanism it names
 pub record IsApReq (token : List ℕ) (message : ApReq) : Type 0 where
   pub oid : List ℕ
   pub octets : List ℕ
-  pub frame : IsFrame oid AP_REQ_TOKEN_ID octets token
+  pub frame : IsFrame oid ap_req_id octets token
   pub read : IsRead ap_req_layout octets message
 
 -- the token is a frame of a TGT-REQ, which begins user-to-user. What it frames is not looked at yet
 pub record IsTgtReq (token : List ℕ) : Type 0 where
   pub oid : List ℕ
   pub octets : List ℕ
-  pub frame : IsFrame oid TGT_REQ_TOKEN_ID octets token
+  pub frame : IsFrame oid tgt_req_id octets token
 
 -- where a TGT-REQ may come
 abbrev pub takes_tgt_req : KerberosState → Bool
@@ -44,9 +49,9 @@ abbrev pub ap_req_of : Incoming → Option ApReq
 ap_req_of (ApReqToken message) = Some message
 ap_req_of TgtReq = None
 
--- the AP-REQ in a token
+-- the AP-REQ in a token, which has at most 2^24 octets
 unfoldable pub Receives : KerberosState → List ℕ → Result ApReq Cause → Type 0
 Receives state token = do
-  Holds Shape (nat_le (length token) MAX_TOKEN)
+  Holds Shape (nat_le (length token) 16777216)
   incoming ← Finds Shape (IsIncoming state token)
   Takes NotBuilt (ap_req_of incoming)

@@ -6,7 +6,6 @@ ghost use Rattle.sspi_core.specs.declared.cause.Cause.TheVariants as causes;
 ghost use Rattle.sspi_core.specs.Kinds.{error_of};
 ghost use Rattle.krb_crypto.specs.Suite.{key_size};
 ghost use Rattle.krb_crypto.specs.Sealed.{sealed};
-ghost use Rattle.krb_messages.specs.declared.constants.TheConstants as messages;
 ghost use Rattle.krb_messages.specs.Layouts.{enc_ap_rep_part_layout};
 ghost use Rattle.krb_context.specs.Params.{suite_of as context_suite};
 ghost use Rattle.krb_server.specs.Admission.{spelling, key_with, ap_rep_part, ap_rep_with, ap_rep, IsShortPart};
@@ -82,7 +81,7 @@ fn seal(
     plain: &Octets,
 ) -> Result<Octets, OutOfMemory>
     requires key { length key.now ≡ key_size suite }
-    ensures sealed { IfOk result (λ cipher. cipher ≡ sealed suite key.now messages.AP_REP_USAGE confounder plain.now) }
+    ensures sealed { IfOk result (λ cipher. cipher ≡ sealed suite key.now 12 confounder plain.now) }
     ensures longer { IfOk result (λ cipher. length cipher ≡ length plain.now + 28) }
 {
     match encrypt(
@@ -120,7 +119,9 @@ pub(crate) fn seal_ap_rep(
 /// An AP-REP with this time and number, and with the parameters' sub-session key where there is one, sealed under the
 /// session key in the parameters' suite (AES-256 where there is none).
 ///
-/// `ctime` and `cusec` are those of the authenticator that is answered; `seq_number` is big-endian.
+/// `ctime` and `cusec` are those of the authenticator that is answered, in seconds since 1970-01-01T00:00:00Z and in
+/// microseconds; `seq_number` has its highest octet first. Refused as InvalidParameter KeyLength exactly where the session key
+/// has not the length of the suite's keys; else only memory can be wanting.
 pub fn generate_ap_rep(
     alloc: Global,
     session_key: &Secret<Octets>,

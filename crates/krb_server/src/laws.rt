@@ -8,8 +8,7 @@ ghost use Rattle.krb_replay.specs.declared.ask.Verdict.TheVariants.{Admitted};
 ghost use Rattle.krb_context.specs.declared.context.Kerberos.{Kerberos};
 ghost use Rattle.krb_server.specs.declared.admission.Accepted.{Accepted};
 ghost use Rattle.krb_server.specs.declared.admission.Admission.{Admission};
-ghost use Rattle.krb_server.specs.Admission.{accepted_of, settled};
-ghost use Rattle.krb_server.specs.Accepts.{Judged, Accepts};
+ghost use Rattle.krb_server.specs.Accepts.{Judged, Accepts, Makes};
 
 use krb_replay::ReplayGate;
 
@@ -23,6 +22,6 @@ pub fn one_outcome()
 /// An AP-REQ that passes every check, and that the gate admits, is accepted, and the context is settled.
 pub fn completeness<G: ReplayGate>()
     ensures { (server server' : Kerberos) (dce : Bool) (token : List ℕ) (draw : Draw) (old new : G) (answer : Result Accepted Cause) (admission : Admission)
-        → (step : Accepts G.admits server dce token draw old answer server' new) → step.verdict ≡ Admitted → Judged server dce token draw Admitted (Ok admission)
-        → (answer ≡ Ok (accepted_of admission)) × (server' ≡ settled server admission) }
+        → (step : Accepts G.admits server dce token draw old answer server' new) → step.verdict ≡ Admitted
+        → Judged server dce token draw Admitted (Ok admission) → Makes server (Ok admission) answer server' }
 {}

@@ -4,9 +4,8 @@ ghost use Rattle.std.specs.Prelude.{◌≡◌, nat_le, length, IfOk, List, ℕ};
 ghost use Rattle.sspi_core.specs.declared.cause.Cause.TheVariants as causes;
 ghost use Rattle.sspi_core.specs.Checks.{Answers, Finds, Holds, Takes};
 ghost use Rattle.krb_messages.specs.Frame.{IsFrame, NoFrame};
-ghost use Rattle.krb_messages.specs.declared.constants.TheConstants as messages;
 ghost use Rattle.krb_server.specs.Opens.{IsRead};
-ghost use Rattle.krb_server.specs.Tokens.{IsIncoming, takes_tgt_req, ap_req_of, Receives};
+ghost use Rattle.krb_server.specs.Tokens.{ap_req_id, IsIncoming, takes_tgt_req, ap_req_of, Receives};
 
 use crate::open::read_or;
 use krb_context::KerberosState;
@@ -27,7 +26,7 @@ pub(crate) enum Incoming {
 }
 
 fn check_token_length(token: &[u8]) -> Result<(), Cause>
-    ensures { Holds causes.Shape (nat_le (length token.now) MAX_TOKEN) result }
+    ensures { Holds causes.Shape (nat_le (length token.now) 16777216) result }
 {
     hold(token.len() <= MAX_TOKEN, Cause::Shape)
 }
@@ -40,7 +39,7 @@ fn takes_tgt_req(state: KerberosState) -> bool
 
 /// A token that frames no AP-REQ.
 fn incoming_tgt_req(state: KerberosState, token: &[u8]) -> Result<Incoming, Cause>
-    requires { NoFrame messages.AP_REQ_TOKEN_ID token.now }
+    requires { NoFrame ap_req_id token.now }
     ensures { Finds causes.Shape (IsIncoming state token.now) result }
 {
     if takes_tgt_req(state) && read_framed(token, TGT_REQ_TOKEN_ID).is_ok() {

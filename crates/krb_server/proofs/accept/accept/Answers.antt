@@ -1,4 +1,4 @@
-use Rattle.std.proofs.Common.{rules, ap, Ok, Err, refl, sym, ◌∙◌}
+use Rattle.std.proofs.Common.{ap, Ok, Err, refl, sym, ◌∙◌}
 use Rattle.sspi_core.proofs.Chain.{halts, follows, is_err, same_err}
 use Rattle.krb_server.proofs.Begun.{begun, begun_answerable}
 use Rattle.krb_server.proofs.Steps.{answered, refused_before, answered_at_gate, finishes_refuses}

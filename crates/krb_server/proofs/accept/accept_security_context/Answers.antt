@@ -1,4 +1,4 @@
-use Rattle.std.proofs.Common.{Err, ap, ◌∙◌, refl}
+use Rattle.std.proofs.Common.{Err, ap, ◌∙◌}
 use Rattle.sspi_core.specs.declared.cause.Cause.TheVariants as causes
 use Rattle.sspi_core.specs.Kinds.{error_of}
 use Rattle.sspi_core.proofs.Chain.{same_err}

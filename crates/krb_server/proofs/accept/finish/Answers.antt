@@ -1,4 +1,4 @@
-use Rattle.std.proofs.Common.{rules, ap, Ok, refl}
+use Rattle.std.proofs.Common.{ap, Ok, refl}
 use Rattle.krb_server.specs.Accepts.{Finishes}
 use Rattle.sspi_core.proofs.Chain.{halts, follows}
 use Rattle.krb_server.proofs.accept.finish.Goals as goal

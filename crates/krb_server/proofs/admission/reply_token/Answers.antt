@@ -1,4 +1,3 @@
-use Rattle.std.proofs.Common.{length}
 use Rattle.krb_messages.specs.Oid.{contents_of}
 use Rattle.krb_server.proofs.Lengths.{reply_short, rep_complete, rep_short, rep_below, framed_short}
 use Rattle.krb_server.proofs.admission.reply_token.Goals as goal

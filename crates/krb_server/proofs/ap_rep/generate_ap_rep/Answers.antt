@@ -1,4 +1,4 @@
-use Rattle.std.proofs.Common.{rules, arith, length, ◌≡◌}
+use Rattle.std.proofs.Common.{rules}
 use Rattle.krb_server.proofs.Lengths.{part_short}
 use Rattle.krb_server.proofs.ap_rep.generate_ap_rep.Goals as goal
 

@@ -1,5 +1,4 @@
-use Rattle.std.proofs.Common.{List, ℕ, Err, ap, refl}
-use Rattle.krb_crypto.specs.Sealed.{IsSealed}
+use Rattle.std.proofs.Common.{Err, ap, refl}
 use Rattle.krb_server.proofs.open.decrypt_or.Goals as goal
 
 pub returns-in-Err-Altered : goal.returns-in-Err-Altered
