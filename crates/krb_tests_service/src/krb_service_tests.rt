@@ -1,4 +1,4 @@
-//! A service over events that are handed in, and the demonstration.
+//! A service over events that are handed in.
 
 mod added;
 mod serve;
@@ -9,10 +9,9 @@ use krb_conf::{Env, KerberosConfig};
 use krb_context::{Kerberos, ServerProperties};
 use krb_der::{Items, Octets, Text};
 use krb_replay::ReplayBook;
-use krb_service::{Calls, Event, Input, MemSink, Service, Words, demo};
+use krb_service::{Event, Input, Service};
 use sspi_core::{ClientRequestFlags, Secret};
-use std::alloc::{AllocError, Global};
-use std::process::Abort;
+use std::alloc::Global;
 use std::test::Fail;
 
 /// An AP-REQ for host/server.example.com whose authenticator has the number 42, at 1700000000 s.
@@ -87,32 +86,4 @@ fn a_token_is_admitted_at_one_connection_alone(rt: HostRuntime) -> Result<(), Fa
     let number = service.connection(2).map(|context| context.seq_number);
     assert_eq!(rt; number, Some(41));
     Ok(())
-}
-
-fn demo_words(alloc: Global, number: &str) -> Result<Words, AllocError> {
-    let mut words = Vec::new(alloc);
-    words.push(String::from_str(alloc, "demo")?)?;
-    words.push(String::from_str(alloc, number)?)?;
-    Ok(Words::new(words))
-}
-
-/// Compares the status and the text of the demonstration of so many events.
-fn check_demo(
-    rt: &(impl AllocGlobal + Abort),
-    number: &str,
-    status: u8,
-    text: &str,
-) -> Result<(), Fail> {
-    let words = demo_words(rt.alloc(), number)?;
-    let mut sink = MemSink::new(rt.alloc(), Calls::sound(rt.alloc()));
-    let answer = demo(rt.alloc(), &words, &mut sink);
-    assert_eq!(rt; answer.number(), status);
-    assert_eq!(rt; sink.bytes(), text.as_bytes());
-    Ok(())
-}
-
-#[test]
-fn a_demonstration_counts_its_admissions(rt: HostRuntime) -> Result<(), Fail> {
-    check_demo(&rt, "300", 0, "demo 300 270 270\n")?;
-    check_demo(&rt, "0", 2, "")
 }
