@@ -1,5 +1,5 @@
 -- What is known behind checks that were passed, and what a refused call answers.
-use Rattle.std.proofs.Common.{◌≡◌, refl, sym, subst, ap, ◌∙◌, Result, Ok, Err}
+use Rattle.std.proofs.Common.{◌≡◌, Bool, true, false, refl, sym, subst, ap, ◌∙◌, Result, Ok, Err}
 use Rattle.std.specs.Prelude.{Option, Some, None, MatchOption}
 use Rattle.std.specs.Result.{IsErrAnd, IfErr, result_map_both}
 use Rattle.sspi_core.specs.declared.cause.Cause.{Cause}
@@ -8,8 +8,8 @@ use Rattle.sspi_core.specs.declared.error.Error.{Error}
 use Rattle.sspi_core.specs.declared.error.Place.{Place}
 use Rattle.sspi_core.specs.declared.error.Place.TheVariants.{Query, MakeMic, Elsewhere}
 use Rattle.sspi_core.specs.Kinds.{error_at, error_of}
-use Rattle.sspi_core.specs.Checks.{Finds, FoundOr, Takes, Gives, Passes, Goes, Then, Answers}
-use Rattle.sspi_core.proofs.Chain.{is_err, same_err}
+use Rattle.sspi_core.specs.Checks.{Finds, FoundOr, Takes, ok_or, Holds, Gives, Passes, Goes, Then, Answers}
+use Rattle.sspi_core.proofs.Chain.{same_err}
 use Rattle.krb_context.specs.Refusals.{Refuses}
 
 -- a chain that ends well found something first and went on with it
@@ -38,15 +38,20 @@ pub no_refusal : (refusal : Option Cause) (x : Unit {0}) → Passes refusal (Ok 
 no_refusal None x h = refl
 no_refusal (Some e) x h = let e = h.is in absurd cc
 
+-- ---- steps of a chain that are known
+
+pub takes_some : {A : Type 0} (cause : Cause) (value : Option A) (a : A) → value ≡ Some a → Takes cause value (Ok a)
+takes_some cause value a e = record { is = sym (ap (ok_or cause) e) }
+
+pub holds_true : (cause : Cause) (test : Bool) → test ≡ true → Holds cause test (Ok tt)
+holds_true cause true e = record { is = refl }
+holds_true cause false e = absurd cc
+
 -- what a search found, or that there is nothing, as a check
 pub finds_from : {A : Type 0} (cause : Cause) (P : A → Type 0) (o : Option A) (answer : Result A Cause)
     → MatchOption o ((a : A) → ¬ (P a)) P → Takes cause o answer → Finds cause P answer
 finds_from cause P (Some x) answer h t = record { is = subst (λ r. FoundOr cause P r) (sym t.is) h }
 finds_from cause P None answer h t = record { is = subst (λ r. FoundOr cause P r) (sym t.is) (refl, h) }
-
--- want of memory is an answer of all checks
-pub wants_memory : {A : Type 0} (checks : Result A Cause → Type 0) (answer : Result A Cause) → IsErrAnd answer (λ d. d ≡ Memory) → Answers checks answer
-wants_memory checks answer is = record { so = λ ne. absurd (ne (is_err answer Memory is)) }
 
 memory_there : (place : Place) → error_at place Memory ≡ error_of Memory
 memory_there Query = refl

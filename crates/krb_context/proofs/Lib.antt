@@ -1,13 +1,16 @@
 pub mod AsciiLemmas
 pub mod ChainLemmas
+pub mod CompleteLemmas
 pub mod KdcLemmas
 pub mod MicChecks
 pub mod MicLemmas
 pub mod OnceLemmas
 pub mod OpenLemmas
+pub mod OpenableLemmas
 pub mod PeerLemmas
 pub mod PlaceLemmas
 pub mod ReadyLemmas
+pub mod RunLemmas
 pub mod SizeLemmas
 pub mod TextLemmas
 pub mod TurnLemmas

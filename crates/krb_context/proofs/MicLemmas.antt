@@ -18,8 +18,7 @@ use Rattle.krb_context.specs.Mics.{mic_header, is_mic_header, sign_key, signed, 
 use Rattle.krb_context.specs.Params.{suite_of, or_else, key_of}
 use Rattle.krb_context.specs.Parties.{sign_usage, sign_flags}
 use Rattle.krb_context.specs.Unwraps.{has_key_size}
-use Rattle.krb_context.proofs.ChainLemmas.{passed, took, gave}
-use Rattle.krb_context.proofs.PeerLemmas.{takes_some, holds_true}
+use Rattle.krb_context.proofs.ChainLemmas.{passed, took, gave, takes_some, holds_true}
 
 holds_false : (cause : Cause) (test : Bool) → test ≡ false → Holds cause test (Err cause)
 holds_false cause true e = absurd cc
@@ -27,7 +26,7 @@ holds_false cause false e = record { is = refl }
 
 -- ---- the header that a writer makes
 
-mic_size : (flags number : ℕ) → length (mic_header flags number) ≡ 16
+pub mic_size : (flags number : ℕ) → length (mic_header flags number) ≡ 16
 unfolding mic_header
 mic_size flags number = refl
 

@@ -1,21 +1,21 @@
 -- What a wrap leaves: how long its parts are, and its number.
 use Rattle.std.proofs.Common.{◌≡◌, ℕ, zero, suc, ◌+◌, ◌<◌, ◌^◌, ◌%◌, Bool, true, List, ◌++◌, length, take, drop, ap, ◌∙◌, arith, length-append, length-drop}
 use Rattle.std.specs.Prelude.{Option, is_some}
-use Rattle.std.proofs.lemmas.List.{length-take-le, take_at}
+use Rattle.std.proofs.lemmas.List.{length-take-le}
 use Rattle.krb_aes.specs.Octets.{IsOctets}
 use Rattle.sspi_core.specs.declared.buffer.Part.TheVariants.{Token, Plain}
 use Rattle.sspi_core.specs.Buffer.{Buffer}
 use Rattle.sspi_core.specs.Messages.{write}
 use Rattle.krb_context.specs.declared.context.Kerberos.{Kerberos}
 use Rattle.krb_context.specs.Contexts.{is_acceptor, next_number, number_after}
-use Rattle.krb_context.specs.Header.{wrap_header, number_of}
+use Rattle.krb_context.specs.Header.{wrap_header}
 use Rattle.krb_context.specs.Parties.{seal_flags, keys_of}
 use Rattle.krb_context.specs.Spelled.{octets_of, part_octets, has_part, spelled}
 use Rattle.krb_context.specs.Spelt.{Spelt}
 use Rattle.krb_context.specs.Unwraps.{message_number}
 use Rattle.krb_context.specs.Wrapped.{written_body, wrapped_by}
 use Rattle.krb_context.specs.Wraps.{wrapped}
-use Rattle.krb_context.proofs.PeerLemmas.{text_made, header_number}
+use Rattle.krb_context.proofs.PeerLemmas.{text_made, number_made}
 use Rattle.krb_context.proofs.ReadyLemmas.{IsReady}
 use Rattle.krb_context.proofs.UnwrapLemmas.{length-spelt}
 use Rattle.krb_context.proofs.WrapLemmas.{token-after-plain, plain-after-token}
@@ -55,7 +55,7 @@ wrapped_sizes sender key confounder sent small size octets_c octets_p ready =
     record {
       token = ap length (token_written (h ++ take (44 + ec) body) (drop (44 + ec) body) sent ready.token) ∙ omega (arith, length-append h (take (44 + ec) body), h_size, front);
       plain = ap length (plain_written (h ++ take (44 + ec) body) (drop (44 + ec) body) sent ready.plain) ∙ omega (arith, length-drop (44 + ec) body, long);
-      number = ap (λ (s : List ℕ). number_of s) (ap (take 16) is ∙ take_at h body 16 h_size) ∙ header_number (seal_flags side) ec 28 number (omega arith);
+      number = number_made sender key confounder sent ready;
     }
 
 pub number_after-is : (number times : ℕ) → number < 2 ^ 32 → number_after number times ≡ (number + times) % 2 ^ 32

@@ -1,6 +1,6 @@
 -- What wrapping makes spells its input (RFC 4121, section 4.2.4).
 use Rattle.std.proofs.Common.{◌≡◌, ℕ, zero, suc, ◌+◌, ◌%◌, ◌/◌, ◌<◌, ◌^◌, Bool, true, false, cond, List, [], ◌∷◌, ◌++◌, length, take, drop, replicate, refl, sym, ap, ap₂, ◌∙◌, arith}
-use Rattle.std.specs.Prelude.{Option, Some, None, is_some, if◌then◌else◌}
+use Rattle.std.specs.Prelude.{Option, Some, None, is_some}
 use Rattle.std.specs.Option.{option_map}
 use Rattle.std.specs.List.{slice_rotate_right}
 use Rattle.std.proofs.lemmas.List.{append_assoc, take-append-drop, length-replicate}
@@ -47,10 +47,6 @@ spelled-wrapped token plain bs t p s =
     rw none (ap₂ (λ (u v : List ℕ). u ++ v) front back)
 
 -- writing the token or the plain data changes nothing of what is covered
-cond_same : (b : Bool) (p x y : List ℕ) → (b ≡ false → x ≡ y) → (if b then p else x) ≡ (if b then p else y)
-cond_same true p x y e = refl
-cond_same false p x y e = e refl
-
 covered-with : (part : Part) (p : List ℕ) (f : Buffer → Buffer) (bs : List Buffer) → ((b : Buffer) → is_part part b ≡ true → covered_of p (f b) ≡ covered_of p b)
     → covered p (with_part part f bs) ≡ covered p bs
 covered-with part p f [] same = refl

@@ -3,13 +3,17 @@ pub mod Contexts
 pub mod Decrypted
 pub mod Headed
 pub mod Header
+pub mod KeptCodes
 pub mod Mics
+pub mod Openable
+pub mod Origins
 pub mod Params
 pub mod Parties
 pub mod Peers
 pub mod Places
 pub mod Queries
 pub mod Refusals
+pub mod Runs
 pub mod ServiceKeys
 pub mod Spelled
 pub mod Spelt

@@ -1,11 +1,17 @@
 //! What a context keeps of its keys, so that a message needs not derive them again. Contracts see nothing of it.
 
-ghost use Rattle.std.specs.Prelude.{◌≡◌, IsTrue, length};
-ghost use Rattle.krb_crypto.specs.Suite.{key_size, key_octets};
+ghost use Rattle.std.specs.Prelude.{◌≡◌, IsTrue, length, []};
+ghost use Rattle.krb_context.specs.Origins.{origin, checksum_key_of};
+ghost use Rattle.krb_crypto.specs.Keyed.{IsHmacOf};
+ghost use Rattle.krb_crypto.specs.Suite.{key_size, key_octets, kc};
 ghost use Rattle.krb_crypto.specs.SealingPair.{sealing_pair};
 
 use crate::equal::is_equal;
-use krb_crypto::{CipherSuite, DerivedKey, SealingKey, key_of};
+use crate::params::EncryptionParams;
+use crate::parties::sign_usage;
+use krb_crypto::{
+    CipherSuite, DerivedKey, HmacKey, HmacState, SealingKey, checksum_key, key_of, start_checksum,
+};
 use std::marker::Model;
 
 /// The keys of sealed messages, and what they were made from.
@@ -39,10 +45,59 @@ impl Kept {
     }
 }
 
-/// Keys that may be kept. Contracts see one value.
+/// The key of the checksums of MIC tokens, and what it was made from. Contracts see the latter.
+#[derive(Drop)]
+pub(crate) struct KeptCode {
+    suite: CipherSuite,
+    usage: u32,
+    key: DerivedKey,
+    code: HmacKey,
+}
+
+impl Model for KeptCode {
+    ghost use Rattle.krb_context.specs.Origins.{Origin};
+
+    ghost Value = { Origin };
+
+    ghost use Rattle.krb_context.specs.KeptCodes.{origin_of, IsKeptCode};
+
+    ghost view = { origin_of };
+
+    ghost invariant = { IsKeptCode };
+}
+
+impl KeptCode {
+    fn new(suite: CipherSuite, key: &[u8], usage: u32) -> KeptCode
+        requires { length key.now ≡ key_size suite }
+    {
+        let code = checksum_key(suite, key, usage);
+        KeptCode {
+            suite,
+            usage,
+            key: key_of(suite, key),
+            code,
+        }
+    }
+
+    fn is_of(&self, suite: CipherSuite, key: &[u8], usage: u32) -> bool
+        ensures { IsTrue result → self.now ≡ origin suite key.now usage }
+    {
+        self.suite == suite && self.usage == usage && is_equal(self.key.as_slice(), key)
+    }
+
+    /// The code of nothing yet.
+    fn start(&self) -> HmacState
+        ensures { IsHmacOf (checksum_key_of self.now) [] result }
+    {
+        self.code.start()
+    }
+}
+
+/// The keys of one side's messages that may be kept. Contracts see one value.
 #[derive(Drop)]
 pub struct KeptKey {
     kept: Option<Kept>,
+    signing: Option<KeptCode>,
 }
 
 impl Model for KeptKey {
@@ -56,7 +111,10 @@ impl Model for KeptKey {
 impl KeptKey {
     /// Nothing is kept.
     pub fn new() -> KeptKey {
-        KeptKey { kept: None }
+        KeptKey {
+            kept: None,
+            signing: None,
+        }
     }
 
     /// The keys of this suite, key and usage, from what was kept where it is of these.
@@ -78,5 +136,52 @@ impl KeptKey {
 
     pub(crate) fn put(&mut self, kept: Kept) {
         self.kept = Some(kept);
+    }
+
+    /// Keeps the key of the checksums of this suite, key and usage.
+    fn keep_code(&mut self, suite: CipherSuite, key: &[u8], usage: u32)
+        requires { length key.now ≡ key_size suite }
+    {
+        let known = match &self.signing {
+            Some(kept) => kept.is_of(suite, key, usage),
+            None => false,
+        };
+        if !known {
+            self.signing = Some(KeptCode::new(suite, key, usage));
+        }
+    }
+
+    /// The code of nothing yet, from the key that was kept where it is of this suite, key and usage.
+    pub(crate) fn start_code(&self, suite: CipherSuite, key: &[u8], usage: u32) -> HmacState
+        requires { length key.now ≡ key_size suite }
+        ensures { IsHmacOf (kc suite key.now usage) [] result }
+    {
+        match &self.signing {
+            Some(kept) => {
+                if kept.is_of(suite, key, usage) {
+                    kept.start()
+                } else {
+                    start_checksum(suite, key, usage)
+                }
+            }
+            None => start_checksum(suite, key, usage),
+        }
+    }
+}
+
+/// Keeps the keys of both sides' MIC tokens, where there is a key of the suite's size.
+pub(crate) fn keep_codes(
+    params: &EncryptionParams,
+    acceptor: bool,
+    own: &mut KeptKey,
+    others: &mut KeptKey,
+) {
+    if let Some(key) = params.key() {
+        let suite = params.suite();
+        let key = key.as_slice();
+        if key.len() == suite.key_size() {
+            own.keep_code(suite, key, sign_usage(acceptor));
+            others.keep_code(suite, key, sign_usage(!acceptor));
+        }
     }
 }

@@ -1,27 +1,34 @@
 //! Laws of messages, of windows and of keys: public functions without parameters, whose clauses hold for all values.
 
-ghost use Rattle.std.specs.Prelude.{◌≡◌, ◌+◌, ◌%◌, ◌^◌, ◌<◌, ℕ, ℤ, List, length, Result, Ok, Err, Bool};
+ghost use Rattle.std.specs.Prelude.{◌≡◌, ◌↔◌, ◌+◌, ◌%◌, ◌^◌, ◌<◌, ◌≤◌, ℕ, ℤ, List, length, slice_index, Some, Result, Ok, Err, Bool, true, codes};
 ghost use Rattle.krb_aes.specs.Octets.{IsOctets};
 ghost use Rattle.krb_crypto.specs.SealingPair.{SealingPair};
+ghost use Rattle.krb_crypto.specs.declared.suite.CipherSuite.TheVariants.{Aes256CtsHmacSha196};
 ghost use Rattle.krb_messages.specs.declared.principal_name.PrincipalName.{PrincipalName};
 ghost use Rattle.sspi_core.specs.Buffer.{Buffer};
 ghost use Rattle.sspi_core.specs.declared.buffer.Part.TheVariants.{Token, Plain};
 ghost use Rattle.sspi_core.specs.declared.cause.Cause.{Cause};
 ghost use Rattle.sspi_core.specs.declared.cause.Cause.TheVariants.{Direction};
+ghost use Rattle.sspi_core.specs.Messages.{find_part};
+ghost use Rattle.krb_context.specs.declared.constants.TheConstants as code;
 ghost use Rattle.krb_context.specs.declared.context.Kerberos.{Kerberos};
 ghost use Rattle.krb_context.specs.declared.server.ServerProperties.{ServerProperties};
 ghost use Rattle.krb_context.specs.declared.window.NumberVerdict.TheVariants.{Fresh};
 ghost use Rattle.krb_context.specs.Contexts.{is_acceptor, is_peer_acceptor, next_number, number_after};
 ghost use Rattle.krb_context.specs.Mics.{MakesMic, ChecksMic};
+ghost use Rattle.krb_context.specs.Openable.{IsOpenable};
 ghost use Rattle.krb_context.specs.Params.{suite_of};
+ghost use Rattle.krb_context.specs.Parties.{ready_key};
 ghost use Rattle.krb_context.specs.Peers.{ArePeers, IsDelivered};
 ghost use Rattle.krb_context.specs.Places.{verdict_of, opened};
+ghost use Rattle.krb_context.specs.Runs.{Call, AreCalls, made_numbers};
 ghost use Rattle.krb_context.specs.ServiceKeys.{service_key};
 ghost use Rattle.krb_context.specs.Spelled.{part_octets};
 ghost use Rattle.krb_context.specs.Spelt.{Spelt};
-ghost use Rattle.krb_context.specs.Unwraps.{Unwraps, message_number};
+ghost use Rattle.krb_context.specs.Unwraps.{has_key_size, Unwraps, message_number};
 ghost use Rattle.krb_context.specs.Window.{Window, StandsFor, judged, noted};
-ghost use Rattle.krb_context.specs.Wraps.{Wraps};
+ghost use Rattle.krb_context.specs.Wrapped.{limit_of};
+ghost use Rattle.krb_context.specs.Wraps.{has_parts, wrapped, Wraps};
 
 /// What one end wraps the other opens to the same octets: under one key, suite and length of the filler, with the same
 /// read-only data in the same places, where there is room and the number is fresh.
@@ -45,6 +52,31 @@ pub fn wrapped_messages_have_lengths_and_numbers()
 /// After a number s the k-th next number is s + k modulo 2^32.
 pub fn numbers_rise_by_one()
     ensures { (number times : ℕ) → number < 2 ^ 32 → number_after number times ≡ (number + times) % 2 ^ 32 }
+{}
+
+/// Over a run of calls that begins at a number s, the k-th wrap or MIC token that is made has the number s + k modulo 2^32;
+/// refused ones do not count.
+pub fn numbers_rise_over_a_run()
+    ensures { (context : Kerberos) (calls : List Call) → AreCalls context calls
+        → (k : ℕ) → k < length (made_numbers calls) → slice_index (made_numbers calls) k ≡ (context.seq_number + (k + 1)) % 2 ^ 32 }
+{}
+
+/// An established end with a key of its suite's length wraps a message that has a token of room enough, plain data and no
+/// stream.
+pub fn ready_ends_wrap()
+    ensures { (context : Kerberos) (key confounder : List ℕ) (buffers : List Buffer)
+        → ready_key context.state context.encryption_params ≡ Some key
+        → has_key_size context.encryption_params key ≡ true → has_parts buffers ≡ true
+        → 60 + context.encryption_params.ec ≤ limit_of (find_part Token buffers)
+        → Wraps context confounder buffers (Ok (wrapped context key confounder buffers)) }
+{}
+
+/// A message is opened to a text exactly where its buffers are a spelling of the text, sealed or in the clear, there is room
+/// for it, and the number is fresh.
+pub fn spelt_messages_are_opened()
+    ensures { (context : Kerberos) (key p : List ℕ) (buffers : List Buffer) (plain : Buffer)
+        → ready_key context.state context.encryption_params ≡ Some key → has_key_size context.encryption_params key ≡ true
+        → find_part Plain buffers ≡ Some plain → Unwraps context buffers (Ok p) ↔ IsOpenable context key buffers plain p }
 {}
 
 /// The checks of a message give one answer, so at most one text.
@@ -83,4 +115,18 @@ pub fn windows_follow_the_list()
 pub fn service_keys_go_by_components()
     ensures { (server : ServerProperties) (one other : PrincipalName) → one.name_string ≡ other.name_string
         → service_key server one.name_string ≡ service_key server other.name_string }
+{}
+
+/// The code's names and numbers are those of the package (RFC 4121, section 4.2.4: a body is turned by 28 octets, a wrap
+/// token has 60 octets beside its text).
+pub fn constants()
+    ensures pkg_name { code.PKG_NAME.now ≡ codes "Kerberos" }
+    ensures tgt_service_name { code.TGT_SERVICE_NAME.now ≡ codes "krbtgt" }
+    ensures kadmin { code.KADMIN.now ≡ codes "kadmin" }
+    ensures change_password_service_name { code.CHANGE_PASSWORD_SERVICE_NAME.now ≡ codes "changepw" }
+    ensures default_encryption_type { code.DEFAULT_ENCRYPTION_TYPE ≡ Aes256CtsHmacSha196 }
+    ensures rrc { code.RRC ≡ 28 }
+    ensures max_token { code.MAX_TOKEN ≡ 48000 }
+    ensures max_signature { code.MAX_SIGNATURE ≡ 16 }
+    ensures security_trailer { code.SECURITY_TRAILER ≡ 60 }
 {}

@@ -18,9 +18,9 @@ ghost use Rattle.krb_context.specs.Refusals.{Refuses};
 use crate::context::Kerberos;
 use crate::equal::is_equal;
 use crate::header::{check_direction, is_sealed};
+use crate::kept::{KeptKey, keep_codes};
 use crate::params::EncryptionParams;
 use crate::parties::{check_key_size, sign_flags, sign_usage};
-use krb_crypto::start_checksum;
 use krb_der::Octets;
 use sspi_core::{Cause, Error, Place, hold};
 use std::alloc::{AllocError, Global};
@@ -117,11 +117,18 @@ impl EncryptionParams {
     }
 
     /// The checksum of a payload and a header.
-    fn mic_code(&self, key: &Octets, acceptor: bool, payload: &[u8], header: &[u8; 16]) -> [u8; 12]
+    fn mic_code(
+        &self,
+        kept: &KeptKey,
+        key: &Octets,
+        acceptor: bool,
+        payload: &[u8],
+        header: &[u8; 16],
+    ) -> [u8; 12]
         requires { length key.now ≡ key_size (suite_of self.now) }
         ensures { result ≡ hmac12 (sign_key self.now key.now acceptor) (payload.now ++ header.now) }
     {
-        let mut state = start_checksum(self.suite(), key.as_slice(), sign_usage(acceptor));
+        let mut state = kept.start_code(self.suite(), key.as_slice(), sign_usage(acceptor));
         state.update(payload);
         state.update(header);
         state.finalize_short()
@@ -148,6 +155,12 @@ impl Kerberos {
         ensures refused { IfErr result (λ error. Refuses places.MakeMic (MakesMic self.old payload.now) error) }
         ensures stays { OnErr result (self.new ≡ self.old) }
     {
+        keep_codes(
+            &self.encryption_params,
+            self.server.is_some(),
+            &mut self.kept_to_seal,
+            &mut self.kept_to_open,
+        );
         let token = match self.mic_token(alloc, payload) {
             Ok(token) => token,
             Err(cause) => return Err(Error::at(Place::MakeMic, cause)),
@@ -165,7 +178,7 @@ impl Kerberos {
         check_key_size(params, key)?;
         let acceptor = self.server.is_some();
         let header = mic_header(sign_flags(acceptor), self.seq_number.wrapping_add(1));
-        let code = params.mic_code(key, acceptor, payload, &header);
+        let code = params.mic_code(&self.kept_to_seal, key, acceptor, payload, &header);
         Ok(joined(alloc, &header, &code)?)
     }
 
@@ -177,23 +190,31 @@ impl Kerberos {
         ensures refused { IfErr result (λ error. (cause : Cause) × (error ≡ error_of cause) × ChecksMic self.now token.now payload.now (Err cause)) }
     {
         let peer = self.is_client();
-        self.encryption_params.check_mic(peer, token, payload)?;
+        self.encryption_params
+            .check_mic(&self.kept_to_open, peer, token, payload)?;
         Ok(())
     }
 }
 
 impl EncryptionParams {
     /// The checks of a token over a payload, from a peer of this role.
-    fn check_mic(&self, peer: bool, token: &[u8], payload: &[u8]) -> Result<(), Cause>
+    fn check_mic(
+        &self,
+        kept: &KeptKey,
+        peer: bool,
+        token: &[u8],
+        payload: &[u8],
+    ) -> Result<(), Cause>
         ensures { ReadsMic self.now peer token.now payload.now result }
     {
         let header = mic_head(peer, token)?;
         let key = self.mic_key()?;
-        self.check_code(key, peer, token, payload, &header)
+        self.check_code(kept, key, peer, token, payload, &header)
     }
 
     fn check_code(
         &self,
+        kept: &KeptKey,
         key: &Octets,
         peer: bool,
         token: &[u8],
@@ -205,7 +226,7 @@ impl EncryptionParams {
         requires size { length key.now ≡ key_size (suite_of self.now) }
         ensures { Finds causes.Altered (λ (here : Unit {0}). IsSigned (sign_key self.now key.now peer) payload.now header.now token.now) result }
     {
-        let code = self.mic_code(key, peer, payload, header);
+        let code = self.mic_code(kept, key, peer, payload, header);
         if is_equal(&token[16..], &code) {
             Ok(())
         } else {

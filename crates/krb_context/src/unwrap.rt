@@ -17,6 +17,7 @@ ghost use Rattle.krb_context.specs.Window.{StandsFor, judged, noted};
 use crate::context::Kerberos;
 use crate::headed::Headed;
 use crate::header::{check_direction, ec_of, is_sealed, is_wrap_header, number_of};
+use crate::kept::keep_codes;
 use crate::params::EncryptionParams;
 use crate::parties::{check_key_size, ready_key};
 use crate::text::{TokenText, has_part, token_text};
@@ -159,6 +160,12 @@ impl Kerberos {
         let opened = self.open(alloc, message)?;
         self.window.note(message_number(message));
         put_opened(alloc, message, opened);
+        keep_codes(
+            &self.encryption_params,
+            self.server.is_some(),
+            &mut self.kept_to_seal,
+            &mut self.kept_to_open,
+        );
         Ok(())
     }
 }

@@ -13,6 +13,7 @@ ghost use Rattle.krb_context.specs.Wrapped.{limit_of};
 ghost use Rattle.krb_context.specs.Wraps.{has_parts, has_token_room, Readies, Wraps};
 
 use crate::context::Kerberos;
+use crate::kept::keep_codes;
 use crate::params::EncryptionParams;
 use crate::parties::{check_key_size, ready_key, seal_usage};
 use crate::seal::seal_message;
@@ -103,6 +104,12 @@ impl Kerberos {
         );
         self.kept_to_seal.put(kept);
         sealed?;
+        keep_codes(
+            &self.encryption_params,
+            acceptor,
+            &mut self.kept_to_seal,
+            &mut self.kept_to_open,
+        );
         self.seq_number = number;
         Ok(SecurityStatus::Ok)
     }
