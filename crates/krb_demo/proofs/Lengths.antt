@@ -1,5 +1,5 @@
 -- What the client writes is complete and short.
-use Rattle.std.proofs.Common.{◌≡◌, ℕ, ◌+◌, ◌<◌, ◌≤◌, ◌^◌, ℤ, List, [], ◌∷◌, ◌++◌, length, replicate, ap, ◌∙◌, arith, lit≤, lit<}
+use Rattle.std.proofs.Common.{◌≡◌, ℕ, ◌+◌, ◌<◌, ◌≤◌, ◌^◌, ℤ, List, [], ◌++◌, length, replicate, ap, ◌∙◌, arith, lit≤, lit<}
 use Rattle.krb_der.specs.Der.{length_octets, tlv}
 use Rattle.krb_der.specs.Moment.{time_octets}
 use Rattle.krb_der.specs.Schema.{IsComplete, tag_of, contents}
@@ -9,9 +9,8 @@ use Rattle.krb_crypto.specs.Sealed.{sealed_text}
 use Rattle.krb_messages.specs.Table.{ap_req as ap_req_kind, authenticator as authenticator_kind, enc_ticket_part, ticket, encrypted_data, encryption_key, principal_name, transited_encoding}
 use Rattle.krb_messages.specs.Layouts.{ap_req_row, ap_req_layout, authenticator_row, authenticator_layout, enc_ticket_part_row, enc_ticket_part_layout, ticket_row, encrypted_data_row, encryption_key_row, principal_name_row, transited_encoding_row}
 use Rattle.krb_messages.specs.Frame.{IsFrame}
-use Rattle.krb_messages.specs.declared.constants.TheConstants.{KRB5_OID, AP_REQ_TOKEN_ID}
 use Rattle.krb_demo.specs.Spelling.{spelling, framed}
-use Rattle.krb_demo.specs.Client.{session_key, ticket_part, ticket_keys, authenticator_keys, client_ticket, authenticator, sealed_authenticator, ap_req, encrypted, token}
+use Rattle.krb_demo.specs.Client.{session_key, ticket_part, ticket_keys, authenticator_keys, client_ticket, authenticator, sealed_authenticator, ap_req, encrypted, mechanism, token_id, token}
 
 le_trans : (a b c : ℕ) → a ≤ b → b ≤ c → a ≤ c
 le_trans a b c h k = omega arith
@@ -103,12 +102,12 @@ pub request_below : (ctime : ℤ) (cusec confounder : List ℕ) → length (seal
 request_below ctime cusec confounder h k = let short = request_short ctime cusec confounder h k in omega (arith, short)
 
 -- behind the mechanism's name
-pub framed_short : (message : List ℕ) → length message ≤ 2 ^ 20 → length (tlv 0x06 KRB5_OID ++ (AP_REQ_TOKEN_ID ++ message)) < 2 ^ 31
+pub framed_short : (message : List ℕ) → length message ≤ 2 ^ 20 → length (tlv 0x06 mechanism ++ (token_id ++ message)) < 2 ^ 31
 framed_short message h =
-    omega (arith, append_le (tlv 0x06 KRB5_OID) (AP_REQ_TOKEN_ID ++ message) 16 (2 + 2 ^ 20) (tlv_le 0x06 KRB5_OID 10 (lit≤ tt)) (append_le AP_REQ_TOKEN_ID message 2 (2 ^ 20) (lit≤ tt) h))
+    omega (arith, append_le (tlv 0x06 mechanism) (token_id ++ message) 16 (2 + 2 ^ 20) (tlv_le 0x06 mechanism 10 (lit≤ tt)) (append_le token_id message 2 (2 ^ 20) (lit≤ tt) h))
 
 -- the frame of this message is the token
 pub frame_is : (ctime : ℤ) (cusec confounder message octets : List ℕ) → message ≡ spelling ap_req_layout (ap_req (sealed_authenticator ctime cusec confounder))
-    → IsFrame KRB5_OID AP_REQ_TOKEN_ID message octets → octets ≡ token ctime cusec confounder
+    → IsFrame mechanism token_id message octets → octets ≡ token ctime cusec confounder
 unfolding framed token
-frame_is ctime cusec confounder message octets is frame = frame.is.is ∙ ap (λ (m : List ℕ). tlv 0x60 (tlv 0x06 KRB5_OID ++ (AP_REQ_TOKEN_ID ++ m))) is
+frame_is ctime cusec confounder message octets is frame = frame.is.is ∙ ap (λ (m : List ℕ). tlv 0x60 (tlv 0x06 mechanism ++ (token_id ++ m))) is

@@ -16,9 +16,19 @@ use Rattle.krb_messages.specs.declared.encryption.EncryptedData.{EncryptedData}
 use Rattle.krb_messages.specs.declared.encryption.EncryptionKey.{EncryptionKey}
 use Rattle.krb_messages.specs.declared.principal_name.PrincipalName.{PrincipalName}
 use Rattle.krb_messages.specs.declared.ticket.Ticket.{Ticket}
-use Rattle.krb_messages.specs.declared.constants.TheConstants.{KERBEROS_VERSION, AP_REQ_MSG_TYPE, KRB5_OID, AP_REQ_TOKEN_ID, NT_PRINCIPAL, NT_SRV_INST, TICKET_USAGE, AP_REQ_AUTHENTICATOR_USAGE}
 use Rattle.krb_messages.specs.Layouts.{ap_req_layout, authenticator_layout, enc_ticket_part_layout}
 use Rattle.krb_demo.specs.Spelling.{spelling, framed}
+
+-- the protocol's version
+abbrev pub version : List ℕ
+version = 5 ∷ []
+
+-- the object identifier of Kerberos, 1.2.840.113554.1.2.2, by its contents, and the token id of an AP-REQ (RFC 4121, section 4.1)
+abbrev pub mechanism : List ℕ
+mechanism = 0x2a ∷ 0x86 ∷ 0x48 ∷ 0x86 ∷ 0xf7 ∷ 0x12 ∷ 0x01 ∷ 0x02 ∷ 0x02 ∷ []
+
+abbrev pub token_id : List ℕ
+token_id = 0x01 ∷ 0x00 ∷ []
 
 -- the suite of all keys
 abbrev pub suite : CipherSuite
@@ -38,11 +48,12 @@ start = 1_700_000_000
 abbrev pub realm : List ℕ
 realm = codes "EXAMPLE.COM"
 
+-- names of the types principal and service (section 6.2)
 abbrev pub client : PrincipalName
-client = record { name_type = NT_PRINCIPAL ∷ []; name_string = codes "alice" ∷ [] }
+client = record { name_type = 1 ∷ []; name_string = codes "alice" ∷ [] }
 
 abbrev pub service : PrincipalName
-service = record { name_type = NT_SRV_INST ∷ []; name_string = codes "host" ∷ codes "server.example.com" ∷ [] }
+service = record { name_type = 2 ∷ []; name_string = codes "host" ∷ codes "server.example.com" ∷ [] }
 
 -- a text sealed under these keys, with no key version
 abbrev pub encrypted : SealingPair → List ℕ → List ℕ → EncryptedData
@@ -75,17 +86,17 @@ ticket_part = record {
   authorization_data = None;
 }
 
--- the keys under which the ticket and the authenticators are sealed
+-- the keys under which the ticket and the authenticators are sealed, by their usages 2 and 11 (section 7.5.1)
 unfoldable pub ticket_keys : SealingPair
-ticket_keys = sealing_pair suite service_key TICKET_USAGE
+ticket_keys = sealing_pair suite service_key 2
 
 unfoldable pub authenticator_keys : SealingPair
-authenticator_keys = sealing_pair suite session_key AP_REQ_AUTHENTICATOR_USAGE
+authenticator_keys = sealing_pair suite session_key 11
 
 -- the ticket, sealed behind a confounder of zeros
 unfoldable pub client_ticket : Ticket
 client_ticket = record {
-  tkt_vno = KERBEROS_VERSION ∷ [];
+  tkt_vno = version;
   realm = realm;
   sname = service;
   enc_part = encrypted ticket_keys (replicate 16 0) (spelling enc_ticket_part_layout ticket_part);
@@ -94,7 +105,7 @@ client_ticket = record {
 -- what the client seals at this second and microsecond of its clock
 abbrev pub authenticator : ℤ → List ℕ → Authenticator
 authenticator ctime cusec = record {
-  authenticator_vno = KERBEROS_VERSION ∷ [];
+  authenticator_vno = version;
   crealm = realm;
   cname = client;
   cksum = None;
@@ -105,11 +116,11 @@ authenticator ctime cusec = record {
   authorization_data = None;
 }
 
--- an AP-REQ that asks for no answer, with this authenticator
+-- an AP-REQ (message type 14) that asks for no answer, with this authenticator
 abbrev pub ap_req : EncryptedData → ApReq
 ap_req authenticator = record {
-  pvno = KERBEROS_VERSION ∷ [];
-  msg_type = AP_REQ_MSG_TYPE ∷ [];
+  pvno = version;
+  msg_type = 14 ∷ [];
   ap_options = no_options;
   ticket = client_ticket;
   authenticator = authenticator;
@@ -117,8 +128,10 @@ ap_req authenticator = record {
 
 -- the authenticator, sealed behind this confounder
 unfoldable pub sealed_authenticator : ℤ → List ℕ → List ℕ → EncryptedData
-sealed_authenticator ctime cusec confounder = encrypted authenticator_keys confounder (spelling authenticator_layout (authenticator ctime cusec))
+sealed_authenticator ctime cusec confounder =
+    encrypted authenticator_keys confounder (spelling authenticator_layout (authenticator ctime cusec))
 
 -- the AP-REQ of this second and microsecond, as a token
 unfoldable pub token : ℤ → List ℕ → List ℕ → List ℕ
-token ctime cusec confounder = framed KRB5_OID AP_REQ_TOKEN_ID (spelling ap_req_layout (ap_req (sealed_authenticator ctime cusec confounder)))
+token ctime cusec confounder =
+    framed mechanism token_id (spelling ap_req_layout (ap_req (sealed_authenticator ctime cusec confounder)))

@@ -64,6 +64,7 @@ fn ticket_part(alloc: Global) -> Result<EncTicketPart, OutOfMemory>
     })
 }
 
+/// The ticket, whose part is sealed under the service's key behind a confounder of zeros.
 #[tactic(auto, unfolding(crate::specs::Spelling::spelling, crate::specs::Client::ticket_keys, crate::specs::Client::client_ticket))]
 fn ticket(alloc: Global) -> Result<Ticket, OutOfMemory>
     ensures made { IfOk result (λ ticket. ticket ≡ client_ticket) }
@@ -80,6 +81,7 @@ fn ticket(alloc: Global) -> Result<Ticket, OutOfMemory>
     })
 }
 
+/// What the client seals at this second and microsecond of its clock; `cusec` is big-endian.
 fn authenticator(alloc: Global, ctime: Time, cusec: [u8; 4]) -> Result<Authenticator, OutOfMemory>
     ensures { IfOk result (λ made. made ≡ authenticator ctime cusec) }
 {
@@ -108,6 +110,7 @@ pub struct DemoClient {
 }
 
 impl DemoClient {
+    /// Seals the ticket and derives the keys of the authenticators; it fails at want of memory alone.
     #[tactic(auto, unfolding(crate::specs::Client::authenticator_keys))]
     pub fn new(alloc: Global) -> Result<DemoClient, OutOfMemory> {
         Ok(DemoClient {

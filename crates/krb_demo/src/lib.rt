@@ -11,8 +11,6 @@
 mod client;
 mod input;
 mod parts;
-#[cfg(test)]
-mod tests;
 
 pub use client::DemoClient;
 pub use input::demonstration;
