@@ -64,20 +64,29 @@ fn ticket_part(alloc: Global) -> Result<EncTicketPart, OutOfMemory>
     })
 }
 
-/// The ticket, whose part is sealed under the service's key behind a confounder of zeros.
+/// The ticket's part, sealed under the service's key behind a confounder of zeros.
 #[tactic(auto, unfolding(crate::specs::Spelling::spelling, crate::specs::Client::ticket_keys, crate::specs::Client::client_ticket))]
-fn ticket(alloc: Global) -> Result<Ticket, OutOfMemory>
-    ensures made { IfOk result (λ ticket. ticket ≡ client_ticket) }
-    ensures short { IfOk result (λ ticket. length ticket.enc_part.cipher ≤ 2 ^ 16) }
+fn sealed_part(alloc: Global) -> Result<EncryptedData, OutOfMemory>
+    ensures made { IfOk result (λ part. part ≡ client_ticket.enc_part) }
+    ensures short { IfOk result (λ part. length part.cipher ≤ 2 ^ 16) }
 {
     let part = ticket_part(alloc)?;
     let plain = part.write(alloc)?;
     let keys = SealingKey::new(SUITE, &service_key(), TICKET_USAGE);
+    encrypted(alloc, &keys, [0; 16], plain.as_slice())
+}
+
+/// The client's ticket.
+#[tactic(auto, unfolding(crate::specs::Client::client_ticket))]
+fn ticket(alloc: Global) -> Result<Ticket, OutOfMemory>
+    ensures made { IfOk result (λ ticket. ticket ≡ client_ticket) }
+    ensures short { IfOk result (λ ticket. length ticket.enc_part.cipher ≤ 2 ^ 16) }
+{
     Ok(Ticket {
         tkt_vno: integer(alloc, &[KERBEROS_VERSION])?,
         realm: realm(alloc)?,
         sname: service(alloc)?,
-        enc_part: encrypted(alloc, &keys, [0; 16], plain.as_slice())?,
+        enc_part: sealed_part(alloc)?,
     })
 }
 

@@ -1,22 +1,7 @@
-use Rattle.std.proofs.Common.{◌≤◌, length, refl, arith}
-use Rattle.krb_demo.specs.Spelling.{spelling}
-use Rattle.krb_demo.specs.Client.{ticket_keys, client_ticket}
-use Rattle.krb_demo.proofs.Lengths.{ticket_part_complete, ticket_part_short, ticket_part_below}
+use Rattle.std.proofs.Common.{refl}
+use Rattle.krb_demo.specs.Client.{client_ticket}
 use Rattle.krb_demo.proofs.client.ticket.Goals as goal
 
-pub write-requires-clause-complete : goal.write-requires-clause-complete
-write-requires-clause-complete c = rw c.in_ok-part.ensures ticket_part_complete
-
-pub write-requires-clause-short : goal.write-requires-clause-short
-write-requires-clause-short c = rw c.in_ok-part.ensures ticket_part_below
-
 pub returns-clause-made : goal.returns-clause-made
-unfolding spelling ticket_keys client_ticket
-returns-clause-made c =
-    rw (c.in_ok-integer.ensures, c.in_ok-realm.ensures, c.in_ok-service.ensures, c.in_ok-encrypted.ensures.made, c.new-keys.ensures, c.service_key.ensures, c.as_slice.ensures, c.in_ok-plain.ensures.is, c.in_ok-part.ensures) refl
-
-pub returns-clause-short : goal.returns-clause-short
-unfolding spelling
-returns-clause-short c =
-    let short : length c.as_slice.result.now ≤ 1024 = rw (c.as_slice.ensures, c.in_ok-plain.ensures.is, c.in_ok-part.ensures) ticket_part_short in
-    omega (arith, c.in_ok-encrypted.ensures.longer, short)
+unfolding client_ticket
+returns-clause-made c = rw (c.in_ok-integer.ensures, c.in_ok-realm.ensures, c.in_ok-service.ensures, c.in_ok-sealed_part.ensures.made) refl
