@@ -13,7 +13,7 @@ ghost use Rattle.sspi_generator.specs.Faults.{Rose};
 
 use crate::done::Done;
 use crate::network::{NetFault, NetworkClient, NetworkRequest};
-use crate::task::{GeneratorState, Task};
+use crate::task::{GeneratorState, Resumable, Task};
 use krb_der::Octets;
 use sspi_core::{Cause, Draw, Error};
 use std::fmt;
@@ -51,7 +51,9 @@ impl<T: Task> Generator<T> {
     {
         self.task.start(draw)
     }
+}
 
+impl<T: Resumable> Generator<T> {
     /// The task's step behind an answer.
     pub fn resume(
         &mut self,
@@ -102,7 +104,7 @@ impl<T: Task> Generator<T> {
 }
 
 /// Goes on from where a step ended.
-fn finish<T: Task, C: NetworkClient>(
+fn finish<T: Resumable, C: NetworkClient>(
     task: &mut T,
     client: &mut C,
     draws: &[Draw],
@@ -179,7 +181,7 @@ impl<T> fmt::Display for Generator<T> {
 }
 
 /// The same over any client that is lent.
-fn finish_lent<T: Task>(
+fn finish_lent<T: Resumable>(
     task: &mut T,
     client: &mut dyn NetworkClient,
     draws: &[Draw],

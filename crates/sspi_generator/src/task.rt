@@ -19,7 +19,7 @@ pub enum GeneratorState<Y, O> {
     Completed(O),
 }
 
-/// An exchange with the network, step by step. Its members say how it is seen by those that run any task.
+/// An exchange with the network, up to its first request. Its members say how it is seen by those that run any task.
 pub trait Task {
     /// What the exchange ends with.
     type Out: Drop;
@@ -36,9 +36,6 @@ pub trait Task {
     /// What its start may do: the task before, the draw, where the step ends, and the task afterwards.
     ghost starts: { Self → Draw → GeneratorState NetworkRequest Self.Out → Self → Type 0 };
 
-    /// What an answer may do: the task before, the answer, the draw, where the step ends, and the task afterwards.
-    ghost resumes: { Self → Result (List ℕ) NetFault → Draw → GeneratorState NetworkRequest Self.Out → Self → Type 0 };
-
     /// An end for want of memory: the step may be taken again.
     ghost is_want: { Self.Out → Type 0 };
 
@@ -54,21 +51,27 @@ pub trait Task {
         ensures want { OnCompleted result (λ out. is_want out → self.new ≡ self.old) }
         ensures fault { OnCompleted result (λ out. is_fault out → ⊥) };
 
+    /// How often it may still suspend.
+    fn turns(&self) -> u32
+        ensures { result ≡ turns self.now };
+}
+
+/// A task that may stop at its start, and goes on with an answer. One that always completes at its start is none.
+pub trait Resumable: Task {
+    /// What an answer may do: the task before, the answer, the draw, where the step ends, and the task afterwards.
+    ghost resumes: { Self → Result (List ℕ) NetFault → Draw → GeneratorState NetworkRequest Self.Out → Self → Type 0 };
+
     /// The step that an answer allows.
     fn resume(
         &mut self,
         reply: Result<Octets, NetFault>,
         draw: &Draw,
     ) -> GeneratorState<NetworkRequest, Self::Out>
-        requires waiting { is_waiting self.old }
+        requires waiting { Self.is_waiting self.old }
         requires moment { IsInRange draw.now }
         ensures step { resumes self.old reply draw.now result self.new }
-        ensures turns { OnSuspended result (λ request. is_waiting self.new × (turns self.new < turns self.old)) }
-        ensures want { OnCompleted result (λ out. is_want out → self.new ≡ self.old) }
-        ensures memory { reply ≡ Err NetFault.OutOfMemory → Completes result is_want }
-        ensures fault { OnCompleted result (λ out. is_fault out → IsFailure reply) };
-
-    /// How often it may still suspend.
-    fn turns(&self) -> u32
-        ensures { result ≡ turns self.now };
+        ensures turns { OnSuspended result (λ request. Self.is_waiting self.new × (Self.turns self.new < Self.turns self.old)) }
+        ensures want { OnCompleted result (λ out. Self.is_want out → self.new ≡ self.old) }
+        ensures memory { reply ≡ Err NetFault.OutOfMemory → Completes result Self.is_want }
+        ensures fault { OnCompleted result (λ out. Self.is_fault out → IsFailure reply) };
 }
