@@ -1,0 +1,10 @@
+mod Short
+mod Loop
+mod Fields
+mod Entries
+mod NextItems
+mod Files
+mod Appends
+mod Greatest
+mod Installed
+mod FoundKeys

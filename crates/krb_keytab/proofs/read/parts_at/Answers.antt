@@ -1,0 +1,16 @@
+use Rattle.std.proofs.lemmas.Result.{err_from_is_err_and}
+use Rattle.krb_keytab.specs.Reading.{parts_at}
+use Rattle.krb_keytab.proofs.Loop.{goes_on, ends, is_done}
+use Rattle.krb_keytab.proofs.read.parts_at.Goals as goal
+
+pub returns-in_err-part : goal.returns-in_err-part
+returns-in_err-part c =
+    let p = err_from_is_err_and c.from_residual.result c.from_residual.ensures.1 in
+    rw (p.1, p.2) (ends c.in_err-part.field-0.0 c.loop.parts.items c.args.count c.loop.counter c.loop.rest.now (parts_at c.args.count c.args.octets.now) c.loop-test.true c.in_err-part.ensures c.loop.invariant)
+
+pub loop-preserved : goal.loop-preserved
+loop-preserved c =
+    rw c.in_ok-push.ensures.items (goes_on c.loop.parts.items c.args.count c.loop.counter c.loop.rest.now c.in_ok-part.part c.in_ok-part.behind.now (parts_at c.args.count c.args.octets.now) c.loop-test.true c.in_ok-part.ensures c.loop.invariant)
+
+pub returns : goal.returns
+returns c = rw c.new.ensures (is_done c.loop.parts.items c.args.count c.loop.counter c.loop.rest.now (parts_at c.args.count c.args.octets.now) c.loop-test.false c.loop.invariant)
