@@ -10,6 +10,8 @@ mod krb_conf_tests;
 #[cfg(test)]
 mod krb_crypto_tests;
 #[cfg(test)]
+mod krb_demo_tests;
+#[cfg(test)]
 mod krb_der_tests;
 #[cfg(test)]
 mod krb_options_tests;
