@@ -15,8 +15,8 @@ use sspi_core::Secret;
 use std::alloc::{AllocError, Global};
 use std::collections::BTreeMap;
 
-/// The key at a number.
-fn secret_at(
+/// A copy of the key that the lines declare for the acceptor of this number, and None where they declare none.
+pub fn secret_at(
     alloc: Global,
     keys: &BTreeMap<u32, Key>,
     id: u32,
@@ -36,8 +36,9 @@ fn components(alloc: Global, service: &str) -> Result<Vec<&str>, AllocError>
     service.split('/').collect(alloc)
 }
 
-/// An acceptor before its exchange.
-fn acceptor_context(
+/// The context of an acceptor that the lines declare, before its exchange, with this key for its own service. The skew is in
+/// seconds.
+pub fn acceptor_context(
     alloc: Global,
     skew: u32,
     acceptor: &Acceptor,

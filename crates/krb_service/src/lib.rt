@@ -23,9 +23,11 @@ mod reply;
 mod service;
 mod session;
 
+pub use closing::{ROOM, end_line, numbered_line};
 pub use command::serve;
 pub use connection::Connection;
 pub use demonstration::demo;
+pub use described::{acceptor_context, secret_at};
 pub use krb_text::{
     Calls, CutFault, Event, Failed, Input, LineCutter, MemSink, MemSource, Sink, Source, Status,
     StdSink, StdSource, SureSink, SureSource, Words,

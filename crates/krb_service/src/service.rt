@@ -21,12 +21,13 @@ use std::collections::BTreeMap;
 use std::marker::Model;
 
 /// Connections by their numbers, over one replay gate. Contracts see the connections in the order of their numbers, the
-/// environment, and the gate.
+/// environment, and the gate. The fields are public so that whoever runs a service over a gate that borrows takes that gate
+/// back by a pattern.
 #[derive(Drop)]
 pub struct Service<G> {
-    connections: BTreeMap<u32, Connection>,
-    env: Env,
-    gate: G,
+    pub connections: BTreeMap<u32, Connection>,
+    pub env: Env,
+    pub gate: G,
 }
 
 impl<G> Model for Service<G> {
