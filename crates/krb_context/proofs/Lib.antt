@@ -1,5 +1,6 @@
 pub mod AsciiLemmas
 pub mod ChainLemmas
+pub mod ClearLemmas
 pub mod CompleteLemmas
 pub mod KdcLemmas
 pub mod MicChecks

@@ -9,9 +9,10 @@ use Rattle.krb_context.specs.Contexts.{is_acceptor, next_number}
 use Rattle.krb_context.specs.Header.{number_of}
 use Rattle.krb_context.specs.Mics.{mic_header, sign_key, MakesMic}
 use Rattle.krb_context.specs.Parties.{sign_flags}
-use Rattle.krb_context.specs.Runs.{Call, wraps, signs, refused, other, with_next_number, AreCalls, made_numbers}
+use Rattle.krb_context.specs.Runs.{Call, wraps, clears, signs, refused, other, with_next_number, AreCalls, made_numbers}
 use Rattle.krb_context.specs.Unwraps.{message_number}
 use Rattle.krb_context.specs.Wraps.{Wraps}
+use Rattle.krb_context.proofs.ClearLemmas.{number-clear}
 use Rattle.krb_context.proofs.MicLemmas.{is_made, mic_size}
 use Rattle.krb_context.proofs.PeerLemmas.{number_made}
 use Rattle.krb_context.proofs.ReadyLemmas.{is_wrapped}
@@ -47,6 +48,9 @@ pub numbers_rise : (context : Kerberos) (calls : List Call) → AreCalls context
 numbers_rise context [] all k h = absurd (omega arith)
 numbers_rise context (wraps confounder sent made ∷ calls) all k h =
     one_more context.seq_number (message_number made) (made_numbers calls) (wrap_takes_next context confounder sent made all.0)
+    (numbers_rise (with_next_number context) calls all.1) k h
+numbers_rise context (clears plain token ∷ calls) all k h =
+    one_more context.seq_number (number_of (take 16 token)) (made_numbers calls) (number-clear context plain token all.0)
     (numbers_rise (with_next_number context) calls all.1) k h
 numbers_rise context (signs payload token ∷ calls) all k h =
     one_more context.seq_number (number_of (take 16 token)) (made_numbers calls) (mic_takes_next context payload token all.0)

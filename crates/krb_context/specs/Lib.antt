@@ -1,3 +1,4 @@
+pub mod ClearWraps
 pub mod Configs
 pub mod Contexts
 pub mod Decrypted

@@ -14,6 +14,7 @@ ghost use Rattle.krb_context.specs.declared.constants.TheConstants as code;
 ghost use Rattle.krb_context.specs.declared.context.Kerberos.{Kerberos};
 ghost use Rattle.krb_context.specs.declared.server.ServerProperties.{ServerProperties};
 ghost use Rattle.krb_context.specs.declared.window.NumberVerdict.TheVariants.{Fresh};
+ghost use Rattle.krb_context.specs.ClearWraps.{WrapsClear};
 ghost use Rattle.krb_context.specs.Contexts.{is_acceptor, is_peer_acceptor, next_number, number_after};
 ghost use Rattle.krb_context.specs.Mics.{MakesMic, ChecksMic};
 ghost use Rattle.krb_context.specs.Openable.{IsOpenable};
@@ -23,9 +24,9 @@ ghost use Rattle.krb_context.specs.Peers.{ArePeers, IsDelivered};
 ghost use Rattle.krb_context.specs.Places.{verdict_of, opened};
 ghost use Rattle.krb_context.specs.Runs.{Call, AreCalls, made_numbers};
 ghost use Rattle.krb_context.specs.ServiceKeys.{service_key};
-ghost use Rattle.krb_context.specs.Spelled.{part_octets};
+ghost use Rattle.krb_context.specs.Spelled.{part_octets, spelled};
 ghost use Rattle.krb_context.specs.Spelt.{Spelt};
-ghost use Rattle.krb_context.specs.Unwraps.{has_key_size, Unwraps, message_number};
+ghost use Rattle.krb_context.specs.Unwraps.{has_key_size, has_room, Unwraps, message_number};
 ghost use Rattle.krb_context.specs.Window.{Window, StandsFor, judged, noted};
 ghost use Rattle.krb_context.specs.Wrapped.{limit_of};
 ghost use Rattle.krb_context.specs.Wraps.{has_parts, wrapped, Wraps};
@@ -38,6 +39,15 @@ pub fn wrapped_messages_open()
         → Wraps sender confounder sent (Ok made) → IsDelivered (part_octets Plain sent) made received
         → judged receiver.window (next_number sender.seq_number) ≡ Fresh
         → Unwraps receiver received (Ok (part_octets Plain sent)) }
+{}
+
+/// What one end wraps in the clear the other opens to the same octets: under one key and suite, where there is room and the
+/// number is fresh.
+pub fn clear_messages_open()
+    ensures { (sender receiver : Kerberos) (p token : List ℕ) (received : List Buffer) (plain : Buffer) → ArePeers sender receiver
+        → WrapsClear sender p (Ok token) → spelled received ≡ token → find_part Plain received ≡ Some plain
+        → has_room received plain (length p) ≡ true → judged receiver.window (next_number sender.seq_number) ≡ Fresh
+        → Unwraps receiver received (Ok p) }
 {}
 
 /// A wrap of n octets leaves a token of 60 octets and the filler, and data of n octets; its number is the next one.

@@ -1,6 +1,7 @@
 //! Contexts, and the messages that they seal.
 #![tactic(auto)]
 
+mod clear;
 mod config;
 mod constants;
 mod context;
