@@ -36,6 +36,9 @@ pub record Gate : Type 0 where
   pub seat : ℕ
   pub before : ℕ
 
+abbrev pub gate_of : Desk → ℕ → ℕ → Gate
+gate_of desk seat before = record { desk = desk; seat = seat; before = before }
+
 -- the number of the gate's next call: it has made those that the journal has gained
 abbrev pub next_call : Gate → ℕ
 next_call gate = length gate.desk.journal - gate.before + 1

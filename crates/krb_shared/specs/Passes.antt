@@ -15,6 +15,12 @@ use Rattle.krb_shared.specs.Journal.{IsLegal, history_of}
 use Rattle.krb_shared.specs.Seats.{entries_of}
 use Rattle.krb_shared.specs.Turns.{Place, IsIdle, dealing, AreFronts}
 
+-- what contracts see of a book: its table, the skew in seconds, and how many passes it has
+pub record TableAccount : Type 0 where
+  pub table : TableId
+  pub skew : ℕ
+  pub passes : ℕ
+
 -- whose table it is at, its number, the terms, the book's moment as its last call left it, the front that it has seen, and its calls
 pub record PassAccount : Type 0 where
   pub table : TableId

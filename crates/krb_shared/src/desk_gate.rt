@@ -2,7 +2,7 @@
 
 ghost use Rattle.std.specs.Prelude.{◌≡◌, refl, ◌≤◌, length};
 ghost use Rattle.std.proofs.Common.{ap, ◌∙◌};
-ghost use Rattle.krb_shared.specs.Desk.{Desk, history, AdmitsNext, same_goes_on};
+ghost use Rattle.krb_shared.specs.Desk.{Desk, history, gate_of, AdmitsNext, same_goes_on};
 
 use crate::desk::Desk;
 use krb_der::OutOfMemory;
@@ -43,7 +43,9 @@ impl<'a> ReplayGate for DeskGate<'a> {
 
     ghost moment = { λ gate. (history gate.desk.now).moment };
 
-    ghost admits = { λ old ask verdict new. AdmitsNext (record { desk = old.desk.now; seat = old.seat; before = old.before }) ask verdict (record { desk = new.desk.now; seat = new.seat; before = new.before }) × (new.desk.ghost_name ≡ old.desk.ghost_name) };
+    ghost admits = { λ old ask verdict new.
+        AdmitsNext (gate_of old.desk.now old.seat old.before) ask verdict (gate_of new.desk.now new.seat new.before)
+        × (new.desk.ghost_name ≡ old.desk.ghost_name) };
 
     ghost is_same = { λ old new. (new.desk.now ≡ old.desk.now) × (new.seat ≡ old.seat) × (new.before ≡ old.before) × (new.desk.ghost_name ≡ old.desk.ghost_name) };
 
@@ -57,7 +59,11 @@ impl<'a> ReplayGate for DeskGate<'a> {
 
     ghost keeps_skew = { λ _ _ _ _ step. step.0.step.skew };
 
-    ghost goes_on = { λ a b c ask verdict same step. (same_goes_on a.desk.now a.seat a.before b.desk.now b.seat b.before ask verdict (record { desk = c.desk.now; seat = c.seat; before = c.before }) (same.0, same.1, same.2) step.0, step.1 ∙ same.3) };
+    ghost goes_on = { λ a b c ask verdict same step. (
+      same_goes_on a.desk.now a.seat a.before b.desk.now b.seat b.before ask verdict (gate_of c.desk.now c.seat c.before)
+          (same.0, same.1, same.2) step.0,
+      step.1 ∙ same.3,
+    ) };
 
     fn admit(&mut self, ask: Ask) -> Result<Verdict, OutOfMemory> {
         let call = self.desk.entries().len() as u64 - self.before + 1;

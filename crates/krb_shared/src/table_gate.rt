@@ -15,12 +15,12 @@ pub struct TableGate<'a, R> {
     rt: &'a R,
     book: &'a TableBook,
     pass: &'a mut Pass,
-    ghost of_book: { pass.now.table ≡ book.now.table.shared.table_id },
+    ghost of_book: { pass.now.table ≡ book.now.table },
 }
 
 impl<'a, R: Wait> TableGate<'a, R> {
     pub fn new(rt: &'a R, book: &'a TableBook, pass: &'a mut Pass) -> TableGate<'a, R>
-        requires { pass.old.table ≡ book.now.table.shared.table_id }
+        requires { pass.old.table ≡ book.now.table }
         ensures { result.pass ≡ pass.entry }
     {
         TableGate { rt, book, pass }
