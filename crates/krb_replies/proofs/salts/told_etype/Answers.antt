@@ -1,0 +1,20 @@
+use Rattle.std.proofs.Common.{rules}
+use Rattle.krb_replies.specs.Salts.{TellsEtype}
+use Rattle.krb_replies.proofs.Chains.{chains}
+use Rattle.krb_replies.proofs.salts.told_etype.Goals as goal
+
+pub returns-in_err-entries : goal.returns-in_err-entries
+unfolding TellsEtype
+returns-in_err-entries c = search (rules, chains)
+
+pub returns-in_err-hint : goal.returns-in_err-hint
+unfolding TellsEtype
+returns-in_err-hint c = search (rules, chains)
+
+pub returns-in_err-suite : goal.returns-in_err-suite
+unfolding TellsEtype
+returns-in_err-suite c = search (rules, chains)
+
+pub returns : goal.returns
+unfolding TellsEtype
+returns c = search (rules, chains)

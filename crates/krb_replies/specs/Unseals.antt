@@ -1,0 +1,48 @@
+-- What is sealed to a key, and the record in it (RFC 4120, sections 3.1.5, 3.2.5 and 3.3.4). Nothing here decrypts: a text is
+-- opened as the one that is sealed to it.
+use Rattle.std.specs.Prelude.{ℕ, nat_le, ◌==◌, pos, ℤ, List, length, Option, Some, None, Result, if◌then◌else◌}
+use Rattle.std.specs.Ordering.{int_eq}
+use Rattle.krb_der.specs.Integer.{integer_value}
+use Rattle.krb_der.specs.Schema.{Spells}
+use Rattle.krb_der.specs.Layout.{Layout}
+use Rattle.krb_crypto.specs.Suite.{key_size}
+use Rattle.krb_crypto.specs.Sealed.{IsSealed}
+use Rattle.krb_crypto.specs.declared.suite.CipherSuite.{CipherSuite}
+use Rattle.krb_crypto.specs.declared.suite.CipherSuite.TheVariants.{Aes128CtsHmacSha196, Aes256CtsHmacSha196}
+use Rattle.sspi_core.specs.declared.cause.Cause.{Cause}
+use Rattle.sspi_core.specs.declared.cause.Cause.TheVariants.{KeyLength, Short, Altered, Reply, Inner}
+use Rattle.sspi_core.specs.Checks.{Finds, Holds, ◌>>=◌, ◌>>◌}
+use Rattle.krb_replies.specs.declared.unseal.Refusals.{Refusals}
+
+-- the suite of a number (RFC 3962, section 7)
+abbrev pub suite_numbered : ℤ → Option CipherSuite
+suite_numbered n = if int_eq n (pos 17) then Some Aes128CtsHmacSha196 else if int_eq n (pos 18) then Some Aes256CtsHmacSha196 else None
+
+-- the suite of an encryption type, by the value of the integer and not by its spelling
+unfoldable pub suite_of : List ℕ → Option CipherSuite
+suite_of etype = suite_numbered (integer_value etype)
+
+-- the octets spell this
+abbrev pub IsRead : {A : Type 0} → Layout A → List ℕ → A → Type 0
+IsRead layout octets value = Spells layout.kind (layout.view value) octets
+
+-- under a key of the caller's own each thing that can be wrong has its name
+abbrev pub own_key : Refusals
+own_key = record { key_length = KeyLength; short = Short; altered = Altered }
+
+-- a reply under a key that it has to be sealed under, and is not
+abbrev pub session_key : Refusals
+session_key = record { key_length = Reply; short = Reply; altered = Reply }
+
+-- the plain text that is sealed in a text
+unfoldable pub Unseals : Refusals → CipherSuite → List ℕ → ℕ → List ℕ → Result (List ℕ) Cause → Type 0
+Unseals refusals suite key usage text = do
+  Holds refusals.key_length (length key == key_size suite)
+  Holds refusals.short (nat_le 28 (length text))
+  Finds refusals.altered (λ plain. IsSealed suite key usage text plain)
+
+-- the record that is sealed in a text
+unfoldable pub Opens : {A : Type 0} → Layout A → Refusals → CipherSuite → List ℕ → ℕ → List ℕ → Result A Cause → Type 0
+Opens layout refusals suite key usage text = do
+  plain ← Unseals refusals suite key usage text
+  Finds Inner (IsRead layout plain)

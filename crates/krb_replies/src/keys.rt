@@ -1,0 +1,100 @@
+//! The keys that replies of a KDC bring.
+
+ghost use Rattle.sspi_core.specs.Checks.{Answers};
+ghost use Rattle.krb_crypto.specs.Password.{password_key};
+ghost use Rattle.krb_context.specs.Params.{suite_of as context_suite};
+ghost use Rattle.krb_replies.specs.Told.{Tells};
+ghost use Rattle.krb_replies.specs.Keys.{BringsKey, HandsOnKey};
+
+use crate::told::tell;
+use crate::unseal::{OWN_KEY, SESSION_KEY, open};
+use krb_context::EncryptionParams;
+use krb_crypto::{CipherSuite, generate_key_from_password};
+use krb_der::Octets;
+use krb_exchange::{AsRep, EncAsRepPart, EncTgsRepPart, TgsRep};
+use krb_messages::constants::{AS_REP_USAGE, TGS_REP_USAGE};
+use sspi_core::{Cause, Error, Secret};
+use std::alloc::Global;
+
+/// The key that an AS-REP brings, as a chain of checks.
+pub fn session_key_in_as_rep(
+    alloc: Global,
+    suite: CipherSuite,
+    key: &[u8],
+    as_rep: &AsRep,
+) -> Result<Secret<Octets>, Cause>
+    ensures { Answers (BringsKey suite key.now as_rep.now) result }
+{
+    let text = as_rep.0.enc_part.cipher.as_slice();
+    let part = open::<EncAsRepPart>(alloc, OWN_KEY, suite, key, AS_REP_USAGE, text)?;
+    let EncAsRepPart(part) = part;
+    Ok(Secret::new(part.key.key_value))
+}
+
+/// The key that a TGS-REP brings, as a chain of checks.
+pub fn session_key_in_tgs_rep(
+    alloc: Global,
+    suite: CipherSuite,
+    key: &[u8],
+    tgs_rep: &TgsRep,
+) -> Result<Secret<Octets>, Cause>
+    ensures { Answers (HandsOnKey suite key.now tgs_rep.now) result }
+{
+    let text = tgs_rep.0.enc_part.cipher.as_slice();
+    let part = open::<EncTgsRepPart>(alloc, SESSION_KEY, suite, key, TGS_REP_USAGE, text)?;
+    let EncTgsRepPart(part) = part;
+    Ok(Secret::new(part.key.key_value))
+}
+
+/// The session key of the ticket in an AS-REP, which is sealed under the key of this password and salt, in the parameters'
+/// suite (AES-256 where there is none), with usage 3 (RFC 4120, section 3.1.5).
+///
+/// Refused as DecryptFailure Short where the sealed part has under 28 octets, as MessageAltered Altered where nothing is
+/// sealed to it under that key, as InvalidToken Inner where what is sealed is no EncASRepPart.
+#[tactic(auto, using(crate::proofs::Telling::tells))]
+pub fn extract_session_key_from_as_rep(
+    alloc: Global,
+    as_rep: &AsRep,
+    salt: &str,
+    password: &str,
+    enc_params: &EncryptionParams,
+) -> Result<Secret<Octets>, Error>
+    ensures { let suite = context_suite enc_params.now in
+        Tells (BringsKey suite (password_key suite password.now salt.now) as_rep.now) result }
+{
+    let suite = enc_params.suite();
+    let key = generate_key_from_password(suite, password.as_bytes(), salt.as_bytes());
+    tell(session_key_in_as_rep(alloc, suite, key.as_slice(), as_rep))
+}
+
+/// The same under a key of the caller's. Refused first as InvalidParameter KeyLength where that key has not the length of
+/// the suite's keys.
+#[tactic(auto, using(crate::proofs::Telling::tells))]
+pub fn extract_session_key_from_as_rep_with_key(
+    alloc: Global,
+    as_rep: &AsRep,
+    key: &[u8],
+    enc_params: &EncryptionParams,
+) -> Result<Secret<Octets>, Error>
+    ensures { Tells (BringsKey (context_suite enc_params.now) key.now as_rep.now) result }
+{
+    tell(session_key_in_as_rep(alloc, enc_params.suite(), key, as_rep))
+}
+
+/// The session key of the ticket in a TGS-REP, which is sealed under the session key of the ticket that was shown, in the
+/// parameters' suite (AES-256 where there is none), with usage 8 (RFC 4120, section 3.3.4).
+///
+/// Refused as DecryptFailure Reply where nothing is sealed to it so, as InvalidToken Inner where what is sealed is no
+/// EncTGSRepPart.
+#[tactic(auto, using(crate::proofs::Telling::tells))]
+pub fn extract_session_key_from_tgs_rep(
+    alloc: Global,
+    tgs_rep: &TgsRep,
+    session_key: &Secret<Octets>,
+    enc_params: &EncryptionParams,
+) -> Result<Secret<Octets>, Error>
+    ensures { Tells (HandsOnKey (context_suite enc_params.now) session_key.now tgs_rep.now) result }
+{
+    let key = session_key.as_ref().as_slice();
+    tell(session_key_in_tgs_rep(alloc, enc_params.suite(), key, tgs_rep))
+}

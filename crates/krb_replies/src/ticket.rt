@@ -1,0 +1,59 @@
+//! The ticket of user-to-user.
+
+ghost use Rattle.std.specs.Prelude.{nat_le, length};
+ghost use Rattle.sspi_core.specs.declared.cause.Cause.TheVariants as causes;
+ghost use Rattle.sspi_core.specs.Checks.{Answers, Finds, Holds};
+ghost use Rattle.krb_replies.specs.Told.{Tells};
+ghost use Rattle.krb_replies.specs.Tickets.{HasTicket, TakesTicket};
+
+use crate::told::tell;
+use crate::unseal::read_or;
+use krb_exchange::TgtRep;
+use krb_messages::constants::TGT_REP_TOKEN_ID;
+use krb_messages::{Oid, Ticket, read_framed};
+use sspi_core::{Cause, Error, hold};
+use std::alloc::Global;
+
+/// The longest token of the handshake, in octets.
+const MAX_TOKEN: usize = 16_777_216;
+
+fn check_token_length(token: &[u8]) -> Result<(), Cause>
+    ensures { Holds causes.Shape (nat_le (length token.now) 16777216) result }
+{
+    hold(token.len() <= MAX_TOKEN, Cause::Shape)
+}
+
+fn ticket_in(alloc: Global, token: &[u8]) -> Result<Option<(Ticket, Oid<'_>)>, Cause>
+    ensures { Answers (Finds causes.Shape (HasTicket token.now)) result }
+{
+    if token.is_empty() {
+        return Ok(None);
+    }
+    match read_framed(token, TGT_REP_TOKEN_ID) {
+        Err(_) => Err(Cause::Shape),
+        Ok((oid, message)) => match read_or::<TgtRep>(alloc, message, Cause::Shape) {
+            Ok(reply) => Ok(Some((reply.ticket, oid))),
+            Err(cause) => Err(cause),
+        },
+    }
+}
+
+fn take_ticket(alloc: Global, token: &[u8]) -> Result<Option<(Ticket, Oid<'_>)>, Cause>
+    ensures { Answers (TakesTicket token.now) result }
+{
+    check_token_length(token)?;
+    ticket_in(alloc, token)
+}
+
+/// The ticket in a framed TGT-REP and the object identifier of its mechanism, which lends from the token; None where the
+/// token is empty (draft-swift-win2k-krb-user2user, section 3). Refused as InvalidToken Shape where it is another token, or
+/// has more than 16,777,216 octets.
+#[tactic(auto, using(crate::proofs::Telling::tells))]
+pub fn extract_tgt_ticket_with_oid(
+    alloc: Global,
+    token: &[u8],
+) -> Result<Option<(Ticket, Oid<'_>)>, Error>
+    ensures { Tells (TakesTicket token.now) result }
+{
+    tell(take_ticket(alloc, token))
+}

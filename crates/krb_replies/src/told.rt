@@ -1,0 +1,17 @@
+//! From the cause of a refusal to the error of a public call.
+
+ghost use Rattle.std.specs.Prelude.{◌≡◌};
+ghost use Rattle.sspi_core.specs.Checks.{told};
+ghost use Rattle.sspi_core.specs.declared.error.Place.TheVariants as places;
+
+use sspi_core::{Cause, Error};
+
+/// The same answer, its refusal with the kind that belongs to the cause.
+pub fn tell<T: Drop>(answer: Result<T, Cause>) -> Result<T, Error>
+    ensures { result ≡ told places.Elsewhere answer }
+{
+    match answer {
+        Ok(value) => Ok(value),
+        Err(cause) => Err(Error::from(cause)),
+    }
+}
