@@ -1,0 +1,6 @@
+pub mod AgreedLemmas
+pub mod Chain
+pub mod ContextLemmas
+pub mod MessageLemmas
+pub mod RoundTrip
+pub mod TextLemmas

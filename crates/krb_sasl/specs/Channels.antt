@@ -1,0 +1,93 @@
+-- What goes through a channel once both ends agree: the checks in their order, frames and messages.
+use Rattle.std.specs.Prelude.{ℕ, List, length, Bool, true, not, ◌||◌, nat_lt, Option, Some, None, Result}
+use Rattle.krb_messages.specs.Frame.{with_length}
+use Rattle.krb_context.specs.declared.context.Kerberos.{Kerberos}
+use Rattle.krb_context.specs.Header.{is_sealed}
+use Rattle.krb_context.specs.Unwraps.{Unwraps}
+use Rattle.krb_sasl.specs.declared.channel.Agreement.{Agreement}
+use Rattle.krb_sasl.specs.declared.channel.Channel.{Channel}
+use Rattle.krb_sasl.specs.declared.error.SaslError.{SaslError}
+use Rattle.krb_sasl.specs.declared.error.SaslError.TheVariants.{State, TooLarge, Frame}
+use Rattle.krb_sasl.specs.declared.layer.Layer.{Layer}
+use Rattle.krb_sasl.specs.declared.layer.Layer.TheVariants.{None as NoLayer, Integrity, Confidentiality}
+use Rattle.krb_sasl.specs.Checks.{Takes, Holds, Gives, ◌>>=◌, ◌>>◌}
+use Rattle.krb_context.specs.ClearWraps.{WrapsClear}
+use Rattle.krb_sasl.specs.Frames.{unframed}
+use Rattle.krb_sasl.specs.InContext.{InContext}
+use Rattle.krb_sasl.specs.Layers.{message_size, takes_message}
+use Rattle.krb_sasl.specs.Streams.{sent_from, as_stream, received, WrapsSealed}
+
+-- the message of a layer: the data themselves, in the clear with a checksum, or sealed
+abbrev pub Makes : Layer → Kerberos → List ℕ → List ℕ → Result (List ℕ) SaslError → Type 0
+Makes NoLayer context confounder p = Gives p
+Makes Integrity context confounder p = InContext (WrapsClear context p)
+Makes Confidentiality context confounder p = InContext (WrapsSealed context confounder p)
+
+-- the agreement, with room for the message of n octets at the other end
+unfoldable pub Readies : Channel → ℕ → Result Agreement SaslError → Type 0
+Readies channel n = do
+  agreement ← Takes State channel.agreement
+  Holds TooLarge (takes_message agreement.layer agreement.peer_size (message_size agreement.layer channel.context.encryption_params.ec n))
+  Gives agreement
+
+-- all checks of data that are sealed, and the frame
+unfoldable pub Seals : Channel → List ℕ → List ℕ → Result (List ℕ) SaslError → Type 0
+Seals channel confounder p = do
+  agreement ← Readies channel (length p)
+  message ← Makes agreement.layer channel.context confounder p
+  Gives (with_length message)
+
+-- a message that has flags has those of the layer
+abbrev pub has_flags : Layer → List ℕ → Bool
+has_flags NoLayer message = true
+has_flags Integrity message = nat_lt (length message) 3 || not (is_sealed message)
+has_flags Confidentiality message = nat_lt (length message) 3 || is_sealed message
+
+-- the data of a message
+abbrev pub Opens : Layer → Kerberos → List ℕ → Result (List ℕ) SaslError → Type 0
+Opens NoLayer context message = Gives message
+Opens Integrity context message = InContext (Unwraps context (as_stream message))
+Opens Confidentiality context message = InContext (Unwraps context (as_stream message))
+
+-- the checks of a frame, and its layer and message
+unfoldable pub Unframes : Channel → List ℕ → Result (Layer × List ℕ) SaslError → Type 0
+Unframes channel frame = do
+  agreement ← Takes State channel.agreement
+  message ← Takes Frame (unframed frame)
+  Holds TooLarge (takes_message agreement.layer channel.size (length message))
+  Holds Frame (has_flags agreement.layer message)
+  Gives (agreement.layer, message)
+
+-- all checks of a frame, and the data in it
+unfoldable pub Unseals : Channel → List ℕ → Result (List ℕ) SaslError → Type 0
+Unseals channel frame = do
+  framed ← Unframes channel frame
+  Opens framed.0 channel.context framed.1
+
+-- the context behind a message of a layer that it made, and behind one that it opened
+abbrev pub context_after_making : Layer → Kerberos → Kerberos
+context_after_making NoLayer context = context
+context_after_making Integrity context = sent_from context
+context_after_making Confidentiality context = sent_from context
+
+abbrev pub context_after_opening : Layer → Kerberos → List ℕ → Kerberos
+context_after_opening NoLayer context message = context
+context_after_opening Integrity context message = received context message
+context_after_opening Confidentiality context message = received context message
+
+abbrev pub context_after_sealing : Option Agreement → Kerberos → Kerberos
+context_after_sealing None context = context
+context_after_sealing (Some agreement) context = context_after_making agreement.layer context
+
+-- the channel behind data that it sealed
+abbrev pub sealed_by : Channel → Channel
+sealed_by channel = record channel { context = context_after_sealing channel.agreement channel.context }
+
+abbrev pub context_after_unsealing : Option Agreement → Option (List ℕ) → Kerberos → Kerberos
+context_after_unsealing None message context = context
+context_after_unsealing (Some agreement) None context = context
+context_after_unsealing (Some agreement) (Some message) context = context_after_opening agreement.layer context message
+
+-- the channel behind a frame that it unsealed
+abbrev pub unsealed_by : Channel → List ℕ → Channel
+unsealed_by channel frame = record channel { context = context_after_unsealing channel.agreement (unframed frame) channel.context }

@@ -1,0 +1,12 @@
+pub mod Agreed
+pub mod Answers
+pub mod Channels
+pub mod Checks
+pub mod Clients
+pub mod Ends
+pub mod Frames
+pub mod InContext
+pub mod Layers
+pub mod Servers
+pub mod Streams
+pub mod Texts

@@ -1,0 +1,195 @@
+//! An end of a connection, and what goes through it once both ends agree.
+
+ghost use Rattle.std.specs.Prelude.{◌≡◌, ◌≤◌, ◌<◌, ◌^◌, length, IfOk, OnOk, OnErr};
+ghost use Rattle.krb_sasl.specs.Answers.{Answers};
+ghost use Rattle.krb_sasl.specs.Channels.{Makes, Opens, Readies, Seals, Unframes, Unseals, has_flags, context_after_making, context_after_opening, sealed_by, unsealed_by};
+ghost use Rattle.std.specs.Result.{result_map_both};
+ghost use Rattle.krb_context.specs.Header.{is_sealed};
+ghost use Rattle.krb_sasl.specs.declared.error.SaslError.TheVariants as refusals;
+ghost use Rattle.krb_sasl.specs.Checks.{Holds, Takes};
+ghost use Rattle.krb_sasl.specs.Frames.{unframed};
+ghost use Rattle.krb_sasl.specs.Layers.{message_size, takes_message};
+ghost use Rattle.krb_sasl.specs.Servers.{new_channel};
+
+use crate::checks::{hold, take};
+use crate::clear::wrap_plain;
+use crate::error::SaslError;
+use crate::frame::unframed;
+use crate::layer::Layer;
+use crate::stream::{unwrap, wrap_sealed};
+use krb_context::Kerberos;
+use krb_der::Octets;
+use krb_messages::serialize_message;
+use std::alloc::Global;
+
+/// What both ends agreed on: the layer, and how many octets of a message the other end receives at most.
+#[derive(Clone, Copy, Debug, PartialEq, Eq)]
+pub(crate) struct Agreement {
+    pub(crate) layer: Layer,
+    pub(crate) peer_size: u32,
+}
+
+/// One end: its context, how many octets of a message it receives at most, and what is agreed.
+#[derive(Drop)]
+pub(crate) struct Channel {
+    pub(crate) context: Kerberos,
+    pub(crate) size: u32,
+    pub(crate) agreement: Option<Agreement>,
+}
+
+impl Channel {
+    /// The end before the negotiation.
+    pub(crate) fn new(context: Kerberos, size: u32) -> Channel
+        ensures { result ≡ new_channel context size }
+    {
+        Channel {
+            context,
+            size,
+            agreement: None,
+        }
+    }
+
+    /// The message of a layer. A refusal leaves the channel.
+    fn make(
+        &mut self,
+        alloc: Global,
+        layer: Layer,
+        plain: &[u8],
+        confounder: [u8; 16],
+    ) -> Result<Octets, SaslError>
+        ensures made { Answers (Makes layer self.old.context confounder plain.now) result }
+        ensures size { IfOk result (λ message. length message ≡ message_size layer self.old.context.encryption_params.ec (length plain.now)) }
+        ensures after { OnOk result (self.new ≡ record self.old { context = context_after_making layer self.old.context }) }
+        ensures stays { OnErr result (self.new ≡ self.old) }
+    {
+        match layer {
+            Layer::None => Ok(Octets::from_slice(alloc, plain)?),
+            Layer::Integrity => wrap_plain(alloc, &mut self.context, plain),
+            Layer::Confidentiality => wrap_sealed(alloc, &mut self.context, plain, &confounder),
+        }
+    }
+
+    /// The data of a message. A refusal leaves the channel.
+    fn open(&mut self, alloc: Global, layer: Layer, message: &[u8]) -> Result<Octets, SaslError>
+        ensures opened { Answers (Opens layer self.old.context message.now) result }
+        ensures after { OnOk result (self.new ≡ record self.old { context = context_after_opening layer self.old.context message.now }) }
+        ensures stays { OnErr result (self.new ≡ self.old) }
+    {
+        match layer {
+            Layer::None => Ok(Octets::from_slice(alloc, message)?),
+            _ => unwrap(alloc, &mut self.context, message),
+        }
+    }
+
+    fn check_room(&self, agreement: Agreement, len: usize) -> Result<(), SaslError>
+        requires { len < 2 ^ 63 }
+        ensures room { Holds refusals.TooLarge (takes_message agreement.layer agreement.peer_size
+            (message_size agreement.layer self.now.context.encryption_params.ec len)) result }
+        ensures short { OnOk result (message_size agreement.layer self.now.context.encryption_params.ec len < 2 ^ 32) }
+    {
+        let ec = self.context.encryption_params.ec;
+        let size = agreement.layer.message_size(ec, len);
+        hold(
+            agreement.layer.takes(agreement.peer_size, size),
+            SaslError::TooLarge,
+        )
+    }
+
+    /// The agreement, once there is room for the message of `len` octets.
+    #[tactic(auto, using(crate::proofs::Chain::plain_chain), unfolding(crate::specs::Channels::Readies))]
+    fn ready_to_seal(&self, len: usize) -> Result<Agreement, SaslError>
+        requires { len < 2 ^ 63 }
+        ensures ready { Readies self.now len result }
+        ensures short { IfOk result (λ agreement. message_size agreement.layer self.now.context.encryption_params.ec len < 2 ^ 32) }
+    {
+        let agreement = take(self.agreement, SaslError::State)?;
+        self.check_room(agreement, len)?;
+        Ok(agreement)
+    }
+
+    /// Seals data into a frame. A refusal leaves the channel.
+    pub(crate) fn seal(
+        &mut self,
+        alloc: Global,
+        plain: &[u8],
+        confounder: [u8; 16],
+    ) -> Result<Octets, SaslError>
+        ensures sealed { Answers (Seals self.old confounder plain.now) result }
+        ensures after { OnOk result (self.new ≡ sealed_by self.old) }
+        ensures stays { OnErr result (self.new ≡ self.old) }
+    {
+        let agreement = self.ready_to_seal(plain.len())?;
+        let number = self.context.seq_number;
+        let message = self.make(alloc, agreement.layer, plain, confounder)?;
+        match serialize_message(alloc, message.as_slice()) {
+            Ok(frame) => Ok(frame),
+            Err(error) => {
+                self.context.seq_number = number;
+                Err(SaslError::from(error))
+            }
+        }
+    }
+
+    fn check_size(&self, layer: Layer, message: &[u8]) -> Result<(), SaslError>
+        ensures { Holds refusals.TooLarge (takes_message layer self.now.size (length message.now)) result }
+    {
+        hold(
+            layer.takes(self.size, message.len() as u64),
+            SaslError::TooLarge,
+        )
+    }
+
+    /// The message of a frame, and its layer, once both are checked.
+    fn unframe<'a>(&self, frame: &'a [u8]) -> Result<(Layer, &'a [u8]), SaslError>
+        ensures { Unframes self.now frame.now (result_map_both (λ x. (x.0, x.1.now)) (λ e. e) result) }
+    {
+        let agreement = take(self.agreement, SaslError::State)?;
+        let message = message_of(frame)?;
+        self.check_size(agreement.layer, message)?;
+        check_flags(agreement.layer, message)?;
+        Ok((agreement.layer, message))
+    }
+
+    /// Unseals the data of a frame. A refusal leaves the channel.
+    pub(crate) fn unseal(&mut self, alloc: Global, frame: &[u8]) -> Result<Octets, SaslError>
+        ensures unsealed { Answers (Unseals self.old frame.now) result }
+        ensures after { OnOk result (self.new ≡ unsealed_by self.old frame.now) }
+        ensures stays { OnErr result (self.new ≡ self.old) }
+    {
+        let (layer, message) = self.unframe(frame)?;
+        self.open(alloc, layer, message)
+    }
+}
+
+fn message_of(frame: &[u8]) -> Result<&[u8], SaslError>
+    ensures { Takes refusals.Frame (unframed frame.now) (result_map_both (λ message. message.now) (λ e. e) result) }
+{
+    match unframed(frame) {
+        Some(message) => Ok(message),
+        None => Err(SaslError::Frame),
+    }
+}
+
+fn is_sealed(message: &[u8]) -> bool
+    requires { 3 ≤ length message.now }
+    ensures { result ≡ is_sealed message.now }
+{
+    !(message[2] & 2 == 0)
+}
+
+/// Whether a message that has flags has those of the layer.
+fn has_flags(layer: Layer, message: &[u8]) -> bool
+    ensures { result ≡ has_flags layer message.now }
+{
+    match layer {
+        Layer::None => true,
+        Layer::Integrity => message.len() < 3 || !is_sealed(message),
+        Layer::Confidentiality => message.len() < 3 || is_sealed(message),
+    }
+}
+
+fn check_flags(layer: Layer, message: &[u8]) -> Result<(), SaslError>
+    ensures { Holds refusals.Frame (has_flags layer message.now) result }
+{
+    hold(has_flags(layer, message), SaslError::Frame)
+}

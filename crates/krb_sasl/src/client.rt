@@ -1,0 +1,175 @@
+//! The client.
+
+ghost use Rattle.std.specs.Prelude.{◌≡◌, ◌≤◌, List, ℕ, length, IfOk, IfErr, OnOk, OnErr, Ok, is_none, true};
+ghost use Rattle.krb_sasl.specs.declared.error.SaslError.TheVariants as refusals;
+ghost use Rattle.krb_sasl.specs.Answers.{Answers, Refuses};
+ghost use Rattle.krb_sasl.specs.Checks.{Holds};
+ghost use Rattle.krb_sasl.specs.Channels.{Seals, Unseals, sealed_by, unsealed_by};
+ghost use Rattle.krb_sasl.specs.Clients.{MayWish, Wishes, Suits, Reads, AnswersOffer, answered_by, channel_of, with_channel};
+ghost use Rattle.krb_context.specs.ClearWraps.{WrapsClear};
+ghost use Rattle.krb_sasl.specs.InContext.{InContext};
+ghost use Rattle.krb_sasl.specs.Servers.{is_of_text, left_by};
+ghost use Rattle.krb_sasl.specs.Streams.{sent_from, received};
+ghost use Rattle.krb_sasl.specs.Texts.{answer_text};
+
+use crate::channel::{Agreement, Channel};
+use crate::checks::hold;
+use crate::clear::wrap_plain;
+use crate::error::SaslError;
+use crate::layer::{Layer, is_wish};
+use crate::stream::unwrap;
+use crate::texts::{answer_text, is_offer_text, offers_layer, size_in};
+use krb_context::Kerberos;
+use krb_der::{Octets, Text};
+use std::alloc::Global;
+
+/// The client of a connection: it answers an offer with the layer that it wants and its user's name.
+#[derive(Drop)]
+pub struct SaslClient {
+    channel: Channel,
+    wanted: Layer,
+    name: Text,
+}
+
+/// The name of a new client's user, once its layer, its size and its context are checked.
+#[tactic(auto, using(crate::proofs::Chain::chain), unfolding(crate::specs::Clients::MayWish))]
+fn wished_name(
+    alloc: Global,
+    context: &Kerberos,
+    wanted: Layer,
+    size: u32,
+    name: &str,
+) -> Result<Text, SaslError>
+    ensures { Answers (MayWish context.now wanted size name.now) result }
+{
+    hold(is_wish(wanted, size), SaslError::Layers)?;
+    hold(context.state.is_final(), SaslError::State)?;
+    Ok(Text::from_str(alloc, name)?)
+}
+
+/// Checks the text of an offer, for who wants this layer.
+#[tactic(auto, using(crate::proofs::Chain::plain_chain), unfolding(crate::specs::Clients::Suits))]
+fn suits(wanted: Layer, text: &[u8]) -> Result<(), SaslError>
+    ensures suits { Suits wanted text.now result }
+    ensures long { OnOk result (4 ≤ length text.now) }
+    ensures of_text { IfErr result (λ refusal. is_of_text refusal ≡ true) }
+{
+    hold(is_offer_text(text), SaslError::Offer)?;
+    hold(offers_layer(text, wanted), SaslError::Layer)
+}
+
+impl SaslClient {
+    /// The client on a context whose exchange is over, which wants this layer, receives messages of `size` octets at most,
+    /// and speaks for the user of this name.
+    ///
+    /// The refusals, in their order: `Layers` where the size is 2^24 or more, and where no layer is wanted with a size;
+    /// `State` where the exchange of the context is not over.
+    #[tactic(auto, using(crate::proofs::Chain::chain), unfolding(crate::specs::Clients::Wishes))]
+    pub fn new(
+        alloc: Global,
+        context: Kerberos,
+        wanted: Layer,
+        size: u32,
+        name: &str,
+    ) -> Result<SaslClient, SaslError>
+        ensures { Answers (Wishes context wanted size name.now) result }
+    {
+        match wished_name(alloc, &context, wanted, size, name) {
+            Ok(name) => Ok(SaslClient {
+                channel: Channel::new(context, size),
+                wanted,
+                name,
+            }),
+            Err(refusal) => Err(refusal),
+        }
+    }
+
+    fn check_unanswered(&self) -> Result<(), SaslError>
+        ensures { Holds refusals.State (is_none self.now.channel.agreement) result }
+    {
+        hold(self.channel.agreement.is_none(), SaslError::State)
+    }
+
+    /// The text of an offer, once it is checked.
+    fn read_offer(&mut self, alloc: Global, offer: &[u8]) -> Result<Octets, SaslError>
+        ensures read { Answers (Reads self.old offer.now) result }
+        ensures long { IfOk result (λ text. 4 ≤ length text) }
+        ensures after { OnOk result (
+            self.new ≡ record self.old { channel = record self.old.channel { context = received self.old.channel.context offer.now } }) }
+        ensures left { IfErr result (λ refusal. self.new ≡ with_channel self.old (left_by refusal (channel_of self.old) offer.now)) }
+    {
+        self.check_unanswered()?;
+        let text = unwrap(alloc, &mut self.channel.context, offer)?;
+        suits(self.wanted, text.as_slice())?;
+        Ok(text)
+    }
+
+    /// The token of the answer to an offer.
+    ///
+    /// The refusals, in their order: `State` where one was given before; `Context`; `Offer` where the text has not four
+    /// octets; `Layer` where the wanted layer is not offered, or no layer alone with a size. A refusal leaves the client,
+    /// save that an `Offer` or a `Layer` keeps the token's number.
+    pub fn answer(&mut self, alloc: Global, offer: &[u8]) -> Result<Octets, SaslError>
+        ensures answered { IfOk result (λ token. (text : List ℕ) × AnswersOffer self.old offer.now (Ok (token, text))
+            × (self.new ≡ answered_by self.old offer.now text)) }
+        ensures refused { IfErr result (λ refusal. Refuses (AnswersOffer self.old offer.now) refusal) }
+        ensures left { IfErr result (λ refusal. self.new ≡ with_channel self.old (left_by refusal (channel_of self.old) offer.now)) }
+    {
+        let window = self.channel.context.window;
+        let text = self.read_offer(alloc, offer)?;
+        match self.write_answer(alloc) {
+            Ok(token) => {
+                self.channel.agreement = Some(Agreement {
+                    layer: self.wanted,
+                    peer_size: size_in(text.as_slice()),
+                });
+                Ok(token)
+            }
+            Err(refusal) => {
+                self.channel.context.window = window;
+                Err(refusal)
+            }
+        }
+    }
+
+    /// The token of the answer, whatever was offered.
+    fn write_answer(&mut self, alloc: Global) -> Result<Octets, SaslError>
+        ensures written { Answers (InContext (WrapsClear self.old.channel.context
+            (answer_text self.old.wanted self.old.channel.size self.old.name))) result }
+        ensures after { OnOk result (self.new ≡ record self.old { channel = record self.old.channel { context = sent_from self.old.channel.context } }) }
+        ensures stays { OnErr result (self.new ≡ self.old) }
+    {
+        let text = answer_text(alloc, self.wanted, self.channel.size, self.name.as_str())?;
+        wrap_plain(alloc, &mut self.channel.context, text.as_slice())
+    }
+
+    /// Seals data into a frame. The confounder is 16 random octets, which are used where the layer seals.
+    ///
+    /// The refusals, in their order: `State` before an answer was given; `TooLarge` where the message would be longer than
+    /// the server receives, or, without a layer, the data have 2^24 octets or more; `Context`. A refusal leaves the client.
+    pub fn seal(
+        &mut self,
+        alloc: Global,
+        plain: &[u8],
+        confounder: [u8; 16],
+    ) -> Result<Octets, SaslError>
+        ensures sealed { Answers (Seals (channel_of self.old) confounder plain.now) result }
+        ensures after { OnOk result (self.new ≡ with_channel self.old (sealed_by (channel_of self.old))) }
+        ensures stays { OnErr result (self.new ≡ self.old) }
+    {
+        self.channel.seal(alloc, plain, confounder)
+    }
+
+    /// Unseals the data of a frame.
+    ///
+    /// The refusals, in their order: `State` before an answer was given; `Frame` where the octets are not one frame;
+    /// `TooLarge` where its message is longer than the client receives, or, without a layer, has 2^24 octets or more; `Frame`
+    /// where it is not of the layer; `Context`. A refusal leaves the client.
+    pub fn unseal(&mut self, alloc: Global, frame: &[u8]) -> Result<Octets, SaslError>
+        ensures unsealed { Answers (Unseals (channel_of self.old) frame.now) result }
+        ensures after { OnOk result (self.new ≡ with_channel self.old (unsealed_by (channel_of self.old) frame.now)) }
+        ensures stays { OnErr result (self.new ≡ self.old) }
+    {
+        self.channel.unseal(alloc, frame)
+    }
+}

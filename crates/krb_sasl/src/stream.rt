@@ -1,0 +1,105 @@
+//! Octets that the context opens, and data that it seals.
+
+ghost use Rattle.std.specs.Prelude.{◌≡◌, ◌+◌, ◌<◌, ◌^◌, length, IfOk, OnOk, OnErr, ◌++◌, Err};
+ghost use Rattle.krb_context.specs.Spelled.{part_octets};
+ghost use Rattle.krb_context.specs.Unwraps.{Unwraps};
+ghost use Rattle.krb_sasl.specs.Answers.{Answers};
+ghost use Rattle.krb_sasl.specs.InContext.{InContext};
+ghost use Rattle.krb_sasl.specs.Streams.{sent_from, as_stream, as_data, received, WrapsSealed};
+
+use crate::error::SaslError;
+use krb_context::Kerberos;
+use krb_der::{Items, Octets};
+use sspi_core::{Message, Part, SecurityBufferRef};
+use std::alloc::{AllocError, Global};
+
+/// The octets as a stream, and data that take its text.
+fn as_stream(alloc: Global, octets: &[u8]) -> Result<Message, SaslError>
+    ensures stream { IfOk result (λ message. message ≡ as_stream octets.now) }
+    ensures memory { OnErr result (result ≡ Err SaslError.OutOfMemory) }
+{
+    let stream = Octets::from_slice(alloc, octets)?;
+    let buffers = vec![in alloc;
+        SecurityBufferRef::stream_buf(stream, octets.len()),
+        SecurityBufferRef::data_buf(Octets::new(Vec::new(alloc)), 0),
+    ]?;
+    Ok(Message::new(Items::new(buffers))?)
+}
+
+/// A token with room, and the data.
+fn as_data(alloc: Global, ec: u16, plain: &[u8]) -> Result<Message, SaslError>
+    ensures data { IfOk result (λ message. message ≡ as_data ec plain.now) }
+    ensures small { ec < 2 ^ 16 }
+    ensures memory { OnErr result (result ≡ Err SaslError.OutOfMemory) }
+{
+    let data = Octets::from_slice(alloc, plain)?;
+    let buffers = vec![in alloc;
+        SecurityBufferRef::token_buf(Octets::new(Vec::new(alloc)), 60 + ec as usize),
+        SecurityBufferRef::data_buf(data, plain.len()),
+    ]?;
+    Ok(Message::new(Items::new(buffers))?)
+}
+
+fn part_octets(message: &Message, part: Part) -> &[u8]
+    ensures { result.now ≡ part_octets part message.now }
+{
+    match message.find(part) {
+        Some(buffer) => buffer.data(),
+        None => &[],
+    }
+}
+
+/// Opens a token, and gives its text. A refusal leaves the context.
+pub(crate) fn unwrap(
+    alloc: Global,
+    context: &mut Kerberos,
+    octets: &[u8],
+) -> Result<Octets, SaslError>
+    ensures unwrapped { Answers (InContext (Unwraps context.old (as_stream octets.now))) result }
+    ensures received { OnOk result (context.new ≡ received context.old octets.now) }
+    ensures stays { OnErr result (context.new ≡ context.old) }
+{
+    let mut message = as_stream(alloc, octets)?;
+    let window = context.window;
+    context.decrypt_message(alloc, &mut message)?;
+    match Octets::from_slice(alloc, part_octets(&message, Part::Plain)) {
+        Ok(text) => Ok(text),
+        Err(error) => {
+            context.window = window;
+            Err(SaslError::from(error))
+        }
+    }
+}
+
+/// The token and the data of a message.
+fn token_and_data(alloc: Global, message: &Message) -> Result<Octets, AllocError>
+    ensures { IfOk result (λ octets. octets ≡ part_octets Part.Token message.now ++ part_octets Part.Plain message.now) }
+{
+    let mut octets = Vec::from_slice(alloc, part_octets(message, Part::Token))?;
+    octets.extend_from_slice(part_octets(message, Part::Plain))?;
+    Ok(Octets::new(octets))
+}
+
+/// Seals data, and gives the token and them. A refusal leaves the context.
+pub(crate) fn wrap_sealed(
+    alloc: Global,
+    context: &mut Kerberos,
+    plain: &[u8],
+    confounder: &[u8; 16],
+) -> Result<Octets, SaslError>
+    ensures wrapped { Answers (InContext (WrapsSealed context.old confounder.now plain.now)) result }
+    ensures size { IfOk result (λ octets. length octets ≡ 60 + context.old.encryption_params.ec + length plain.now) }
+    ensures sent { OnOk result (context.new ≡ sent_from context.old) }
+    ensures stays { OnErr result (context.new ≡ context.old) }
+{
+    let mut message = as_data(alloc, context.encryption_params.ec, plain)?;
+    let number = context.seq_number;
+    context.encrypt_message(alloc, &mut message, *confounder)?;
+    match token_and_data(alloc, &message) {
+        Ok(octets) => Ok(octets),
+        Err(error) => {
+            context.seq_number = number;
+            Err(SaslError::from(error))
+        }
+    }
+}
