@@ -1,0 +1,109 @@
+//! What a server keeps, and the three calls that it makes of the library.
+
+ghost use Rattle.std.specs.Prelude.{◌≡◌, ◌→◌, Ok, Some, IfOk, IfErr};
+ghost use Rattle.krb_context.specs.Queries.{name_of};
+ghost use Rattle.krb_context.specs.Refusals.{Refuses};
+ghost use Rattle.krb_context.specs.Unwraps.{Unwraps};
+ghost use Rattle.krb_gateway.specs.Admits.{Waits, Admits, whole_message};
+ghost use Rattle.sspi_core.specs.declared.error.Place.TheVariants as places;
+
+use krb_server::{
+    Accepted, Draw, Env, Error, Flags, Items, Kerberos, KerberosConfig, Message, Octets, Part,
+    ReplayBook, Secret, SecurityBufferRef, ServerProperties, ServerRequestFlags, Text, TryCopy,
+    Username, accept_security_context,
+};
+use std::alloc::Global;
+
+/// One service: its name and key, and the one replay book of all its clients.
+#[derive(Drop)]
+pub struct Gateway {
+    service: ServerProperties,
+    book: ReplayBook,
+}
+
+/// A client that was admitted.
+#[derive(Drop)]
+pub struct Guest {
+    pub name: Username,
+    /// What goes back to the client; no octets where it asked for nothing.
+    pub answer: Octets,
+    connection: Kerberos,
+}
+
+/// The seconds by which a client's clock may be wrong.
+const SKEW: u32 = 300;
+
+impl Gateway {
+    /// A service of these components, as `host` and `server.example.com`, and its key of 16 or 32 octets.
+    pub fn new(alloc: Global, components: &[&str], key: Octets) -> Result<Gateway, Error> {
+        let key = Some(Secret::new(key));
+        let service = ServerProperties::new(alloc, components, None, SKEW, key)?;
+        let book = ReplayBook::new(alloc, SKEW)?;
+        Ok(Gateway { service, book })
+    }
+
+    /// A connection that waits for its client's token. Its first sequence number is drawn.
+    fn connection(&self, alloc: Global, draw: &Draw) -> Result<Kerberos, Error>
+        ensures { IfOk result (Waits self.now.service) }
+    {
+        let config = KerberosConfig {
+            kdc_url: None,
+            client_computer_name: Text::new(String::new(alloc)),
+        };
+        let [.., a, b, c, d] = draw.random;
+        let service = self.service.copy(alloc)?;
+        Ok(Kerberos::new_server_from_config(config, service, [a, b, c, d])?)
+    }
+
+    /// Admits the client that sent this token, or says which check of RFC 4120, section 3.2.3, failed first.
+    pub fn admit(&mut self, alloc: Global, token: &[u8], draw: &Draw) -> Result<Guest, Error>
+        ensures admits { IfOk result (λ guest. Admits self.old.service self.old.book token.now draw.now guest.answer guest.connection self.new.book) }
+        ensures named { IfOk result (λ guest. name_of guest.connection ≡ Ok guest.name) }
+        ensures service { self.new.service ≡ self.old.service }
+    {
+        let mut connection = self.connection(alloc, draw)?;
+        let flags = ServerRequestFlags::from_bits_retain(0);
+        let env = Env::new(alloc);
+        let accepted = accept_security_context(
+            alloc,
+            &mut connection,
+            &mut self.book,
+            token,
+            flags,
+            &env,
+            draw,
+        );
+        let Accepted::Done { token: answer, .. } = accepted?;
+        let name = connection.query_context_names(alloc)?.username;
+        Ok(Guest {
+            name,
+            answer,
+            connection,
+        })
+    }
+}
+
+/// A message that came whole, as the client's `gss_wrap` made it, and an empty buffer for its text.
+fn whole_message(alloc: Global, sealed: Octets) -> Result<Message, Error>
+    ensures { IfOk result (λ message. message ≡ whole_message sealed) }
+{
+    let length = sealed.as_slice().len();
+    let mut buffers = Vec::with_capacity(alloc, 2)?;
+    buffers.push(SecurityBufferRef::stream_buf(sealed, length))?;
+    buffers.push(SecurityBufferRef::data_buf(Octets::new(Vec::new(alloc)), 0))?;
+    Message::new(Items::new(buffers))
+}
+
+impl Guest {
+    /// The text of a message that the client sealed. Each message is opened once.
+    pub fn open(&mut self, alloc: Global, sealed: Octets) -> Result<Octets, Error>
+        ensures opened { IfOk result (λ text. Unwraps self.old.connection (whole_message sealed) (Ok text)) }
+    {
+        let mut message = whole_message(alloc, sealed)?;
+        self.connection.decrypt_message(alloc, &mut message)?;
+        match message.find(Part::Plain) {
+            Some(text) => Ok(Octets::from_slice(alloc, text.data())?),
+            None => Ok(Octets::new(Vec::new(alloc))),
+        }
+    }
+}
