@@ -6,6 +6,7 @@
 #![tactic(auto)]
 
 mod admissions;
+mod books;
 mod messages;
 mod replay;
 mod serving;
@@ -31,6 +32,7 @@ fn main(rt: HostRuntime) -> Result<()> {
     suites::run(&rt, full)?;
     messages::run(&rt, full)?;
     replay::run(&rt, full)?;
+    books::run(&rt, full)?;
     admissions::run(&rt, full)?;
     serving::run(&rt, full)
 }

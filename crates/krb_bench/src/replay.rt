@@ -29,18 +29,18 @@ const SCATTERED: u32 = 7_919;
 
 /// A stretch of a stream of asks, which come at even distances of time.
 #[derive(Clone, Copy)]
-struct Stretch {
-    name: &'static str,
+pub(crate) struct Stretch {
+    pub(crate) name: &'static str,
     /// How many asks of the stream come within the skew.
-    window: u32,
+    pub(crate) window: u32,
     /// The number in the stream of the first ask.
-    first: u32,
+    pub(crate) first: u32,
     /// How many asks there are.
-    count: u32,
+    pub(crate) count: u32,
     /// From each ask to the next, around the end of the stretch.
-    step: u32,
+    pub(crate) step: u32,
     /// By how many seconds an ask is late at most.
-    late: u32,
+    pub(crate) late: u32,
 }
 
 /// What a book answered.
@@ -108,7 +108,7 @@ fn add_ask(asks: &mut Vec<Ask>, ask: Ask) -> Option<()> {
 }
 
 /// A batch of the stretch's asks.
-fn asks_of(alloc: Global, stretch: &Stretch, batch: u32) -> Option<Vec<Ask>> {
+pub(crate) fn asks_of(alloc: Global, stretch: &Stretch, batch: u32) -> Option<Vec<Ask>> {
     let mut asks = Vec::with_capacity(alloc, BATCH as usize).ok()?;
     let start = batch.saturating_mul(BATCH);
     let end = start.saturating_add(BATCH).min(stretch.count);
