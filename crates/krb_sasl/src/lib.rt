@@ -29,6 +29,3 @@ pub use client::SaslClient;
 pub use error::SaslError;
 pub use layer::Layer;
 pub use server::SaslServer;
-
-#[cfg(test)]
-mod tests;
