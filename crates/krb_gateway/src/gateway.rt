@@ -1,11 +1,9 @@
 //! What a server keeps, and the three calls that it makes of the library.
 
-ghost use Rattle.std.specs.Prelude.{◌≡◌, ◌→◌, Ok, Some, IfOk, IfErr};
+ghost use Rattle.std.specs.Prelude.{◌≡◌, Ok, IfOk};
 ghost use Rattle.krb_context.specs.Queries.{name_of};
-ghost use Rattle.krb_context.specs.Refusals.{Refuses};
 ghost use Rattle.krb_context.specs.Unwraps.{Unwraps};
 ghost use Rattle.krb_gateway.specs.Admits.{Waits, Admits, whole_message};
-ghost use Rattle.sspi_core.specs.declared.error.Place.TheVariants as places;
 
 use krb_server::{
     Accepted, Draw, Env, Error, Flags, Items, Kerberos, KerberosConfig, Message, Octets, Part,
