@@ -1,0 +1,76 @@
+//! Negotiations, frames and refusals of both ends, to octets of a second implementation and of another library.
+
+mod conversations;
+mod ends;
+mod new_ends;
+mod others;
+mod refusals;
+mod sequences;
+mod spelled;
+
+use ends::{End, Wanted, is_refused, new_client, new_server};
+use krb_sasl::{Layer, SaslClient, SaslServer};
+use refusals::{ClientRow, ServerRow};
+use spelled::Row;
+use std::alloc::Global;
+use std::test::Fail;
+
+const CONFOUNDER: [u8; 16] = [0, 1, 2, 3, 4, 5, 6, 7, 8, 9, 10, 11, 12, 13, 14, 15];
+
+/// What is tried with a server: that it refuses to offer, a call, what it sends, and frames that are refused or have texts.
+#[derive(Clone, Copy)]
+enum ServerCase {
+    Offer(Wanted),
+    Call(&'static ServerRow),
+    Spelled(&'static Row),
+    Frames(&'static str, &'static [(&'static str, Option<Wanted>)]),
+    Texts(&'static str, &'static [(&'static str, &'static str)]),
+}
+
+fn server_passes(alloc: Global, server: &mut SaslServer, case: ServerCase) -> Result<bool, Fail> {
+    match case {
+        ServerCase::Offer(wanted) => Ok(is_refused(&server.offer(alloc).err(), Some(wanted))),
+        ServerCase::Call(row) => refusals::server_answers(alloc, server, row),
+        ServerCase::Spelled(row) => spelled::server_speaks(alloc, server, row),
+        ServerCase::Frames(answer, frames) => sequences::takes_all(alloc, server, answer, frames),
+        ServerCase::Texts(answer, frames) => others::takes_all(alloc, server, answer, frames),
+    }
+}
+
+/// Whether a new server passes a case.
+fn new_server_passes(
+    alloc: Global,
+    end: &End,
+    layers: u8,
+    size: u32,
+    case: ServerCase,
+) -> Result<bool, Fail> {
+    let mut server = new_server(alloc, end, layers, size)?;
+    server_passes(alloc, &mut server, case)
+}
+
+/// What is tried with a client: a call, and what it sends.
+#[derive(Clone, Copy)]
+enum ClientCase {
+    Call(&'static ClientRow),
+    Spelled(&'static Row),
+}
+
+fn client_passes(alloc: Global, client: &mut SaslClient, case: ClientCase) -> Result<bool, Fail> {
+    match case {
+        ClientCase::Call(row) => refusals::client_answers(alloc, client, row),
+        ClientCase::Spelled(row) => spelled::client_speaks(alloc, client, row),
+    }
+}
+
+/// Whether a new client passes a case.
+fn new_client_passes(
+    alloc: Global,
+    layer: Layer,
+    size: u32,
+    name: &str,
+    case: ClientCase,
+) -> Result<bool, Fail> {
+    let mut client = new_client(alloc, layer, size, name)?;
+    client_passes(alloc, &mut client, case)
+}
