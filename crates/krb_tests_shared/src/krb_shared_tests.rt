@@ -1,0 +1,105 @@
+//! What no clause says of a shared book and of a desk: that the journal which they hand out is the one that was kept.
+
+ghost use Rattle.std.specs.Prelude.{◌≡◌};
+
+use krb_der::{IntegerAsn1, Items, Name, Octets, OutOfMemory, Time};
+use krb_messages::PrincipalName;
+use krb_replay::Verdict::{self, Admitted, Replayed};
+use krb_replay::{Ask, Record, ReplayGate};
+use krb_shared::{Calls, Desk, DeskGate, Entry, Journal, SharedBook};
+use std::alloc::Global;
+use std::marker::Brand;
+use std::process::Abort;
+use std::sync::Wait;
+use std::sync::ledger::Blank;
+use std::test::Fail;
+
+/// 2023-11-14T22:13:20Z, in seconds.
+const T0: i64 = 1_700_000_000;
+
+/// The same in microseconds.
+const M0: u64 = 1_700_000_000_000_000;
+
+/// A name without components, of this type.
+fn principal(alloc: Global, name_type: u8) -> Result<PrincipalName, OutOfMemory> {
+    Ok(PrincipalName {
+        name_type: IntegerAsn1::from_bytes_be(Vec::from_slice(alloc, &[name_type])?),
+        name_string: Items::new(Vec::new(alloc)),
+    })
+}
+
+/// The first ask of a client whose ticket lives ten hours.
+pub(crate) fn first_ask(alloc: Global) -> Result<Ask, Fail> {
+    let realm = Name::new(Vec::from_slice(alloc, b"EXAMPLE.COM")?).ok_or("not ASCII")?;
+    Ok(Ask {
+        entry: Record {
+            ctime: Time::new(T0),
+            cusec: Octets::new(Vec::from_slice(alloc, &[0])?),
+            realm,
+            name: principal(alloc, 1)?,
+        },
+        sname: principal(alloc, 2)?,
+        start: Time::new(T0),
+        end: Time::new(T0 + 36_000),
+        moment: M0,
+    })
+}
+
+/// What is tested of an entry: its seat, its call and its verdict.
+type Line = (u32, u64, Verdict);
+
+fn line(entry: &Entry) -> Line {
+    (entry.seat, entry.call, entry.verdict)
+}
+
+/// Compares the entries of a journal, of which one record is kept.
+fn check(rt: &impl Abort, journal: &Journal, expected: &[Line]) {
+    assert_eq!(rt; journal.kept, 1);
+    assert_eq!(rt; journal.entries.as_slice().len(), expected.len());
+    for (entry, expected) in journal.entries.as_slice().iter().zip(expected) {
+        assert_eq!(rt; line(entry), *expected);
+    }
+}
+
+/// Two seats make the same ask, one after the other, and the book is closed.
+fn ask_twice<L: Calls, R: Wait>(
+    rt: &R,
+    alloc: Global,
+    blank: Blank,
+    skew: u32,
+) -> Result<(Verdict, Verdict, Journal), Fail>
+    requires name { blank.name ≡ L.name }
+    requires parts { blank.parts ≡ L.parts }
+    requires two { blank.parts ≡ 2 }
+    requires skew { skew ≡ L.skew }
+{
+    let (book, all) = blank.open::<L>();
+    let (shared, seats) = SharedBook::with_seats(alloc, book, all, skew, 2)?;
+    let mut seats = seats.into_inner();
+    let one = shared.admit(rt, &mut seats[0], &first_ask(alloc)?)?;
+    let two = shared.admit(rt, &mut seats[1], &first_ask(alloc)?)?;
+    match shared.close(Items::new(seats)) {
+        Ok(journal) => Ok((one, two, journal)),
+        Err(_) => Err(Fail::from("the receipts and the journal differ")),
+    }
+}
+
+#[test]
+fn a_shared_book_admits_an_authenticator_once(rt: HostRuntime) -> Result<(), Fail> {
+    let (one, two, journal) = ask_twice::<Brand, _>(&rt, rt.alloc(), Blank::new(2), 300)?;
+    assert_eq!(rt; (one, two), (Admitted, Replayed));
+    check(&rt, &journal, &[(0, 1, Admitted), (1, 1, Replayed)]);
+    Ok(())
+}
+
+#[test]
+fn a_desk_admits_an_authenticator_once(rt: HostRuntime) -> Result<(), Fail> {
+    let mut desk = Desk::new(rt.alloc(), 300)?;
+    let one = DeskGate::new(&mut desk, 0).admit(first_ask(rt.alloc())?)?;
+    let two = DeskGate::new(&mut desk, 1).admit(first_ask(rt.alloc())?)?;
+    assert_eq!(rt; (one, two), (Admitted, Replayed));
+    assert_eq!(rt; desk.moment(), M0);
+    let journal = desk.into_journal();
+    check(&rt, &journal, &[(0, 1, Admitted), (1, 1, Replayed)]);
+    Ok(())
+}

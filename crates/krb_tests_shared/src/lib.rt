@@ -1,0 +1,7 @@
+//! The tests of the replay books that threads share, over their public items. Nothing stands on them.
+#![tactic(auto)]
+
+#[cfg(test)]
+mod krb_shared_table_tests;
+#[cfg(test)]
+mod krb_shared_tests;
