@@ -195,8 +195,14 @@ fn a_kdc_answers_a_reply_or_an_error(rt: HostRuntime) -> Result<(), Fail> {
     assert_eq!(rt; code_in::<AsRep>(alloc, reply.as_slice()), Ok(None));
     assert_eq!(rt; code_in::<AsRep>(alloc, error.as_slice()), Ok(Some(25)));
     assert_eq!(rt; code_in::<TgsRep>(alloc, error.as_slice()), Ok(Some(25)));
-    assert_eq!(rt; code_in::<TgsRep>(alloc, reply.as_slice()), Err(Fault::Shape));
-    assert_eq!(rt; code_in::<AsRep>(alloc, error.with_one_more()), Err(Fault::Shape));
+    assert_eq!(rt;
+        code_in::<TgsRep>(alloc, reply.as_slice()),
+        Err(Fault::Shape)
+    );
+    assert_eq!(rt;
+        code_in::<AsRep>(alloc, error.with_one_more()),
+        Err(Fault::Shape)
+    );
     Ok(())
 }
 
