@@ -10,7 +10,7 @@ use krb_keytab::Keytab;
 use krb_replay::ReplayBook;
 use krb_server::accept_security_context;
 use sspi_core::{Cause, Draw, Message, Part, SecurityBufferRef, ServerRequestFlags};
-use std::alloc::Global;
+use std::alloc::{AllocError, Global};
 use std::test::Fail;
 
 /// The AP-REQ of a client in Java for kafka/localhost of EXAMPLE.COM, with the service's name of type 0.
@@ -106,13 +106,20 @@ fn refusal(alloc: Global, server: &mut Kerberos) -> Result<Option<Cause>, Fail> 
     }
 }
 
-/// A token without octets, and the text.
-fn plain_message(alloc: Global, text: &[u8]) -> Result<Message, Fail> {
-    let token = SecurityBufferRef::token_buf(Octets::new(Vec::new(alloc)), 60);
-    let data = SecurityBufferRef::data_buf(Octets::from_slice(alloc, text)?, 3);
+fn add(buffers: &mut Vec<SecurityBufferRef>, buffer: SecurityBufferRef) -> Result<(), AllocError> {
+    buffers.push(buffer)?;
+    Ok(())
+}
+
+/// A token without octets, and the text `abc`.
+fn plain_message(alloc: Global) -> Result<Message, Fail> {
+    let text = Octets::from_slice(alloc, b"abc")?;
     let mut buffers = Vec::new(alloc);
-    buffers.push(token)?;
-    buffers.push(data)?;
+    add(
+        &mut buffers,
+        SecurityBufferRef::token_buf(Octets::new(Vec::new(alloc)), 60),
+    )?;
+    add(&mut buffers, SecurityBufferRef::data_buf(text, 3))?;
     Ok(Message::new(Items::new(buffers))?)
 }
 
@@ -126,7 +133,7 @@ fn is_part(alloc: Global, message: &Message, part: Part, wanted: &str) -> Result
 
 /// Whether `abc` is sealed so.
 fn seals(alloc: Global, server: &mut Kerberos) -> Result<bool, Fail> {
-    let mut message = plain_message(alloc, b"abc")?;
+    let mut message = plain_message(alloc)?;
     let confounder = [0, 1, 2, 3, 4, 5, 6, 7, 8, 9, 10, 11, 12, 13, 14, 15];
     server.encrypt_message(alloc, &mut message, confounder)?;
     Ok(
