@@ -77,6 +77,12 @@ fn two_threads_share_a_table(rt: HostRuntime) -> Result<(), Fail> {
     Ok(())
 }
 
+/// Where the journal has a pass's call, counted from 0.
+fn place_of(pass: &Pass, call: usize) -> Option<u64> {
+    let receipt = pass.receipts().get(call)?;
+    Some(receipt.place)
+}
+
 #[test]
 fn a_pass_is_answered_in_order(rt: HostRuntime) -> Result<(), Fail> {
     let (book, passes) = TableBook::with_passes(rt.alloc(), 300, 1)?;
@@ -85,6 +91,6 @@ fn a_pass_is_answered_in_order(rt: HostRuntime) -> Result<(), Fail> {
     let one = book.admit(&rt, &mut pass, &first_ask(rt.alloc())?)?;
     let two = TableGate::new(&rt, &book, &mut pass).admit(first_ask(rt.alloc())?)?;
     assert!(rt; one == Admitted && two == Replayed && pass.seen() == 2);
-    assert_eq!(rt; pass.receipts()[1].place, 2);
+    assert_eq!(rt; place_of(&pass, 1), Some(2));
     Ok(())
 }
