@@ -4,7 +4,7 @@ pub const HELP: &str = "\
 krb_run answers the events of a Kerberos service, one line of text for each.
 
     krb_run serve        reads lines on standard input, and writes the reply to each event before it reads on
-    krb_run threads      the same on two threads: not built yet
+    krb_run threads      reads all lines, answers the events on two threads, and then writes what both answered
     krb_run demo <n>     answers a made input of n events, 1 to 10000, in memory, and writes demo <n> <admitted> <kept>
     krb_run --help       this text
     krb_run --version    the version
@@ -32,6 +32,13 @@ The last line is one of these:
     bad line <n>                 line n is not in the table, or not where it may stand
     long line <n>                line n has more than 1048576 octets, or the input more than 1073741824
     stopped <n>                  memory ran out behind the replies to n events
+
+Of threads, worker 0 has the connections with even numbers and worker 1 those with odd ones, over one replay book. They write:
+
+    w <worker> <n> <reply>                event n of the input, and its reply as above: first those of worker 0
+    j <place> <worker> <call> <verdict>   what the replay book answered, in its order: Admitted, Skew, NotYet, Expired, Replayed
+
+and then the last line. A bad or a long line, or the word stopped, stands alone.
 
 Exit status:
 

@@ -1,0 +1,63 @@
+-- The connections of a worker, one declared acceptor more at a time.
+use Rattle.std.proofs.Common.{◌≡◌, ℕ, zero, suc, ◌+◌, ◌<◌, Bool, true, false, cond, List, [], ◌∷◌, ◌++◌, length, map, get_or, refl, sym, ap, ◌∙◌, subst, arith, Ordering, Less}
+use lib.ListN.{length-map}
+use Rattle.std.specs.Ordering.{MatchOrdering, nat_cmp}
+use Rattle.std.specs.BTreeMap.{insert_entry}
+use Rattle.std.specs.List.{filter}
+use Rattle.std.specs.Map.{keys_of}
+use Rattle.std.proofs.lemmas.List.{map-append}
+use Rattle.std.proofs.lemmas.Cmp.{ranked}
+use Rattle.krb_text.specs.declared.item.Acceptor.{Acceptor}
+use Rattle.krb_text.specs.declared.item.Key.{Key}
+use Rattle.krb_service.specs.Described.{connection_of, connections_with}
+use Rattle.krb_service.specs.declared.connection.Connection.{Connection}
+use Rattle.krb_service.proofs.OrderLemmas.{AreBelow, put-last}
+use Rattle.krb_threads.specs.Journaled.{is_of, connections_of}
+use Rattle.krb_threads.proofs.PartingLemmas.{filter-in, filter-out}
+
+less : (x y : ℕ) → nat_cmp x y ≡ Less → x < y
+less x y e = let P : Ordering → Type 0 = λ o. MatchOrdering o (x < y) (x ≡ y) (y < x) in subst P e (ranked x y (nat_cmp x y) refl)
+
+-- keys that come before this one
+pub below-at : (k : ℕ) (ks rest : List ℕ) → ((i d : ℕ) → i < length ks → nat_cmp (get_or (ks ++ rest) i d) k ≡ Less) → AreBelow k ks
+below-at k [] rest h = tt
+below-at k (q ∷ ks) rest h = (less q k (h zero 0 (omega arith)), below-at k ks rest (λ i d lt. h (suc i) d (omega (arith, lt))))
+
+pub below-turn : (all front rest : List (ℕ × Acceptor)) (k : ℕ) → all ≡ front ++ rest → ((i d : ℕ) → i < length front → nat_cmp (get_or (keys_of all) i d) k ≡ Less) → AreBelow k (keys_of front)
+below-turn all front rest k is h =
+    let keys_are : keys_of all ≡ keys_of front ++ keys_of rest = ap (λ (es : List (ℕ × Acceptor)). keys_of es) is ∙ map-append (λ (e : ℕ × Acceptor). e.0) front rest in
+    let len : length (keys_of front) ≡ length front = length-map front (λ (e : ℕ × Acceptor). e.0) in
+    let P : List ℕ → Type 0 = λ ks. (i d : ℕ) → i < length front → nat_cmp (get_or ks i d) k ≡ Less in
+    below-at k (keys_of front) (keys_of rest) (λ i d lt. subst P keys_are h i d (omega (arith, lt, len)))
+
+below_one : (k : ℕ) (b : Bool) (entry : ℕ × Connection) (rest : List (ℕ × Connection)) → entry.0 < k → AreBelow k (keys_of rest) → AreBelow k (keys_of (cond b (entry ∷ rest) rest))
+below_one k true entry rest lt below = (lt, below)
+below_one k false entry rest lt below = below
+
+module _ (worker skew : ℕ) (keys : List (ℕ × Key)) where
+  abbrev own : List (ℕ × Acceptor) → List (ℕ × Connection)
+  own acceptors = connections_of worker (connections_with skew keys acceptors)
+
+  below_own : (k : ℕ) (acceptors : List (ℕ × Acceptor)) → AreBelow k (keys_of acceptors) → AreBelow k (keys_of (own acceptors))
+  below_own k [] below = tt
+  below_own k (entry ∷ acceptors) below =
+      below_one k (is_of worker entry.0) (entry.0, connection_of skew keys entry) (own acceptors) below.0 (below_own k acceptors below.1)
+
+  grown : (acceptors : List (ℕ × Acceptor)) (id : ℕ) (acceptor : Acceptor)
+      → connections_with skew keys (acceptors ++ (id, acceptor) ∷ []) ≡ connections_with skew keys acceptors ++ (id, connection_of skew keys (id, acceptor)) ∷ []
+  grown acceptors id acceptor = map-append (λ (entry : ℕ × Acceptor). (entry.0, connection_of skew keys entry)) acceptors ((id, acceptor) ∷ [])
+
+  -- an acceptor of the worker's
+  pub put-own : (acceptors : List (ℕ × Acceptor)) (id : ℕ) (acceptor : Acceptor) (made : Connection) (before after : List (ℕ × Connection)) → before ≡ own acceptors → is_of worker id ≡ true
+      → made ≡ connection_of skew keys (id, acceptor) → AreBelow id (keys_of acceptors) → after ≡ insert_entry nat_cmp before id made → after ≡ own (acceptors ++ (id, acceptor) ∷ [])
+  put-own acceptors id acceptor made before after so_far is made_is below put =
+      put ∙ ap (λ es. insert_entry nat_cmp es id made) so_far ∙ put-last (own acceptors) id made (below_own id acceptors below)
+      ∙ ap (λ (x : Connection). own acceptors ++ (id, x) ∷ []) made_is
+      ∙ sym (filter-in (λ (entry : ℕ × Connection). is_of worker entry.0) (connections_with skew keys acceptors) (id, connection_of skew keys (id, acceptor)) is)
+      ∙ ap (connections_of worker) (sym (grown acceptors id acceptor))
+
+  -- and one of the other's
+  pub put-other : (acceptors : List (ℕ × Acceptor)) (id : ℕ) (acceptor : Acceptor) → is_of worker id ≡ false → own acceptors ≡ own (acceptors ++ (id, acceptor) ∷ [])
+  put-other acceptors id acceptor is =
+      sym (filter-out (λ (entry : ℕ × Connection). is_of worker entry.0) (connections_with skew keys acceptors) (id, connection_of skew keys (id, acceptor)) is)
+      ∙ ap (connections_of worker) (sym (grown acceptors id acceptor))

@@ -1,0 +1,7 @@
+pub mod ReadingLemmas
+pub mod PartingLemmas
+pub mod ConnectionsLemmas
+pub mod TextLemmas
+pub mod WorkedLemmas
+pub mod AnswersLemmas
+pub mod ClosingLemmas

@@ -1,0 +1,277 @@
+-- A run over a gate that keeps a log is a run by the entries that the log gains.
+use Rattle.std.proofs.Common.{◌≡◌, ℕ, ◌+◌, ◌-◌, ◌≤◌, List, [], ◌∷◌, ◌++◌, length, length-append, map, take, Option, Some, None, Result, Ok, Err, IsSomeAnd, OnOk, IfErr, ◌<◌, refl, ap, sym, ◌∙◌, subst, append_assoc, arith}
+use Rattle.std.proofs.lemmas.List.{append-nil, map-append}
+use Rattle.krb_replay.specs.declared.ask.Ask.{Ask}
+use Rattle.krb_replay.specs.declared.ask.Verdict.{Verdict}
+use Rattle.krb_server.specs.Accepts.{Asks}
+use Rattle.krb_server.specs.Requests.{ask_of}
+use Rattle.krb_server.specs.declared.admission.Accepted.{Accepted}
+use Rattle.krb_server.specs.declared.request.Request.{Request}
+use Rattle.krb_shared.specs.declared.entry.Entry.{Entry}
+use Rattle.krb_shared.specs.declared.entry.Receipt.{Receipt}
+use Rattle.krb_shared.specs.Desk.{Desk, Gate, AdmitsNext, next_call}
+use Rattle.krb_shared.specs.Seats.{Seat, AddsReceipt}
+use Rattle.krb_text.specs.declared.item.Event.{Event}
+use Rattle.sspi_core.specs.declared.cause.Cause.{Cause}
+use Rattle.krb_service.specs.Described.{no_env, with_gate}
+use Rattle.krb_service.specs.Policy.{State, Behind, Steps, Runs, RunsOn, StopsBehind, reached}
+use Rattle.krb_service.specs.declared.connection.Connection.{Connection}
+use Rattle.krb_service.specs.declared.reply.Reply.{Reply}
+use Rattle.krb_service.specs.declared.service.Stopped.{Stopped}
+use Rattle.krb_threads.specs.Journaled.{Rest, Reads, RunsBy}
+use Rattle.krb_threads.specs.Runs.{EndsAs}
+use Rattle.krb_threads.specs.Worked.{log_of, WorksAt, AreOf, WorksThere}
+
+-- one call is entered into a log, as the next of its seat, and what is to stay stays
+pub record Logs {G N : Type 0} (log : G → List Entry) (next seat : G → ℕ) (kept : G → N) (a : G) (ask : Ask) (verdict : Verdict) (b : G) : Type 0 where
+  pub log_is : log b ≡ log a ++ record { seat = seat a; call = next a; ask = ask; verdict = verdict } ∷ []
+  pub next_is : next b ≡ next a + 1
+  pub seat_is : seat b ≡ seat a
+  pub kept_is : kept b ≡ kept a
+
+AreOf-append : (seat : ℕ) (xs ys : List Entry) → AreOf seat xs → AreOf seat ys → AreOf seat (xs ++ ys)
+AreOf-append seat [] ys p q = q
+AreOf-append seat (x ∷ xs) ys p q = (p.0, AreOf-append seat xs ys p.1 q)
+
+module _ {G N : Type 0} (admits : G → Ask → Verdict → G → Type 0) (log : G → List Entry) (next seat : G → ℕ) (kept : G → N)
+    (step : (a : G) (ask : Ask) (verdict : Verdict) (b : G) → admits a ask verdict b → Logs log next seat kept a ask verdict b) where
+  -- a gate that reads these entries, from the next call on
+  abbrev rest_at : G → List Entry → Rest
+  rest_at g entries = record { call = next g; entries = entries }
+
+  -- what stays of a gate, and what its log gains
+  record Gains (old new : G) (gained : List Entry) : Type 0 where
+    log_is : log new ≡ log old ++ gained
+    own : AreOf (seat old) gained
+    seat_is : seat new ≡ seat old
+    kept_is : kept new ≡ kept old
+
+  gains_none : (old new : G) → new ≡ old → Gains old new []
+  gains_none old new same = record { log_is = ap log same ∙ sym (append-nil (log old)); own = tt; seat_is = ap seat same; kept_is = ap kept same }
+
+  gains_both : (a b c : G) (xs ys : List Entry) → Gains a b xs → Gains b c ys → Gains a c (xs ++ ys)
+  gains_both a b c xs ys p q =
+      let O : ℕ → Type 0 = λ s. AreOf s ys in
+      record {
+        log_is = q.log_is ∙ ap (λ l. l ++ ys) p.log_is ∙ append_assoc (log a) xs ys;
+        own = AreOf-append (seat a) xs ys p.own (subst O p.seat_is q.own);
+        seat_is = q.seat_is ∙ p.seat_is;
+        kept_is = q.kept_is ∙ p.kept_is;
+      }
+
+  record AsksBy (moment : ℕ) (old : G) (request : Result Request Cause) (verdict : Verdict) (new : G) : Type 0 where
+    gained : List Entry
+    gains : Gains old new gained
+    asks : (more : List Entry) → Asks (Reads (seat old)) moment (rest_at old (gained ++ more)) request verdict (rest_at new more)
+
+  asks_by : (moment : ℕ) (old : G) (request : Result Request Cause) (verdict : Verdict) (new : G) → Asks admits moment old request verdict new → AsksBy moment old request verdict new
+  asks_by moment old (Ok request) verdict new asks =
+      let s = step old (ask_of request moment) verdict new asks in
+      record {
+        gained = record { seat = seat old; call = next old; ask = ask_of request moment; verdict = verdict } ∷ [];
+        gains = record { log_is = s.log_is; own = (refl, tt); seat_is = s.seat_is; kept_is = s.kept_is };
+        asks = λ more. record { entries = refl; call = s.next_is };
+      }
+  asks_by moment old (Err cause) verdict new same = record { gained = []; gains = gains_none old new same; asks = λ more. ap (λ g. rest_at g more) same }
+
+  record BehindBy (state : State G) (event : Event) (found : Result (Connection × List ℕ) Cause) (answer : Result Accepted Cause) (after : State G) : Type 0 where
+    gained : List Entry
+    gains : Gains state.gate after.gate gained
+    env : after.env ≡ state.env
+    behind : (more : List Entry) → Behind (Reads (seat state.gate)) (with_gate state (rest_at state.gate (gained ++ more))) event found answer (with_gate after (rest_at after.gate more))
+
+  behind_by : (state : State G) (event : Event) (found : Result (Connection × List ℕ) Cause) (answer : Result Accepted Cause) (after : State G) → Behind admits state event found answer after
+      → BehindBy state event found answer after
+  behind_by state event (Ok found) answer after j =
+      let a = asks_by event.moment state.gate j.accepts.request j.accepts.verdict after.gate j.accepts.gate in
+      record {
+        gained = a.gained;
+        gains = a.gains;
+        env = j.env;
+        behind = λ more. record {
+          server = j.server;
+          accepts = record {
+            verdict = j.accepts.verdict;
+            request = j.accepts.request;
+            begun = j.accepts.begun;
+            gate = a.asks more;
+            outcome = j.accepts.outcome;
+            judged = j.accepts.judged;
+            made = j.accepts.made;
+          };
+          connections = j.connections;
+          env = j.env;
+        };
+      }
+  behind_by state event (Err cause) answer after b = record {
+    gained = [];
+    gains = gains_none state.gate after.gate (ap (λ (s : State G). s.gate) b.1);
+    env = ap (λ (s : State G). s.env) b.1;
+    behind = λ more. (b.0, ap (λ (s : State G). with_gate s (rest_at s.gate more)) b.1);
+  }
+
+  record IsBy (state : State G) (events : List Event) (replies : List Reply) (after : State G) : Type 0 where
+    gained : List Entry
+    gains : Gains state.gate after.gate gained
+    env : after.env ≡ state.env
+    runs : (more : List Entry) → Runs (Reads (seat state.gate)) (with_gate state (rest_at state.gate (gained ++ more))) events replies (with_gate after (rest_at after.gate more))
+
+  is_by : (state : State G) (events : List Event) (replies : List Reply) (after : State G) → Runs admits state events replies after → IsBy state events replies after
+  is_by state [] [] after runs = record {
+    gained = [];
+    gains = gains_none state.gate after.gate (ap (λ (s : State G). s.gate) runs);
+    env = ap (λ (s : State G). s.env) runs;
+    runs = λ more. ap (λ (s : State G). with_gate s (rest_at s.gate more)) runs;
+  }
+  is_by state [] (reply ∷ replies) after runs = absurd runs
+  is_by state (event ∷ events) [] after runs = absurd runs
+  is_by state (event ∷ events) (reply ∷ replies) after runs =
+      let between = runs.0 in
+      let first = behind_by state event (reached state.connections event) runs.1.answer between runs.1.behind in
+      let later = is_by between events replies after runs.2 in
+      record {
+        gained = first.gained ++ later.gained;
+        gains = gains_both state.gate between.gate after.gate first.gained later.gained first.gains later.gains;
+        env = later.env ∙ first.env;
+        runs = λ more.
+            let middle = with_gate between (rest_at between.gate (later.gained ++ more)) in
+            let S : List Entry → Type 0 = λ l. Steps (Reads (seat state.gate)) (with_gate state (rest_at state.gate l)) event reply middle in
+            let R : ℕ → Type 0 = λ s. Runs (Reads s) middle events replies (with_gate after (rest_at after.gate more)) in (
+              middle,
+              subst S (sym (append_assoc first.gained later.gained more)) (record { answer = runs.1.answer; behind = first.behind (later.gained ++ more); reply_is = runs.1.reply_is }),
+              subst R first.gains.seat_is (later.runs more),
+            );
+      }
+
+  -- what a run leaves
+  pub record Worked (state : State G) (events : List Event) (replies : List Reply) (after : State G) : Type 0 where
+    pub gained : List Entry
+    pub log_is : log after.gate ≡ log state.gate ++ gained
+    pub own : AreOf (seat state.gate) gained
+    pub seat_is : seat after.gate ≡ seat state.gate
+    pub kept_is : kept after.gate ≡ kept state.gate
+    pub runs : state.env ≡ no_env → RunsBy (next state.gate) (seat state.gate) state.connections events gained replies
+
+  worked_runs : (state : State G) (events : List Event) (replies : List Reply) (after : State G) (by : IsBy state events replies after) → state.env ≡ no_env
+      → RunsBy (next state.gate) (seat state.gate) state.connections events by.gained replies
+  worked_runs state events replies after by none =
+      let T : State Rest → Type 0 = λ s. Runs (Reads (seat state.gate)) s events replies (with_gate after (rest_at after.gate [])) in
+      record {
+        after = with_gate after (rest_at after.gate []);
+        runs = subst T (ap (λ l. with_gate state (rest_at state.gate l)) (append-nil by.gained) ∙ ap (λ e. record { connections = state.connections; env = e; gate = rest_at state.gate by.gained }) none) (by.runs []);
+        used = refl;
+      }
+
+  worked_of : (state : State G) (events : List Event) (replies : List Reply) (after : State G) → Runs admits state events replies after → Worked state events replies after
+  worked_of state events replies after runs =
+      let by = is_by state events replies after runs in
+      record {
+        gained = by.gained;
+        log_is = by.gains.log_is;
+        own = by.gains.own;
+        seat_is = by.gains.seat_is;
+        kept_is = by.gains.kept_is;
+        runs = λ none. worked_runs state events replies after by none;
+      }
+
+  pub worked : (state : State G) (events : List Event) (old replies : List Reply) (after : State G) → RunsOn admits state events old replies after → old ≡ [] → Worked state events replies after
+  worked state events old replies after on fresh =
+      let P : List Reply → Type 0 = λ rs. Worked state events rs after in
+      subst P (sym (on.replies ∙ ap (λ l. l ++ on.made) fresh)) (worked_of state events on.made after on.runs)
+
+  -- however a part ends, what is to stay stays
+  pub keeps : (is_same : G → G → Type 0) (state : State G) (events : List Event) (old replies : List Reply) (after : State G) (ended : Option (Result (Unit {0}) Stopped))
+      → IsSomeAnd ended (λ (e : Result (Unit {0}) Stopped). EndsAs admits is_same state events old e replies after) → old ≡ [] → ((a b : G) → is_same a b → kept b ≡ kept a) → kept after.gate ≡ kept state.gate
+  keeps is_same state events old replies after None h fresh same = absurd h
+  keeps is_same state events old replies after (Some (Ok done)) h fresh same = (worked state events old replies after h fresh).kept_is
+  keeps is_same state events old replies after (Some (Err stopped)) h fresh same =
+      same h.1.0.gate after.gate h.1.2.gate ∙ (worked state (take stopped.taken events) old replies h.1.0 h.1.1 fresh).kept_is
+
+-- a receipt more is an entry more in the seat's log
+pub adds-logs : (skew : ℕ) (a : Seat) (ask : Ask) (verdict : Verdict) (b : Seat) → AddsReceipt skew a ask verdict b → Logs log_of (λ s. length s.receipts + 1) (λ s. s.number) (λ s. s.parts) a ask verdict b
+adds-logs skew a ask verdict b step =
+    let receipt : Receipt = record { entry = record { seat = a.number; call = length a.receipts + 1; ask = ask; verdict = verdict }; place = step.place } in
+    record {
+      log_is = ap (map (λ (r : Receipt). r.entry)) step.receipts ∙ map-append (λ (r : Receipt). r.entry) a.receipts (receipt ∷ []);
+      next_is = ap (λ n. n + 1) (ap length step.receipts ∙ length-append a.receipts (receipt ∷ []));
+      seat_is = step.number;
+      kept_is = step.parts;
+    }
+
+-- a step of a gate over a seat, which is seen so
+pub seat-logs : {G N : Type 0} (skew : ℕ) (view : G → Seat) (name : G → N) (a : G) (ask : Ask) (verdict : Verdict) (b : G) → AddsReceipt skew (view a) ask verdict (view b) × (name b ≡ name a)
+    → Logs {N = N × ℕ} (λ g. log_of (view g)) (λ g. length (view g).receipts + 1) (λ g. (view g).number) (λ g. (name g, (view g).parts)) a ask verdict b
+seat-logs skew view name a ask verdict b step =
+    let l = adds-logs skew (view a) ask verdict (view b) step.0 in
+    record { log_is = l.log_is; next_is = l.next_is; seat_is = l.seat_is; kept_is = rw (step.1, l.kept_is) refl }
+
+-- a step of a gate over a desk, whose journal has at least the entries that stood there before
+pub desk-logs : {G N : Type 0} (view : G → Gate) (name : G → N) (a : G) (ask : Ask) (verdict : Verdict) (b : G) → (view a).before ≤ length (view a).desk.journal
+    → AdmitsNext (view a) ask verdict (view b) × (name b ≡ name a)
+    → Logs {N = N × ℕ} (λ g. (view g).desk.journal) (λ g. next_call (view g)) (λ g. (view g).seat) (λ g. (name g, (view g).desk.skew)) a ask verdict b
+desk-logs view name a ask verdict b enough step =
+    let s = step.0 in
+    let entry : Entry = record { seat = (view a).seat; call = next_call (view a); ask = ask; verdict = verdict } in
+    let grown : length (view b).desk.journal ≡ length (view a).desk.journal + 1 = ap length s.step.entry ∙ length-append (view a).desk.journal (entry ∷ []) in
+    record { log_is = s.step.entry; next_is = omega (arith, s.before); seat_is = s.seat; kept_is = rw (step.1, s.step.skew) refl }
+
+-- a part whose gate stands over a seat
+module _ {G N : Type 0} (admits : G → Ask → Verdict → G → Type 0) (is_same : G → G → Type 0) (skew : ℕ) (view : G → Seat) (name : G → N)
+    (step : (a : G) (ask : Ask) (verdict : Verdict) (b : G) → admits a ask verdict b → AddsReceipt skew (view a) ask verdict (view b) × (name b ≡ name a)) where
+  seat_step : (a : G) (ask : Ask) (verdict : Verdict) (b : G) → admits a ask verdict b
+      → Logs {N = N × ℕ} (λ g. log_of (view g)) (λ g. length (view g).receipts + 1) (λ g. (view g).number) (λ g. (name g, (view g).parts)) a ask verdict b
+  seat_step a ask verdict b s = seat-logs skew view name a ask verdict b (step a ask verdict b s)
+
+  both_same : (a b : G) → (view b ≡ view a) × (name b ≡ name a) → ◌≡◌ {A = N × ℕ} (name b, (view b).parts) (name a, (view a).parts)
+  both_same a b s = rw (s.1, ap (λ (seat : Seat). seat.parts) s.0) refl
+
+  -- however it ends, the gate stands over the same seat
+  pub seat-keeps : (state : State G) (events : List Event) (old replies : List Reply) (after : State G) (ended : Option (Result (Unit {0}) Stopped))
+      → IsSomeAnd ended (λ (e : Result (Unit {0}) Stopped). EndsAs admits is_same state events old e replies after) → old ≡ [] → ((a b : G) → is_same a b → (view b ≡ view a) × (name b ≡ name a))
+      → name after.gate ≡ name state.gate
+  seat-keeps state events old replies after ended h fresh same =
+      ap (λ (p : N × ℕ). p.0)
+      (keeps {N = N × ℕ} admits (λ g. log_of (view g)) (λ g. length (view g).receipts + 1) (λ g. (view g).number) (λ g. (name g, (view g).parts)) seat_step is_same state events old replies after ended h fresh
+      (λ a b s. both_same a b (same a b s)))
+
+  seat_worked : (state : State G) (events : List Event) (old replies : List Reply) (after : State G) → RunsOn admits state events old replies after → old ≡ [] → state.env ≡ no_env
+      → WorksAt (view state.gate) state.connections events replies (view after.gate)
+  seat_worked state events old replies after runs fresh none =
+      let w = worked {N = N × ℕ} admits (λ g. log_of (view g)) (λ g. length (view g).receipts + 1) (λ g. (view g).number) (λ g. (name g, (view g).parts)) seat_step state events old replies after runs fresh in
+      record { number = w.seat_is; parts = ap (λ (p : N × ℕ). p.1) w.kept_is; gained = w.gained; log = w.log_is; runs = w.runs none }
+
+  -- and where all events were taken, the seat has gained the receipts of the run
+  pub seat-works : (state : State G) (events : List Event) (old replies : List Reply) (after : State G) (ended : Option (Result (Unit {0}) Stopped))
+      → IsSomeAnd ended (λ (e : Result (Unit {0}) Stopped). EndsAs admits is_same state events old e replies after) → old ≡ [] → state.env ≡ no_env
+      → IsSomeAnd ended (λ (e : Result (Unit {0}) Stopped). OnOk e (WorksAt (view state.gate) state.connections events replies (view after.gate)))
+  seat-works state events old replies after None h fresh none = absurd h
+  seat-works state events old replies after (Some (Ok done)) h fresh none = seat_worked state events old replies after h fresh none
+  seat-works state events old replies after (Some (Err stopped)) h fresh none = tt
+
+-- a part whose gate stands over a desk
+module _ {G N : Type 0} (admits : G → Ask → Verdict → G → Type 0) (view : G → Gate) (name : G → N) (enough : (a : G) → (view a).before ≤ length (view a).desk.journal)
+    (step : (a : G) (ask : Ask) (verdict : Verdict) (b : G) → admits a ask verdict b → AdmitsNext (view a) ask verdict (view b) × (name b ≡ name a)) where
+  desk_step : (a : G) (ask : Ask) (verdict : Verdict) (b : G) → admits a ask verdict b
+      → Logs {N = N × ℕ} (λ g. (view g).desk.journal) (λ g. next_call (view g)) (λ g. (view g).seat) (λ g. (name g, (view g).desk.skew)) a ask verdict b
+  desk_step a ask verdict b s = desk-logs view name a ask verdict b (enough a) (step a ask verdict b s)
+
+  desk_worked : (state : State G) (events : List Event) (old replies : List Reply) (after : State G) → RunsOn admits state events old replies after → old ≡ []
+      → Worked {N = N × ℕ} admits (λ g. (view g).desk.journal) (λ g. next_call (view g)) (λ g. (view g).seat) (λ g. (name g, (view g).desk.skew)) desk_step state events replies after
+  desk_worked state events old replies after runs fresh =
+      worked {N = N × ℕ} admits (λ g. (view g).desk.journal) (λ g. next_call (view g)) (λ g. (view g).seat) (λ g. (name g, (view g).desk.skew)) desk_step state events old replies after runs fresh
+
+  pub desk-keeps : (state : State G) (events : List Event) (old replies : List Reply) (after : State G) → RunsOn admits state events old replies after → old ≡ [] → name after.gate ≡ name state.gate
+  desk-keeps state events old replies after runs fresh = ap (λ (p : N × ℕ). p.0) (desk_worked state events old replies after runs fresh).kept_is
+
+  pub desk-works : (state : State G) (events : List Event) (old replies : List Reply) (after : State G) → RunsOn admits state events old replies after → old ≡ [] → state.env ≡ no_env
+      → WorksThere (view state.gate).desk (next_call (view state.gate)) (view state.gate).seat state.connections events replies (view after.gate).desk
+  desk-works state events old replies after runs fresh none =
+      let w = desk_worked state events old replies after runs fresh in
+      record { skew = ap (λ (p : N × ℕ). p.1) w.kept_is; gained = w.gained; journal = w.log_is; own = w.own; runs = w.runs none }
+
+-- how a run of a service ends, by its answer
+pub ends-as : {G : Type 0} (admits : G → Ask → Verdict → G → Type 0) (is_same : G → G → Type 0) (service : State G) (events : List Event) (old : List Reply) (result : Result (Unit {0}) Stopped) (new : List Reply) (after : State G)
+    → OnOk result (RunsOn admits service events old new after) → IfErr result (λ (stopped : Stopped). stopped.taken < length events)
+    → IfErr result (λ (stopped : Stopped). StopsBehind admits is_same service (take stopped.taken events) old new after) → EndsAs admits is_same service events old result new after
+ends-as admits is_same service events old (Ok done) new after ok few front = ok
+ends-as admits is_same service events old (Err stopped) new after ok few front = (few, front)

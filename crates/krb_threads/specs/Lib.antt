@@ -1,0 +1,7 @@
+pub mod Known
+pub mod Journaled
+pub mod Described
+pub mod Answers
+pub mod Runs
+pub mod Worked
+pub mod Threads

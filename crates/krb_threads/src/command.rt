@@ -1,0 +1,148 @@
+//! The command `threads`: it reads all its input, and writes what two workers answer.
+
+ghost use Rattle.std.specs.Prelude.{◌≡◌, ◌≢◌, ◌≤◌, ◌↔◌, ◌∷◌, ◌++◌, [], codes, decimal, length, IfOk, string_bytes};
+ghost use Rattle.std.specs.Io.KnownBytes.{Appends};
+ghost use Rattle.krb_text.specs.Causes.{Rose};
+ghost use Rattle.krb_text.specs.Output.{AppendsFront};
+ghost use Rattle.krb_service.specs.Text.{stopped_line};
+ghost use Rattle.krb_threads.specs.Answers.{IsAnswer};
+ghost use Rattle.krb_threads.specs.Threads.{Answers, Runs};
+
+use crate::described::Described;
+use crate::ending::Ending;
+use crate::known::Known;
+use crate::parting::{numbers, parted};
+use crate::pause::Pause;
+use crate::reading::read_all;
+use crate::text::text_of;
+use crate::workers::answers_of;
+use krb_der::OutOfMemory;
+use krb_service::numbered_line;
+use krb_text::{LineReader, Sink, Source, Status, Words, write_line};
+use std::alloc::Global;
+use std::sync::Wait;
+use std::thread::Threads;
+
+/// The text that answers what was declared.
+fn answer_text<R: Threads + Wait + Sync, P: Pause + Send, Q: Pause + Send>(
+    rt: &R,
+    alloc: Global,
+    known: Known,
+    first: &mut P,
+    second: &mut Q,
+) -> Result<String, OutOfMemory>
+    ensures { IfOk result (λ text. IsAnswer known.so_far (string_bytes text)) }
+{
+    let Known { script, events, .. } = known;
+    let low = numbers(alloc, &events, 0)?;
+    let high = numbers(alloc, &events, 1)?;
+    let (skew, acceptors, keys) = script.into_parts();
+    let described = Described {
+        skew,
+        acceptors,
+        keys,
+    };
+    let (one, two) = parted(alloc, events)?;
+    let answers = answers_of(rt, alloc, &described, one, two, first, second)?;
+    text_of(alloc, &low, &high, &answers)
+}
+
+/// Writes a text, which goes with this status.
+fn write<K: Sink>(sink: &mut K, text: &[u8], status: Status) -> Status
+    requires { status ≢ Status.WriteFault }
+    ensures whole { result ≢ Status.WriteFault → (result ≡ status) × Appends (K.taken sink.old) (K.taken sink.new) text.now }
+    ensures cut { result ≡ Status.WriteFault → AppendsFront (K.taken sink.old) (K.taken sink.new) text.now }
+    ensures fault { result ≡ Status.WriteFault → Rose (K.faults sink.old) (K.faults sink.new) }
+    ensures still { result ≢ Status.WriteFault → K.faults sink.new ≡ K.faults sink.old }
+{
+    match write_line(sink, text) {
+        Ok(()) => status,
+        Err(_) => Status::WriteFault,
+    }
+}
+
+/// Writes a word and a number as the last line.
+fn write_numbered<K: Sink>(sink: &mut K, word: &str, number: u64, status: Status) -> Status
+    requires word { length word.now ≤ 16 }
+    requires status { status ≢ Status.WriteFault }
+    ensures whole { result ≢ Status.WriteFault
+        → (result ≡ status) × Appends (K.taken sink.old) (K.taken sink.new) (word.now ++ decimal number ++ codes "\n") }
+    ensures cut { result ≡ Status.WriteFault → AppendsFront (K.taken sink.old) (K.taken sink.new) (word.now ++ decimal number ++ codes "\n") }
+    ensures fault { result ≡ Status.WriteFault → Rose (K.faults sink.old) (K.faults sink.new) }
+    ensures still { result ≢ Status.WriteFault → K.faults sink.new ≡ K.faults sink.old }
+{
+    let line = numbered_line(word, number);
+    write(sink, line.as_str().as_bytes(), status)
+}
+
+/// Writes that memory ran out, before the reply to any event.
+fn write_stopped<K: Sink>(sink: &mut K) -> Status
+    ensures whole { result ≢ Status.WriteFault
+        → (result ≡ Status.OutOfMemory) × Appends (K.taken sink.old) (K.taken sink.new) (stopped_line 0) }
+    ensures cut { result ≡ Status.WriteFault → AppendsFront (K.taken sink.old) (K.taken sink.new) (stopped_line 0) }
+    ensures fault { result ≡ Status.WriteFault → Rose (K.faults sink.old) (K.faults sink.new) }
+    ensures still { result ≢ Status.WriteFault → K.faults sink.new ≡ K.faults sink.old }
+{
+    write_numbered(sink, "stopped ", 0, Status::OutOfMemory)
+}
+
+/// Answers what was declared.
+fn answer<R: Threads + Wait + Sync, P: Pause + Send, Q: Pause + Send, K: Sink>(
+    rt: &R,
+    alloc: Global,
+    known: Known,
+    sink: &mut K,
+    first: &mut P,
+    second: &mut Q,
+) -> Status
+    ensures text { Answers known.so_far (K.taken sink.old) (K.taken sink.new) result }
+    ensures fault { result ≡ Status.WriteFault → Rose (K.faults sink.old) (K.faults sink.new) }
+    ensures still { result ≢ Status.WriteFault → K.faults sink.new ≡ K.faults sink.old }
+{
+    match answer_text(rt, alloc, known, first, second) {
+        Ok(text) => write(sink, text.as_str().as_bytes(), Status::Done),
+        Err(_) => write_stopped(sink),
+    }
+}
+
+/// Reads all of its input, and then answers its events by two workers: worker w has the connections whose number modulo 2 is w,
+/// and takes the events at such numbers in their order. Each stands at a seat of one shared replay book, and asks its pause
+/// before each call of the book. The words are exactly `threads`.
+pub fn threads<R: Threads + Wait + Sync, P: Pause + Send, Q: Pause + Send, S: Source, K: Sink>(
+    rt: &R,
+    alloc: Global,
+    words: &Words,
+    source: &mut S,
+    sink: &mut K,
+    first: &mut P,
+    second: &mut Q,
+) -> Status
+    // The words are judged first: at others nothing is read or written.
+    ensures words { (result ≡ Status.BadWords) ↔ (words.now ≢ codes "threads" ∷ []) }
+    ensures untouched { result ≡ Status.BadWords → (source.new ≡ source.old) × (sink.new ≡ sink.old) }
+
+    // A fault is told only where the outside failed in this call.
+    ensures read { result ≡ Status.ReadFault → Rose (S.faults source.old) (S.faults source.new) }
+    ensures write { result ≡ Status.WriteFault → Rose (K.faults sink.old) (K.faults sink.new) }
+
+    // And wherever the outside failed, it is told.
+    ensures read_still { result ≢ Status.ReadFault → S.faults source.new ≡ S.faults source.old }
+    ensures write_still { result ≢ Status.WriteFault → K.faults sink.new ≡ K.faults sink.old }
+
+    // What is taken of the input that the source had left, and what is written for it, by the status.
+    ensures text { Runs (S.left source.old) (S.left source.new) (K.taken sink.old) (K.taken sink.new) result }
+{
+    if !words.are("threads") {
+        return Status::BadWords;
+    }
+    let mut reader = LineReader::new(alloc);
+    let mut known = Known::new(alloc);
+    match read_all(alloc, &mut reader, &mut known, source) {
+        Ending::Whole if known.has_begun() => answer(rt, alloc, known, sink, first, second),
+        Ending::Whole => write_numbered(sink, "bad line ", known.lines() + 1, Status::BadLine),
+        Ending::Bad => write_numbered(sink, "bad line ", known.lines() + 1, Status::BadLine),
+        Ending::Long => write_numbered(sink, "long line ", known.lines() + 1, Status::TooLong),
+        Ending::Fault => Status::ReadFault,
+        Ending::OutOfMemory => write_stopped(sink),
+    }
+}

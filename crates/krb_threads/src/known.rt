@@ -1,0 +1,115 @@
+//! What the lines of an input declare.
+
+use krb_text::{Event, FieldError, Item, Script, is_skipped, parse_item};
+use std::alloc::Global;
+use std::marker::Model;
+
+/// What the lines so far declare, and how many they are.
+#[derive(Drop)]
+pub struct Known {
+    pub script: Script,
+    pub events: Vec<Event>,
+    lines: u64,
+}
+
+impl Model for Known {
+    ghost use Rattle.krb_threads.specs.Known.{Known};
+
+    ghost Value = { Known };
+
+    ghost view = { λ k. record { so_far = record { setup = k.script; events = k.events.items }; lines = k.lines } };
+}
+
+impl Known {
+    ghost use Rattle.std.specs.Prelude.{◌≡◌, ◌<◌, ◌^◌, ◌+◌, is_some, option_and_then, OnOk, OnErr};
+    ghost use Rattle.krb_text.specs.Gives.{GivesAfter};
+    ghost use Rattle.krb_text.specs.Script.{set_up_before, declare, declare_line};
+    ghost use Rattle.krb_text.specs.Items.{item_of};
+    ghost use Rattle.krb_text.specs.declared.item.Item.TheVariants.{Event as EventItem};
+    ghost use Rattle.krb_threads.specs.Known.{nothing_known};
+
+    pub fn new(alloc: Global) -> Known
+        ensures { result ≡ nothing_known }
+    {
+        Known {
+            script: Script::new(alloc),
+            events: Vec::new(alloc),
+            lines: 0,
+        }
+    }
+
+    /// How many lines were taken.
+    pub fn lines(&self) -> u64
+        ensures { result ≡ self.now.lines }
+    {
+        self.lines
+    }
+
+    /// Whether there was a line with the skew.
+    pub fn has_begun(&self) -> bool
+        ensures { result ≡ is_some self.now.so_far.setup.skew }
+    {
+        self.script.has_begun()
+    }
+
+    /// One event more.
+    fn add(&mut self, event: Event) -> Result<(), FieldError>
+        ensures given { GivesAfter (declare self.old.so_far (EventItem event)) result self.new.so_far }
+        ensures err { OnErr result (self.new ≡ self.old) }
+        ensures lines { self.new.lines ≡ self.old.lines }
+    {
+        if !self.script.has_begun() {
+            return Err(FieldError::Bad);
+        }
+        self.events.push(event)?;
+        Ok(())
+    }
+
+    /// One item that is not an event.
+    fn set_up(&mut self, item: Item) -> Result<(), FieldError>
+        ensures given { GivesAfter (set_up_before self.old.so_far.events self.old.so_far.setup item) result self.new.so_far }
+        ensures err { OnErr result (self.new ≡ self.old) }
+        ensures lines { self.new.lines ≡ self.old.lines }
+    {
+        if !self.events.is_empty() {
+            return Err(FieldError::Bad);
+        }
+        self.script.set_up(item)
+    }
+
+    fn declare(&mut self, item: Item) -> Result<(), FieldError>
+        ensures given { GivesAfter (declare self.old.so_far item) result self.new.so_far }
+        ensures err { OnErr result (self.new ≡ self.old) }
+        ensures lines { self.new.lines ≡ self.old.lines }
+    {
+        match item {
+            Item::Event(event) => self.add(event),
+            Item::Skew(seconds) => self.set_up(Item::Skew(seconds)),
+            Item::Acceptor(acceptor) => self.set_up(Item::Acceptor(acceptor)),
+            Item::Key(key) => self.set_up(Item::Key(key)),
+        }
+    }
+
+    fn take_content(&mut self, alloc: Global, line: &[u8]) -> Result<(), FieldError>
+        ensures given { GivesAfter (option_and_then (λ item. declare self.old.so_far item) (item_of line.now)) result self.new.so_far }
+        ensures err { OnErr result (self.new ≡ self.old) }
+        ensures lines { self.new.lines ≡ self.old.lines }
+    {
+        let item = parse_item(alloc, line)?;
+        self.declare(item)
+    }
+
+    /// One line more. At `Err` nothing is taken.
+    pub fn take_line(&mut self, alloc: Global, line: &[u8]) -> Result<(), FieldError>
+        requires { self.old.lines < 2 ^ 32 }
+        ensures given { GivesAfter (declare_line self.old.so_far line.now) result self.new.so_far }
+        ensures err { OnErr result (self.new ≡ self.old) }
+        ensures lines { OnOk result (self.new.lines ≡ self.old.lines + 1) }
+    {
+        if !is_skipped(line) {
+            self.take_content(alloc, line)?;
+        }
+        self.lines += 1;
+        Ok(())
+    }
+}

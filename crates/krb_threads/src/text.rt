@@ -1,0 +1,116 @@
+//! The text that tells what the workers answered.
+
+ghost use Rattle.std.specs.Prelude.{◌≡◌, ◌≤◌, ◌++◌, ◌+◌, length, IfOk, OnOk, string_bytes};
+ghost use Rattle.krb_service.specs.Reply.{admissions};
+ghost use Rattle.krb_service.specs.Text.{end_line};
+ghost use Rattle.krb_threads.specs.Answers.{worker_line, worker_text, verdict_name, entry_line, entries_text};
+
+use crate::workers::Answers;
+use krb_der::OutOfMemory;
+use krb_replay::Verdict;
+use krb_service::{Reply, end_line};
+use krb_shared::Entry;
+use std::alloc::Global;
+
+fn verdict_name(verdict: Verdict) -> &'static str
+    ensures { result.now ≡ verdict_name verdict }
+{
+    match verdict {
+        Verdict::Admitted => "Admitted",
+        Verdict::Skew => "Skew",
+        Verdict::NotYet => "NotYet",
+        Verdict::Expired => "Expired",
+        Verdict::Replayed => "Replayed",
+    }
+}
+
+/// One reply more.
+fn put_reply(
+    alloc: Global,
+    text: &mut String,
+    worker: u32,
+    number: u64,
+    reply: &Reply,
+) -> Result<(), OutOfMemory>
+    ensures { OnOk result (string_bytes text.new ≡ string_bytes text.old ++ worker_line worker number reply.now) }
+{
+    let line = reply.line(alloc)?;
+    let whole = format!(in alloc; "w {worker} {number} {line}")?;
+    text.push_str(&whole)?;
+    Ok(())
+}
+
+/// A worker's replies, with the numbers of their events.
+fn put_replies(
+    alloc: Global,
+    text: &mut String,
+    worker: u32,
+    numbers: &[u64],
+    replies: &[Reply],
+) -> Result<(), OutOfMemory>
+    requires { length numbers.now ≡ length replies.now }
+    ensures { OnOk result (string_bytes text.new ≡ string_bytes text.old ++ worker_text worker numbers.now replies.now) }
+{
+    for index in 0..replies.len() {
+        put_reply(alloc, text, worker, numbers[index], &replies[index])?;
+    }
+    Ok(())
+}
+
+/// One entry of the journal more.
+fn put_entry(alloc: Global, text: &mut String, place: u64, entry: &Entry) -> Result<(), OutOfMemory>
+    ensures { OnOk result (string_bytes text.new ≡ string_bytes text.old ++ entry_line place entry.now) }
+{
+    let seat = entry.seat;
+    let call = entry.call;
+    let verdict = verdict_name(entry.verdict);
+    let whole = format!(in alloc; "j {place} {seat} {call} {verdict}\n")?;
+    text.push_str(&whole)?;
+    Ok(())
+}
+
+/// The journal.
+fn put_entries(alloc: Global, text: &mut String, entries: &[Entry]) -> Result<(), OutOfMemory>
+    ensures { OnOk result (string_bytes text.new ≡ string_bytes text.old ++ entries_text 1 entries.now) }
+{
+    for index in 0..entries.len() {
+        put_entry(alloc, text, index as u64 + 1, &entries[index])?;
+    }
+    Ok(())
+}
+
+/// How many of the replies admit their peer.
+fn admissions(replies: &[Reply]) -> u64
+    ensures count { result ≡ admissions replies.now }
+    ensures few { result ≤ length replies.now }
+{
+    let mut count = 0;
+    for index in 0..replies.len() {
+        if replies[index].is_done() {
+            count += 1;
+        }
+    }
+    count
+}
+
+/// The whole text.
+pub fn text_of(
+    alloc: Global,
+    low: &[u64],
+    high: &[u64],
+    answers: &Answers,
+) -> Result<String, OutOfMemory>
+    requires low { length low.now ≡ length answers.now.first.items }
+    requires high { length high.now ≡ length answers.now.second.items }
+    ensures { IfOk result (λ text. string_bytes text
+        ≡ worker_text 0 low.now answers.now.first.items ++ worker_text 1 high.now answers.now.second.items ++ entries_text 1 answers.now.journal.entries
+        ++ end_line (admissions answers.now.first.items + admissions answers.now.second.items) answers.now.journal.kept) }
+{
+    let mut text = String::new(alloc);
+    put_replies(alloc, &mut text, 0, low, &answers.first)?;
+    put_replies(alloc, &mut text, 1, high, &answers.second)?;
+    put_entries(alloc, &mut text, answers.journal.entries.as_slice())?;
+    let admitted = admissions(&answers.first) + admissions(&answers.second);
+    text.push_str(end_line(admitted, answers.journal.kept).as_str())?;
+    Ok(text)
+}
