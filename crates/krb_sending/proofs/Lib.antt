@@ -1,0 +1,5 @@
+mod Chains
+mod Sending
+mod Quiet
+mod Replying
+mod Carrying

@@ -1,0 +1,4 @@
+pub mod Spelling
+pub mod Kdcs
+pub mod Requests
+pub mod Replies
