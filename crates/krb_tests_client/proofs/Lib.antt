@@ -1,2 +1,1 @@
 mod Complete
-mod Messages
