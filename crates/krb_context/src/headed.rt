@@ -95,7 +95,8 @@ impl Headed<'_> {
         let params = self.params;
         let turn = sealed_turn(params.ec, rrc_of(self.header), self.body_len());
         let whole = self.text.turned_body(alloc, turn)?;
-        let kept = kept_to_open.take(params.suite(), self.key.as_slice(), seal_usage(self.peer));
+        let key = self.key.as_slice();
+        let kept = kept_to_open.take(alloc, params.suite(), key, seal_usage(self.peer))?;
         let found = open_sealed(
             &kept.sealing,
             self.message,

@@ -1,6 +1,6 @@
 //! What a context keeps of its keys, so that a message needs not derive them again. Contracts see nothing of it.
 
-ghost use Rattle.std.specs.Prelude.{◌≡◌, IsTrue, length, []};
+ghost use Rattle.std.specs.Prelude.{◌≡◌, IfOk, IsTrue, length, []};
 ghost use Rattle.krb_context.specs.Origins.{origin, checksum_key_of};
 ghost use Rattle.krb_crypto.specs.Keyed.{IsHmacOf};
 ghost use Rattle.krb_crypto.specs.Suite.{key_size, key_octets, kc};
@@ -12,6 +12,8 @@ use crate::parties::sign_usage;
 use krb_crypto::{
     CipherSuite, DerivedKey, HmacKey, HmacState, SealingKey, checksum_key, key_of, start_checksum,
 };
+use krb_der::OutOfMemory;
+use std::alloc::Global;
 use std::marker::Model;
 
 /// The keys of sealed messages, and what they were made from.
@@ -36,6 +38,18 @@ impl Kept {
             key: key_of(suite, key),
             sealing,
         }
+    }
+
+    fn boxed(
+        alloc: Global,
+        suite: CipherSuite,
+        key: &[u8],
+        usage: u32,
+    ) -> Result<Box<Kept>, OutOfMemory>
+        requires { length key.now ≡ key_size suite }
+        ensures { IfOk result (λ kept. kept.value.sealing ≡ sealing_pair suite key.now usage) }
+    {
+        Ok(Box::new(alloc, Kept::new(suite, key, usage))?)
     }
 
     fn is_of(&self, suite: CipherSuite, key: &[u8], usage: u32) -> bool
@@ -93,11 +107,12 @@ impl KeptCode {
     }
 }
 
-/// The keys of one side's messages that may be kept. Contracts see one value.
+/// The keys of one side's messages that may be kept. Contracts see one value. Key schedules are long: they stand on the heap,
+/// so a context that has sealed nothing is small.
 #[derive(Drop)]
 pub struct KeptKey {
-    kept: Option<Kept>,
-    signing: Option<KeptCode>,
+    kept: Option<Box<Kept>>,
+    signing: Option<Box<KeptCode>>,
 }
 
 impl Model for KeptKey {
@@ -118,36 +133,45 @@ impl KeptKey {
     }
 
     /// The keys of this suite, key and usage, from what was kept where it is of these.
-    pub(crate) fn take(&mut self, suite: CipherSuite, key: &[u8], usage: u32) -> Kept
+    pub(crate) fn take(
+        &mut self,
+        alloc: Global,
+        suite: CipherSuite,
+        key: &[u8],
+        usage: u32,
+    ) -> Result<Box<Kept>, OutOfMemory>
         requires { length key.now ≡ key_size suite }
-        ensures { result.sealing ≡ sealing_pair suite key.now usage }
+        ensures { IfOk result (λ kept. kept.value.sealing ≡ sealing_pair suite key.now usage) }
     {
         match self.kept.take() {
             Some(kept) => {
                 if kept.is_of(suite, key, usage) {
-                    kept
+                    Ok(kept)
                 } else {
-                    Kept::new(suite, key, usage)
+                    Kept::boxed(alloc, suite, key, usage)
                 }
             }
-            None => Kept::new(suite, key, usage),
+            None => Kept::boxed(alloc, suite, key, usage),
         }
     }
 
-    pub(crate) fn put(&mut self, kept: Kept) {
+    pub(crate) fn put(&mut self, kept: Box<Kept>) {
         self.kept = Some(kept);
     }
 
-    /// Keeps the key of the checksums of this suite, key and usage.
-    fn keep_code(&mut self, suite: CipherSuite, key: &[u8], usage: u32)
+    /// Keeps the key of the checksums of this suite, key and usage, where there is memory for it.
+    fn keep_code(&mut self, alloc: Global, suite: CipherSuite, key: &[u8], usage: u32)
         requires { length key.now ≡ key_size suite }
     {
         let known = match &self.signing {
             Some(kept) => kept.is_of(suite, key, usage),
             None => false,
         };
-        if !known {
-            self.signing = Some(KeptCode::new(suite, key, usage));
+        if known {
+            return;
+        }
+        if let Ok(code) = Box::new(alloc, KeptCode::new(suite, key, usage)) {
+            self.signing = Some(code);
         }
     }
 
@@ -171,6 +195,7 @@ impl KeptKey {
 
 /// Keeps the keys of both sides' MIC tokens, where there is a key of the suite's size.
 pub(crate) fn keep_codes(
+    alloc: Global,
     params: &EncryptionParams,
     acceptor: bool,
     own: &mut KeptKey,
@@ -180,8 +205,8 @@ pub(crate) fn keep_codes(
         let suite = params.suite();
         let key = key.as_slice();
         if key.len() == suite.key_size() {
-            own.keep_code(suite, key, sign_usage(acceptor));
-            others.keep_code(suite, key, sign_usage(!acceptor));
+            own.keep_code(alloc, suite, key, sign_usage(acceptor));
+            others.keep_code(alloc, suite, key, sign_usage(!acceptor));
         }
     }
 }

@@ -156,6 +156,7 @@ impl Kerberos {
         ensures stays { OnErr result (self.new ≡ self.old) }
     {
         keep_codes(
+            alloc,
             &self.encryption_params,
             self.server.is_some(),
             &mut self.kept_to_seal,

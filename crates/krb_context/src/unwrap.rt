@@ -161,6 +161,7 @@ impl Kerberos {
         self.window.note(message_number(message));
         put_opened(alloc, message, opened);
         keep_codes(
+            alloc,
             &self.encryption_params,
             self.server.is_some(),
             &mut self.kept_to_seal,

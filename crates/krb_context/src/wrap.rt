@@ -90,9 +90,12 @@ impl Kerberos {
         let key = ready_to_wrap(self.state, params, message)?;
         let number = self.seq_number.wrapping_add(1);
         let acceptor = self.server.is_some();
-        let kept = self
-            .kept_to_seal
-            .take(params.suite(), key.as_slice(), seal_usage(acceptor));
+        let kept = self.kept_to_seal.take(
+            alloc,
+            params.suite(),
+            key.as_slice(),
+            seal_usage(acceptor),
+        )?;
         let sealed = seal_message(
             alloc,
             &kept.sealing,
@@ -105,6 +108,7 @@ impl Kerberos {
         self.kept_to_seal.put(kept);
         sealed?;
         keep_codes(
+            alloc,
             &self.encryption_params,
             acceptor,
             &mut self.kept_to_seal,

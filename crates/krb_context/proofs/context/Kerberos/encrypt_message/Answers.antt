@@ -9,8 +9,8 @@ use Rattle.krb_context.proofs.ChainLemmas.{handed_on}
 use Rattle.krb_context.proofs.ReadyLemmas.{is_ready}
 use Rattle.krb_context.proofs.context.Kerberos.encrypt_message.Goals as goal
 
-pub take-kept-requires : goal.take-kept-requires
-take-kept-requires c =
+pub take-requires : goal.take-requires
+take-requires c =
     let r = is_ready _ _ _ _ c.in_ok-key.ensures in
     ap length c.as_slice.ensures ∙ r.key_length ∙ ap (λ (s : CipherSuite). key_size s) (sym c.suite.ensures)
 

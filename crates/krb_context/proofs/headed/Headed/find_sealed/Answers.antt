@@ -4,6 +4,7 @@ use Rattle.krb_crypto.specs.SealingPair.{SealingPair, sealing_pair}
 use Rattle.krb_crypto.specs.Suite.{key_size}
 use Rattle.sspi_core.specs.declared.cause.Cause.TheVariants.{Altered}
 use Rattle.sspi_core.proofs.Chain.{answers}
+use Rattle.krb_context.specs.declared.kept.Kept.{Kept}
 use Rattle.krb_context.specs.Header.{rrc_of}
 use Rattle.krb_context.specs.Parties.{keys_of}
 use Rattle.krb_context.specs.Spelled.{spelled}
@@ -21,8 +22,8 @@ sealed_turn-turn-requires c =
 pub turned_body-requires : goal.turned_body-requires
 turned_body-requires c = omega (arith, c.sealed_turn-turn.ensures.fits, c.body_len.ensures, c.args.self.now.checked.long)
 
-pub take-kept-requires : goal.take-kept-requires
-take-kept-requires c = ap length c.as_slice.ensures ∙ c.args.self.now.checked.key_length ∙ ap (λ (s : CipherSuite). key_size s) (sym c.suite.ensures)
+pub take-requires : goal.take-requires
+take-requires c = ap length c.as_slice-key.ensures ∙ c.args.self.now.checked.key_length ∙ ap (λ (s : CipherSuite). key_size s) (sym c.suite.ensures)
 
 pub open_sealed-found-requires : goal.open_sealed-found-requires
 open_sealed-found-requires c =
@@ -39,8 +40,8 @@ returns c =
     let turn : ℕ = c.sealed_turn-turn.result in
     let keys : SealingPair = keys_of params c.args.self.now.key.now peer in
     let text : c.args.self.now.text.now ≡ spelled buffers = c.args.self.now.of_message in
-    let same : c.take-kept.result.sealing ≡ keys =
-    c.take-kept.ensures ∙ ap (λ (k : List ℕ). sealing_pair c.suite.result k c.seal_usage.result) c.as_slice.ensures
+    let same : c.deref.result.now.sealing ≡ keys =
+    ap (λ (k : Kept). k.sealing) c.deref.ensures ∙ c.in_ok-kept.ensures ∙ ap (λ (k : List ℕ). sealing_pair c.suite.result k c.seal_usage.result) c.as_slice-key.ensures
     ∙ ap₂ (λ (s : CipherSuite) (u : ℕ). sealing_pair s c.args.self.now.key.now u) c.suite.ensures c.seal_usage.ensures in
     let len_is : c.body_len.result ≡ length (spelled buffers) - 16 = c.body_len.ensures ∙ ap (λ (s : List ℕ). length s - 16) text in
     let turned : IsTurned (spelled buffers) header whole turn =
@@ -53,11 +54,11 @@ returns c =
     let turn_is : turn ≡ sealed_turn params.ec (rrc_of header) (length (spelled buffers) - 16) =
     c.sealed_turn-turn.ensures.is ∙ ap₂ (λ (r n : ℕ). sealed_turn params.ec r n) c.rrc_of.ensures len_is in
     let found =
-    found_as (λ v. v) (IsSealedAs c.take-kept.result.sealing params.ec header buffers whole) (Spelt keys peer params.ec buffers) c.open_sealed-found.result
+    found_as (λ v. v) (IsSealedAs c.deref.result.now.sealing params.ec header buffers whole) (Spelt keys peer params.ec buffers) c.open_sealed-found.result
     (λ p s.
     to_spelt keys peer params.ec buffers header whole turn p turned turn_is c.args.self.now.checked.token c.requires.sealed c.args.self.now.checked.side
     (count_is params.ec header c.requires.sealed c.args.self.now.checked.count)
     (subst (λ (k : SealingPair). IsSealedAs k params.ec header buffers whole p) same s))
     (λ p s. subst (λ (k : SealingPair). IsSealedAs k params.ec header buffers whole p) (sym same) (from_spelt keys peer params.ec buffers header whole turn p turned turn_is s))
     c.open_sealed-found.ensures in
-    answers _ _ (finds_from Altered (Spelt keys peer params.ec buffers) c.open_sealed-found.result c.take.result found c.take.ensures)
+    answers _ _ (finds_from Altered (Spelt keys peer params.ec buffers) c.open_sealed-found.result c.take-2.result found c.take-2.ensures)
