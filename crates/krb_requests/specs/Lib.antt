@@ -1,0 +1,4 @@
+pub mod Pieces
+pub mod PaDatas
+pub mod Bodies
+pub mod Mechs
