@@ -7,7 +7,7 @@ ghost use Rattle.krb_crypto.specs.Password.{password_key};
 ghost use Rattle.krb_exchange.specs.Layouts.{pa_data_layout};
 ghost use Rattle.sspi_core.specs.declared.cause.Cause.TheVariants as causes;
 ghost use Rattle.sspi_core.specs.declared.draw.TheConstants.{MAX_MOMENT};
-ghost use Rattle.sspi_core.specs.Checks.{Answers, Holds};
+ghost use Rattle.sspi_core.specs.Checks.{Answers, Gives, Holds};
 ghost use Rattle.krb_context.specs.Params.{suite_of as context_suite};
 ghost use Rattle.krb_replies.specs.Told.{Tells};
 ghost use Rattle.krb_requests.specs.Pieces.{Fits};
@@ -138,7 +138,7 @@ fn pa_datas(
     moment: u64,
     confounder: [u8; 16],
 ) -> Result<Items<PaData>, OutOfMemory>
-    requires key { IsTrue (not with_pre_auth || length key.now == key_size suite) }
+    requires key { IsTrue with_pre_auth → length key.now ≡ key_size suite }
     requires moment { moment ≤ MAX_MOMENT }
     ensures made { IfOk result (λ made. made ≡ pa_datas with_pre_auth suite key.now moment confounder) }
     ensures within { IfOk result (λ made. Fits (items_layout pa_data_layout) (2 ^ 12) made) }
@@ -157,6 +157,23 @@ fn check_key(with_pre_auth: bool, suite: CipherSuite, key: &[u8]) -> Result<(), 
         !with_pre_auth || key.len() == suite.key_size(),
         Cause::KeyLength,
     )
+}
+
+fn sized_pa_datas(
+    alloc: Global,
+    with_pre_auth: bool,
+    suite: CipherSuite,
+    key: &[u8],
+    moment: u64,
+    confounder: [u8; 16],
+) -> Result<Items<PaData>, Cause>
+    requires key { length key.now ≡ key_size suite }
+    requires moment { moment ≤ MAX_MOMENT }
+    ensures made { Answers (Gives (pa_datas with_pre_auth suite key.now moment confounder)) result }
+    ensures within { IfOk result (λ made. Fits (items_layout pa_data_layout) (2 ^ 12) made) }
+{
+    let made = pa_datas(alloc, with_pre_auth, suite, key, moment, confounder)?;
+    Ok(made)
 }
 
 /// The pre-authentication under any key, as a chain of checks.
@@ -190,12 +207,12 @@ pub fn generate_pa_datas_for_as_req(
     requires { moment ≤ MAX_MOMENT }
     ensures made { let suite = context_suite options.now.enc_params.now in
         let key = password_key suite options.now.password.now options.now.salt.now in
-        Tells (MakesPaDatas options.now.with_pre_auth suite key moment confounder) result }
+        Tells (Gives (pa_datas options.now.with_pre_auth suite key moment confounder)) result }
     ensures within { IfOk result (λ made. Fits (items_layout pa_data_layout) (2 ^ 12) made) }
 {
     let suite = options.enc_params.suite();
     let key = generate_key_from_password(suite, options.password.as_bytes(), options.salt);
-    tell(keyed_pa_datas(
+    tell(sized_pa_datas(
         alloc,
         options.with_pre_auth,
         suite,

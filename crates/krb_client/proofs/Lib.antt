@@ -1,0 +1,4 @@
+pub mod Tasks
+pub mod Refusals
+pub mod Realms
+pub mod Fitting

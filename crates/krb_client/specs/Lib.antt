@@ -1,0 +1,5 @@
+pub mod Askers
+pub mod Replied
+pub mod Asked
+pub mod Turns
+pub mod AsExchanges
