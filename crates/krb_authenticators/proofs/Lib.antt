@@ -1,0 +1,4 @@
+pub mod Lengths
+pub mod ApLengths
+pub mod TgsLengths
+pub mod PrivLengths

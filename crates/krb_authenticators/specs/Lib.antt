@@ -1,0 +1,6 @@
+pub mod Checksums
+pub mod Bindings
+pub mod Authenticators
+pub mod ApRequests
+pub mod TgsRequests
+pub mod Passwords
