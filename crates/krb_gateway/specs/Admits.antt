@@ -1,5 +1,5 @@
 -- What the gateway admits, and which message it opens.
-use Rattle.std.specs.Prelude.{◌≡◌, ℕ, List, [], ◌∷◌, length, Option, Some, false, Result, Ok}
+use Rattle.std.specs.Prelude.{◌≡◌, ℕ, List, [], ◌∷◌, length, Option, Some, Bool, false, Result, Ok}
 use Rattle.krb_conf.specs.declared.config.KerberosConfig.{KerberosConfig}
 use Rattle.krb_context.specs.declared.context.Kerberos.{Kerberos}
 use Rattle.krb_context.specs.declared.server.ServerProperties.{ServerProperties}
@@ -24,7 +24,8 @@ pub record Admits (service : ServerProperties) (old : Book) (token : List ℕ) (
   pub waiting : Kerberos
   pub waits : Waits service waiting
   pub status : SecurityStatus
-  pub accepts : Accepts (Follows StandsFor) waiting false token draw old (Ok (Done status answer)) connection new
+  pub admits : Bool
+  pub accepts : Accepts (Follows StandsFor) waiting false token draw old (Ok (Done status answer admits)) connection new
 
 -- a message that came whole, and an empty buffer for its text
 abbrev pub whole_message : List ℕ → List Buffer

@@ -1,5 +1,5 @@
--- A token is a frame of one message, with one token id.
-use Rattle.std.proofs.Common.{◌≡◌, ℕ, List, [], ◌++◌, refl, sym, subst, ap, ◌∙◌, Result, Err}
+-- A token is a frame of one message, with one token id; and a bare token is of one kind.
+use Rattle.std.proofs.Common.{◌≡◌, ℕ, false, List, [], ◌++◌, refl, sym, subst, ap, ◌∙◌, Result, Err}
 use Rattle.std.specs.Result.{IsErrAnd}
 use Rattle.sspi_core.specs.declared.cause.Cause.{Cause}
 use Rattle.sspi_core.specs.declared.cause.Cause.TheVariants.{Shape, Memory}
@@ -10,10 +10,14 @@ use Rattle.krb_der.specs.Der.{tlv, StandsNext}
 use Rattle.krb_messages.specs.Frame.{IsFrame}
 use Rattle.krb_messages.specs.declared.ap_req.ApReq.{ApReq}
 use Rattle.krb_messages.specs.Layouts.{ap_req_layout}
+use Rattle.krb_messages.specs.Table.{ap_req}
+use Rattle.krb_exchange.specs.Layouts.{tgt_req_layout}
+use Rattle.krb_exchange.specs.Table.{tgt_req}
+use Rattle.krb_exchange.specs.declared.user_to_user.TgtReq.{TgtReq}
 use Rattle.krb_context.specs.declared.state.KerberosState.{KerberosState}
 use Rattle.krb_server.specs.declared.token.Incoming.{Incoming}
-use Rattle.krb_server.specs.declared.token.Incoming.TheVariants.{ApReq as ApReqToken, TgtReq}
-use Rattle.krb_server.specs.Opens.{IsRead}
+use Rattle.krb_server.specs.declared.token.Incoming.TheVariants.{ApReq as ApReqToken, TgtReq as TgtReqToken}
+use Rattle.krb_replies.specs.Unseals.{IsRead}
 use Rattle.krb_server.specs.Tokens.{ap_req_id, tgt_req_id, IsIncoming}
 use Rattle.krb_messages.proofs.FrameLemmas.{oid_opens, oid_is_shorter}
 
@@ -37,15 +41,20 @@ same_message o p i m n octets first second = append_cancel_left i m n (same_behi
 pub other_token_id : (o p m n octets : List ℕ) → IsFrame o ap_req_id m octets → IsFrame p tgt_req_id n octets → ⊥
 other_token_id o p m n octets first second = let e = same_behind o p ap_req_id tgt_req_id m n octets first second in absurd cc
 
+-- neither is a bare one
+pub other_tag : (token : List ℕ) (m : ApReq) (t : TgtReq) → IsRead ap_req_layout token m → IsRead tgt_req_layout token t → ⊥
+unfolding ap_req tgt_req tlv
+other_tag token m t h k = let e = sym h.is ∙ k.is in absurd cc
+
 -- a token that frames what is no AP-REQ is nothing to an acceptor
-pub nothing_comes : (state : KerberosState) (token oid octets : List ℕ) → IsFrame oid ap_req_id octets token → ((message : ApReq) → IsRead ap_req_layout octets message → ⊥) → (x : Incoming) → IsIncoming state token x → ⊥
+pub nothing_comes : (state : KerberosState) (token oid octets : List ℕ) → IsFrame oid ap_req_id octets token → ((message : ApReq) → IsRead ap_req_layout octets message → ⊥) → (x : Incoming) → IsIncoming false state token x → ⊥
 nothing_comes state token oid octets frame none (ApReqToken message) h =
     none message (subst (λ (o : List ℕ). IsRead ap_req_layout o message) (same_message _ _ _ _ _ token h.frame frame) h.read)
-nothing_comes state token oid octets frame none TgtReq h = other_token_id oid _ octets _ token frame h.1.frame
+nothing_comes state token oid octets frame none TgtReqToken h = other_token_id oid _ octets _ token frame h.1.frame
 
-pub refuses_incoming : (state : KerberosState) (token oid octets : List ℕ) (e : Cause) (answer : Result Incoming Cause) → IsFrame oid ap_req_id octets token → Answers (Finds Shape (IsRead ap_req_layout octets)) (Err e) → IsErrAnd answer (λ d. d ≡ e) → Answers (Finds Shape (IsIncoming state token)) answer
+pub refuses_incoming : (state : KerberosState) (token oid octets : List ℕ) (e : Cause) (answer : Result Incoming Cause) → IsFrame oid ap_req_id octets token → Answers (Finds Shape (IsRead ap_req_layout octets)) (Err e) → IsErrAnd answer (λ d. d ≡ e) → Answers (Finds Shape (IsIncoming false state token)) answer
 refuses_incoming state token oid octets e answer frame h is = record {
   so = λ ne.
       let f = h.so (λ z. ne (is_err answer e is ∙ ap Err (same_err {A = ApReq} e Memory z))) in
-      subst (λ (a : Result Incoming Cause). Finds Shape (IsIncoming state token) a) (sym (is_err answer e is)) (record { is = (f.is.0, nothing_comes state token oid octets frame f.is.1) });
+      subst (λ (a : Result Incoming Cause). Finds Shape (IsIncoming false state token) a) (sym (is_err answer e is)) (record { is = (f.is.0, nothing_comes state token oid octets frame f.is.1) });
 }

@@ -2,7 +2,7 @@
 use Rattle.std.proofs.Common.{◌≡◌, ℕ, Bool, true, false, List, Option, Some, None, Result, Ok, Err, refl, sym, ap, ◌∙◌, subst}
 use Rattle.std.specs.Result.{IsErrAnd}
 use Rattle.sspi_core.specs.declared.cause.Cause.{Cause}
-use Rattle.sspi_core.specs.declared.cause.Cause.TheVariants.{ClientName, ApOptions, SubKey, Memory}
+use Rattle.sspi_core.specs.declared.cause.Cause.TheVariants.{ClientName, ApOptions, SubKey, Memory, Sequence}
 use Rattle.sspi_core.specs.declared.draw.Draw.{Draw}
 use Rattle.sspi_core.specs.Checks.{Takes, Holds, Passes, Gives, Goes, Then, Answers, ◌>>◌}
 use Rattle.sspi_core.proofs.Chain.{halts, follows, is_err, same_err}
@@ -15,16 +15,67 @@ use Rattle.krb_server.specs.declared.admission.Admission.{Admission}
 use Rattle.krb_server.specs.declared.admission.Accepted.{Accepted}
 use Rattle.krb_server.specs.Requests.{ask_of}
 use Rattle.krb_server.specs.Complete.{Completes}
-use Rattle.krb_server.specs.Accepts.{Begins, Finishes, Judged, Accepts, Makes, refusal}
+use Rattle.krb_server.specs.Accepts.{Begins, Finishes, Judged, Accepts, Makes, Ends, awaits_last_word, refusal}
+use Rattle.krb_server.specs.ThirdLeg.{Concludes}
+use Rattle.krb_context.specs.States.{is_waiting}
+use Rattle.krb_context.specs.declared.state.KerberosState.{KerberosState}
+use Rattle.krb_context.specs.declared.state.KerberosState.TheVariants.{TgtExchange, Preauthentication, ApExchange, Final}
 use Rattle.krb_server.proofs.Once.{one_outcome_lem}
 
 pub answered : {A : Type 0} (checks : Result A Cause → Type 0) (x : A) → Answers checks (Ok x) → checks (Ok x)
 answered checks x h = h.so (λ z. absurd cc)
 
+-- what passes every check passes the first
+goes_on : {A B : Type 0} (first : Result A Cause → Type 0) (next : A → Result B Cause → Type 0) (b : B) → Then first next (Ok b) → (a : A) × first (Ok a)
+goes_on {A} {B} first next b h = go h.middle h.held h.rest
+  where
+    go : (m : Result A Cause) → first m → Goes next m (Ok b) → (a : A) × first (Ok a)
+    go (Ok a) p q = (a, p)
+    go (Err e) p q = absurd cc
+
+-- where the last word is awaited, no AP-REQ may come
+not_waiting : (dce : Bool) (state : KerberosState) → awaits_last_word dce state ≡ true → is_waiting state ≡ false
+not_waiting dce TgtExchange h = absurd cc
+not_waiting dce Preauthentication h = absurd cc
+not_waiting dce ApExchange h = refl
+not_waiting dce Final h = absurd cc
+
+waits_at : (dce : Bool) (state : KerberosState) (request : Request) (m : Result (Unit {0}) Cause) (next : Unit {0} → Result Request Cause → Type 0) → Holds Sequence (is_waiting state) m → Goes next m (Ok request)
+    → awaits_last_word dce state ≡ false
+waits_at dce TgtExchange request m next p q = refl
+waits_at dce Preauthentication request m next p q = refl
+waits_at dce ApExchange request (Ok u) next p q = let e = p.is in absurd cc
+waits_at dce ApExchange request (Err e) next p q = absurd cc
+waits_at dce Final request m next p q = refl
+
+-- a request that passed the checks before the gate came where no last word is awaited
+pub waits : (server : Kerberos) (dce : Bool) (token : List ℕ) (request : Request) → Begins server dce token (Ok request) → awaits_last_word dce server.state ≡ false
+unfolding Begins
+waits server dce token request h = waits_at dce server.state request h.middle _ h.held h.rest
+
 module _ {G : Type 0} (admits : G → Ask → Verdict → G → Type 0) (server : Kerberos) (dce : Bool) (token : List ℕ) (draw : Draw) (old : G) where
-  pub refused_before : (e : Cause) (answer : Result Accepted Cause) → Answers (Begins server dce token) (Err e) → IsErrAnd answer (λ d. d ≡ e) → (answer ≡ Err Memory → ⊥) → Accepts admits server dce token draw old answer server old
+  -- what is made of an AP-REQ
+  ends : (outcome : Result Admission Cause) (answer : Result Accepted Cause) (server' : Kerberos) → awaits_last_word dce server.state ≡ false → Makes server outcome answer server'
+      → Ends (awaits_last_word dce server.state) server token outcome answer server'
+  ends outcome answer server' last made = subst (λ (b : Bool). Ends b server token outcome answer server') (sym last) made
+
+  -- the last word, at which no gate is asked
+  pub last_word : (answer : Result Accepted Cause) (server' : Kerberos) → awaits_last_word dce server.state ≡ true → Concludes server token answer server' → Accepts admits server dce token draw old answer server' old
+  unfolding Judged Begins
+  last_word answer server' last concludes =
+      let begun : Begins server dce token (Err Sequence) = halts _ _ Sequence _ (record { is = rw (not_waiting dce server.state last) refl }) refl in record {
+        verdict = Admitted;
+        request = Err Sequence;
+        begun = begun;
+        gate = refl;
+        outcome = Err Sequence;
+        judged = halts _ _ Sequence _ begun refl;
+        made = subst (λ (b : Bool). Ends b server token (Err Sequence) answer server') (sym last) concludes;
+      }
+
+  pub refused_before : (e : Cause) (answer : Result Accepted Cause) → awaits_last_word dce server.state ≡ false → Answers (Begins server dce token) (Err e) → IsErrAnd answer (λ d. d ≡ e) → (answer ≡ Err Memory → ⊥) → Accepts admits server dce token draw old answer server old
   unfolding Judged
-  refused_before e answer h is ne =
+  refused_before e answer last h is ne =
       let begun : Begins server dce token (Err e) = h.so (λ z. ne (is_err answer e is ∙ ap Err (same_err {A = Request} e Memory z))) in record {
         verdict = Admitted;
         request = Err e;
@@ -32,15 +83,15 @@ module _ {G : Type 0} (admits : G → Ask → Verdict → G → Type 0) (server 
         gate = refl;
         outcome = Err e;
         judged = halts _ _ e _ begun refl;
-        made = (is_err answer e is, refl);
+        made = ends (Err e) answer server last (is_err answer e is, refl);
       }
 
   -- a request that came to the gate: what is judged behind the gate's verdict, and what is made of it
   pub answered_at_gate : (request : Request) (ask : Ask) (verdict : Verdict) (new : G) (outcome : Result Admission Cause) (answer : Result Accepted Cause) (server' : Kerberos)
-      → Answers (Begins server dce token) (Ok request) → ask ≡ ask_of request draw.moment → admits old ask verdict new
-      → (Passes (refusal verdict) >> Finishes server draw request) outcome → Makes server outcome answer server' → Accepts admits server dce token draw old answer server' new
+      → awaits_last_word dce server.state ≡ false → Answers (Begins server dce token) (Ok request) → ask ≡ ask_of request draw.moment → admits old ask verdict new
+      → (Passes (refusal verdict) >> Finishes server dce draw request) outcome → Makes server outcome answer server' → Accepts admits server dce token draw old answer server' new
   unfolding Judged
-  answered_at_gate request ask verdict new outcome answer server' h asked step judged made =
+  answered_at_gate request ask verdict new outcome answer server' last h asked step judged made =
       let begun = answered _ _ h in record {
         verdict = verdict;
         request = Ok request;
@@ -48,15 +99,19 @@ module _ {G : Type 0} (admits : G → Ask → Verdict → G → Type 0) (server 
         gate = subst (λ (q : Ask). admits old q verdict new) asked step;
         outcome = outcome;
         judged = follows _ _ request _ begun judged;
-        made = made;
+        made = ends outcome answer server' last made;
       }
 
   -- an AP-REQ that passes every check is accepted
   pub completed : (new : G) (answer : Result Accepted Cause) (server' : Kerberos) (admission : Admission) (step : Accepts admits server dce token draw old answer server' new) → step.verdict ≡ Admitted → Judged server dce token draw Admitted (Ok admission)
       → Makes server (Ok admission) answer server'
+  unfolding Judged
   completed new answer server' admission step admits_it passes =
+      let begun = goes_on _ _ admission passes in
+      let last = waits server dce token begun.0 begun.1 in
+      let made = subst (λ (b : Bool). Ends b server token step.outcome answer server') last step.made in
       let e = one_outcome_lem server dce token draw Admitted step.outcome (Ok admission) (subst (λ (v : Verdict). Judged server dce token draw v step.outcome) admits_it step.judged) passes in
-      subst (λ (r : Result Admission Cause). Makes server r answer server') e step.made
+      subst (λ (r : Result Admission Cause). Makes server r answer server') e made
 
 -- ---- no check behind the gate is refused for want of memory
 
@@ -81,8 +136,8 @@ hold_refuses cause true ne e h z = let i = h.is in absurd cc
 gives_refuses : {A : Type 0} (value : A) → Refuses (λ r. Gives value r)
 gives_refuses value = record { not = λ e h z. let i = h.is in absurd cc }
 
-pub finishes_refuses : (server : Kerberos) (draw : Draw) (request : Request) (e : Cause) → Finishes server draw request (Err e) → e ≡ Memory → ⊥
+pub finishes_refuses : (server : Kerberos) (dce : Bool) (draw : Draw) (request : Request) (e : Cause) → Finishes server dce draw request (Err e) → e ≡ Memory → ⊥
 unfolding Finishes Completes
-finishes_refuses server draw request =
+finishes_refuses server dce draw request =
     (then_refuses _ _ (then_refuses _ _ (record { not = take_refuses ClientName _ (λ z. cc) }) (λ client. then_refuses _ _ (record { not = hold_refuses ApOptions _ (λ z. cc) })
     (λ _. then_refuses _ _ (record { not = hold_refuses SubKey _ (λ z. cc) }) (λ _. gives_refuses _)))) (λ client. gives_refuses _)).not

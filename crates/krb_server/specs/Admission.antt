@@ -1,5 +1,5 @@
 -- What an admission makes (RFC 4120, sections 3.2.4 and 3.2.5).
-use Rattle.std.specs.Prelude.{◌≡◌, ℕ, ◌+◌, ◌-◌, ◌%◌, ◌^◌, ◌<◌, ◌≤◌, ℤ, length, Bool, List, [], ◌∷◌, ◌++◌, take, drop, Option, Some, None, option_map, unwrap_or, if◌then◌else◌}
+use Rattle.std.specs.Prelude.{◌≡◌, ℕ, ◌+◌, ◌-◌, ◌%◌, ◌^◌, ◌<◌, ◌≤◌, ℤ, length, Bool, true, List, [], ◌∷◌, ◌++◌, take, drop, Option, Some, None, option_map, unwrap_or, if◌then◌else◌}
 use Rattle.std.specs.Int.{w32, to_be_bytes}
 use Rattle.krb_der.specs.Der.{tlv}
 use Rattle.krb_der.specs.Reading.{number_of}
@@ -15,15 +15,17 @@ use Rattle.krb_messages.specs.Layouts.{ap_rep_layout, enc_ap_rep_part_layout}
 use Rattle.krb_messages.specs.Table.{enc_ap_rep_part}
 use Rattle.krb_context.specs.declared.context.Kerberos.{Kerberos}
 use Rattle.krb_context.specs.declared.server.ServerProperties.{ServerProperties}
-use Rattle.krb_context.specs.declared.state.KerberosState.TheVariants.{Final}
+use Rattle.krb_context.specs.declared.state.KerberosState.{KerberosState}
+use Rattle.krb_context.specs.declared.state.KerberosState.TheVariants.{TgtExchange, Preauthentication, ApExchange, Final}
 use Rattle.sspi_core.specs.Usernames.{UserName}
 use Rattle.sspi_core.specs.declared.draw.Draw.{Draw}
-use Rattle.sspi_core.specs.declared.results.SecurityStatus.TheVariants.{Ok as Complete}
+use Rattle.sspi_core.specs.declared.results.SecurityStatus.{SecurityStatus}
+use Rattle.sspi_core.specs.declared.results.SecurityStatus.TheVariants.{Ok as Complete, ContinueNeeded}
 use Rattle.krb_server.specs.declared.request.Request.{Request}
 use Rattle.krb_server.specs.declared.admission.Admission.{Admission}
 use Rattle.krb_server.specs.declared.admission.Accepted.{Accepted}
 use Rattle.krb_server.specs.declared.admission.Accepted.TheVariants.{Done}
-use Rattle.krb_server.specs.Opens.{suite_of}
+use Rattle.krb_replies.specs.Unseals.{suite_of}
 use Rattle.krb_server.specs.Complete.{is_mutual}
 
 -- the spelling of a record
@@ -82,21 +84,29 @@ abbrev pub reply_part : ℕ → Draw → Request → EncApRepPart
 reply_part number draw request =
     ap_rep_part request.suite request.authenticator.ctime request.authenticator.cusec (number_after number) (Some (drawn_key request.suite draw))
 
--- the AP-REP to a request, framed
-unfoldable pub reply_token : Bool → ℕ → Draw → Request → List ℕ
-reply_token user_to_user number draw request =
-    framed (mechanism user_to_user) ap_rep_id
-    (spelling ap_rep_layout (ap_rep request.suite request.part.key.key_value (drawn_confounder request.suite draw) (reply_part number draw request)))
+-- the AP-REP to a request
+unfoldable pub reply_message : ℕ → Draw → Request → List ℕ
+reply_message number draw request =
+    spelling ap_rep_layout (ap_rep request.suite request.part.key.key_value (drawn_confounder request.suite draw) (reply_part number draw request))
+
+-- an AP-REP as a token: bare in DCE style (MS-KILE, section 3.4.5.1), else framed
+abbrev pub token_with : Bool → Bool → List ℕ → List ℕ
+token_with dce user_to_user message = if dce then message else framed (mechanism user_to_user) ap_rep_id message
+
+-- behind an AP-REP the initiator has the last word in DCE style, and else the context is established
+abbrev pub state_behind : Bool → KerberosState
+state_behind dce = if dce then ApExchange else Final
 
 -- mutual-required: the drawn key is the sub-session key, the own number stays, and the AP-REP is the answer
-unfoldable pub mutual_admission : Bool → ℕ → Draw → Request → UserName → Admission
-mutual_admission user_to_user number draw request client = record {
+unfoldable pub mutual_admission : Bool → Bool → ℕ → Draw → Request → UserName → Admission
+mutual_admission dce user_to_user number draw request client = record {
   client = client;
   suite = request.suite;
   session_key = request.part.key.key_value;
   sub_session_key = Some (drawn_key request.suite draw);
   seq_number = number;
-  token = reply_token user_to_user number draw request;
+  state = state_behind dce;
+  token = token_with dce user_to_user (reply_message number draw request);
 }
 
 -- the suite of a subkey that is there
@@ -117,17 +127,25 @@ one_way_admission number request client = record {
   session_key = request.part.key.key_value;
   sub_session_key = option_map (λ (key : EncryptionKey). key.key_value) request.authenticator.subkey;
   seq_number = number_before number request.authenticator.seq_number;
+  state = Final;
   token = [];
 }
 
 -- what admitting the client makes
-abbrev pub admission_of : Bool → ℕ → Draw → Request → UserName → Admission
-admission_of user_to_user number draw request client =
-    if is_mutual request.message.ap_options then mutual_admission user_to_user number draw request client else one_way_admission number request client
+abbrev pub admission_of : Bool → Bool → ℕ → Draw → Request → UserName → Admission
+admission_of dce user_to_user number draw request client =
+    if is_mutual request.message.ap_options then mutual_admission dce user_to_user number draw request client else one_way_admission number request client
 
--- the context is established
+-- a context that is not established waits for the peer
+abbrev pub status_in : KerberosState → SecurityStatus
+status_in TgtExchange = ContinueNeeded
+status_in Preauthentication = ContinueNeeded
+status_in ApExchange = ContinueNeeded
+status_in Final = Complete
+
+-- a client is admitted
 abbrev pub accepted_of : Admission → Accepted
-accepted_of admission = Done Complete admission.token
+accepted_of admission = Done (status_in admission.state) admission.token true
 
 abbrev pub with_client : Option ServerProperties → UserName → Option ServerProperties
 with_client None client = None
@@ -141,7 +159,7 @@ or_else (Some x) other = Some x
 -- an acceptor that has admitted a client: all else of it stays
 unfoldable pub settled : Kerberos → Admission → Kerberos
 settled server admission = record server {
-  state = Final;
+  state = admission.state;
   encryption_params = record server.encryption_params {
     encryption_type = Some admission.suite;
     session_key = Some admission.session_key;

@@ -5,7 +5,7 @@ use Rattle.krb_crypto.specs.Suite.{key_size}
 use Rattle.krb_crypto.specs.declared.suite.CipherSuite.{CipherSuite}
 use Rattle.krb_messages.specs.declared.encryption.EncryptionKey.{EncryptionKey}
 use Rattle.krb_server.specs.declared.request.Request.{Request}
-use Rattle.krb_server.specs.Opens.{suite_of}
+use Rattle.krb_replies.specs.Unseals.{suite_of}
 use Rattle.krb_server.specs.Clients.{client_of}
 use Rattle.sspi_core.specs.Usernames.{UserName}
 use Rattle.sspi_core.specs.declared.cause.Cause.{Cause}

@@ -4,4 +4,5 @@ pub mod Requests
 pub mod Clients
 pub mod Complete
 pub mod Admission
+pub mod ThirdLeg
 pub mod Accepts

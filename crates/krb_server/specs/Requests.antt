@@ -11,7 +11,7 @@ use Rattle.krb_context.specs.declared.server.ServerProperties.{ServerProperties}
 use Rattle.krb_context.specs.declared.state.KerberosState.{KerberosState}
 use Rattle.krb_context.specs.ServiceKeys.{service_key}
 use Rattle.krb_server.specs.declared.request.Request.{Request}
-use Rattle.krb_server.specs.Opens.{Opens}
+use Rattle.krb_server.specs.Opens.{OpensData}
 use Rattle.krb_server.specs.Tokens.{Receives}
 use Rattle.sspi_core.specs.declared.cause.Cause.{Cause}
 use Rattle.sspi_core.specs.declared.cause.Cause.TheVariants.{NoServiceKey, Names}
@@ -29,20 +29,20 @@ is_same_client part authenticator =
 unfoldable pub OpensTicket : ServerProperties → ApReq → Result EncTicketPart Cause → Type 0
 OpensTicket server message = do
   key ← Takes NoServiceKey (service_key server message.ticket.sname.name_string)
-  ticket ← Opens enc_ticket_part_layout key 2 message.ticket.enc_part
+  ticket ← OpensData enc_ticket_part_layout key 2 message.ticket.enc_part
   Gives ticket.1
 
 -- the authenticator, under the key inside the ticket, with usage 11 (RFC 4120, section 7.5.1), of the same client
 unfoldable pub OpensAuthenticator : ApReq → EncTicketPart → Result (CipherSuite × Authenticator) Cause → Type 0
 OpensAuthenticator message part = do
-  sealed ← Opens authenticator_layout part.key.key_value 11 message.authenticator
+  sealed ← OpensData authenticator_layout part.key.key_value 11 message.authenticator
   Holds Names (is_same_client part sealed.1)
   Gives sealed
 
 -- the AP-REQ in a token, with what is sealed in it
-unfoldable pub Requests : ServerProperties → KerberosState → List ℕ → Result Request Cause → Type 0
-Requests server state token = do
-  message ← Receives state token
+unfoldable pub Requests : ServerProperties → Bool → KerberosState → List ℕ → Result Request Cause → Type 0
+Requests server dce state token = do
+  message ← Receives dce state token
   part ← OpensTicket server message
   sealed ← OpensAuthenticator message part
   Gives (record { message = message; part = part; suite = sealed.0; authenticator = sealed.1 })

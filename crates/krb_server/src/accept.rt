@@ -1,66 +1,52 @@
 //! The acceptor's step.
 
-ghost use Rattle.std.specs.Prelude.{◌≡◌, not, IfOk, Err, Result};
-ghost use Rattle.std.specs.Result.{result_map_both};
+ghost use Rattle.std.specs.Prelude.{◌≡◌, false, IfOk, Err, Result};
 ghost use Rattle.sspi_core.specs.declared.cause.Cause.{Cause};
 ghost use Rattle.sspi_core.specs.declared.cause.Cause.TheVariants as causes;
 ghost use Rattle.sspi_core.specs.declared.error.Place.TheVariants as places;
 ghost use Rattle.sspi_core.specs.Kinds.{error_of};
-ghost use Rattle.sspi_core.specs.Checks.{Answers, Holds, Takes, Passes, told};
+ghost use Rattle.sspi_core.specs.Checks.{Answers, Holds, Passes, told};
 ghost use Rattle.krb_server.specs.declared.admission.Accepted.{Accepted};
 ghost use Rattle.krb_server.specs.Admission.{IsAnswerable};
-ghost use Rattle.krb_server.specs.Accepts.{takes_token, asks_dce_style, refusal, Begins, Finishes, Accepts};
+ghost use Rattle.krb_context.specs.States.{is_waiting};
+ghost use Rattle.krb_server.specs.Accepts.{awaits_last_word, asks_dce_style, refusal, Begins, Finishes, Accepts};
 
 use crate::admission::{Accepted, Acceptor, Admission, admission_of, settle};
 use crate::complete::complete;
 use crate::request::{Request, ask_of, read_request};
+use crate::third_leg::{conclude, properties};
 use bitflags::Flags;
 use krb_conf::Env;
-use krb_context::{Kerberos, KerberosState, ServerProperties};
+use krb_context::{Kerberos, KerberosState};
 use krb_der::OutOfMemory;
 use krb_replay::{ReplayGate, Verdict};
 use sspi_core::{Cause, Draw, Error, ServerRequestFlags, hold, pass};
 use std::alloc::Global;
 
-fn takes_token(dce: bool, state: KerberosState) -> bool
-    ensures { result ≡ takes_token dce state }
+fn awaits_last_word(dce: bool, state: KerberosState) -> bool
+    ensures { result ≡ awaits_last_word dce state }
 {
     match state {
-        KerberosState::TgtExchange | KerberosState::Preauthentication => true,
         KerberosState::ApExchange => dce,
-        KerberosState::Final => false,
+        KerberosState::TgtExchange | KerberosState::Preauthentication | KerberosState::Final => {
+            false
+        }
     }
 }
 
-fn check_state(dce: bool, server: &Kerberos) -> Result<(), Cause>
-    ensures { Holds causes.Sequence (takes_token dce server.now.state) result }
+fn check_state(server: &Kerberos) -> Result<(), Cause>
+    ensures { Holds causes.Sequence (is_waiting server.now.state) result }
 {
-    hold(takes_token(dce, server.state), Cause::Sequence)
-}
-
-fn check_built(dce: bool) -> Result<(), Cause>
-    ensures { Holds causes.NotBuilt (not dce) result }
-{
-    hold(!dce, Cause::NotBuilt)
-}
-
-fn properties(server: &Kerberos) -> Result<&ServerProperties, Cause>
-    ensures { Takes causes.Sequence server.now.server (result_map_both (λ p. p.now) (λ e. e) result) }
-{
-    match &server.server {
-        Some(properties) => Ok(properties),
-        None => Err(Cause::Sequence),
-    }
+    hold(server.state.is_waiting(), Cause::Sequence)
 }
 
 /// The checks before the gate.
 fn begin(alloc: Global, server: &Kerberos, dce: bool, token: &[u8]) -> Result<Request, Cause>
     ensures { Answers (Begins server.now dce token.now) result }
 {
-    check_state(dce, server)?;
-    check_built(dce)?;
+    check_state(server)?;
     let properties = properties(server)?;
-    read_request(alloc, properties, server.state, token)
+    read_request(alloc, properties, dce, server.state, token)
 }
 
 /// What the gate's verdict refuses.
@@ -80,14 +66,16 @@ fn refusal(verdict: Verdict) -> Option<Cause>
 fn finish(
     alloc: Global,
     server: &Kerberos,
+    dce: bool,
     draw: &Draw,
     request: &Request,
 ) -> Result<Result<Admission, Cause>, OutOfMemory>
     requires { IsAnswerable request.now }
-    ensures { IfOk result (Finishes server.now draw.now request.now) }
+    ensures { IfOk result (Finishes server.now dce draw.now request.now) }
 {
     let completed = complete(alloc, request)?;
     let acceptor = Acceptor {
+        dce,
         user_to_user: server.krb5_user_to_user,
         number: server.seq_number,
         draw,
@@ -98,7 +86,28 @@ fn finish(
     }
 }
 
-/// Judges a token. All that needs memory is made before the gate is asked.
+/// Judges an AP-REQ. All that needs memory is made before the gate is asked.
+fn admit<G: ReplayGate>(
+    alloc: Global,
+    server: &mut Kerberos,
+    gate: &mut G,
+    dce: bool,
+    token: &[u8],
+    draw: &Draw,
+) -> Result<Accepted, Cause>
+    requires { awaits_last_word dce server.old.state ≡ false }
+    ensures step { (result ≡ Err causes.Memory → ⊥) → Accepts G.admits server.old dce token.now draw.now gate.old result server.new gate.new }
+    ensures memory { result ≡ Err causes.Memory → (server.new ≡ server.old) × G.is_same gate.old gate.new }
+{
+    let request = begin(alloc, server, dce, token)?;
+    let outcome = finish(alloc, server, dce, draw, &request)?;
+    let verdict = gate.admit(ask_of(request, draw.moment))?;
+    pass(refusal(verdict))?;
+    let admission = outcome?;
+    Ok(settle(server, admission))
+}
+
+/// Judges a token: the initiator's last word where it is awaited, and else an AP-REQ.
 fn accept<G: ReplayGate>(
     alloc: Global,
     server: &mut Kerberos,
@@ -110,23 +119,27 @@ fn accept<G: ReplayGate>(
     ensures step { (result ≡ Err causes.Memory → ⊥) → Accepts G.admits server.old dce token.now draw.now gate.old result server.new gate.new }
     ensures memory { result ≡ Err causes.Memory → (server.new ≡ server.old) × G.is_same gate.old gate.new }
 {
-    let request = begin(alloc, server, dce, token)?;
-    let outcome = finish(alloc, server, draw, &request)?;
-    let verdict = gate.admit(ask_of(request, draw.moment))?;
-    pass(refusal(verdict))?;
-    let admission = outcome?;
-    Ok(settle(server, admission))
+    if awaits_last_word(dce, server.state) {
+        conclude(alloc, server, token)
+    } else {
+        admit(alloc, server, gate, dce, token, draw)
+    }
 }
 
-/// Admits the client whose AP-REQ the token frames, or refuses it by the first check that it fails.
+/// Admits the client whose AP-REQ the token is, or refuses it by the first check that it fails.
+///
+/// With `USE_DCE_STYLE` tokens are bare, and else framed. An AP-REP in DCE style is not the end: the context then awaits the
+/// initiator's last word, an AP-REP with the same number, at which the gate is not asked; its messages have 16 octets of
+/// filler from there on (MS-KILE, section 3.4.5.1).
 ///
 /// The moment of `draw` is the gate's question, in microseconds since 1970-01-01T00:00:00Z. Where the client asks for an
 /// AP-REP, the first random octets of `draw` become the sub-session key, as many as the suite's key has, and the 16 behind
 /// them the AP-REP's confounder.
 ///
-/// The refusals, in their order: OutOfSequence Sequence where the context waits for no token; UnsupportedFunction NotBuilt
-/// with DCE style; then those of the checks of RFC 4120, section 3.2.3, as `specs/Requests` has them, the gate's, and those
-/// of `specs/Complete`. The environment is not read yet: it is for user-to-user.
+/// The refusals of an AP-REQ, in their order: OutOfSequence Sequence where the context waits for no token; those of the checks
+/// of RFC 4120, section 3.2.3, as `specs/Requests` has them, the gate's, and those of `specs/Complete`. A TGT-REQ is refused as
+/// UnsupportedFunction NotBuilt, and the environment is not read yet: it is for user-to-user. The refusals of the last word are
+/// those of `specs/ThirdLeg`: InvalidToken Shape, DecryptFailure Reply, InvalidToken Inner, NoNumber, Number.
 pub fn accept_security_context<G: ReplayGate>(
     alloc: Global,
     server: &mut Kerberos,

@@ -1,30 +1,32 @@
 //! What an admission makes.
 
-ghost use Rattle.std.specs.Prelude.{◌≡◌, ◌+◌, ◌<◌, ◌≤◌, ◌^◌, ◌%◌, option_map, IfOk};
+ghost use Rattle.std.specs.Prelude.{◌≡◌, ◌+◌, ◌<◌, ◌≤◌, ◌^◌, ◌%◌, option_map, length, IfOk};
 ghost use Rattle.krb_der.specs.Reading.{number_of};
 ghost use Rattle.krb_messages.specs.Oid.{contents_of};
-ghost use Rattle.krb_server.specs.Admission.{drawn_key, drawn_confounder, mechanism, reply_part, reply_token, mutual_admission, subkey_suite, number_before, one_way_admission, admission_of, accepted_of, with_client, settled, IsAnswerable};
+ghost use Rattle.krb_server.specs.Admission.{framed, ap_rep_id, drawn_key, drawn_confounder, mechanism, reply_part, reply_message, token_with, state_behind, status_in, mutual_admission, subkey_suite, number_before, one_way_admission, admission_of, accepted_of, with_client, settled, IsAnswerable};
 
 use crate::ap_rep::{ap_rep_part, seal_ap_rep};
 use crate::complete::is_mutual;
-use crate::open::suite_of;
 use crate::request::Request;
 use krb_context::{Kerberos, KerberosState, ServerProperties};
 use krb_crypto::CipherSuite;
 use krb_der::{Asn1, IntegerAsn1, Octets, OutOfMemory, TryCopy};
 use krb_messages::constants::AP_REP_TOKEN_ID;
 use krb_messages::{EncApRepPart, EncryptionKey, Oid, write_framed};
+use krb_replies::suite_of;
 use sspi_core::{Draw, Secret, SecurityStatus, Username};
 use std::alloc::Global;
 
 /// What an accepted token is answered by.
 #[derive(Drop)]
 pub enum Accepted {
-    /// The client is admitted.
+    /// It was an AP-REQ, or the initiator's last word.
     Done {
         status: SecurityStatus,
         /// What goes back to the client; empty where it asked for nothing.
         token: Octets,
+        /// Whether it was an AP-REQ: a client is admitted. The last word admits nobody anew.
+        admits: bool,
     },
 }
 
@@ -36,12 +38,15 @@ pub struct Admission {
     pub session_key: Octets,
     pub sub_session_key: Option<Octets>,
     pub seq_number: u32,
+    pub state: KerberosState,
     pub token: Octets,
 }
 
 /// What an acceptor brings to an admission.
 #[derive(Drop)]
 pub(crate) struct Acceptor<'a> {
+    /// Whether tokens are bare, and the initiator has the last word.
+    pub(crate) dce: bool,
     /// Whether a TGT-REQ was taken.
     pub(crate) user_to_user: bool,
     /// The context's own number.
@@ -93,23 +98,61 @@ fn reply_part(
     )
 }
 
-/// The AP-REP to a request, framed.
-#[tactic(auto, unfolding(crate::specs::Admission::spelling, crate::specs::Admission::framed, crate::specs::Admission::reply_token))]
-fn reply_token(alloc: Global, acceptor: &Acceptor, request: &Request) -> Result<Octets, OutOfMemory>
+/// The AP-REP to a request.
+#[tactic(auto, unfolding(crate::specs::Admission::spelling, crate::specs::Admission::reply_message))]
+fn reply_message(
+    alloc: Global,
+    acceptor: &Acceptor,
+    request: &Request,
+) -> Result<Octets, OutOfMemory>
     requires { IsAnswerable request.now }
-    ensures { IfOk result (λ token. token ≡ reply_token acceptor.now.user_to_user acceptor.now.number acceptor.now.draw.now request.now) }
+    ensures message { IfOk result (λ message. message ≡ reply_message acceptor.now.number acceptor.now.draw.now request.now) }
+    ensures short { IfOk result (λ message. length message ≤ 2 ^ 28) }
 {
     let part = reply_part(alloc, acceptor.number, acceptor.draw, request)?;
     let confounder = drawn_confounder(request.suite, acceptor.draw);
     let key = request.part.key.key_value.as_slice();
     let reply = seal_ap_rep(alloc, request.suite, key, confounder, &part)?;
-    let message = reply.write(alloc)?;
+    Ok(reply.write(alloc)?)
+}
+
+/// A message behind the mechanism's name.
+#[tactic(auto, unfolding(crate::specs::Admission::framed))]
+fn framed_reply(alloc: Global, user_to_user: bool, message: &Octets) -> Result<Octets, OutOfMemory>
+    requires { length message.now ≤ 2 ^ 28 }
+    ensures { IfOk result (λ token. token ≡ framed (mechanism user_to_user) ap_rep_id message.now) }
+{
     write_framed(
         alloc,
-        mechanism(acceptor.user_to_user),
+        mechanism(user_to_user),
         AP_REP_TOKEN_ID,
         message.as_slice(),
     )
+}
+
+/// The AP-REP to a request, as a token.
+fn reply_token(alloc: Global, acceptor: &Acceptor, request: &Request) -> Result<Octets, OutOfMemory>
+    requires { IsAnswerable request.now }
+    ensures { IfOk result (λ token.
+        token ≡ token_with acceptor.now.dce acceptor.now.user_to_user (reply_message acceptor.now.number acceptor.now.draw.now request.now)) }
+{
+    let message = reply_message(alloc, acceptor, request)?;
+    if acceptor.dce {
+        Ok(message)
+    } else {
+        framed_reply(alloc, acceptor.user_to_user, &message)
+    }
+}
+
+/// Where a context is behind its AP-REP.
+fn state_behind(dce: bool) -> KerberosState
+    ensures { result ≡ state_behind dce }
+{
+    if dce {
+        KerberosState::ApExchange
+    } else {
+        KerberosState::Final
+    }
 }
 
 #[tactic(auto, unfolding(crate::specs::Admission::mutual_admission))]
@@ -120,7 +163,8 @@ fn mutual_admission(
     client: Username,
 ) -> Result<Admission, OutOfMemory>
     requires { IsAnswerable request.now }
-    ensures { IfOk result (λ admission. admission ≡ mutual_admission acceptor.now.user_to_user acceptor.now.number acceptor.now.draw.now request.now client) }
+    ensures { IfOk result (λ admission.
+        admission ≡ mutual_admission acceptor.now.dce acceptor.now.user_to_user acceptor.now.number acceptor.now.draw.now request.now client) }
 {
     let token = reply_token(alloc, acceptor, request)?;
     let session_key = request.part.key.key_value.copy(alloc)?;
@@ -131,6 +175,7 @@ fn mutual_admission(
         session_key,
         sub_session_key: Some(sub_session_key),
         seq_number: acceptor.number,
+        state: state_behind(acceptor.dce),
         token,
     })
 }
@@ -195,6 +240,7 @@ fn one_way_admission(
         session_key,
         sub_session_key,
         seq_number: number_before(number, &request.authenticator.seq_number),
+        state: KerberosState::Final,
         token: Octets::new(Vec::new(alloc)),
     })
 }
@@ -207,7 +253,8 @@ pub(crate) fn admission_of(
     client: Username,
 ) -> Result<Admission, OutOfMemory>
     requires { IsAnswerable request.now }
-    ensures { IfOk result (λ admission. admission ≡ admission_of acceptor.now.user_to_user acceptor.now.number acceptor.now.draw.now request.now client) }
+    ensures { IfOk result (λ admission.
+        admission ≡ admission_of acceptor.now.dce acceptor.now.user_to_user acceptor.now.number acceptor.now.draw.now request.now client) }
 {
     if is_mutual(&request.message.ap_options) {
         mutual_admission(alloc, acceptor, request, client)
@@ -223,6 +270,15 @@ fn put_client(server: &mut Option<ServerProperties>, client: Username)
         return;
     };
     properties.client = Some(client);
+}
+
+fn status_in(state: KerberosState) -> SecurityStatus
+    ensures { result ≡ status_in state }
+{
+    match state {
+        KerberosState::Final => SecurityStatus::Ok,
+        _ => SecurityStatus::ContinueNeeded,
+    }
 }
 
 /// The sub-session key that was made.
@@ -247,9 +303,10 @@ pub(crate) fn settle(server: &mut Kerberos, admission: Admission) -> Accepted
         session_key,
         sub_session_key,
         seq_number,
+        state,
         token,
     } = admission;
-    server.state = KerberosState::Final;
+    server.state = state;
     server.encryption_params.encryption_type = Some(suite);
     server.encryption_params.session_key = Some(Secret::new(session_key));
     server.encryption_params.sub_session_key = secret(sub_session_key).or(
@@ -258,7 +315,8 @@ pub(crate) fn settle(server: &mut Kerberos, admission: Admission) -> Accepted
     server.seq_number = seq_number;
     put_client(&mut server.server, client);
     Accepted::Done {
-        status: SecurityStatus::Ok,
+        status: status_in(state),
         token,
+        admits: true,
     }
 }

@@ -7,10 +7,10 @@ ghost use Rattle.krb_server.specs.Clients.{client_of};
 ghost use Rattle.krb_server.specs.Complete.{is_known_options, is_mutual, has_good_subkey, is_good_key, Completes};
 
 use crate::client::client_of;
-use crate::open::suite_of;
 use crate::request::Request;
 use krb_der::{Bits, OutOfMemory};
 use krb_messages::EncryptionKey;
+use krb_replies::suite_of;
 use sspi_core::{Cause, Username, hold, take};
 use std::alloc::Global;
 

@@ -9,6 +9,7 @@ ghost use Rattle.krb_context.specs.declared.context.Kerberos.{Kerberos};
 ghost use Rattle.krb_server.specs.declared.admission.Accepted.{Accepted};
 ghost use Rattle.krb_server.specs.declared.admission.Admission.{Admission};
 ghost use Rattle.krb_server.specs.Accepts.{Judged, Accepts, Makes};
+ghost use Rattle.krb_server.specs.ThirdLeg.{Concludes};
 
 use krb_replay::ReplayGate;
 
@@ -24,4 +25,10 @@ pub fn completeness<G: ReplayGate>()
     ensures { (server server' : Kerberos) (dce : Bool) (token : List ℕ) (draw : Draw) (old new : G) (answer : Result Accepted Cause) (admission : Admission)
         → (step : Accepts G.admits server dce token draw old answer server' new) → step.verdict ≡ Admitted
         → Judged server dce token draw Admitted (Ok admission) → Makes server (Ok admission) answer server' }
+{}
+
+/// Each context and last word of an initiator has at most one answer, and one context afterwards.
+pub fn one_last_word()
+    ensures { (server : Kerberos) (token : List ℕ) (r s : Result Accepted Cause) (a b : Kerberos)
+        → Concludes server token r a → Concludes server token s b → (r ≡ s) × (a ≡ b) }
 {}

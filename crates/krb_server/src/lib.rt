@@ -2,7 +2,7 @@
 //!
 //! [`accept_security_context`] judges a token at an acceptor's context, over any replay gate, and says what the context is
 //! afterwards and what the client is answered. The checks are one chain, `Judged` of `specs/Accepts`, each with a
-//! function of its own.
+//! function of its own; those of the third leg of DCE style are another, `IsLastWord` of `specs/ThirdLeg`.
 #![tactic(auto)]
 
 mod accept;
@@ -13,6 +13,7 @@ mod complete;
 pub mod laws;
 mod open;
 mod request;
+mod third_leg;
 mod token;
 
 // What an embedder needs beside, so that its imports come from here alone.

@@ -7,7 +7,7 @@ ghost use Rattle.sspi_core.specs.Checks.{Answers, Holds, Takes};
 ghost use Rattle.krb_context.specs.ServiceKeys.{service_key};
 ghost use Rattle.krb_server.specs.Requests.{is_same_client, OpensTicket, OpensAuthenticator, Requests, ask_of};
 
-use crate::open::open;
+use crate::open::open_data;
 use crate::token::receive;
 use krb_context::{KerberosState, ServerProperties};
 use krb_crypto::CipherSuite;
@@ -60,7 +60,7 @@ fn open_ticket(
     ensures { Answers (OpensTicket server.now message.now) result }
 {
     let key = service_key(server, &message.ticket.sname)?;
-    let (_, part) = open::<EncTicketPart>(alloc, key, TICKET_USAGE, &message.ticket.enc_part)?;
+    let (_, part) = open_data::<EncTicketPart>(alloc, key, TICKET_USAGE, &message.ticket.enc_part)?;
     Ok(part)
 }
 
@@ -72,7 +72,7 @@ fn open_authenticator(
 ) -> Result<(CipherSuite, Authenticator), Cause>
     ensures { Answers (OpensAuthenticator message.now part.now) result }
 {
-    let sealed = open::<Authenticator>(
+    let sealed = open_data::<Authenticator>(
         alloc,
         &part.key.key_value,
         AP_REQ_AUTHENTICATOR_USAGE,
@@ -86,12 +86,13 @@ fn open_authenticator(
 pub(crate) fn read_request(
     alloc: Global,
     server: &ServerProperties,
+    dce: bool,
     state: KerberosState,
     token: &[u8],
 ) -> Result<Request, Cause>
-    ensures { Answers (Requests server.now state token.now) result }
+    ensures { Answers (Requests server.now dce state token.now) result }
 {
-    let message = receive(alloc, state, token)?;
+    let message = receive(alloc, dce, state, token)?;
     let part = open_ticket(alloc, server, &message)?;
     let (suite, authenticator) = open_authenticator(alloc, &message, &part)?;
     Ok(Request {

@@ -8,7 +8,8 @@ use Rattle.krb_replay.specs.Verdicts.{is_admitted}
 use Rattle.krb_replay.specs.declared.ask.Ask.{Ask}
 use Rattle.krb_replay.specs.declared.ask.Verdict.{Verdict}
 use Rattle.krb_server.proofs.Once.{begins_once, one_outcome_lem}
-use Rattle.krb_server.specs.Accepts.{Asks, Begins, Finishes, Judged, Makes, refusal, asks_dce_style}
+use Rattle.krb_server.specs.Accepts.{Asks, Begins, Finishes, Judged, Makes, Ends, refusal, asks_dce_style}
+use Rattle.krb_server.proofs.Steps.{waits}
 use Rattle.krb_server.specs.Requests.{ask_of}
 use Rattle.krb_server.specs.declared.admission.Accepted.{Accepted}
 use Rattle.krb_server.specs.declared.admission.Admission.{Admission}
@@ -19,7 +20,7 @@ use Rattle.sspi_core.specs.Checks.{Passes, Goes, err_of, ◌>>◌}
 use Rattle.sspi_core.specs.declared.cause.Cause.{Cause}
 use Rattle.sspi_core.specs.declared.draw.Draw.{Draw}
 use Rattle.krb_service.specs.Policy.{State, Judges, Behind, Steps, Runs, Brings, reached, reply_of, server_flags, draw_of}
-use Rattle.krb_service.specs.Reply.{is_done}
+use Rattle.krb_service.specs.Reply.{admits_peer}
 use Rattle.krb_service.specs.declared.connection.Connection.{Connection}
 use Rattle.krb_service.specs.declared.reply.Reply.{Reply}
 use Rattle.krb_service.proofs.LeftLemmas.{done_admission, passed_admitted}
@@ -30,8 +31,8 @@ admitted_by : (server : Kerberos) (dce : Bool) (token : List ℕ) (draw : Draw) 
 unfolding Judged
 admitted_by server dce token draw verdict request admission begun judged =
     let same : judged.middle ≡ Ok request = (begins_once server dce token).same judged.middle (Ok request) judged.held begun in
-    let R : Result Request Cause → Type 0 = λ m. Goes (λ (request : Request). Passes (refusal verdict) >> Finishes server draw request) m (Ok admission) in
-    let passed : (Passes (refusal verdict) >> Finishes server draw request) (Ok admission) = subst R same judged.rest in
+    let R : Result Request Cause → Type 0 = λ m. Goes (λ (request : Request). Passes (refusal verdict) >> Finishes server dce draw request) m (Ok admission) in
+    let passed : (Passes (refusal verdict) >> Finishes server dce draw request) (Ok admission) = subst R same judged.rest in
     passed_admitted verdict passed.middle _ admission passed.held.is passed.rest
 
 -- what the gate refuses is refused so
@@ -87,14 +88,14 @@ module _ {G : Type 0} (admits : G → Ask → Verdict → G → Type 0) (skew mo
         verdict = judged state.gate after.gate (ask_of request event.moment) j.accepts.verdict (subst A same j.accepts.gate);
       }
 
-  -- what is answered Done was in time
-  pub done_in_time : (state after : State G) (event : Event) (reply : Reply) (request : Request) → Steps admits state event reply after → Brings state.connections event request → is_done reply ≡ true
+  -- what admits its peer was in time
+  pub done_in_time : (state after : State G) (event : Event) (reply : Reply) (request : Request) → Steps admits state event reply after → Brings state.connections event request → admits_peer reply ≡ true
       → clock_refusal (skew state.gate) (moment after.gate) (ask_of request event.moment) ≡ None
   done_in_time state after event reply request step b done =
       let g = gate_judges state after event reply request step b in
       let j = g.judges in
       let dce = asks_dce_style (server_flags event.flags) in
-      let a = done_admission admits state after event b.connection b.token g.answer j (ap is_done (sym g.reply_is) ∙ done) in
+      let a = done_admission admits state after event b.connection b.token g.answer j (ap admits_peer (sym g.reply_is) ∙ done) in
       let J : Result Admission Cause → Type 0 = λ o. Judged b.connection.context dce b.token (draw_of event) j.accepts.verdict o in
       admitted_in_time (skew state.gate) (moment after.gate) (ask_of request event.moment) j.accepts.verdict g.verdict
       (admitted_by b.connection.context dce b.token (draw_of event) j.accepts.verdict request a.0 b.begun (subst J a.1 j.accepts.judged))
@@ -111,5 +112,6 @@ module _ {G : Type 0} (admits : G → Ask → Verdict → G → Type 0) (skew mo
       let same : j.accepts.verdict ≡ v = open_not (clock_refusal (skew state.gate) (moment after.gate) (ask_of request event.moment)) j.accepts.verdict v g.verdict.first clock in
       let J : Verdict → Type 0 = λ w. Judged server dce b.token draw w j.accepts.outcome in
       let out = one_outcome_lem server dce b.token draw v j.accepts.outcome (Err cause) (subst J same j.accepts.judged) (refused_by server dce b.token draw v request cause b.begun is) in
+      let E : Bool → Type 0 = λ last. Ends last server b.token j.accepts.outcome g.answer j.server in
       let M : Result Admission Cause → Type 0 = λ o. Makes server o g.answer j.server in
-      g.reply_is ∙ ap reply_of (subst M out j.accepts.made).0
+      g.reply_is ∙ ap reply_of (subst M out (subst E (waits server dce b.token request b.begun) j.accepts.made)).0

@@ -1,4 +1,4 @@
--- What the events of a run leave in the gate that never forgets, and when an event is answered Done.
+-- What the events of a run leave in the gate that never forgets, and when an event admits its peer.
 use Rattle.std.proofs.Common.{◌≡◌, ℕ, Bool, true, false, List, [], ◌∷◌, ◌++◌, length, Result, Ok, Err, refl, sym, ap, ◌∙◌, subst, append_assoc}
 use Rattle.std.specs.Prelude.{if◌then◌else◌}
 use Rattle.std.proofs.lemmas.List.{append-nil}
@@ -13,7 +13,8 @@ use Rattle.krb_replay.specs.declared.ask.Verdict.TheVariants.{Admitted, Skew, No
 use Rattle.krb_replay.specs.declared.record.Record.{Record}
 use Rattle.krb_server.proofs.Once.{begins_once}
 use Rattle.krb_server.proofs.Steps.{completed}
-use Rattle.krb_server.specs.Accepts.{Begins, Finishes, Judged, Asks, Makes, refusal, asks_dce_style}
+use Rattle.krb_server.specs.Accepts.{Begins, Finishes, Judged, Asks, Makes, Ends, awaits_last_word, refusal, asks_dce_style}
+use Rattle.krb_server.specs.ThirdLeg.{Closes, Concludes}
 use Rattle.krb_server.specs.Admission.{accepted_of}
 use Rattle.krb_server.specs.Requests.{ask_of}
 use Rattle.krb_server.specs.declared.admission.Accepted.{Accepted}
@@ -29,7 +30,7 @@ use Rattle.krb_service.specs.declared.reply.Reply.{Reply}
 use Rattle.krb_service.specs.Policy.{State, Judges, Behind, Steps, Runs, reached, reply_of, server_flags, draw_of}
 use Rattle.krb_service.specs.Described.{Remembers}
 use Rattle.krb_service.specs.Left.{left_by, left_behind, record_left, records_left}
-use Rattle.krb_service.specs.Reply.{is_done}
+use Rattle.krb_service.specs.Reply.{admits_peer}
 
 recorded_is : (records : List Record) (entry : Record) (b : Bool) → (if b then records ++ entry ∷ [] else records) ≡ records ++ (if b then entry ∷ [] else [])
 recorded_is records entry true = refl
@@ -98,29 +99,39 @@ goes_left : (server : Kerberos) (dce : Bool) (token : List ℕ) (draw : Draw) (v
 unfolding Judged
 goes_left server dce token draw verdict (Ok request) admission begun judged =
     let same : judged.middle ≡ Ok request = (begins_once server dce token).same judged.middle (Ok request) judged.held begun in
-    let R : Result Request Cause → Type 0 = λ m. Goes (λ (request : Request). Passes (refusal verdict) >> Finishes server draw request) m (Ok admission) in
-    let passed : (Passes (refusal verdict) >> Finishes server draw request) (Ok admission) = subst R same judged.rest in
+    let R : Result Request Cause → Type 0 = λ m. Goes (λ (request : Request). Passes (refusal verdict) >> Finishes server dce draw request) m (Ok admission) in
+    let passed : (Passes (refusal verdict) >> Finishes server dce draw request) (Ok admission) = subst R same judged.rest in
     one_left verdict request draw.moment (passed_admitted verdict passed.middle _ admission passed.held.is passed.rest)
 goes_left server dce token draw verdict (Err cause) admission begun judged =
     let same : judged.middle ≡ Err cause = (begins_once server dce token).same judged.middle (Err cause) judged.held begun in
-    let R : Result Request Cause → Type 0 = λ m. Goes (λ (request : Request). Passes (refusal verdict) >> Finishes server draw request) m (Ok admission) in
+    let R : Result Request Cause → Type 0 = λ m. Goes (λ (request : Request). Passes (refusal verdict) >> Finishes server dce draw request) m (Ok admission) in
     let refused : ◌≡◌ {A = Result Admission Cause} (Ok admission) (Err cause) = subst R same judged.rest in
     absurd (cc)
 
-made_left : (server : Kerberos) (dce : Bool) (token : List ℕ) (draw : Draw) (outcome : Result Admission Cause) (answer : Result Accepted Cause) (after : Kerberos) (request : Result Request Cause) (verdict : Verdict) → Begins server dce token request
-    → Judged server dce token draw verdict outcome → Makes server outcome answer after → is_done (reply_of answer) ≡ true → (admission : Admission) × (outcome ≡ Ok admission)
-made_left server dce token draw (Ok admission) answer after request verdict begun judged made done = (admission, refl)
-made_left server dce token draw (Err cause) answer after request verdict begun judged made done =
-    let is = made.0 in let refused : is_done (reply_of (Err cause)) ≡ true = ap (λ a. is_done (reply_of a)) (sym is) ∙ done in absurd (cc)
+-- the last word admits nobody
+closed_not : (server : Kerberos) (outcome : Result (Unit {0}) Cause) (answer : Result Accepted Cause) (after : Kerberos) → Closes server outcome answer after → admits_peer (reply_of answer) ≡ true → ⊥
+closed_not server (Ok _) answer after closes done = let z = ap (λ a. admits_peer (reply_of a)) (sym closes.0) ∙ done in absurd cc
+closed_not server (Err cause) answer after closes done = let z = ap (λ a. admits_peer (reply_of a)) (sym closes.0) ∙ done in absurd cc
+
+made_left : (server : Kerberos) (outcome : Result Admission Cause) (answer : Result Accepted Cause) (after : Kerberos) → Makes server outcome answer after → admits_peer (reply_of answer) ≡ true
+    → (admission : Admission) × (outcome ≡ Ok admission)
+made_left server (Ok admission) answer after made done = (admission, refl)
+made_left server (Err cause) answer after made done =
+    let is = made.0 in let refused : admits_peer (reply_of (Err cause)) ≡ true = ap (λ a. admits_peer (reply_of a)) (sym is) ∙ done in absurd (cc)
+
+ends_left : (last : Bool) (server : Kerberos) (token : List ℕ) (outcome : Result Admission Cause) (answer : Result Accepted Cause) (after : Kerberos) → Ends last server token outcome answer after → admits_peer (reply_of answer) ≡ true
+    → (admission : Admission) × (outcome ≡ Ok admission)
+ends_left true server token outcome answer after concludes done = absurd (closed_not server concludes.outcome answer after concludes.closes done)
+ends_left false server token outcome answer after made done = made_left server outcome answer after made done
 
 module _ {G : Type 0} (admits : G → Ask → Verdict → G → Type 0) where
-  -- an acceptor's answer Done is an admission
+  -- an acceptor's answer that admits its peer is an admission
   pub done_admission : (state after : State G) (event : Event) (connection : Connection) (token : List ℕ) (answer : Result Accepted Cause) (j : Judges admits state event connection token answer after)
-      → is_done (reply_of answer) ≡ true → (admission : Admission) × (j.accepts.outcome ≡ Ok admission)
+      → admits_peer (reply_of answer) ≡ true → (admission : Admission) × (j.accepts.outcome ≡ Ok admission)
   done_admission state after event connection token answer j done =
-      made_left connection.context (asks_dce_style (server_flags event.flags)) token (draw_of event) j.accepts.outcome answer j.server j.accepts.request j.accepts.verdict j.accepts.begun j.accepts.judged j.accepts.made done
+      ends_left (awaits_last_word (asks_dce_style (server_flags event.flags)) connection.context.state) connection.context token j.accepts.outcome answer j.server j.accepts.made done
 
-  done_behind : (state : State G) (event : Event) (found : Result (Connection × List ℕ) Cause) (answer : Result Accepted Cause) (after : State G) → (b : Behind admits state event found answer after) → is_done (reply_of answer) ≡ true
+  done_behind : (state : State G) (event : Event) (found : Result (Connection × List ℕ) Cause) (answer : Result Accepted Cause) (after : State G) → (b : Behind admits state event found answer after) → admits_peer (reply_of answer) ≡ true
       → length (left_behind admits state event found answer after b) ≡ 1
   done_behind state event (Ok found) answer after b done =
       let a = done_admission state after event found.0 found.1 answer b done in
@@ -128,14 +139,14 @@ module _ {G : Type 0} (admits : G → Ask → Verdict → G → Type 0) where
       let J : Result Admission Cause → Type 0 = λ o. Judged found.0.context dce found.1 (draw_of event) b.accepts.verdict o in
       goes_left found.0.context dce found.1 (draw_of event) b.accepts.verdict b.accepts.request a.0 b.accepts.begun (subst J a.1 b.accepts.judged)
   done_behind state event (Err cause) answer after b done =
-      let refused : is_done (reply_of (Err cause)) ≡ true = ap (λ a. is_done (reply_of a)) (sym b.0) ∙ done in absurd (cc)
+      let refused : admits_peer (reply_of (Err cause)) ≡ true = ap (λ a. admits_peer (reply_of a)) (sym b.0) ∙ done in absurd (cc)
 
-  -- an event that is answered Done leaves one record
-  pub done-left : (state after : State G) (event : Event) (reply : Reply) (step : Steps admits state event reply after) → is_done reply ≡ true → length (record_left admits state event reply after step) ≡ 1
+  -- an event that admits its peer leaves one record
+  pub done-left : (state after : State G) (event : Event) (reply : Reply) (step : Steps admits state event reply after) → admits_peer reply ≡ true → length (record_left admits state event reply after step) ≡ 1
   done-left state after event reply step done =
-      done_behind state event (reached state.connections event) step.answer after step.behind (ap is_done (sym step.reply_is) ∙ done)
+      done_behind state event (reached state.connections event) step.answer after step.behind (ap admits_peer (sym step.reply_is) ∙ done)
 
-judged_admitted : (server : Kerberos) (dce : Bool) (token : List ℕ) (draw : Draw) (request : Request) (admission : Admission) → Begins server dce token (Ok request) → Finishes server draw request (Ok admission)
+judged_admitted : (server : Kerberos) (dce : Bool) (token : List ℕ) (draw : Draw) (request : Request) (admission : Admission) → Begins server dce token (Ok request) → Finishes server dce draw request (Ok admission)
     → Judged server dce token draw Admitted (Ok admission)
 unfolding Judged
 judged_admitted server dce token draw request admission begun finished = follows _ _ request _ begun (follows _ _ tt _ (record { is = refl }) finished)
@@ -149,7 +160,7 @@ asked_verdict skew moment h p request verdict after is asks =
 pub passing-done : (skew : ℕ) (state after : State History) (event : Event) (reply : Reply) (connection : Connection) (token : List ℕ) (request : Request) (admission : Admission)
     → Steps (Remembers skew) state event reply after → reached state.connections event ≡ Ok (connection, token)
     → Begins connection.context (asks_dce_style (server_flags event.flags)) token (Ok request) → verdict_of skew state.gate (ask_of request event.moment) ≡ Admitted
-    → Finishes connection.context (draw_of event) request (Ok admission) → reply ≡ reply_of (Ok (accepted_of admission))
+    → Finishes connection.context (asks_dce_style (server_flags event.flags)) (draw_of event) request (Ok admission) → reply ≡ reply_of (Ok (accepted_of admission))
 passing-done skew state after event reply connection token request admission step reaches begun admitted finished =
     let B : Result (Connection × List ℕ) Cause → Type 0 = λ f. Behind (Remembers skew) state event f step.answer after in
     let j = subst B reaches step.behind in

@@ -1,5 +1,5 @@
 -- Over a gate whose step is determined, each event has one reply, and each run one list of replies.
-use Rattle.std.proofs.Common.{◌≡◌, ℕ, Bool, List, [], ◌∷◌, ◌++◌, Result, Ok, Err, refl, sym, ap, ◌∙◌, subst}
+use Rattle.std.proofs.Common.{◌≡◌, ℕ, Bool, true, false, List, [], ◌∷◌, ◌++◌, Result, Ok, Err, refl, sym, ap, ◌∙◌, subst}
 use Rattle.std.specs.Ordering.{nat_cmp}
 use Rattle.std.specs.BTreeMap.{is_at}
 use Rattle.std.specs.Map.{set_value}
@@ -7,8 +7,8 @@ use Rattle.krb_context.specs.declared.context.Kerberos.{Kerberos}
 use Rattle.krb_replay.specs.History.{History}
 use Rattle.krb_replay.specs.declared.ask.Ask.{Ask}
 use Rattle.krb_replay.specs.declared.ask.Verdict.{Verdict}
-use Rattle.krb_server.proofs.Once.{begins_once, one_outcome_lem}
-use Rattle.krb_server.specs.Accepts.{Begins, Finishes, Judged, Asks, Makes, Accepts, refusal, asks_dce_style}
+use Rattle.krb_server.proofs.Once.{begins_once, one_outcome_lem, concludes_once}
+use Rattle.krb_server.specs.Accepts.{Begins, Finishes, Judged, Asks, Makes, Ends, Accepts, awaits_last_word, refusal, asks_dce_style}
 use Rattle.krb_server.specs.declared.admission.Accepted.{Accepted}
 use Rattle.krb_server.specs.declared.admission.Admission.{Admission}
 use Rattle.krb_server.specs.declared.request.Request.{Request}
@@ -30,12 +30,16 @@ pub judged_refused : (server : Kerberos) (dce : Bool) (token : List ℕ) (draw :
 unfolding Judged
 judged_refused server dce token draw verdict cause outcome begun judged =
     let same : judged.middle ≡ Err cause = (begins_once server dce token).same judged.middle (Err cause) judged.held begun in
-    let R : Result Request Cause → Type 0 = λ m. Goes (λ (request : Request). Passes (refusal verdict) >> Finishes server draw request) m outcome in
+    let R : Result Request Cause → Type 0 = λ m. Goes (λ (request : Request). Passes (refusal verdict) >> Finishes server dce draw request) m outcome in
     subst R same judged.rest
 
 makes_once : (server : Kerberos) (o : Result Admission Cause) (r s : Result Accepted Cause) (a b : Kerberos) → Makes server o r a → Makes server o s b → (r ≡ s) × (a ≡ b)
 makes_once server (Ok admission) r s a b h k = (h.0 ∙ sym k.0, h.1 ∙ sym k.1)
 makes_once server (Err cause) r s a b h k = (h.0 ∙ sym k.0, h.1 ∙ sym k.1)
+
+ends_once : (last : Bool) (server : Kerberos) (token : List ℕ) (o : Result Admission Cause) (r s : Result Accepted Cause) (a b : Kerberos) → Ends last server token o r a → Ends last server token o s b → (r ≡ s) × (a ≡ b)
+ends_once true server token o r s a b h k = concludes_once server token r s a b h k
+ends_once false server token o r s a b h k = makes_once server o r s a b h k
 
 -- the gate's step is determined
 pub record IsDetermined {G : Type 0} (admits : G → Ask → Verdict → G → Type 0) : Type 0 where
@@ -66,8 +70,9 @@ module _ {G : Type 0} (admits : G → Ask → Verdict → G → Type 0) (determi
   accepts_once server dce token draw old r s x y a b h k =
       let asked = (begins_once server dce token).same h.request k.request h.begun k.begun in
       let same = outcome_once server dce token draw old h.request k.request h.verdict k.verdict a b h.outcome k.outcome asked h.begun h.gate k.gate h.judged k.judged in
-      let M : Result Admission Cause → Type 0 = λ o. Makes server o s y in
-      let made = makes_once server h.outcome r s x y h.made (subst M (sym same.0) k.made) in
+      let last = awaits_last_word dce server.state in
+      let M : Result Admission Cause → Type 0 = λ o. Ends last server token o s y in
+      let made = ends_once last server token h.outcome r s x y h.made (subst M (sym same.0) k.made) in
       (made.0, made.1, same.1)
 
   judges_once : (state : State G) (event : Event) (connection : Connection) (token : List ℕ) (r s : Result Accepted Cause) (a b : State G) → Judges admits state event connection token r a

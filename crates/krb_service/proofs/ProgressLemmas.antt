@@ -15,9 +15,9 @@ use Rattle.krb_replay.specs.Book.{Book, StandsFor}
 use Rattle.krb_replay.specs.History.{History, no_history}
 use Rattle.krb_service.specs.Policy.{State, Runs}
 use Rattle.krb_service.specs.Described.{Remembers, skew_of, connections_of, service_of, with_gate}
-use Rattle.krb_service.specs.Reply.{reply_line, replies_text, is_done}
+use Rattle.krb_service.specs.Reply.{reply_line, replies_text, admits_peer}
 use Rattle.krb_service.specs.Text.{Answered, first_events}
-use Rattle.krb_service.specs.Progress.{Progress, IsNew, Begins, CannotBegin, one_if_done, Answers, prepare, prepare_by, Prepares, TakesItem, RefusesItem, TakesContent, counted, Takes, Refuses}
+use Rattle.krb_service.specs.Progress.{Progress, IsNew, Begins, CannotBegin, one_if_admits, Answers, prepare, prepare_by, Prepares, TakesItem, RefusesItem, TakesContent, counted, Takes, Refuses}
 use Rattle.krb_service.specs.Halts.{IsBefore, IsAmid, Follows}
 use Rattle.krb_service.proofs.PolicyLemmas.{Runs-push}
 use Rattle.krb_service.proofs.HistoryLemmas.{step-remembered}
@@ -81,8 +81,8 @@ ready progress so_far replies before (inr m) begins = ready_amid progress so_far
 replies-push : (replies : List Reply) (reply : Reply) (text : List ℕ) → text ≡ reply_line reply → replies_text (replies ++ reply ∷ []) ≡ replies_text replies ++ text
 replies-push replies reply text is = flat_map-append reply_line replies (reply ∷ []) ∙ ap (λ l. replies_text replies ++ l) (append-nil (reply_line reply) ∙ sym is)
 
-one_at_most : (reply : Reply) → one_if_done reply ≤ 1
-one_at_most reply = elim (is_done reply) as (λ b. (if b then 1 else 0) ≤ 1) [ true ↦ omega arith | false ↦ omega arith ]
+one_at_most : (reply : Reply) → one_if_admits reply ≤ 1
+one_at_most reply = elim (admits_peer reply) as (λ b. (if b then 1 else 0) ≤ 1) [ true ↦ omega arith | false ↦ omega arith ]
 
 event_made : (progress : Progress) (so_far : Declared) (replies : List Reply) (event : Event) (text : List ℕ) (after : Progress) → Follows progress so_far replies → Answers progress event text after
     → Made progress so_far replies (declare so_far (EventItem event)) text progress.lines after
@@ -102,7 +102,7 @@ event_made progress so_far replies event text after f a =
       all = replies ++ a.reply ∷ [];
       follows = record {
         answered = omega arith;
-        admitted = a.admitted_is ∙ ap (λ n. n + one_if_done a.reply) f.admitted ∙ sym (sum_by_push (λ reply. one_if_done reply) replies a.reply);
+        admitted = a.admitted_is ∙ ap (λ n. n + one_if_admits a.reply) f.admitted ∙ sym (sum_by_push (λ reply. one_if_admits reply) replies a.reply);
         modest = omega arith;
         state = inr (record {
           after = a.next;

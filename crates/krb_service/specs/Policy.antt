@@ -11,7 +11,7 @@ use Rattle.krb_replay.specs.declared.ask.Ask.{Ask}
 use Rattle.krb_replay.specs.declared.ask.Verdict.{Verdict}
 use Rattle.krb_server.specs.Accepts.{asks_dce_style, Accepts, Begins}
 use Rattle.krb_server.specs.declared.admission.Accepted.{Accepted}
-use Rattle.krb_server.specs.declared.admission.Accepted.TheVariants.{Done as Admitted}
+use Rattle.krb_server.specs.declared.admission.Accepted.TheVariants.{Done as Answered}
 use Rattle.krb_server.specs.declared.request.Request.{Request}
 use Rattle.krb_text.specs.Script.{at_id}
 use Rattle.krb_text.specs.declared.item.Event.{Event}
@@ -80,12 +80,12 @@ pub record Brings (connections : List (ℕ × Connection)) (event : Event) (requ
 
 -- the reply that an acceptor's answer makes
 abbrev pub reply_of : Result Accepted Cause → Reply
-reply_of (Ok (Admitted status token)) = Done status token
+reply_of (Ok (Answered status token admits)) = Done status token admits
 reply_of (Err cause) = Refused (error_of cause)
 
 -- the reply to an answer with its kind
 abbrev pub Replies : Result Accepted Error → Reply → Type 0
-Replies (Ok (Admitted status token)) reply = reply ≡ Done status token
+Replies (Ok (Answered status token admits)) reply = reply ≡ Done status token admits
 Replies (Err error) reply = reply ≡ Refused error
 
 -- the number has a connection

@@ -10,7 +10,7 @@ use Rattle.krb_text.specs.declared.item.Item.TheVariants.{Skew, Acceptor as Acce
 use Rattle.krb_text.specs.declared.item.Event.{Event}
 use Rattle.krb_service.specs.Policy.{State, Steps}
 use Rattle.krb_service.specs.Described.{skew_of, no_env, connections_of}
-use Rattle.krb_service.specs.Reply.{reply_line, is_done}
+use Rattle.krb_service.specs.Reply.{reply_line, admits_peer}
 use Rattle.krb_service.specs.declared.reply.Reply.{Reply}
 
 -- what the lines before the first event declare, the service from the first event on, how many lines were taken, how many
@@ -41,8 +41,8 @@ abbrev pub CannotBegin : Progress → Type 0
 CannotBegin progress = (progress.service ≡ None) × (is_some progress.setup.skew ≡ false)
 
 -- how many events an answer adds to those that admitted their peer
-abbrev pub one_if_done : Reply → ℕ
-one_if_done reply = if is_done reply then 1 else 0
+abbrev pub one_if_admits : Reply → ℕ
+one_if_admits reply = if admits_peer reply then 1 else 0
 
 -- one event is answered: this text is written, and this is known then
 pub record Answers (progress : Progress) (event : Event) (text : List ℕ) (after : Progress) : Type 0 where
@@ -55,7 +55,7 @@ pub record Answers (progress : Progress) (event : Event) (text : List ℕ) (afte
   pub service_is : after.service ≡ Some next
   pub lines_are : after.lines ≡ progress.lines
   pub answered_is : after.answered ≡ progress.answered + 1
-  pub admitted_is : after.admitted ≡ progress.admitted + one_if_done reply
+  pub admitted_is : after.admitted ≡ progress.admitted + one_if_admits reply
 
 -- before the first event
 abbrev pub prepare_by : Option (State Book) → Progress → Item → Option Progress

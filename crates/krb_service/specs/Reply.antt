@@ -20,7 +20,7 @@ done_line ContinueNeeded token = codes "continue " ++ hex_or_dash token ++ codes
 
 -- the line that tells a reply
 abbrev pub reply_line : Reply → List ℕ
-reply_line (Done status token) = done_line status token
+reply_line (Done status token admits) = done_line status token
 reply_line (Refused error) = codes "refused " ++ error_text error ++ codes "\n"
 
 -- the lines of replies, one after another
@@ -28,10 +28,10 @@ abbrev pub replies_text : List Reply → List ℕ
 replies_text replies = flat_map reply_line replies
 
 -- whether a reply admits the peer
-abbrev pub is_done : Reply → Bool
-is_done (Done status token) = true
-is_done (Refused error) = false
+abbrev pub admits_peer : Reply → Bool
+admits_peer (Done status token admits) = admits
+admits_peer (Refused error) = false
 
 -- how many of them admit their peer
 abbrev pub admissions : List Reply → ℕ
-admissions replies = count_by is_done replies
+admissions replies = count_by admits_peer replies

@@ -19,7 +19,7 @@ ghost use Rattle.krb_service.specs.declared.reply.Reply.{Reply};
 ghost use Rattle.krb_service.specs.Policy.{State, Steps, Runs, Says, Brings, reached, reply_of, server_flags, draw_of};
 ghost use Rattle.krb_service.specs.Described.{Remembers, with_gate};
 ghost use Rattle.krb_service.specs.Left.{record_left, records_left};
-ghost use Rattle.krb_service.specs.Reply.{is_done};
+ghost use Rattle.krb_service.specs.Reply.{admits_peer};
 ghost use Rattle.krb_service.specs.Serve.{Written, end_of};
 ghost use Rattle.krb_text.specs.declared.status.Status.{Status};
 ghost use Rattle.krb_text.specs.declared.status.Status.TheVariants.{Done, BadWords, ReadFault, WriteFault, OutOfMemory};
@@ -45,13 +45,13 @@ pub fn one_text()
 {}
 
 /// Over the gate that never forgets, no record is left by two events of a run, on whichever connections they are, nor by an
-/// event where the gate has it already; and each event that is answered Done leaves one.
+/// event where the gate has it already; and each event that admits its peer leaves one.
 pub fn records_are_left_once()
     ensures once { (skew : ℕ) (state after : State History) (events : List Event) (replies : List Reply)
         (runs : Runs (Remembers skew) state events replies after) → IsDistinct state.gate.admitted
         → IsDistinct (state.gate.admitted ++ records_left (Remembers skew) state events replies after runs) }
     ensures done { (skew : ℕ) (state after : State History) (event : Event) (reply : Reply) (step : Steps (Remembers skew) state event reply after)
-        → is_done reply ≡ true → length (record_left (Remembers skew) state event reply after step) ≡ 1 }
+        → admits_peer reply ≡ true → length (record_left (Remembers skew) state event reply after step) ≡ 1 }
 {}
 
 /// An event in time, at an acceptor that waits for a token, whose AP-REQ passes every check and is admitted by the gate that
@@ -62,7 +62,7 @@ pub fn completeness()
         → Steps (Remembers skew) state event reply after → reached state.connections event ≡ Ok (connection, token)
         → Begins connection.context (asks_dce_style (server_flags event.flags)) token (Ok request)
         → verdict_of skew state.gate (ask_of request event.moment) ≡ Admitted
-        → Finishes connection.context (draw_of event) request (Ok admission)
+        → Finishes connection.context (asks_dce_style (server_flags event.flags)) (draw_of event) request (Ok admission)
         → reply ≡ reply_of (Ok (accepted_of admission)) }
 {}
 
@@ -76,13 +76,13 @@ pub fn runs_never_forget()
 {}
 
 /// Over a replay book, no record is left by two events of a run, on whichever connections they are, nor by an event where the
-/// book admitted it before; and each event that is answered Done leaves one. So no two admitted events share a record.
+/// book admitted it before; and each event that admits its peer leaves one. So no two admitted events share a record.
 pub fn books_admit_a_record_once()
     ensures once { (before after : State Book) (events : List Event) (replies : List Reply) (h : History)
         (runs : Runs (Follows StandsFor) before events replies after) → StandsFor before.gate h
         → IsDistinct (h.admitted ++ records_left (Follows StandsFor) before events replies after runs) }
     ensures done { (before after : State Book) (event : Event) (reply : Reply) (step : Steps (Follows StandsFor) before event reply after)
-        → is_done reply ≡ true → length (record_left (Follows StandsFor) before event reply after step) ≡ 1 }
+        → admits_peer reply ≡ true → length (record_left (Follows StandsFor) before event reply after step) ≡ 1 }
 {}
 
 /// Over a replay book, an event in time, at an acceptor that waits for a token, whose AP-REQ passes every check and has a
@@ -93,12 +93,12 @@ pub fn completeness_over_a_book()
         → Steps (Follows StandsFor) before event reply after → reached before.connections event ≡ Ok (connection, token)
         → Begins connection.context (asks_dce_style (server_flags event.flags)) token (Ok request)
         → verdict_of before.gate.skew h (ask_of request event.moment) ≡ Admitted
-        → Finishes connection.context (draw_of event) request (Ok admission)
+        → Finishes connection.context (asks_dce_style (server_flags event.flags)) (draw_of event) request (Ok admission)
         → reply ≡ reply_of (Ok (accepted_of admission)) }
 {}
 
 /// Whatever the gate, from what every gate owes alone: a request that reaches it is refused for the first of the clock's
-/// refusals at the moment that the gate judges by, where there is one; where it is answered Done there is none; and a run
+/// refusals at the moment that the gate judges by, where there is one; where it admits its peer there is none; and a run
 /// leaves the skew.
 pub fn gates_refuse_by_the_clock<G: ReplayGate>()
     ensures refused { (state after : State G) (event : Event) (reply : Reply) (request : Request) (verdict : Verdict) (cause : Cause)
@@ -106,7 +106,7 @@ pub fn gates_refuse_by_the_clock<G: ReplayGate>()
         → clock_refusal (G.skew state.gate) (G.moment after.gate) (ask_of request event.moment) ≡ Some verdict
         → refusal verdict ≡ Some cause → reply ≡ reply_of (Err cause) }
     ensures done { (state after : State G) (event : Event) (reply : Reply) (request : Request)
-        → Steps G.admits state event reply after → Brings state.connections event request → is_done reply ≡ true
+        → Steps G.admits state event reply after → Brings state.connections event request → admits_peer reply ≡ true
         → clock_refusal (G.skew state.gate) (G.moment after.gate) (ask_of request event.moment) ≡ None }
     ensures skew { (state after : State G) (events : List Event) (replies : List Reply)
         → Runs G.admits state events replies after → G.skew after.gate ≡ G.skew state.gate }

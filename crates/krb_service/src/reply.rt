@@ -13,6 +13,8 @@ pub enum Reply {
     Done {
         status: SecurityStatus,
         token: Octets,
+        /// Whether it admits the peer. The last word of an exchange in DCE style does so no second time.
+        admits: bool,
     },
     /// It was refused, for the first check that fails. Want of memory is never told so.
     Refused(Error),
@@ -20,13 +22,16 @@ pub enum Reply {
 
 impl Reply {
     ghost use Rattle.std.specs.Prelude.{◌≡◌, IfOk, string_bytes};
-    ghost use Rattle.krb_service.specs.Reply.{reply_line, is_done};
+    ghost use Rattle.krb_service.specs.Reply.{reply_line, admits_peer};
 
     /// Whether it admits the peer.
-    pub fn is_done(&self) -> bool
-        ensures { result ≡ is_done self.now }
+    pub fn admits_peer(&self) -> bool
+        ensures { result ≡ admits_peer self.now }
     {
-        matches!(self, Reply::Done { .. })
+        match self {
+            Reply::Done { admits, .. } => *admits,
+            Reply::Refused(_) => false,
+        }
     }
 
     /// The line that tells it, with the octet 0A at its end.
@@ -34,7 +39,7 @@ impl Reply {
         ensures { IfOk result (λ line. string_bytes line ≡ reply_line self.now) }
     {
         match self {
-            Reply::Done { status, token } => done_line(alloc, *status, token),
+            Reply::Done { status, token, .. } => done_line(alloc, *status, token),
             Reply::Refused(error) => format!(in alloc; "refused {error}\n"),
         }
     }

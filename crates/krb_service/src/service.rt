@@ -81,7 +81,17 @@ fn reply_to(answer: Result<Accepted, Error>) -> Result<Reply, OutOfMemory>
     ensures memory { OnErr result (answer ≡ Err (error_of causes.Memory)) }
 {
     match answer {
-        Ok(Accepted::Done { status, token }) => Ok(Reply::Done { status, token }),
+        Ok(
+            Accepted::Done {
+                status,
+                token,
+                admits,
+            },
+        ) => Ok(Reply::Done {
+            status,
+            token,
+            admits,
+        }),
         Err(error) if is_memory(&error) => Err(OutOfMemory),
         Err(error) => Ok(Reply::Refused(error)),
     }

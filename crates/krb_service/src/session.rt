@@ -30,7 +30,7 @@ impl Model for Session {
 impl Session {
     ghost use Rattle.std.specs.Prelude.{◌≡◌, ◌<◌, ◌≤◌, ◌^◌, ◌+◌, Some, None, OnOk, OnErr, MatchOption, MatchResult, string_bytes};
     ghost use Rattle.krb_text.specs.declared.fields.FieldError.TheVariants.{Bad};
-    ghost use Rattle.krb_service.specs.Progress.{new_progress, Begins, CannotBegin, one_if_done, Answers, prepare, Prepares, TakesContent, RefusesContent, Takes, Refuses};
+    ghost use Rattle.krb_service.specs.Progress.{new_progress, Begins, CannotBegin, one_if_admits, Answers, prepare, Prepares, TakesContent, RefusesContent, Takes, Refuses};
     ghost use Rattle.krb_service.specs.Closing.{has_begun, kept_by};
 
     pub fn new(alloc: Global) -> Session
@@ -101,10 +101,10 @@ impl Session {
     fn count(&mut self, reply: &Reply)
         requires answered { self.old.answered < 2 ^ 32 }
         requires admitted { self.old.admitted < 2 ^ 32 }
-        ensures { self.new ≡ record self.old { answered = self.old.answered + 1; admitted = self.old.admitted + one_if_done reply.now } }
+        ensures { self.new ≡ record self.old { answered = self.old.answered + 1; admitted = self.old.admitted + one_if_admits reply.now } }
     {
         self.answered += 1;
-        if reply.is_done() {
+        if reply.admits_peer() {
             self.admitted += 1;
         }
     }

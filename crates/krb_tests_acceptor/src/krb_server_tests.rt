@@ -7,6 +7,7 @@ mod established;
 mod gates;
 mod long;
 mod states;
+mod third_leg;
 
 use bitflags::Flags;
 use krb_conf::{Env, KerberosConfig};

@@ -73,7 +73,7 @@ fn admits_one(alloc: Global, service: &mut Service<ReplayBook>) -> Result<bool, 
     let mut replies = Vec::new(alloc);
     let ran = service.run(alloc, &events, &mut replies);
     let done = match replies.as_slice() {
-        [first, second] => first.is_done() && !second.is_done(),
+        [first, second] => first.admits_peer() && !second.admits_peer(),
         _ => false,
     };
     Ok(ran.is_ok() && done && service.gate().kept() == 1)

@@ -3,7 +3,7 @@ use Rattle.std.proofs.Common.{◌≡◌, ℕ, zero, suc, ◌+◌, List, [], ◌�
 use Rattle.std.proofs.lemmas.List.{append-nil}
 use Rattle.std.proofs.lemmas.List.Sums.{sum_by_push}
 use Rattle.krb_shared.specs.declared.entry.Entry.{Entry}
-use Rattle.krb_service.specs.Progress.{one_if_done}
+use Rattle.krb_service.specs.Progress.{one_if_admits}
 use Rattle.krb_service.specs.Reply.{admissions}
 use Rattle.krb_service.specs.declared.reply.Reply.{Reply}
 use Rattle.krb_threads.specs.Answers.{worker_line, worker_text, entry_line, entries_text}
@@ -24,5 +24,5 @@ entries-push place (first ∷ entries) entry =
     ∙ sym (append_assoc (entry_line place first) (entries_text (place + 1) entries) (entry_line (place + 1 + length entries) entry))
     ∙ ap (λ n. (entry_line place first ++ entries_text (place + 1) entries) ++ entry_line n entry) (omega arith)
 
-pub admissions-push : (replies : List Reply) (reply : Reply) → admissions (replies ++ reply ∷ []) ≡ admissions replies + one_if_done reply
-admissions-push replies reply = sum_by_push (λ reply. one_if_done reply) replies reply
+pub admissions-push : (replies : List Reply) (reply : Reply) → admissions (replies ++ reply ∷ []) ≡ admissions replies + one_if_admits reply
+admissions-push replies reply = sum_by_push (λ reply. one_if_admits reply) replies reply

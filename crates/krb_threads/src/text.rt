@@ -86,7 +86,7 @@ fn admissions(replies: &[Reply]) -> u64
 {
     let mut count = 0;
     for index in 0..replies.len() {
-        if replies[index].is_done() {
+        if replies[index].admits_peer() {
             count += 1;
         }
     }

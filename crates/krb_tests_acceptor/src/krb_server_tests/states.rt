@@ -30,10 +30,11 @@ static WAITS: [Wait; 4] = [
         dce: false,
         refusal: Some(Cause::Sequence),
     },
+    // Where the last word is awaited, a frame is none.
     Wait {
         state: KerberosState::ApExchange,
         dce: true,
-        refusal: Some(Cause::NotBuilt),
+        refusal: Some(Cause::Shape),
     },
 ];
 

@@ -7,10 +7,6 @@ pub returns-in_err-check_state : goal.returns-in_err-check_state
 unfolding Begins
 returns-in_err-check_state c = search (rules, chain)
 
-pub returns-in_err-check_built : goal.returns-in_err-check_built
-unfolding Begins
-returns-in_err-check_built c = search (rules, chain)
-
 pub returns-in_err-properties : goal.returns-in_err-properties
 unfolding Begins
 returns-in_err-properties c = search (rules, chain)

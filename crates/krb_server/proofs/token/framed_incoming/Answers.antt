@@ -1,5 +1,5 @@
 use Rattle.krb_server.proofs.Frames.{refuses_incoming}
-use Rattle.krb_server.proofs.token.incoming_in.Goals as goal
+use Rattle.krb_server.proofs.token.framed_incoming.Goals as goal
 
 pub returns-in_err-read_or-in-Ok : goal.returns-in_err-read_or-in-Ok
 returns-in_err-read_or-in-Ok c =

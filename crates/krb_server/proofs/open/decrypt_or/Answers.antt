@@ -1,5 +1,0 @@
-use Rattle.std.proofs.Common.{Err, ap, refl}
-use Rattle.krb_server.proofs.open.decrypt_or.Goals as goal
-
-pub returns-in-Err-Altered : goal.returns-in-Err-Altered
-returns-in-Err-Altered c = record { so = λ ne. record { is = (refl, rw (c.as_slice.ensures, c.as_slice-2.ensures) at (c.in-Err-Altered.ensures.altered (ap Err c.in-Err-Altered.field-0-is)).2) } }
