@@ -16,15 +16,16 @@ use Rattle.krb_messages.specs.Table.{encrypted_data, principal_name, host_addres
 use Rattle.krb_messages.specs.Layouts.{encrypted_data_row, encrypted_data_layout, principal_name_row, principal_name_layout, host_address_row}
 use Rattle.krb_messages.specs.declared.encryption.EncryptedData.{EncryptedData}
 use Rattle.krb_messages.specs.declared.principal_name.PrincipalName.{PrincipalName}
-use Rattle.krb_exchange.specs.Table.{pa_data, pa_enc_ts_enc, kerb_pa_pac_request, kdc_req, kdc_req_body, as_req}
-use Rattle.krb_exchange.specs.Layouts.{pa_data_row, pa_data_layout, pa_enc_ts_enc_row, pa_enc_ts_enc_layout, kerb_pa_pac_request_row, kerb_pa_pac_request_layout, kdc_req_row, as_req_row, as_req_layout, kdc_req_body_row, kdc_req_body_layout}
+use Rattle.krb_exchange.specs.Table.{tgt_req as tgt_req_kind, pa_data, pa_enc_ts_enc, kerb_pa_pac_request, kdc_req, kdc_req_body, as_req}
+use Rattle.krb_exchange.specs.Layouts.{pa_data_row, pa_data_layout, pa_enc_ts_enc_row, pa_enc_ts_enc_layout, kerb_pa_pac_request_row, kerb_pa_pac_request_layout, kdc_req_row, as_req_row, as_req_layout, kdc_req_body_row, kdc_req_body_layout, tgt_req_row, tgt_req_layout}
 use Rattle.krb_exchange.specs.declared.pa_data.PaData.{PaData}
 use Rattle.krb_exchange.specs.declared.pa_data.PaEncTsEnc.{PaEncTsEnc}
 use Rattle.krb_exchange.specs.declared.kdc_req.KdcReqBody.{KdcReqBody}
+use Rattle.krb_exchange.specs.declared.user_to_user.TgtReq.{TgtReq}
 use Rattle.krb_requests.specs.Pieces.{spelling, sealed_data, name_of, principal, principal_of, Fits}
 use Rattle.krb_requests.specs.PaDatas.{pac_request, enc_timestamp, timestamp, plain_pa_datas, timed_pa_datas}
 use Rattle.krb_requests.specs.declared.options.GenerateAsReqOptions.{GenerateAsReqOptions}
-use Rattle.krb_requests.specs.Bodies.{as_req_with, as_req_body, component_octets, user_components, AreShort}
+use Rattle.krb_requests.specs.Bodies.{tgt_req, as_req_with, as_req_body, component_octets, user_components, AreShort}
 
 le_trans : (a b c : ℕ) → a ≤ b → b ≤ c → a ≤ c
 le_trans a b c h k = omega arith
@@ -239,3 +240,19 @@ pub body_is : (options : GenerateAsReqOptions) (moment : ℕ) (realm : List ℕ)
 body_is options moment realm cname sname host made four er ec es eh given short =
     let same : made ≡ as_req_body options moment realm cname sname host = same_ok made _ (given.so (λ z. absurd cc)).is in
     rw (same, er, ec, es, eh) (body_fits options moment four short)
+
+-- a TGT-REQ
+tgt_req_fits : (components : List (List ℕ)) → length (component_octets components) ≤ 2 ^ 24 → Fits tgt_req_layout (2 ^ 25) (tgt_req (principal 2 components))
+unfolding tgt_req_kind tgt_req_row
+tgt_req_fits components h = record {
+  complete = (lit< tt, (lit< tt, (principal_complete 2 components, tt)));
+  short =
+      le_trans _ _ _ (tlv_le 0x30 _ _ (append_le _ _ _ _ (field_le 0xa0 0x02 _ 1 (lit≤ tt)) (append_le _ _ _ _ (field_le 0xa1 0x02 _ 1 (lit≤ tt))
+      (append_le _ [] _ 0 (tlv_le 0xa2 _ _ (principal_le _ _ _ h)) (lit≤ tt))))) (lit≤ tt);
+}
+
+pub tgt_req_is : (components : List (List ℕ)) (server_name : PrincipalName) (made : TgtReq) → server_name ≡ principal 2 components
+    → Answers (Gives (tgt_req server_name)) (Ok made) → length (component_octets components) ≤ 2 ^ 24 → Fits tgt_req_layout (2 ^ 25) made
+tgt_req_is components server_name made e given h =
+    let same : made ≡ tgt_req server_name = same_ok made _ (given.so (λ z. absurd cc)).is in
+    rw (same, e) (tgt_req_fits components h)

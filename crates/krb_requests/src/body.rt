@@ -195,12 +195,20 @@ fn tgt_req(alloc: Global, server_name: PrincipalName) -> Result<TgtReq, OutOfMem
     maker.finish(made)
 }
 
+fn given_tgt_req(alloc: Global, server_name: PrincipalName) -> Result<TgtReq, Cause>
+    ensures { Answers (Gives (tgt_req server_name)) result }
+{
+    Ok(tgt_req(alloc, server_name)?)
+}
+
 #[tactic(auto, unfolding(crate::specs::Bodies::MakesTgtReq))]
 fn made_tgt_req(alloc: Global, sname: &[&str]) -> Result<TgtReq, Cause>
-    ensures { Answers (MakesTgtReq (map (λ part. part.now) sname.now)) result }
+    ensures made { Answers (MakesTgtReq (map (λ part. part.now) sname.now)) result }
+    ensures within { length (component_octets (map (λ part. part.now) sname.now)) ≤ 2 ^ 24 → IfOk result (λ made. Fits tgt_req_layout (2 ^ 25) made) }
 {
     let server_name = principal_of(alloc, NT_SRV_INST, sname)?;
-    Ok(tgt_req(alloc, server_name)?)
+    let made = given_tgt_req(alloc, server_name)?;
+    Ok(made)
 }
 
 /// A TGT-REQ to the service with these components, a name of type 2 (draft-swift-win2k-krb-user2user, section 3).
@@ -209,6 +217,7 @@ fn made_tgt_req(alloc: Global, sname: &[&str]) -> Result<TgtReq, Cause>
 #[tactic(auto, using(krb_replies::proofs::Telling::tells))]
 pub fn generate_tgt_req(alloc: Global, sname: &[&str]) -> Result<TgtReq, Error>
     ensures made { Tells (MakesTgtReq (map (λ part. part.now) sname.now)) result }
+    ensures within { length (component_octets (map (λ part. part.now) sname.now)) ≤ 2 ^ 24 → IfOk result (λ made. Fits tgt_req_layout (2 ^ 25) made) }
 {
     tell(made_tgt_req(alloc, sname))
 }
