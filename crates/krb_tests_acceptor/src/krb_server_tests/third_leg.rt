@@ -79,7 +79,13 @@ fn goes_so(
     let mut is_so = true;
     for leg in legs {
         let token = hex::decode(alloc, leg.token)?;
-        let answer = answer_at(alloc, server, book, &token, ServerRequestFlags::USE_DCE_STYLE);
+        let answer = answer_at(
+            alloc,
+            server,
+            book,
+            &token,
+            ServerRequestFlags::USE_DCE_STYLE,
+        );
         is_so &= answer.err() == leg.refusal;
     }
     Ok(is_so)
