@@ -1,16 +1,12 @@
 -- What a line declares: the table of lines.
-use Rattle.std.specs.Prelude.{ℕ, ◌-◌, ◌^◌, Bool, ◌||◌, if◌then◌else◌, List, [], ◌∷◌, codes, Option, Some, None, option_and_then}
+use Rattle.std.specs.Prelude.{ℕ, ◌-◌, ◌^◌, if◌then◌else◌, List, [], ◌∷◌, codes, Option, Some, None}
 use Rattle.std.specs.Str.{bytes_eq}
 use Rattle.krb_text.specs.Lines.{fields}
-use Rattle.krb_text.specs.Fields.{decimal_up_to, u32_of, octets_of, octets_or_none_of, name_of, flags_of, random_of}
+use Rattle.krb_text.specs.Options.{◌>>=◌}
+use Rattle.krb_text.specs.Inputs.{input_of}
+use Rattle.krb_text.specs.Fields.{decimal_up_to, u32_of, octets_of, name_of, flags_of, random_of}
 use Rattle.krb_text.specs.declared.item.Item.{Item}
 use Rattle.krb_text.specs.declared.item.Item.TheVariants.{Skew, Acceptor as AcceptorItem, Key as KeyItem, Event as EventItem}
-use Rattle.krb_text.specs.declared.item.Input.{Input}
-use Rattle.krb_text.specs.declared.item.Input.TheVariants.{Token, NotBuilt}
-
-infixl 10 ◌>>=◌
-abbrev pub ◌>>=◌ : {A B : Type 0} → Option A → (A → Option B) → Option B
-o >>= f = option_and_then f o
 
 -- skew <seconds>
 abbrev pub skew_of : List (List ℕ) → Option Item
@@ -37,28 +33,6 @@ key_of (id_text ∷ service_text ∷ octets_text ∷ []) = do
   octets ← octets_of octets_text
   Some (KeyItem (record { id = id; service = service; octets = octets }))
 key_of _ = None
-
--- the words of an input whose form is not built yet: what follows them is not looked at
-abbrev pub is_word_of_later_form : List ℕ → Bool
-is_word_of_later_form word =
-    bytes_eq word (codes "start") || bytes_eq word (codes "reply") || bytes_eq word (codes "fault")
-    || bytes_eq word (codes "wrap") || bytes_eq word (codes "unwrap") || bytes_eq word (codes "mic")
-    || bytes_eq word (codes "verify")
-
--- token <hex?>
-abbrev pub token_of : List (List ℕ) → Option Input
-token_of (text ∷ []) = do
-  octets ← octets_or_none_of text
-  Some (Token octets)
-token_of _ = None
-
--- a token, or a form that is not built
-abbrev pub input_of : List (List ℕ) → Option Input
-input_of [] = None
-input_of (word ∷ rest) =
-    if bytes_eq word (codes "token") then token_of rest
-    else if is_word_of_later_form word then Some NotBuilt
-    else None
 
 -- event <id> <moment> <128 hex digits> <flags?> <input>
 abbrev pub event_of : List (List ℕ) → Option Item

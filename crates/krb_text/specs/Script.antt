@@ -7,7 +7,8 @@ use Rattle.std.specs.Map.{lookup}
 use Rattle.std.specs.Str.{bytes_eq}
 use Rattle.krb_text.specs.Limits.{max_line, max_input}
 use Rattle.krb_text.specs.Lines.{lines, is_skipped}
-use Rattle.krb_text.specs.Items.{◌>>=◌, item_of}
+use Rattle.krb_text.specs.Options.{◌>>=◌}
+use Rattle.krb_text.specs.Items.{item_of}
 use Rattle.krb_text.specs.declared.stop.Stop.{Stop}
 use Rattle.krb_text.specs.declared.stop.Stop.TheVariants.{Whole, Bad, Long}
 use Rattle.krb_text.specs.declared.item.Item.{Item}

@@ -1,12 +1,11 @@
 //! What a line declares.
 ghost use Rattle.std.specs.Prelude.{◌≡◌, ◌∷◌, map, IfOk};
 ghost use Rattle.krb_text.specs.Lines.{fields};
-ghost use Rattle.krb_text.specs.Items.{skew_of, acceptor_of, key_of, event_of, token_of, input_of, is_word_of_later_form, item_of_fields, item_of};
+ghost use Rattle.krb_text.specs.Items.{skew_of, acceptor_of, key_of, event_of, item_of_fields, item_of};
 ghost use Rattle.krb_text.specs.Gives.{Gives};
 
-use crate::fields::{
-    FieldError, flags, name, number, number_u32, octets, octets_or_none, random_octets,
-};
+use crate::fields::{FieldError, flags, name, number, number_u32, octets, random_octets};
+use crate::input::{Input, parse_input};
 use krb_der::{Name, Octets};
 use sspi_core::ClientRequestFlags;
 use std::alloc::{AllocError, Global};
@@ -31,17 +30,8 @@ pub struct Key {
     pub octets: Octets,
 }
 
-/// What an event brings to its connection.
-#[derive(Debug, Drop)]
-pub enum Input {
-    /// A token of the peer's.
-    Token(Octets),
-    /// A form that is not built yet. What stands behind its word is not looked at.
-    NotBuilt,
-}
-
 /// One event at a connection.
-#[derive(Debug, Drop)]
+#[derive(Drop)]
 pub struct Event {
     /// The connection's number. No line need have declared it.
     pub connection: u32,
@@ -54,7 +44,7 @@ pub struct Event {
 }
 
 /// What a line declares.
-#[derive(Debug, Drop)]
+#[derive(Drop)]
 pub enum Item {
     /// The clock skew that is allowed, in seconds.
     Skew(u32),
@@ -107,42 +97,6 @@ fn parse_key(alloc: Global, fields: &[&[u8]]) -> Result<Item, FieldError>
         service: name(alloc, service)?,
         octets: octets(alloc, key)?,
     }))
-}
-
-fn is_word_of_later_form(word: &[u8]) -> bool
-    ensures { result ≡ is_word_of_later_form word.now }
-{
-    word == b"start".as_slice()
-        || word == b"reply".as_slice()
-        || word == b"fault".as_slice()
-        || word == b"wrap".as_slice()
-        || word == b"unwrap".as_slice()
-        || word == b"mic".as_slice()
-        || word == b"verify".as_slice()
-}
-
-fn parse_token(alloc: Global, fields: &[&[u8]]) -> Result<Input, FieldError>
-    ensures { Gives (token_of (map (λ x. x.now) fields.now)) result }
-{
-    let [token] = fields else {
-        return Err(FieldError::Bad);
-    };
-    Ok(Input::Token(octets_or_none(alloc, token)?))
-}
-
-fn parse_input(alloc: Global, fields: &[&[u8]]) -> Result<Input, FieldError>
-    ensures { Gives (input_of (map (λ x. x.now) fields.now)) result }
-{
-    let [word, rest @ ..] = fields else {
-        return Err(FieldError::Bad);
-    };
-    if *word == b"token".as_slice() {
-        parse_token(alloc, rest)
-    } else if is_word_of_later_form(word) {
-        Ok(Input::NotBuilt)
-    } else {
-        Err(FieldError::Bad)
-    }
 }
 
 fn parse_event(alloc: Global, fields: &[&[u8]]) -> Result<Item, FieldError>

@@ -10,8 +10,10 @@
 //! ```
 #![tactic(auto)]
 
+mod buffers;
 mod cutter;
 mod fields;
+mod input;
 mod item;
 mod lines;
 mod output;
@@ -24,7 +26,8 @@ mod words;
 
 pub use cutter::{CutFault, LineCutter};
 pub use fields::FieldError;
-pub use item::{Acceptor, Event, Input, Item, Key, parse_item};
+pub use input::Input;
+pub use item::{Acceptor, Event, Item, Key, parse_item};
 pub use lines::is_skipped;
 pub use output::write_line;
 pub use outside::memory::{Calls, MemSink, MemSource, SureSink, SureSource};
