@@ -1,5 +1,5 @@
 -- What holds of a service over any gate, from what every gate owes alone.
-use Rattle.std.proofs.Common.{◌≡◌, ℕ, Bool, true, List, [], ◌∷◌, Option, Some, None, MatchOption, Result, Ok, Err, refl, ap, sym, ◌∙◌, subst}
+use Rattle.std.proofs.Common.{◌≡◌, ℕ, Bool, true, false, List, [], ◌∷◌, Option, Some, None, MatchOption, Result, Ok, Err, refl, ap, sym, ◌∙◌, subst}
 use Rattle.krb_context.specs.declared.context.Kerberos.{Kerberos}
 use Rattle.krb_replay.proofs.Window.{admitted_in_time}
 use Rattle.krb_replay.specs.Clock.{clock_refusal}
@@ -19,10 +19,12 @@ use Rattle.sspi_core.proofs.Chain.{halts, follows}
 use Rattle.sspi_core.specs.Checks.{Passes, Goes, err_of, ◌>>◌}
 use Rattle.sspi_core.specs.declared.cause.Cause.{Cause}
 use Rattle.sspi_core.specs.declared.draw.Draw.{Draw}
-use Rattle.krb_service.specs.Policy.{State, Judges, Behind, Steps, Runs, Brings, reached, reply_of, server_flags, draw_of}
+use Rattle.krb_service.specs.Policy.{State, Judges, Behind, StepsBy, Steps, Runs, Brings, reached, called, reply_of, server_flags, draw_of}
 use Rattle.krb_service.specs.Reply.{admits_peer}
 use Rattle.krb_service.specs.declared.connection.Connection.{Connection}
 use Rattle.krb_service.specs.declared.reply.Reply.{Reply}
+use Rattle.krb_service.specs.MessageCalls.{is_call}
+use Rattle.krb_service.proofs.CallLemmas.{call-gate, token-step}
 use Rattle.krb_service.proofs.LeftLemmas.{done_admission, passed_admitted}
 
 -- what passes is admitted by the gate
@@ -58,12 +60,16 @@ module _ {G : Type 0} (admits : G → Ask → Verdict → G → Type 0) (skew : 
   behind_skew state after event (Ok found) answer b = asks_skew event.moment state.gate after.gate b.accepts.request b.accepts.verdict b.accepts.gate
   behind_skew state after event (Err cause) answer b = ap (λ (s : State G). skew s.gate) b.1
 
+  step_skew : (is_call : Bool) (state after : State G) (event : Event) (reply : Reply) → StepsBy admits is_call state event reply after → skew after.gate ≡ skew state.gate
+  step_skew true state after event reply step = ap skew (call-gate state event (called state.connections event) reply after step)
+  step_skew false state after event reply step = behind_skew state after event (reached state.connections event) step.answer step.behind
+
   pub run_skew : (state after : State G) (events : List Event) (replies : List Reply) → Runs admits state events replies after → skew after.gate ≡ skew state.gate
   run_skew state after [] [] runs = ap (λ (s : State G). skew s.gate) runs
   run_skew state after [] (reply ∷ replies) runs = absurd runs
   run_skew state after (event ∷ events) [] runs = absurd runs
   run_skew state after (event ∷ events) (reply ∷ replies) runs =
-      run_skew runs.0 after events replies runs.2 ∙ behind_skew state runs.0 event (reached state.connections event) runs.1.answer runs.1.behind
+      run_skew runs.0 after events replies runs.2 ∙ step_skew (is_call event.input) state runs.0 event reply runs.1
 
 -- a gate's verdicts are the clock's where the clock refuses
 module _ {G : Type 0} (admits : G → Ask → Verdict → G → Type 0) (skew moment : G → ℕ) (judged : (old new : G) (ask : Ask) (verdict : Verdict) → admits old ask verdict new → IsJudged (skew old) (moment new) ask verdict) where
@@ -77,14 +83,15 @@ module _ {G : Type 0} (admits : G → Ask → Verdict → G → Type 0) (skew mo
   gate_judges : (state after : State G) (event : Event) (reply : Reply) (request : Request) (step : Steps admits state event reply after) (b : Brings state.connections event request)
       → GateJudges state after event reply request b.connection b.token
   gate_judges state after event reply request step b =
-      let B : Result (Connection × List ℕ) Cause → Type 0 = λ f. Behind admits state event f step.answer after in
-      let j = subst B b.reaches step.behind in
+      let taken = token-step admits state event b.connection b.token reply after b.reaches step in
+      let B : Result (Connection × List ℕ) Cause → Type 0 = λ f. Behind admits state event f taken.answer after in
+      let j = subst B b.reaches taken.behind in
       let same = (begins_once b.connection.context (asks_dce_style (server_flags event.flags)) b.token).same j.accepts.request (Ok request) j.accepts.begun b.begun in
       let A : Result Request Cause → Type 0 = λ r. Asks admits event.moment state.gate r j.accepts.verdict after.gate in
       record {
-        answer = step.answer;
+        answer = taken.answer;
         judges = j;
-        reply_is = step.reply_is;
+        reply_is = taken.reply_is;
         verdict = judged state.gate after.gate (ask_of request event.moment) j.accepts.verdict (subst A same j.accepts.gate);
       }
 

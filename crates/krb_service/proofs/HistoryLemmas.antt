@@ -1,5 +1,5 @@
 -- A service over a book answers as the one over the gate that never forgets.
-use Rattle.std.proofs.Common.{◌≡◌, ℕ, List, [], ◌∷◌, ◌++◌, Result, Ok, Err, refl, ap, sym, ◌∙◌, subst}
+use Rattle.std.proofs.Common.{◌≡◌, ℕ, Bool, true, false, List, [], ◌∷◌, ◌++◌, Result, Ok, Err, refl, ap, sym, ◌∙◌, subst}
 use Rattle.krb_replay.specs.Book.{Book, Follows, StandsFor}
 use Rattle.krb_replay.specs.History.{History, verdict_of, history_after}
 use Rattle.krb_replay.specs.declared.ask.Verdict.{Verdict}
@@ -11,9 +11,11 @@ use Rattle.krb_text.specs.declared.item.Event.{Event}
 use Rattle.sspi_core.specs.declared.cause.Cause.{Cause}
 use Rattle.krb_service.specs.declared.connection.Connection.{Connection}
 use Rattle.krb_service.specs.declared.reply.Reply.{Reply}
-use Rattle.krb_service.specs.Policy.{State, Behind, Steps, Runs, reached}
+use Rattle.krb_service.specs.Policy.{State, Behind, AnswersCall, StepsBy, Steps, Runs, reached, called}
 use Rattle.krb_service.specs.Described.{Remembers, with_gate}
-use Rattle.krb_service.specs.Left.{left_behind, record_left, records_left}
+use Rattle.krb_service.specs.Left.{left_behind, left_by_kind, record_left, records_left}
+use Rattle.krb_service.specs.MessageCalls.{is_call}
+use Rattle.krb_service.proofs.CallLemmas.{call-gate}
 
 -- a book of this skew that stands for the history
 record Keeps (skew : ℕ) (book : Book) (h : History) : Type 0 where
@@ -80,13 +82,39 @@ pub record Remembered (skew : ℕ) (before : State Book) (h : History) (event : 
   pub own_skew : next.gate.skew ≡ skew
   pub left : record_left (Remembers skew) (with_gate before h) event reply (with_gate next after) steps ≡ record_left (Follows StandsFor) before event reply next s
 
+-- the same, where it is told whether the event is a call
+record RememberedBy (skew : ℕ) (before : State Book) (h : History) (event : Event) (reply : Reply) (next : State Book) (b : Bool) (s : StepsBy (Follows StandsFor) b before event reply next) : Type 0 where
+  after : History
+  steps : StepsBy (Remembers skew) b (with_gate before h) event reply (with_gate next after)
+  keeps : Keeps skew next.gate after
+  left : left_by_kind (Remembers skew) b (with_gate before h) event reply (with_gate next after) steps ≡ left_by_kind (Follows StandsFor) b before event reply next s
+
+call_remembered : (before : State Book) (h : History) (event : Event) (found : Result Connection Cause) (reply : Reply) (next : State Book) → AnswersCall before event found reply next
+    → AnswersCall (with_gate before h) event found reply (with_gate next h)
+call_remembered before h event (Ok connection) reply next c = record { context = c.context; calls = c.calls; connections = c.connections; env = c.env; gate = refl }
+call_remembered before h event (Err cause) reply next c = (c.0, ap (λ (s : State Book). with_gate s h) c.1)
+
+remembered_by : (skew : ℕ) (before : State Book) (h : History) (event : Event) (reply : Reply) (next : State Book) (b : Bool) → Keeps skew before.gate h
+    → (s : StepsBy (Follows StandsFor) b before event reply next) → RememberedBy skew before h event reply next b s
+remembered_by skew before h event reply next true k s =
+    let K : Book → Type 0 = λ g. Keeps skew g h in
+    record {
+      after = h;
+      steps = call_remembered before h event (called before.connections event) reply next s;
+      keeps = subst K (sym (call-gate before event (called before.connections event) reply next s)) k;
+      left = refl;
+    }
+remembered_by skew before h event reply next false k s =
+    let b = behind_remembered skew before next h event (reached before.connections event) s.answer k s.behind in
+    record { after = b.after; steps = record { answer = s.answer; behind = b.behind; reply_is = s.reply_is }; keeps = b.keeps; left = b.left }
+
 pub step-remembered : (skew : ℕ) (before : State Book) (h : History) (event : Event) (reply : Reply) (next : State Book) → StandsFor before.gate h → before.gate.skew ≡ skew
     → (s : Steps (Follows StandsFor) before event reply next) → Remembered skew before h event reply next s
 step-remembered skew before h event reply next stands own_skew s =
-    let b = behind_remembered skew before next h event (reached before.connections event) s.answer (record { stands = stands; own_skew = own_skew }) s.behind in
+    let b = remembered_by skew before h event reply next (is_call event.input) (record { stands = stands; own_skew = own_skew }) s in
     record {
       after = b.after;
-      steps = record { answer = s.answer; behind = b.behind; reply_is = s.reply_is };
+      steps = b.steps;
       stands = b.keeps.stands;
       own_skew = b.keeps.own_skew;
       left = b.left;

@@ -27,9 +27,11 @@ use Rattle.sspi_core.specs.declared.cause.Cause.{Cause}
 use Rattle.sspi_core.specs.declared.draw.Draw.{Draw}
 use Rattle.krb_service.specs.declared.connection.Connection.{Connection}
 use Rattle.krb_service.specs.declared.reply.Reply.{Reply}
-use Rattle.krb_service.specs.Policy.{State, Judges, Behind, Steps, Runs, reached, reply_of, server_flags, draw_of}
+use Rattle.krb_service.specs.Policy.{State, Judges, Behind, StepsBy, Steps, Runs, reached, called, reply_of, server_flags, draw_of}
 use Rattle.krb_service.specs.Described.{Remembers}
-use Rattle.krb_service.specs.Left.{left_by, left_behind, record_left, records_left}
+use Rattle.krb_service.specs.Left.{left_by, left_behind, left_by_kind, record_left, records_left}
+use Rattle.krb_service.specs.MessageCalls.{is_call}
+use Rattle.krb_service.proofs.CallLemmas.{call-gate, call-admits_not, token-step}
 use Rattle.krb_service.specs.Reply.{admits_peer}
 
 recorded_is : (records : List Record) (entry : Record) (b : Bool) → (if b then records ++ entry ∷ [] else records) ≡ records ++ (if b then entry ∷ [] else [])
@@ -66,6 +68,14 @@ behind_left skew state event (Err cause) answer after b distinct =
     let D : State History → Type 0 = λ s. IsDistinct s.gate.admitted in
     record { is = ap (λ (s : State History). s.gate.admitted) b.1 ∙ sym (append-nil state.gate.admitted); distinct = subst D (sym b.1) distinct }
 
+step_left : (skew : ℕ) (b : Bool) (state : State History) (event : Event) (reply : Reply) (after : State History) (step : StepsBy (Remembers skew) b state event reply after) → IsDistinct state.gate.admitted
+    → Leaves state.gate.admitted after.gate.admitted (left_by_kind (Remembers skew) b state event reply after step)
+step_left skew true state event reply after step distinct =
+    let gate = call-gate state event (called state.connections event) reply after step in
+    let D : History → Type 0 = λ h. IsDistinct h.admitted in
+    record { is = ap (λ (h : History). h.admitted) gate ∙ sym (append-nil state.gate.admitted); distinct = subst D (sym gate) distinct }
+step_left skew false state event reply after step distinct = behind_left skew state event (reached state.connections event) step.answer after step.behind distinct
+
 -- no record is left by two events of a run
 pub left-once : (skew : ℕ) (state after : State History) (events : List Event) (replies : List Reply) (runs : Runs (Remembers skew) state events replies after)
     → IsDistinct state.gate.admitted → IsDistinct (state.gate.admitted ++ records_left (Remembers skew) state events replies after runs)
@@ -73,7 +83,7 @@ left-once skew state after [] replies runs distinct = subst IsDistinct (sym (app
 left-once skew state after (event ∷ events) [] runs distinct = absurd runs
 left-once skew state after (event ∷ events) (reply ∷ replies) runs distinct =
     let step = runs.1 in
-    let one = behind_left skew state event (reached state.connections event) step.answer runs.0 step.behind distinct in
+    let one = step_left skew (is_call event.input) state event reply runs.0 step distinct in
     let left = record_left (Remembers skew) state event reply runs.0 step in
     let rest = records_left (Remembers skew) runs.0 events replies after runs.2 in
     subst IsDistinct (ap (λ l. l ++ rest) one.is ∙ append_assoc state.gate.admitted left rest) (left-once skew runs.0 after events replies runs.2 one.distinct)
@@ -141,10 +151,15 @@ module _ {G : Type 0} (admits : G → Ask → Verdict → G → Type 0) where
   done_behind state event (Err cause) answer after b done =
       let refused : admits_peer (reply_of (Err cause)) ≡ true = ap (λ a. admits_peer (reply_of a)) (sym b.0) ∙ done in absurd (cc)
 
+  done_by : (b : Bool) (state after : State G) (event : Event) (reply : Reply) (step : StepsBy admits b state event reply after) → admits_peer reply ≡ true
+      → length (left_by_kind admits b state event reply after step) ≡ 1
+  done_by true state after event reply step done = absurd (call-admits_not state event (called state.connections event) reply after step done)
+  done_by false state after event reply step done =
+      done_behind state event (reached state.connections event) step.answer after step.behind (ap admits_peer (sym step.reply_is) ∙ done)
+
   -- an event that admits its peer leaves one record
   pub done-left : (state after : State G) (event : Event) (reply : Reply) (step : Steps admits state event reply after) → admits_peer reply ≡ true → length (record_left admits state event reply after step) ≡ 1
-  done-left state after event reply step done =
-      done_behind state event (reached state.connections event) step.answer after step.behind (ap admits_peer (sym step.reply_is) ∙ done)
+  done-left state after event reply step done = done_by (is_call event.input) state after event reply step done
 
 judged_admitted : (server : Kerberos) (dce : Bool) (token : List ℕ) (draw : Draw) (request : Request) (admission : Admission) → Begins server dce token (Ok request) → Finishes server dce draw request (Ok admission)
     → Judged server dce token draw Admitted (Ok admission)
@@ -162,11 +177,12 @@ pub passing-done : (skew : ℕ) (state after : State History) (event : Event) (r
     → Begins connection.context (asks_dce_style (server_flags event.flags)) token (Ok request) → verdict_of skew state.gate (ask_of request event.moment) ≡ Admitted
     → Finishes connection.context (asks_dce_style (server_flags event.flags)) (draw_of event) request (Ok admission) → reply ≡ reply_of (Ok (accepted_of admission))
 passing-done skew state after event reply connection token request admission step reaches begun admitted finished =
-    let B : Result (Connection × List ℕ) Cause → Type 0 = λ f. Behind (Remembers skew) state event f step.answer after in
-    let j = subst B reaches step.behind in
+    let taken = token-step (Remembers skew) state event connection token reply after reaches step in
+    let B : Result (Connection × List ℕ) Cause → Type 0 = λ f. Behind (Remembers skew) state event f taken.answer after in
+    let j = subst B reaches taken.behind in
     let dce = asks_dce_style (server_flags event.flags) in
     let draw = draw_of event in
     let same = (begins_once connection.context dce token).same j.accepts.request (Ok request) j.accepts.begun begun in
     let verdict = asked_verdict skew event.moment state.gate j.accepts.request request j.accepts.verdict after.gate same j.accepts.gate ∙ admitted in
-    let done = completed (Remembers skew) connection.context dce token draw state.gate after.gate step.answer j.server admission j.accepts verdict (judged_admitted connection.context dce token draw request admission begun finished) in
-    step.reply_is ∙ ap reply_of done.0
+    let done = completed (Remembers skew) connection.context dce token draw state.gate after.gate taken.answer j.server admission j.accepts verdict (judged_admitted connection.context dce token draw request admission begun finished) in
+    taken.reply_is ∙ ap reply_of done.0

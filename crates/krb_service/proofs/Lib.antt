@@ -1,3 +1,5 @@
+pub mod MessageLemmas
+pub mod CallLemmas
 pub mod PolicyLemmas
 pub mod StepLemmas
 pub mod HistoryLemmas

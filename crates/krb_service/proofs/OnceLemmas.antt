@@ -19,7 +19,9 @@ use Rattle.sspi_core.specs.declared.cause.Cause.{Cause}
 use Rattle.sspi_core.specs.declared.draw.Draw.{Draw}
 use Rattle.krb_service.specs.declared.connection.Connection.{Connection}
 use Rattle.krb_service.specs.declared.reply.Reply.{Reply}
-use Rattle.krb_service.specs.Policy.{State, Says, Judges, Behind, Steps, Runs, reached, reply_of, server_flags, draw_of}
+use Rattle.krb_service.specs.Policy.{State, Says, Judges, Behind, StepsBy, Steps, Runs, reached, called, reply_of, server_flags, draw_of}
+use Rattle.krb_service.specs.MessageCalls.{is_call}
+use Rattle.krb_service.proofs.CallLemmas.{call-once}
 use Rattle.krb_service.specs.Described.{Remembers, skew_of, service_of}
 use Rattle.krb_service.specs.Reply.{replies_text}
 use Rattle.krb_service.specs.Text.{IsText, last_line}
@@ -92,10 +94,14 @@ module _ {G : Type 0} (admits : G → Ask → Verdict → G → Type 0) (determi
   behind_once state event (Ok found) r s a b h k = judges_once state event found.0 found.1 r s a b h k
   behind_once state event (Err cause) r s a b h k = (h.0 ∙ sym k.0, h.1 ∙ sym k.1)
 
-  pub step-once : (state : State G) (event : Event) (r s : Reply) (a b : State G) → Steps admits state event r a → Steps admits state event s b → (r ≡ s) × (a ≡ b)
-  step-once state event r s a b h k =
+  step_by_once : (is_call : Bool) (state : State G) (event : Event) (r s : Reply) (a b : State G) → StepsBy admits is_call state event r a → StepsBy admits is_call state event s b → (r ≡ s) × (a ≡ b)
+  step_by_once true state event r s a b h k = call-once state event (called state.connections event) r s a b h k
+  step_by_once false state event r s a b h k =
       let same = behind_once state event (reached state.connections event) h.answer k.answer a b h.behind k.behind in
       (h.reply_is ∙ ap reply_of same.0 ∙ sym k.reply_is, same.1)
+
+  pub step-once : (state : State G) (event : Event) (r s : Reply) (a b : State G) → Steps admits state event r a → Steps admits state event s b → (r ≡ s) × (a ≡ b)
+  step-once state event r s a b h k = step_by_once (is_call event.input) state event r s a b h k
 
   pub runs-once : (state : State G) (events : List Event) (r s : List Reply) (a b : State G) → Runs admits state events r a → Runs admits state events s b → (r ≡ s) × (a ≡ b)
   runs-once state [] [] [] a b h k = (refl, h ∙ sym k)

@@ -10,7 +10,7 @@ use Rattle.sspi_core.specs.Kinds.{error_of}
 use Rattle.sspi_core.specs.declared.cause.Cause.{Cause}
 use Rattle.krb_service.specs.declared.connection.Connection.{Connection}
 use Rattle.krb_service.specs.declared.reply.Reply.TheVariants.{Refused}
-use Rattle.krb_service.specs.Policy.{State, reached, Behind, Steps}
+use Rattle.krb_service.specs.Policy.{State, reached, Behind, TakesToken}
 
 -- a refusal is told as it is
 pub mapped_err : {A B : Type 0} (f : A → B) (r : Result A Cause) (cause : Cause) → ◌≡◌ {A = Result B Cause} (Err cause) (result_map_both f (λ (c : Cause). c) r) → r ≡ Err cause
@@ -33,7 +33,7 @@ set_same test (entry ∷ entries) x e =
 
 module _ {G : Type 0} (admits : G → Ask → Verdict → G → Type 0) where
   -- the first checks refuse
-  pub step-refused : (state : State G) (event : Event) (cause : Cause) → reached state.connections event ≡ Err cause → Steps admits state event (Refused (error_of cause)) state
+  pub step-refused : (state : State G) (event : Event) (cause : Cause) → reached state.connections event ≡ Err cause → TakesToken admits state event (Refused (error_of cause)) state
   step-refused state event cause e =
       let B : Result (Connection × List ℕ) Cause → Type 0 = λ f. Behind admits state event f (Err cause) state in
       record { answer = Err cause; behind = subst B (sym e) (refl, refl); reply_is = refl }

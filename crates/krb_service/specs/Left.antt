@@ -1,5 +1,5 @@
 -- The record that an event leaves in the gate, whatever it is then answered.
-use Rattle.std.specs.Prelude.{ℕ, List, [], ◌∷◌, ◌++◌, Result, Ok, Err, if◌then◌else◌}
+use Rattle.std.specs.Prelude.{ℕ, Bool, true, false, List, [], ◌∷◌, ◌++◌, Result, Ok, Err, if◌then◌else◌}
 use Rattle.krb_replay.specs.Verdicts.{is_admitted}
 use Rattle.krb_replay.specs.declared.ask.Ask.{Ask}
 use Rattle.krb_replay.specs.declared.ask.Verdict.{Verdict}
@@ -11,7 +11,8 @@ use Rattle.krb_text.specs.declared.item.Event.{Event}
 use Rattle.sspi_core.specs.declared.cause.Cause.{Cause}
 use Rattle.krb_service.specs.declared.connection.Connection.{Connection}
 use Rattle.krb_service.specs.declared.reply.Reply.{Reply}
-use Rattle.krb_service.specs.Policy.{State, Behind, Steps, Runs, reached}
+use Rattle.krb_service.specs.MessageCalls.{is_call}
+use Rattle.krb_service.specs.Policy.{State, Behind, StepsBy, Steps, Runs, reached}
 
 -- that of a request which the gate admits
 abbrev pub left_by : Result Request Cause → Verdict → ℕ → List Record
@@ -25,8 +26,12 @@ module _ {G : Type 0} (admits : G → Ask → Verdict → G → Type 0) where
   left_behind state event (Err cause) answer after refused = []
 
   -- what one event leaves: one record, or none
+  abbrev pub left_by_kind : (is_call : Bool) (state : State G) (event : Event) (reply : Reply) (after : State G) → StepsBy admits is_call state event reply after → List Record
+  left_by_kind true state event reply after step = []
+  left_by_kind false state event reply after step = left_behind state event (reached state.connections event) step.answer after step.behind
+
   abbrev pub record_left : (state : State G) (event : Event) (reply : Reply) (after : State G) → Steps admits state event reply after → List Record
-  record_left state event reply after step = left_behind state event (reached state.connections event) step.answer after step.behind
+  record_left state event reply after step = left_by_kind (is_call event.input) state event reply after step
 
   -- what the events of a run leave
   abbrev pub records_left : (state : State G) (events : List Event) (replies : List Reply) (after : State G) → Runs admits state events replies after → List Record

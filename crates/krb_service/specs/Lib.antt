@@ -1,4 +1,5 @@
 pub mod Reply
+pub mod MessageCalls
 pub mod Policy
 pub mod Described
 pub mod Left

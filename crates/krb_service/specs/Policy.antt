@@ -15,8 +15,8 @@ use Rattle.krb_server.specs.declared.admission.Accepted.TheVariants.{Done as Ans
 use Rattle.krb_server.specs.declared.request.Request.{Request}
 use Rattle.krb_text.specs.Script.{at_id}
 use Rattle.krb_text.specs.declared.item.Event.{Event}
-use Rattle.krb_text.specs.declared.item.Input.{Input}
-use Rattle.krb_text.specs.declared.item.Input.TheVariants.{Token, NotBuilt as LaterForm}
+use Rattle.krb_text.specs.declared.input.Input.{Input}
+use Rattle.krb_text.specs.declared.input.Input.TheVariants.{Token, Start, KdcReply, KdcFault, Wrap, Unwrap, MakeMic, VerifyMic}
 use Rattle.sspi_core.specs.Checks.{ok_or}
 use Rattle.sspi_core.specs.Kinds.{error_of}
 use Rattle.sspi_core.specs.declared.cause.Cause.{Cause}
@@ -28,6 +28,7 @@ use Rattle.sspi_core.specs.declared.flags.ServerRequestFlags.{ServerRequestFlags
 use Rattle.krb_service.specs.declared.connection.Connection.{Connection}
 use Rattle.krb_service.specs.declared.reply.Reply.{Reply}
 use Rattle.krb_service.specs.declared.reply.Reply.TheVariants.{Done, Refused}
+use Rattle.krb_service.specs.MessageCalls.{is_call, Calls}
 
 -- a service: its connections by their numbers, its environment, and its replay gate
 pub record State (G : Type 0) : Type 0 where
@@ -44,23 +45,34 @@ Err cause >>= f = Err cause
 abbrev pub check : Cause → Bool → Result (Unit {0}) Cause
 check cause test = if test then Ok tt else Err cause
 
--- the token that an event brings, where its form is built
+-- the token that an event brings
 abbrev pub token_of : Input → Option (List ℕ)
 token_of (Token octets) = Some octets
-token_of LaterForm = None
+token_of Start = None
+token_of (KdcReply octets) = None
+token_of (KdcFault code) = None
+token_of (Wrap message) = None
+token_of (Unwrap message) = None
+token_of (MakeMic payload) = None
+token_of (VerifyMic token payload) = None
 
 -- the last moment that is taken: the end of 9999-12-28, in microseconds since 1970-01-01T00:00:00Z
 abbrev pub last_moment : ℕ
 last_moment = 253402041599999999
 
--- the first checks: the moment is in range, the form is built, there is such a connection, and it is an acceptor, since
--- what an initiator does with a token is not built
+-- the first checks of a call: the moment is in range, and there is such a connection
+abbrev pub called : List (ℕ × Connection) → Event → Result Connection Cause
+called connections event = do
+  in_range ← check causes.Moment (nat_le event.moment last_moment)
+  ok_or causes.Connection (at_id event.connection connections)
+
+-- the first checks of an event of an exchange: those of a call; the connection is an acceptor, since an initiator's exchange
+-- is not built; and the event brings a token, since no acceptor awaits anything else
 abbrev pub reached : List (ℕ × Connection) → Event → Result (Connection × List ℕ) Cause
 reached connections event = do
-  in_range ← check causes.Moment (nat_le event.moment last_moment)
-  token ← ok_or causes.NotBuilt (token_of event.input)
-  connection ← ok_or causes.Connection (at_id event.connection connections)
+  connection ← called connections event
   built ← check causes.NotBuilt (is_acceptor connection.context)
+  token ← ok_or causes.Sequence (token_of event.input)
   Ok (connection, token)
 
 -- the flags of an event, of which an acceptor reads the two that it has
@@ -121,6 +133,19 @@ pub record IsSameState {G : Type 0} (is_same : G → G → Type 0) (old new : St
 abbrev pub Says : {G : Type 0} → Verdict → G → Ask → Verdict → G → Type 0
 Says given old ask verdict new = (verdict ≡ given) × (new ≡ old)
 
+-- a call is answered at a connection's context, and all else stays
+pub record CallsAt {G : Type 0} (state : State G) (event : Event) (connection : Connection) (reply : Reply) (after : State G) : Type 0 where
+  pub context : Kerberos
+  pub calls : Calls event.input connection.context event.random reply context
+  pub connections : after.connections ≡ set_value (is_at (nat_cmp event.connection)) state.connections (record connection { context = context })
+  pub env : after.env ≡ state.env
+  pub gate : after.gate ≡ state.gate
+
+-- behind the first checks of a call: a refusal of theirs leaves the service
+abbrev pub AnswersCall : {G : Type 0} → State G → Event → Result Connection Cause → Reply → State G → Type 0
+AnswersCall state event (Ok connection) reply after = CallsAt state event connection reply after
+AnswersCall state event (Err cause) reply after = (reply ≡ Refused (error_of cause)) × (after ≡ state)
+
 module _ {G : Type 0} (admits : G → Ask → Verdict → G → Type 0) where
   -- the acceptor of a connection judges a token: its context and the gate take the step, and all else stays
   pub record Judges (state : State G) (event : Event) (connection : Connection) (token : List ℕ) (answer : Result Accepted Cause) (after : State G) : Type 0 where
@@ -134,11 +159,19 @@ module _ {G : Type 0} (admits : G → Ask → Verdict → G → Type 0) where
   Behind state event (Ok found) answer after = Judges state event found.0 found.1 answer after
   Behind state event (Err cause) answer after = (answer ≡ Err cause) × (after ≡ state)
 
-  -- one event may be answered so, and the service is this afterwards
-  pub record Steps (state : State G) (event : Event) (reply : Reply) (after : State G) : Type 0 where
+  -- a token may be answered so, and the service is this afterwards
+  pub record TakesToken (state : State G) (event : Event) (reply : Reply) (after : State G) : Type 0 where
     pub answer : Result Accepted Cause
     pub behind : Behind state event (reached state.connections event) answer after
     pub reply_is : reply ≡ reply_of answer
+
+  -- one event may be answered so, and the service is this afterwards
+  abbrev pub StepsBy : Bool → State G → Event → Reply → State G → Type 0
+  StepsBy true state event reply after = AnswersCall state event (called state.connections event) reply after
+  StepsBy false state event reply after = TakesToken state event reply after
+
+  abbrev pub Steps : State G → Event → Reply → State G → Type 0
+  Steps state event reply after = StepsBy (is_call event.input) state event reply after
 
   -- events may be answered so, one after another, and the service is this afterwards
   abbrev pub Runs : State G → List Event → List Reply → State G → Type 0

@@ -1,12 +1,16 @@
 -- What is written of a reply.
 use Rattle.std.specs.Prelude.{ℕ, Bool, true, false, List, [], ◌∷◌, ◌++◌, codes}
+use Rattle.std.specs.Fmt.{decimal}
 use Rattle.std.specs.List.{flat_map, count_by}
 use Rattle.hex.specs.Hex.{encode_lower}
+use Rattle.sspi_core.specs.Buffer.{Buffer, has_checksum_flag}
 use Rattle.sspi_core.specs.Printed.{error_text}
+use Rattle.sspi_core.specs.declared.buffer.BufferType.{BufferType}
+use Rattle.sspi_core.specs.declared.buffer.BufferType.TheVariants as types
 use Rattle.sspi_core.specs.declared.results.SecurityStatus.{SecurityStatus}
 use Rattle.sspi_core.specs.declared.results.SecurityStatus.TheVariants.{Ok, ContinueNeeded}
 use Rattle.krb_service.specs.declared.reply.Reply.{Reply}
-use Rattle.krb_service.specs.declared.reply.Reply.TheVariants.{Done, Refused}
+use Rattle.krb_service.specs.declared.reply.Reply.TheVariants.{Done, Buffers, Mic, Verified, Refused}
 
 -- octets in lower-case hex; `-` stands for none
 abbrev pub hex_or_dash : List ℕ → List ℕ
@@ -18,9 +22,24 @@ abbrev pub done_line : SecurityStatus → List ℕ → List ℕ
 done_line Ok token = codes "ok " ++ hex_or_dash token ++ codes "\n"
 done_line ContinueNeeded token = codes "continue " ++ hex_or_dash token ++ codes "\n"
 
+-- the letter of a buffer: T the token, D the data that are sealed, R data that the checksum covers, S the stream
+abbrev pub letter_of : BufferType → Bool → List ℕ
+letter_of types.Token covered = codes "T"
+letter_of types.Stream covered = codes "S"
+letter_of types.Data true = codes "R"
+letter_of types.Data false = codes "D"
+
+-- <letter>:<hex>:<limit>, behind a space
+abbrev pub buffer_text : Buffer → List ℕ
+buffer_text buffer =
+    codes " " ++ (letter_of buffer.kind (has_checksum_flag buffer.flags) ++ (codes ":" ++ (encode_lower buffer.octets ++ (codes ":" ++ decimal buffer.limit))))
+
 -- the line that tells a reply
 abbrev pub reply_line : Reply → List ℕ
 reply_line (Done status token admits) = done_line status token
+reply_line (Buffers message) = codes "buffers" ++ flat_map buffer_text message ++ codes "\n"
+reply_line (Mic token) = codes "mic " ++ encode_lower token ++ codes "\n"
+reply_line Verified = codes "verified\n"
 reply_line (Refused error) = codes "refused " ++ error_text error ++ codes "\n"
 
 -- the lines of replies, one after another
@@ -30,6 +49,9 @@ replies_text replies = flat_map reply_line replies
 -- whether a reply admits the peer
 abbrev pub admits_peer : Reply → Bool
 admits_peer (Done status token admits) = admits
+admits_peer (Buffers message) = false
+admits_peer (Mic token) = false
+admits_peer Verified = false
 admits_peer (Refused error) = false
 
 -- how many of them admit their peer

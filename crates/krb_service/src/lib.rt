@@ -19,6 +19,7 @@ mod demonstration;
 mod described;
 mod halt;
 pub mod laws;
+mod message_calls;
 mod reply;
 mod service;
 mod session;

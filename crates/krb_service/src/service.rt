@@ -5,6 +5,7 @@ ghost use Rattle.sspi_core.specs.declared.cause.Cause.TheVariants as causes;
 ghost use Rattle.krb_service.specs.Policy.{server_flags, draw_of, Replies};
 
 use crate::connection::Connection;
+use crate::message_calls::{call, is_call};
 use crate::reply::Reply;
 use bitflags::Flags;
 use krb_conf::Env;
@@ -62,7 +63,7 @@ fn draw_of(event: &Event) -> Draw
 }
 
 /// Whether memory ran out.
-fn is_memory(error: &Error) -> bool
+pub(crate) fn is_memory(error: &Error) -> bool
     ensures { IsTrue result ↔ (error.now ≡ error_of causes.Memory) }
 {
     matches!(
@@ -98,12 +99,13 @@ fn reply_to(answer: Result<Accepted, Error>) -> Result<Reply, OutOfMemory>
 }
 
 impl<G: ReplayGate> Service<G> {
-    ghost use Rattle.std.specs.Prelude.{◌≡◌, ◌<◌, [], length, take, not, None, option_map, IfOk, IfErr, OnOk, OnErr};
+    ghost use Rattle.std.specs.Prelude.{◌≡◌, ◌<◌, [], length, take, not, true, None, option_map, IfOk, IfErr, OnOk, OnErr};
     ghost use Rattle.std.specs.Result.{result_map_both};
     ghost use Rattle.krb_context.specs.Contexts.{is_acceptor};
     ghost use Rattle.krb_text.specs.Script.{at_id};
     ghost use Rattle.krb_service.specs.Described.{no_env};
-    ghost use Rattle.krb_service.specs.Policy.{with_connection, token_reached, is_taken, refusal_to_add, IsRefusedFor, IsSameState, Steps, StepsOn, RunsOn, StopsBehind};
+    ghost use Rattle.krb_service.specs.MessageCalls.{is_call};
+    ghost use Rattle.krb_service.specs.Policy.{with_connection, token_reached, is_taken, refusal_to_add, IsRefusedFor, IsSameState, called, AnswersCall, TakesToken, Steps, StepsOn, RunsOn, StopsBehind};
 
     /// A service without connections, whose environment has no variable and no file.
     pub fn new(alloc: Global, gate: G) -> Service<G>
@@ -209,21 +211,49 @@ impl<G: ReplayGate> Service<G> {
         if event.moment > MAX_MOMENT {
             return Err(Cause::Moment);
         }
-        let Input::Token(token) = &event.input else {
-            return Err(Cause::NotBuilt);
-        };
         let Some(context) = self.connection(event.connection) else {
             return Err(Cause::Connection);
         };
         if context.is_client() {
             return Err(Cause::NotBuilt);
         }
+        let Input::Token(token) = &event.input else {
+            return Err(Cause::Sequence);
+        };
         Ok(token.as_slice())
+    }
+
+    /// A call at a connection's context. Out of memory, the service stays.
+    fn answer_call(&mut self, alloc: Global, event: &Event) -> Result<Reply, OutOfMemory>
+        requires { is_call event.now.input ≡ true }
+        ensures call { IfOk result (λ reply. AnswersCall self.old event.now (called self.old.connections event.now) reply self.new) }
+        ensures err { OnErr result (self.new ≡ self.old) }
+    {
+        if MAX_MOMENT < event.moment {
+            return Ok(Reply::Refused(Error::from(Cause::Moment)));
+        }
+        let connections = &mut self.connections;
+        let Some(connection) = connections.get_mut(&event.connection) else {
+            return Ok(Reply::Refused(Error::from(Cause::Connection)));
+        };
+        call(alloc, &mut connection.context, &event.random, &event.input)
     }
 
     /// One event. Out of memory, the connections and the environment stay, and no caller can tell the gate from what it was.
     pub(crate) fn step(&mut self, alloc: Global, event: &Event) -> Result<Reply, OutOfMemory>
         ensures step { IfOk result (λ reply. Steps G.admits self.old event.now reply self.new) }
+        ensures err { OnErr result (IsSameState G.is_same self.old self.new) }
+    {
+        if is_call(&event.input) {
+            self.answer_call(alloc, event)
+        } else {
+            self.take_token(alloc, event)
+        }
+    }
+
+    /// An event of a connection's exchange.
+    fn take_token(&mut self, alloc: Global, event: &Event) -> Result<Reply, OutOfMemory>
+        ensures step { IfOk result (λ reply. TakesToken G.admits self.old event.now reply self.new) }
         ensures err { OnErr result (IsSameState G.is_same self.old self.new) }
     {
         let token = match self.reach(event) {

@@ -1,5 +1,5 @@
 -- A run over a gate that keeps a log is a run by the entries that the log gains.
-use Rattle.std.proofs.Common.{◌≡◌, ℕ, ◌+◌, ◌-◌, ◌≤◌, List, [], ◌∷◌, ◌++◌, length, length-append, map, take, Option, Some, None, Result, Ok, Err, IsSomeAnd, OnOk, IfErr, ◌<◌, refl, ap, sym, ◌∙◌, subst, append_assoc, arith}
+use Rattle.std.proofs.Common.{◌≡◌, ℕ, Bool, true, false, ◌+◌, ◌-◌, ◌≤◌, List, [], ◌∷◌, ◌++◌, length, length-append, map, take, Option, Some, None, Result, Ok, Err, IsSomeAnd, OnOk, IfErr, ◌<◌, refl, ap, sym, ◌∙◌, subst, append_assoc, arith}
 use Rattle.std.proofs.lemmas.List.{append-nil, map-append}
 use Rattle.krb_replay.specs.declared.ask.Ask.{Ask}
 use Rattle.krb_replay.specs.declared.ask.Verdict.{Verdict}
@@ -14,7 +14,9 @@ use Rattle.krb_shared.specs.Seats.{Seat, AddsReceipt}
 use Rattle.krb_text.specs.declared.item.Event.{Event}
 use Rattle.sspi_core.specs.declared.cause.Cause.{Cause}
 use Rattle.krb_service.specs.Described.{no_env, with_gate}
-use Rattle.krb_service.specs.Policy.{State, Behind, Steps, Runs, RunsOn, StopsBehind, reached}
+use Rattle.krb_service.specs.Policy.{State, Behind, AnswersCall, StepsBy, Steps, Runs, RunsOn, StopsBehind, reached, called}
+use Rattle.krb_service.specs.MessageCalls.{is_call}
+use Rattle.krb_service.proofs.CallLemmas.{call-gate}
 use Rattle.krb_service.specs.declared.connection.Connection.{Connection}
 use Rattle.krb_service.specs.declared.reply.Reply.{Reply}
 use Rattle.krb_service.specs.declared.service.Stopped.{Stopped}
@@ -110,6 +112,33 @@ module _ {G N : Type 0} (admits : G → Ask → Verdict → G → Type 0) (log :
     behind = λ more. (b.0, ap (λ (s : State G). with_gate s (rest_at s.gate more)) b.1);
   }
 
+  call_env : (state : State G) (event : Event) (found : Result Connection Cause) (reply : Reply) (after : State G) → AnswersCall state event found reply after → after.env ≡ state.env
+  call_env state event (Ok connection) reply after c = c.env
+  call_env state event (Err cause) reply after c = ap (λ (s : State G). s.env) c.1
+
+  -- a call asks no gate: it is one over what is left of the journal too
+  call_by : (state : State G) (event : Event) (found : Result Connection Cause) (reply : Reply) (after : State G) → AnswersCall state event found reply after → (more : List Entry)
+      → AnswersCall (with_gate state (rest_at state.gate more)) event found reply (with_gate after (rest_at after.gate more))
+  call_by state event (Ok connection) reply after c more = record { context = c.context; calls = c.calls; connections = c.connections; env = c.env; gate = ap (λ g. rest_at g more) c.gate }
+  call_by state event (Err cause) reply after c more = (c.0, ap (λ (s : State G). with_gate s (rest_at s.gate more)) c.1)
+
+  record StepBy (b : Bool) (state : State G) (event : Event) (reply : Reply) (after : State G) : Type 0 where
+    gained : List Entry
+    gains : Gains state.gate after.gate gained
+    env : after.env ≡ state.env
+    steps : (more : List Entry) → StepsBy (Reads (seat state.gate)) b (with_gate state (rest_at state.gate (gained ++ more))) event reply (with_gate after (rest_at after.gate more))
+
+  step_by : (b : Bool) (state : State G) (event : Event) (reply : Reply) (after : State G) → StepsBy admits b state event reply after → StepBy b state event reply after
+  step_by true state event reply after call = record {
+    gained = [];
+    gains = gains_none state.gate after.gate (call-gate state event (called state.connections event) reply after call);
+    env = call_env state event (called state.connections event) reply after call;
+    steps = λ more. call_by state event (called state.connections event) reply after call more;
+  }
+  step_by false state event reply after taken =
+      let b = behind_by state event (reached state.connections event) taken.answer after taken.behind in
+      record { gained = b.gained; gains = b.gains; env = b.env; steps = λ more. record { answer = taken.answer; behind = b.behind more; reply_is = taken.reply_is } }
+
   record IsBy (state : State G) (events : List Event) (replies : List Reply) (after : State G) : Type 0 where
     gained : List Entry
     gains : Gains state.gate after.gate gained
@@ -127,7 +156,7 @@ module _ {G N : Type 0} (admits : G → Ask → Verdict → G → Type 0) (log :
   is_by state (event ∷ events) [] after runs = absurd runs
   is_by state (event ∷ events) (reply ∷ replies) after runs =
       let between = runs.0 in
-      let first = behind_by state event (reached state.connections event) runs.1.answer between runs.1.behind in
+      let first = step_by (is_call event.input) state event reply between runs.1 in
       let later = is_by between events replies after runs.2 in
       record {
         gained = first.gained ++ later.gained;
@@ -138,7 +167,7 @@ module _ {G N : Type 0} (admits : G → Ask → Verdict → G → Type 0) (log :
             let S : List Entry → Type 0 = λ l. Steps (Reads (seat state.gate)) (with_gate state (rest_at state.gate l)) event reply middle in
             let R : ℕ → Type 0 = λ s. Runs (Reads s) middle events replies (with_gate after (rest_at after.gate more)) in (
               middle,
-              subst S (sym (append_assoc first.gained later.gained more)) (record { answer = runs.1.answer; behind = first.behind (later.gained ++ more); reply_is = runs.1.reply_is }),
+              subst S (sym (append_assoc first.gained later.gained more)) (first.steps (later.gained ++ more)),
               subst R first.gains.seat_is (later.runs more),
             );
       }

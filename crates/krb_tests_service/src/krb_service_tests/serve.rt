@@ -10,7 +10,7 @@ use std::cell::Cell;
 use std::process::Abort;
 use std::test::Fail;
 
-/// An acceptor, an event whose form is not built, and an event past the last moment.
+/// An acceptor, an event that no acceptor awaits, and an event past the last moment.
 static TWO_EVENTS: &str = "skew 300\nacceptor 1 100 host HTTP/host\n\
 event 1 0 00112233445566778899aabbccddeeff00112233445566778899aabbccddeeff\
 00112233445566778899aabbccddeeff00112233445566778899aabbccddeeff - start\n\
@@ -19,7 +19,7 @@ event 1 253402041600000000 00112233445566778899aabbccddeeff00112233445566778899a
 
 /// What is written for the two events.
 static WHOLE_TEXT: &str =
-    "refused UnsupportedFunction NotBuilt\nrefused InvalidParameter Moment\nend 0 0\n";
+    "refused OutOfSequence Sequence\nrefused InvalidParameter Moment\nend 0 0\n";
 
 fn two_events() -> &'static [u8] {
     TWO_EVENTS.as_bytes()
@@ -138,15 +138,15 @@ type FailedReads = (usize, u64, u64, usize);
 
 static FAILED_READS: [FailedReads; 10] = [
     (1, 1, 186, 0),
-    (1, 187, 350, 37),
-    (1, 351, 351, 69),
+    (1, 187, 350, 31),
+    (1, 351, 351, 63),
     (7, 1, 27, 0),
-    (7, 28, 50, 37),
-    (7, 51, 51, 69),
+    (7, 28, 50, 31),
+    (7, 51, 51, 63),
     (64, 1, 3, 0),
-    (64, 4, 6, 37),
-    (64, 7, 7, 69),
-    (186, 2, 2, 37),
+    (64, 4, 6, 31),
+    (64, 7, 7, 63),
+    (186, 2, 2, 31),
 ];
 
 fn failed_reads() -> &'static [FailedReads] {
@@ -216,10 +216,10 @@ fn check_failed_writes(
 
 #[test]
 fn each_failed_write_leaves_a_front(rt: HostRuntime) -> Result<(), Fail> {
-    let each: Vec<usize> = (0..77).collect(rt.alloc())?;
+    let each: Vec<usize> = (0..71).collect(rt.alloc())?;
     check_failed_writes(&rt, 1, &each)?;
-    check_failed_writes(&rt, 7, &[0, 7, 14, 21, 28, 35, 37, 44, 51, 58, 65, 69, 76])?;
-    check_failed_writes(&rt, 64, &[0, 37, 69])?;
+    check_failed_writes(&rt, 7, &[0, 7, 14, 21, 28, 31, 38, 45, 52, 59, 63, 70])?;
+    check_failed_writes(&rt, 64, &[0, 31, 63])?;
     Ok(())
 }
 
@@ -280,6 +280,6 @@ fn a_reply_is_written_before_the_next_read(rt: HostRuntime) -> Result<(), Fail> 
     let words = word(rt.alloc(), "serve")?;
     let status = serve(rt.alloc(), &words, &mut source, &mut sink);
     assert_eq!(rt; status, Status::Done);
-    assert_eq!(rt; source.noted, 37);
+    assert_eq!(rt; source.noted, 31);
     Ok(())
 }

@@ -4,15 +4,15 @@ use Rattle.std.specs.BTreeMap.{is_at}
 use Rattle.std.specs.Map.{set_value}
 use Rattle.std.proofs.lemmas.Result.{on_err_weaker}
 use Rattle.sspi_core.specs.declared.error.Error.{Error}
-use Rattle.krb_service.specs.Policy.{Steps}
+use Rattle.krb_service.specs.Policy.{TakesToken}
 use Rattle.krb_service.specs.declared.reply.Reply.TheVariants.{Refused}
 use Rattle.krb_service.proofs.StepLemmas.{mapped_err, step-refused, set_same}
-use Rattle.krb_service.proofs.service.Service.step.Goals as goal
+use Rattle.krb_service.proofs.service.Service.take_token.Goals as goal
 
 pub returns-in-Err-clause-step : goal.returns-in-Err-clause-step
 returns-in-Err-clause-step g c =
     let e = mapped_err (λ found. found.1) _ c.in-Err.cause c.in-Err.ensures in
-    let P : Error → Type 0 = λ error. Steps g.G.ReplayGate.admits c.args.self.now c.args.event.now (Refused error) c.args.self.now in
+    let P : Error → Type 0 = λ error. TakesToken g.G.ReplayGate.admits c.args.self.now c.args.event.now (Refused error) c.args.self.now in
     subst P (sym c.from.ensures) (step-refused g.G.ReplayGate.admits c.args.self.now c.args.event.now c.in-Err.cause e)
 
 pub returns-clause-err : goal.returns-clause-err

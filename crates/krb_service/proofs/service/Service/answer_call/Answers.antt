@@ -1,0 +1,16 @@
+use Rattle.std.proofs.Common.{◌≡◌, ap, sym, ◌∙◌}
+use Rattle.std.specs.Ordering.{nat_cmp}
+use Rattle.std.specs.BTreeMap.{is_at}
+use Rattle.std.specs.Map.{set_value}
+use Rattle.std.proofs.lemmas.Result.{on_err_weaker}
+use Rattle.krb_service.proofs.StepLemmas.{set_same}
+use Rattle.krb_service.proofs.service.Service.answer_call.Goals as goal
+
+pub returns-clause-err : goal.returns-clause-err
+returns-clause-err g c =
+    rw (← c.self.view_is) (on_err_weaker c.call.result (λ stays.
+    let put = (c.get_mut.follows.holds (record { context = c.call.new.context; target = c.in-Some.connection.now.target })).0 in
+    ap (λ connections. record { connections = connections; env = c.self.inside.env; gate = c.self.inside.gate })
+    (put
+    ∙ ap (λ context. set_value (is_at (nat_cmp c.args.event.now.connection)) c.self.inside.connections.entries (record { context = context; target = c.in-Some.connection.now.target })) stays
+    ∙ set_same (is_at (nat_cmp c.args.event.now.connection)) c.self.inside.connections.entries c.in-Some.connection.now (sym c.in-Some.ensures.value))) c.call.ensures.err)
