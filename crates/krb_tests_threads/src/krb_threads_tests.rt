@@ -216,15 +216,15 @@ const TURNS: u32 = 100_000_000;
 
 /// A pause that sets its flag at its first call, and then looks for the other's.
 #[derive(Drop)]
-struct Held<'a> {
+pub(crate) struct Held<'a> {
     own: &'a AtomicBool,
     other: &'a AtomicBool,
-    calls: u64,
-    saw: bool,
+    pub(crate) calls: u64,
+    pub(crate) saw: bool,
 }
 
 impl<'a> Held<'a> {
-    fn new(own: &'a AtomicBool, other: &'a AtomicBool) -> Held<'a> {
+    pub(crate) fn new(own: &'a AtomicBool, other: &'a AtomicBool) -> Held<'a> {
         Held {
             own,
             other,
