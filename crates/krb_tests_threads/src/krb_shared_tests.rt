@@ -62,14 +62,14 @@ fn ask_held<R: Wait>(
 fn ask_both<R: Threads + Wait + Sync>(
     rt: &R,
     alloc: Global,
-    pauses: (&mut Held<'_>, &mut Held<'_>),
+    first: &mut Held<'_>,
+    second: &mut Held<'_>,
 ) -> Result<((Verdict, u64), (Verdict, u64)), Fail> {
     let (book, passes) = TableBook::with_passes(alloc, 300, 2)?;
     let mut passes = passes.into_inner();
     let high = passes.pop().unwrap();
     let low = passes.pop().unwrap();
     let (one, two) = (ask(alloc)?, ask(alloc)?);
-    let (first, second) = pauses;
     let shared = &book;
     let (a, b) = join(
         rt,
@@ -90,7 +90,7 @@ fn held_call_over_a_table(rt: HostRuntime) -> Result<(), Fail> {
     let high = AtomicBool::new(false);
     let mut first = Held::new(&low, &high);
     let mut second = Held::new(&high, &low);
-    let (one, two) = ask_both(&rt, rt.alloc(), (&mut first, &mut second))?;
+    let (one, two) = ask_both(&rt, rt.alloc(), &mut first, &mut second)?;
     assert!(rt; first.saw && second.saw);
     assert_eq!(rt; (first.calls, second.calls), (1, 1));
     let expected = if one.0 == Admitted {
