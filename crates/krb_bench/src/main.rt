@@ -12,6 +12,7 @@ mod replay;
 mod serving;
 mod suites;
 mod timing;
+mod two_threads;
 
 use anyhow::Result;
 use std::env;
@@ -34,5 +35,6 @@ fn main(rt: HostRuntime) -> Result<()> {
     replay::run(&rt, full)?;
     books::run(&rt, full)?;
     admissions::run(&rt, full)?;
-    serving::run(&rt, full)
+    serving::run(&rt, full)?;
+    two_threads::run(&rt, full)
 }

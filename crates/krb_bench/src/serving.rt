@@ -25,11 +25,11 @@ const OCTETS_A_CONNECTION: usize = 1_280;
 const KEY: &str = "000102030405060708090a0b0c0d0e0f101112131415161718191a1b1c1d1e1f";
 
 /// 64 octets of zero in hex.
-const ZEROS: &str =
+pub(crate) const ZEROS: &str =
     "00000000000000000000000000000000000000000000000000000000000000000000000000000000000000000000000000000000000000000000000000000000";
 
 /// An acceptor and its key.
-fn acceptor_lines(alloc: Global, k: u32) -> Option<String> {
+pub(crate) fn acceptor_lines(alloc: Global, k: u32) -> Option<String> {
     let service = "host/server.example.com";
     format!(in alloc; "acceptor {k} 0 bench {service}\nkey {k} {service} {KEY}\n").ok()
 }
@@ -40,7 +40,7 @@ fn second(k: u32) -> u32 {
 }
 
 /// The event of an acceptor. Each tenth one repeats the token before it.
-fn event_line(alloc: Global, client: &DemoClient, k: u32) -> Option<String> {
+pub(crate) fn event_line(alloc: Global, client: &DemoClient, k: u32) -> Option<String> {
     let sender = if k % 10 == 0 { k.saturating_sub(1) } else { k };
     let sent = Time::new(i64::from(second(sender)));
     let confounder = u128::from(sender).to_be_bytes();
@@ -53,7 +53,7 @@ fn event_line(alloc: Global, client: &DemoClient, k: u32) -> Option<String> {
 }
 
 /// An input of so many acceptors, and an event at each, ten in a second.
-fn long_input(alloc: Global, count: u32) -> Option<Vec<u8>> {
+pub(crate) fn long_input(alloc: Global, count: u32) -> Option<Vec<u8>> {
     let room = (count as usize).saturating_mul(OCTETS_A_CONNECTION);
     let mut input = Vec::with_capacity(alloc, room).ok()?;
     input.extend_from_slice(b"skew 300\n").ok()?;
@@ -72,15 +72,15 @@ fn long_input(alloc: Global, count: u32) -> Option<Vec<u8>> {
     Some(input)
 }
 
-/// The command `serve`.
-fn command(alloc: Global) -> Option<Words> {
+/// A command of one word.
+pub(crate) fn command(alloc: Global, word: &str) -> Option<Words> {
     let mut words = Vec::new(alloc);
-    words.push(String::from_str(alloc, "serve").ok()?).ok()?;
+    words.push(String::from_str(alloc, word).ok()?).ok()?;
     Some(Words::new(words))
 }
 
 /// The last line of an output.
-fn last_line(output: &[u8]) -> &str {
+pub(crate) fn last_line(output: &[u8]) -> &str {
     match str::from_utf8(output) {
         Ok(text) => text.lines().last().unwrap_or(""),
         Err(_) => "",
@@ -95,7 +95,7 @@ fn measure(
     input: &[u8],
 ) -> Result<()> {
     let alloc = rt.alloc();
-    let words = command(alloc).context("out of memory")?;
+    let words = command(alloc, "serve").context("out of memory")?;
     let mut source = MemSource::new(input, Calls::sound(alloc));
     let mut sink = MemSink::new(alloc, Calls::sound(alloc));
     let start = Instant::now(rt)?;
