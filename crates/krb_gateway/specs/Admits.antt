@@ -1,5 +1,5 @@
 -- What the gateway admits, and which message it opens.
-use Rattle.std.specs.Prelude.{◌≡◌, ℕ, List, [], ◌∷◌, length, Option, Some, Bool, false, Result, Ok}
+use Rattle.std.specs.Prelude.{◌≡◌, ℕ, List, [], ◌∷◌, length, Option, Some, false, Result, Ok}
 use Rattle.krb_conf.specs.declared.config.KerberosConfig.{KerberosConfig}
 use Rattle.krb_context.specs.declared.context.Kerberos.{Kerberos}
 use Rattle.krb_context.specs.declared.server.ServerProperties.{ServerProperties}
@@ -7,9 +7,9 @@ use Rattle.krb_context.specs.Contexts.{new_context}
 use Rattle.krb_context.specs.Params.{default_params}
 use Rattle.krb_replay.specs.Book.{Book, Follows, StandsFor}
 use Rattle.krb_server.specs.Accepts.{Accepts}
+use Rattle.krb_server.specs.declared.admission.Accepted.{Accepted}
 use Rattle.krb_server.specs.declared.admission.Accepted.TheVariants.{Done}
 use Rattle.sspi_core.specs.declared.draw.Draw.{Draw}
-use Rattle.sspi_core.specs.declared.results.SecurityStatus.{SecurityStatus}
 use Rattle.sspi_core.specs.declared.buffer.BufferType.TheVariants as types
 use Rattle.sspi_core.specs.Buffer.{Buffer, no_flags}
 
@@ -19,13 +19,17 @@ pub record Waits (service : ServerProperties) (connection : Kerberos) : Type 0 w
   pub number : ℕ
   pub waits : connection ≡ new_context (default_params 22 24) config (Some service) number
 
+-- the token that goes back to a client
+abbrev pub answer_in : Accepted → List ℕ
+answer_in (Done status answer admits) = answer
+
 -- the token passes every check of the acceptor, the question to the book among them, at a connection that waited for one
 pub record Admits (service : ServerProperties) (old : Book) (token : List ℕ) (draw : Draw) (answer : List ℕ) (connection : Kerberos) (new : Book) : Type 0 where
   pub waiting : Kerberos
   pub waits : Waits service waiting
-  pub status : SecurityStatus
-  pub admits : Bool
-  pub accepts : Accepts (Follows StandsFor) waiting false token draw old (Ok (Done status answer admits)) connection new
+  pub accepted : Accepted
+  pub answer_is : answer ≡ answer_in accepted
+  pub accepts : Accepts (Follows StandsFor) waiting false token draw old (Ok accepted) connection new
 
 -- a message that came whole, and an empty buffer for its text
 abbrev pub whole_message : List ℕ → List Buffer

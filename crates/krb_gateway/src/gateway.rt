@@ -3,7 +3,7 @@
 ghost use Rattle.std.specs.Prelude.{◌≡◌, Ok, IfOk};
 ghost use Rattle.krb_context.specs.Queries.{name_of};
 ghost use Rattle.krb_context.specs.Unwraps.{Unwraps};
-ghost use Rattle.krb_gateway.specs.Admits.{Waits, Admits, whole_message};
+ghost use Rattle.krb_gateway.specs.Admits.{Waits, answer_in, Admits, whole_message};
 
 use krb_server::{
     Accepted, Draw, Env, Error, Flags, Items, Kerberos, KerberosConfig, Message, Octets, Part,
@@ -30,6 +30,14 @@ pub struct Guest {
 
 /// The seconds by which a client's clock may be wrong.
 const SKEW: u32 = 300;
+
+/// The token that goes back to a client.
+fn answer_in(accepted: Accepted) -> Octets
+    ensures { result ≡ answer_in accepted }
+{
+    let Accepted::Done { token, .. } = accepted;
+    token
+}
 
 impl Gateway {
     /// A service of these components, as `host` and `server.example.com`, and its key of 16 or 32 octets.
@@ -71,7 +79,7 @@ impl Gateway {
             &env,
             draw,
         );
-        let Accepted::Done { token: answer, .. } = accepted?;
+        let answer = answer_in(accepted?);
         let name = connection.query_context_names(alloc)?.username;
         Ok(Guest {
             name,
