@@ -7,12 +7,14 @@
 
 mod as_exchange;
 mod asker;
+mod done;
 mod reply;
 mod request;
 mod turn;
 
 pub use as_exchange::{AsDone, AsExchange, AsPhase};
 pub use asker::{Asker, asker_suite, default_salt, sized_key};
+pub use done::InitDone;
 pub use reply::{granted, wanted_salt};
 pub use request::{Again, Begun, ask_again, begin};
 pub use turn::{Turn, go_on, is_want};
