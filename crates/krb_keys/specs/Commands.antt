@@ -1,7 +1,7 @@
 -- What the words of the command line ask for.
 use Rattle.std.specs.Prelude.{ℕ, List, [], ◌∷◌, codes, Option, Some, None, option_map, if◌then◌else◌}
 use Rattle.std.specs.Str.{bytes_eq}
-use Rattle.krb_text.specs.Fields.{u32_of}
+use Rattle.krb_text.specs.Decimals.{u32_of}
 use Rattle.krb_keys.specs.declared.commands.Command.{Command as ReadCommand}
 use Rattle.krb_keys.specs.declared.commands.Command.TheVariants as commands
 

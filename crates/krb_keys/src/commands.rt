@@ -1,7 +1,7 @@
 //! What the words of the command line ask for.
 
 ghost use Rattle.std.specs.Prelude.{◌≡◌, map, option_map, string_bytes};
-ghost use Rattle.krb_text.specs.Fields.{is_decimal, u32_of};
+ghost use Rattle.krb_text.specs.Decimals.{is_decimal, u32_of};
 ghost use Rattle.std.specs.Char.{is_ascii_digit};
 ghost use Rattle.std.specs.List.{list_all};
 ghost use Rattle.krb_keys.specs.Commands.{KeyLines, command_view, word_of, command_of};

@@ -10,7 +10,7 @@ use Rattle.krb_server.specs.Admission.{accepted_of}
 use Rattle.krb_server.specs.Requests.{ask_of}
 use Rattle.krb_server.specs.declared.admission.Admission.{Admission}
 use Rattle.krb_server.specs.declared.request.Request.{Request}
-use Rattle.krb_text.specs.declared.item.Event.{Event}
+use Rattle.krb_script.specs.declared.item.Event.{Event}
 use Rattle.krb_service.specs.declared.connection.Connection.{Connection}
 use Rattle.krb_service.specs.declared.reply.Reply.{Reply}
 use Rattle.krb_service.specs.Policy.{State, Steps, Runs, reached, reply_of, server_flags, draw_of}

@@ -16,9 +16,9 @@ use Rattle.krb_context.specs.Wraps.{Readies, Wraps}
 use Rattle.krb_context.specs.declared.context.Kerberos.{Kerberos}
 use Rattle.krb_replay.specs.declared.ask.Ask.{Ask}
 use Rattle.krb_replay.specs.declared.ask.Verdict.{Verdict}
-use Rattle.krb_text.specs.declared.item.Event.{Event}
-use Rattle.krb_text.specs.declared.input.Input.{Input}
-use Rattle.krb_text.specs.declared.input.Input.TheVariants as inputs
+use Rattle.krb_script.specs.declared.item.Event.{Event}
+use Rattle.krb_script.specs.declared.input.Input.{Input}
+use Rattle.krb_script.specs.declared.input.Input.TheVariants as inputs
 use Rattle.krb_service.specs.MessageCalls.{is_call, IsSealedBy, IsOpenedBy, IsSignedBy, Seals, Opens, Signs, Verifies, verified, Calls}
 use Rattle.krb_service.specs.Policy.{State, ◌>>=◌, check, token_of, reached, called, CallsAt, AnswersCall, StepsBy, Steps, TakesToken}
 use Rattle.krb_service.specs.Reply.{admits_peer}

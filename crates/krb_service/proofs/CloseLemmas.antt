@@ -4,9 +4,9 @@ use Rattle.std.specs.Prelude.{if◌then◌else◌}
 use Rattle.std.specs.Io.KnownBytes.{Appends}
 use Rattle.std.proofs.lemmas.List.{append-nil}
 use Rattle.krb_text.specs.Output.{IsFront, AppendsFront}
-use Rattle.krb_text.specs.Script.{Declared, Reading, reading_of}
-use Rattle.krb_text.specs.declared.stop.Stop.{Stop}
-use Rattle.krb_text.specs.declared.stop.Stop.TheVariants.{Whole, Bad, Long}
+use Rattle.krb_script.specs.Script.{Declared, Reading, reading_of}
+use Rattle.krb_script.specs.declared.stop.Stop.{Stop}
+use Rattle.krb_script.specs.declared.stop.Stop.TheVariants.{Whole, Bad, Long}
 use Rattle.krb_text.specs.declared.status.Status.{Status}
 use Rattle.krb_text.specs.declared.status.Status.TheVariants.{Done, BadWords, BadLine as BadStatus, TooLong, ReadFault as ReadStatus, WriteFault as WriteStatus, OutOfMemory as MemoryStatus}
 use Rattle.krb_text.proofs.OutputLemmas.{Appends-trans, AppendsFront-next}

@@ -2,12 +2,12 @@
 use Rattle.std.proofs.Common.{◌≡◌, ℕ, ◌+◌, ◌<◌, ◌≤◌, inr, true, false, List, [], ◌∷◌, ◌++◌, length, length-append, Option, Some, None, IfSome, refl, ap, sym, ◌∙◌, subst, append_assoc, arith}
 use Rattle.std.specs.Io.KnownBytes.{Consumes, Appends, IsAtEnd, prepend_known}
 use Rattle.std.proofs.lemmas.List.{append-nil}
-use Rattle.krb_text.specs.Limits.{max_input}
+use Rattle.krb_text.specs.Limits.{max_input, is_long}
 use Rattle.krb_text.specs.Lines.{Cut, cut, lines}
 use Rattle.krb_text.specs.Output.{AppendsFront}
-use Rattle.krb_text.specs.Script.{Declared, Reading, read_lines, read_on, reading_at, reading_of, is_long}
+use Rattle.krb_script.specs.Script.{Declared, Reading, read_lines, read_on, reading_at, reading_of}
 use Rattle.krb_text.specs.Reader.{Reader, ahead, IsWithin, CutsOn, TakesLine, TakesRest, LongComes}
-use Rattle.krb_text.specs.declared.stop.Stop.TheVariants.{Whole, Bad, Long}
+use Rattle.krb_script.specs.declared.stop.Stop.TheVariants.{Whole, Bad, Long}
 use Rattle.krb_text.proofs.CutLemmas.{lines_line, lines_rest, cut_rest, some_end}
 use Rattle.krb_text.proofs.OutputLemmas.{Appends-trans, AppendsFront-next}
 use Rattle.krb_replay.specs.History.{History}

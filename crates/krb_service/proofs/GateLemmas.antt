@@ -14,7 +14,7 @@ use Rattle.krb_server.specs.Requests.{ask_of}
 use Rattle.krb_server.specs.declared.admission.Accepted.{Accepted}
 use Rattle.krb_server.specs.declared.admission.Admission.{Admission}
 use Rattle.krb_server.specs.declared.request.Request.{Request}
-use Rattle.krb_text.specs.declared.item.Event.{Event}
+use Rattle.krb_script.specs.declared.item.Event.{Event}
 use Rattle.sspi_core.proofs.Chain.{halts, follows}
 use Rattle.sspi_core.specs.Checks.{Passes, Goes, err_of, ◌>>◌}
 use Rattle.sspi_core.specs.declared.cause.Cause.{Cause}

@@ -3,12 +3,13 @@ use Rattle.std.proofs.Common.{◌≡◌, ℕ, ◌+◌, ◌≤◌, ◌⊎◌, inl
 use Rattle.std.specs.Prelude.{if◌then◌else◌}
 use Rattle.std.proofs.lemmas.List.{append-nil}
 use Rattle.krb_text.specs.Lines.{is_skipped}
-use Rattle.krb_text.specs.Options.{◌>>=◌}
-use Rattle.krb_text.specs.Items.{item_of}
-use Rattle.krb_text.specs.Script.{Setup, Declared, Reading, set_up_before, declare, declare_line, read_lines, read_on, is_long}
-use Rattle.krb_text.specs.declared.item.Item.{Item}
-use Rattle.krb_text.specs.declared.item.Item.TheVariants.{Skew, Acceptor as AcceptorItem, Key as KeyItem, Event as EventItem}
-use Rattle.krb_text.specs.declared.item.Event.{Event}
+use Rattle.krb_script.specs.Options.{◌>>=◌}
+use Rattle.krb_script.specs.Items.{item_of}
+use Rattle.krb_script.specs.Script.{Setup, Declared, Reading, set_up_before, declare, declare_line, read_lines, read_on}
+use Rattle.krb_text.specs.Limits.{is_long}
+use Rattle.krb_script.specs.declared.item.Item.{Item}
+use Rattle.krb_script.specs.declared.item.Item.TheVariants.{Skew, Acceptor as AcceptorItem, Key as KeyItem, Event as EventItem}
+use Rattle.krb_script.specs.declared.item.Event.{Event}
 
 -- events are added behind the others, or there was none yet
 abbrev pub Grows : Declared → Declared → Type 0

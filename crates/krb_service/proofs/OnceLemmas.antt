@@ -12,8 +12,8 @@ use Rattle.krb_server.specs.Accepts.{Begins, Finishes, Judged, Asks, Makes, Ends
 use Rattle.krb_server.specs.declared.admission.Accepted.{Accepted}
 use Rattle.krb_server.specs.declared.admission.Admission.{Admission}
 use Rattle.krb_server.specs.declared.request.Request.{Request}
-use Rattle.krb_text.specs.declared.item.Event.{Event}
-use Rattle.krb_text.specs.Script.{reading_of}
+use Rattle.krb_script.specs.declared.item.Event.{Event}
+use Rattle.krb_script.specs.Script.{reading_of}
 use Rattle.sspi_core.specs.Checks.{Passes, Goes, ◌>>◌}
 use Rattle.sspi_core.specs.declared.cause.Cause.{Cause}
 use Rattle.sspi_core.specs.declared.draw.Draw.{Draw}

@@ -5,12 +5,12 @@ use Rattle.std.proofs.lemmas.List.{append-nil, take_at}
 use Rattle.std.proofs.lemmas.List.Concat.{flat_map-append}
 use Rattle.std.proofs.lemmas.List.Sums.{sum_by_push}
 use Rattle.krb_text.specs.Lines.{is_skipped}
-use Rattle.krb_text.specs.Options.{◌>>=◌}
-use Rattle.krb_text.specs.Items.{item_of}
-use Rattle.krb_text.specs.Script.{Setup, Declared, set_up, set_up_before, declare, declare_line}
-use Rattle.krb_text.specs.declared.item.Item.{Item}
-use Rattle.krb_text.specs.declared.item.Item.TheVariants.{Skew, Acceptor as AcceptorItem, Key as KeyItem, Event as EventItem}
-use Rattle.krb_text.specs.declared.item.Event.{Event}
+use Rattle.krb_script.specs.Options.{◌>>=◌}
+use Rattle.krb_script.specs.Items.{item_of}
+use Rattle.krb_script.specs.Script.{Setup, Declared, set_up, set_up_before, declare, declare_line}
+use Rattle.krb_script.specs.declared.item.Item.{Item}
+use Rattle.krb_script.specs.declared.item.Item.TheVariants.{Skew, Acceptor as AcceptorItem, Key as KeyItem, Event as EventItem}
+use Rattle.krb_script.specs.declared.item.Event.{Event}
 use Rattle.krb_service.specs.declared.reply.Reply.{Reply}
 use Rattle.krb_replay.specs.Book.{Book, StandsFor}
 use Rattle.krb_replay.specs.History.{History, no_history}

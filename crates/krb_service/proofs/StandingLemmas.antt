@@ -4,11 +4,11 @@ use Rattle.std.specs.Prelude.{◌==◌}
 use Rattle.std.specs.Io.KnownBytes.{Consumes, Appends, prepend_known}
 use Rattle.std.proofs.lemmas.Bool.{le-ltb, eqb-true, true≢false}
 use Rattle.std.proofs.lemmas.List.{append-nil}
-use Rattle.krb_text.specs.Limits.{max_line, max_input}
+use Rattle.krb_text.specs.Limits.{max_line, max_input, is_long}
 use Rattle.krb_text.specs.Lines.{Cut, cut, lines, unended}
-use Rattle.krb_text.specs.Script.{Declared, nothing_declared, declare_line, read_lines, read_on, reading_at, reading_of, is_long}
+use Rattle.krb_script.specs.Script.{Declared, nothing_declared, declare_line, read_lines, read_on, reading_at, reading_of}
 use Rattle.krb_text.specs.Reader.{Reader, new_reader, ahead, TakesLine, TakesRest}
-use Rattle.krb_text.specs.declared.stop.Stop.TheVariants.{Bad}
+use Rattle.krb_script.specs.declared.stop.Stop.TheVariants.{Bad}
 use Rattle.krb_text.proofs.CutLemmas.{cut_line}
 use Rattle.krb_text.proofs.ReaderLemmas.{Consumes-trans}
 use Rattle.krb_text.proofs.OutputLemmas.{Appends-trans}

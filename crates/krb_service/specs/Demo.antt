@@ -4,10 +4,10 @@ use Rattle.std.specs.Fmt.{decimal}
 use Rattle.std.specs.Io.KnownBytes.{Appends}
 use Rattle.krb_demo.specs.Input.{demonstration}
 use Rattle.krb_replay.specs.History.{History, window}
-use Rattle.krb_text.specs.Fields.{number_behind}
+use Rattle.krb_text.specs.Decimals.{number_behind}
 use Rattle.krb_text.specs.Output.{AppendsFront}
-use Rattle.krb_text.specs.Script.{Declared, reading_of}
-use Rattle.krb_text.specs.declared.stop.Stop.TheVariants.{Whole}
+use Rattle.krb_script.specs.Script.{Declared, reading_of}
+use Rattle.krb_script.specs.declared.stop.Stop.TheVariants.{Whole}
 use Rattle.krb_text.specs.declared.status.Status.{Status}
 use Rattle.krb_text.specs.declared.status.Status.TheVariants.{Done, BadWords, BadLine, TooLong, ReadFault, WriteFault, OutOfMemory}
 use Rattle.krb_service.specs.Policy.{State}

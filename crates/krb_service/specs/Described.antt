@@ -9,9 +9,9 @@ use Rattle.krb_context.specs.declared.context.Kerberos.{Kerberos}
 use Rattle.krb_replay.specs.History.{History, no_history, verdict_of, history_after}
 use Rattle.krb_replay.specs.declared.ask.Ask.{Ask}
 use Rattle.krb_replay.specs.declared.ask.Verdict.{Verdict}
-use Rattle.krb_text.specs.Script.{Setup, at_id}
-use Rattle.krb_text.specs.declared.item.Acceptor.{Acceptor}
-use Rattle.krb_text.specs.declared.item.Key.{Key}
+use Rattle.krb_script.specs.Script.{Setup, at_id}
+use Rattle.krb_script.specs.declared.item.Acceptor.{Acceptor}
+use Rattle.krb_script.specs.declared.item.Key.{Key}
 use Rattle.krb_service.specs.declared.connection.Connection.{Connection}
 use Rattle.krb_service.specs.Policy.{State}
 

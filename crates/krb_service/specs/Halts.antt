@@ -1,9 +1,9 @@
 -- Where the answering of lines ends, and what it has read and written then.
 use Rattle.std.specs.Prelude.{◌≡◌, ◌<◌, ◌≤◌, ◌+◌, List, [], ℕ, Option, Some, None, IfSome, length, is_some, true, ◌⊎◌}
 use Rattle.std.specs.Io.KnownBytes.{Appends}
-use Rattle.krb_text.specs.Script.{Declared, reading_of}
-use Rattle.krb_text.specs.declared.stop.Stop.{Stop}
-use Rattle.krb_text.specs.declared.stop.Stop.TheVariants.{Whole, Bad, Long}
+use Rattle.krb_script.specs.Script.{Declared, reading_of}
+use Rattle.krb_script.specs.declared.stop.Stop.{Stop}
+use Rattle.krb_script.specs.declared.stop.Stop.TheVariants.{Whole, Bad, Long}
 use Rattle.krb_text.specs.declared.status.Status.TheVariants.{ReadFault, WriteFault as WriteStatus}
 use Rattle.krb_replay.specs.Book.{Book, StandsFor}
 use Rattle.krb_replay.specs.History.{History}

@@ -7,7 +7,7 @@ use Rattle.krb_replay.specs.declared.record.Record.{Record}
 use Rattle.krb_server.specs.Requests.{ask_of}
 use Rattle.krb_server.specs.declared.admission.Accepted.{Accepted}
 use Rattle.krb_server.specs.declared.request.Request.{Request}
-use Rattle.krb_text.specs.declared.item.Event.{Event}
+use Rattle.krb_script.specs.declared.item.Event.{Event}
 use Rattle.sspi_core.specs.declared.cause.Cause.{Cause}
 use Rattle.krb_service.specs.declared.connection.Connection.{Connection}
 use Rattle.krb_service.specs.declared.reply.Reply.{Reply}

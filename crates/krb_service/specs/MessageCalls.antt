@@ -11,8 +11,8 @@ use Rattle.krb_context.specs.Unwraps.{Unwraps, unwrapped, message_number}
 use Rattle.krb_context.specs.Window.{noted}
 use Rattle.krb_context.specs.Wraps.{Wraps}
 use Rattle.krb_context.specs.declared.context.Kerberos.{Kerberos}
-use Rattle.krb_text.specs.declared.input.Input.{Input}
-use Rattle.krb_text.specs.declared.input.Input.TheVariants as inputs
+use Rattle.krb_script.specs.declared.input.Input.{Input}
+use Rattle.krb_script.specs.declared.input.Input.TheVariants as inputs
 use Rattle.krb_service.specs.declared.reply.Reply.{Reply}
 use Rattle.krb_service.specs.declared.reply.Reply.TheVariants.{Buffers, Mic, Verified, Refused}
 

@@ -13,10 +13,10 @@ use Rattle.krb_server.specs.Accepts.{asks_dce_style, Accepts, Begins}
 use Rattle.krb_server.specs.declared.admission.Accepted.{Accepted}
 use Rattle.krb_server.specs.declared.admission.Accepted.TheVariants.{Done as Answered}
 use Rattle.krb_server.specs.declared.request.Request.{Request}
-use Rattle.krb_text.specs.Script.{at_id}
-use Rattle.krb_text.specs.declared.item.Event.{Event}
-use Rattle.krb_text.specs.declared.input.Input.{Input}
-use Rattle.krb_text.specs.declared.input.Input.TheVariants.{Token, Start, KdcReply, KdcFault, Wrap, Unwrap, MakeMic, VerifyMic}
+use Rattle.krb_script.specs.Script.{at_id}
+use Rattle.krb_script.specs.declared.item.Event.{Event}
+use Rattle.krb_script.specs.declared.input.Input.{Input}
+use Rattle.krb_script.specs.declared.input.Input.TheVariants.{Token, Start, KdcReply, KdcFault, Wrap, Unwrap, MakeMic, VerifyMic}
 use Rattle.sspi_core.specs.Checks.{ok_or}
 use Rattle.sspi_core.specs.Kinds.{error_of}
 use Rattle.sspi_core.specs.declared.cause.Cause.{Cause}

@@ -3,11 +3,11 @@ use Rattle.std.specs.Prelude.{◌≡◌, ℕ, ◌+◌, true, false, List, [], Op
 use Rattle.krb_replay.specs.Book.{Book, Follows, StandsFor}
 use Rattle.krb_replay.specs.History.{no_history}
 use Rattle.krb_text.specs.Lines.{is_skipped}
-use Rattle.krb_text.specs.Items.{item_of}
-use Rattle.krb_text.specs.Script.{Setup, empty_setup, set_up}
-use Rattle.krb_text.specs.declared.item.Item.{Item}
-use Rattle.krb_text.specs.declared.item.Item.TheVariants.{Skew, Acceptor as AcceptorItem, Key as KeyItem, Event as EventItem}
-use Rattle.krb_text.specs.declared.item.Event.{Event}
+use Rattle.krb_script.specs.Items.{item_of}
+use Rattle.krb_script.specs.Script.{Setup, empty_setup, set_up}
+use Rattle.krb_script.specs.declared.item.Item.{Item}
+use Rattle.krb_script.specs.declared.item.Item.TheVariants.{Skew, Acceptor as AcceptorItem, Key as KeyItem, Event as EventItem}
+use Rattle.krb_script.specs.declared.item.Event.{Event}
 use Rattle.krb_service.specs.Policy.{State, Steps}
 use Rattle.krb_service.specs.Described.{skew_of, no_env, connections_of}
 use Rattle.krb_service.specs.Reply.{reply_line, admits_peer}

@@ -4,9 +4,9 @@ use Rattle.std.specs.Io.KnownBytes.{Appends, Consumes}
 use Rattle.krb_text.specs.Limits.{max_line, max_input}
 use Rattle.krb_text.specs.Lines.{cut}
 use Rattle.krb_text.specs.Output.{IsFront}
-use Rattle.krb_text.specs.Script.{Declared, Reading, reading_at, reading_of}
-use Rattle.krb_text.specs.declared.stop.Stop.{Stop}
-use Rattle.krb_text.specs.declared.stop.Stop.TheVariants.{Whole, Bad, Long}
+use Rattle.krb_script.specs.Script.{Declared, Reading, reading_at, reading_of}
+use Rattle.krb_script.specs.declared.stop.Stop.{Stop}
+use Rattle.krb_script.specs.declared.stop.Stop.TheVariants.{Whole, Bad, Long}
 use Rattle.krb_text.specs.declared.status.Status.{Status}
 use Rattle.krb_text.specs.declared.status.Status.TheVariants.{Done, BadWords, BadLine, TooLong, ReadFault, WriteFault, OutOfMemory}
 use Rattle.krb_replay.specs.History.{History}

@@ -1,9 +1,9 @@
 -- What is written for an input.
 use Rattle.std.specs.Prelude.{◌≡◌, ◌≤◌, ℕ, List, ◌++◌, codes, length, take, is_some, if◌then◌else◌}
 use Rattle.std.specs.Fmt.{decimal}
-use Rattle.krb_text.specs.Script.{Setup, Declared, reading_of}
-use Rattle.krb_text.specs.declared.stop.Stop.{Stop}
-use Rattle.krb_text.specs.declared.stop.Stop.TheVariants.{Whole, Bad, Long}
+use Rattle.krb_script.specs.Script.{Setup, Declared, reading_of}
+use Rattle.krb_script.specs.declared.stop.Stop.{Stop}
+use Rattle.krb_script.specs.declared.stop.Stop.TheVariants.{Whole, Bad, Long}
 use Rattle.krb_replay.specs.History.{History, window}
 use Rattle.krb_service.specs.Policy.{State, Runs}
 use Rattle.krb_service.specs.Described.{Remembers, skew_of, service_of}

@@ -1,6 +1,6 @@
 //! The service that the lines describe.
 ghost use Rattle.std.specs.Prelude.{◌≡◌, [], map, option_map, IfOk, OnOk};
-ghost use Rattle.krb_text.specs.Script.{at_id};
+ghost use Rattle.krb_script.specs.Script.{at_id};
 ghost use Rattle.krb_service.specs.Described.{components, acceptor_context, connections_with};
 ghost use Rattle.krb_service.specs.Progress.{IsNew};
 

@@ -12,7 +12,7 @@ ghost use Rattle.krb_server.specs.Admission.{accepted_of};
 ghost use Rattle.krb_server.specs.Requests.{ask_of};
 ghost use Rattle.krb_server.specs.declared.request.Request.{Request};
 ghost use Rattle.krb_server.specs.declared.admission.Admission.{Admission};
-ghost use Rattle.krb_text.specs.declared.item.Event.{Event};
+ghost use Rattle.krb_script.specs.declared.item.Event.{Event};
 ghost use Rattle.sspi_core.specs.declared.cause.Cause.{Cause};
 ghost use Rattle.krb_service.specs.declared.connection.Connection.{Connection};
 ghost use Rattle.krb_service.specs.declared.reply.Reply.{Reply};

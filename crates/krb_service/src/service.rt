@@ -102,7 +102,7 @@ impl<G: ReplayGate> Service<G> {
     ghost use Rattle.std.specs.Prelude.{◌≡◌, ◌<◌, [], length, take, not, true, None, option_map, IfOk, IfErr, OnOk, OnErr};
     ghost use Rattle.std.specs.Result.{result_map_both};
     ghost use Rattle.krb_context.specs.Contexts.{is_acceptor};
-    ghost use Rattle.krb_text.specs.Script.{at_id};
+    ghost use Rattle.krb_script.specs.Script.{at_id};
     ghost use Rattle.krb_service.specs.Described.{no_env};
     ghost use Rattle.krb_service.specs.MessageCalls.{is_call};
     ghost use Rattle.krb_service.specs.Policy.{with_connection, token_reached, is_taken, refusal_to_add, IsRefusedFor, IsSameState, called, AnswersCall, TakesToken, Steps, StepsOn, RunsOn, StopsBehind};

@@ -29,7 +29,7 @@ impl Model for Session {
 
 impl Session {
     ghost use Rattle.std.specs.Prelude.{◌≡◌, ◌<◌, ◌≤◌, ◌^◌, ◌+◌, Some, None, OnOk, OnErr, MatchOption, MatchResult, string_bytes};
-    ghost use Rattle.krb_text.specs.declared.fields.FieldError.TheVariants.{Bad};
+    ghost use Rattle.krb_script.specs.declared.fields.FieldError.TheVariants.{Bad};
     ghost use Rattle.krb_service.specs.Progress.{new_progress, Begins, CannotBegin, one_if_admits, Answers, prepare, Prepares, TakesContent, RefusesContent, Takes, Refuses};
     ghost use Rattle.krb_service.specs.Closing.{has_begun, kept_by};
 

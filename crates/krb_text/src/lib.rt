@@ -1,7 +1,6 @@
 //! Lines of text in and out.
 //!
-//! A [`Source`] gives an input in pieces. A [`LineReader`] cuts it into lines, [`parse_item`] says what a line declares,
-//! and a [`Script`] keeps what the lines before the first event declare. Text goes to a [`Sink`] by [`write_line`].
+//! A [`Source`] gives an input in pieces, and a [`LineReader`] cuts it into lines. Text goes to a [`Sink`] by [`write_line`].
 //!
 //! ```
 //! let mut cutter = LineCutter::new(alloc);
@@ -10,31 +9,22 @@
 //! ```
 #![tactic(auto)]
 
-mod buffers;
 mod cutter;
-mod fields;
-mod input;
-mod item;
+mod decimal;
 mod lines;
 mod output;
 mod outside;
 mod reader;
-mod script;
 mod status;
-mod stop;
 mod words;
 
 pub use cutter::{CutFault, LineCutter};
-pub use fields::FieldError;
-pub use input::Input;
-pub use item::{Acceptor, Event, Item, Key, parse_item};
+pub use decimal::decimal_up_to;
 pub use lines::is_skipped;
 pub use output::write_line;
 pub use outside::memory::{Calls, MemSink, MemSource, SureSink, SureSource};
 pub use outside::standard::{StdSink, StdSource};
 pub use outside::{Failed, Sink, Source};
 pub use reader::{LineReader, ReadError};
-pub use script::Script;
 pub use status::Status;
-pub use stop::Stop;
 pub use words::Words;

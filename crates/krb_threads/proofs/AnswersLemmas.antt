@@ -12,7 +12,7 @@ use Rattle.krb_shared.specs.declared.journal.Journal.{Journal}
 use Rattle.krb_shared.specs.Desk.{Desk}
 use Rattle.krb_shared.specs.Journal.{IsJournal}
 use Rattle.krb_shared.specs.Seats.{Seat, placed_from, calls_of}
-use Rattle.krb_text.specs.declared.item.Event.{Event}
+use Rattle.krb_script.specs.declared.item.Event.{Event}
 use Rattle.krb_service.specs.declared.connection.Connection.{Connection}
 use Rattle.krb_service.specs.declared.reply.Reply.{Reply}
 use Rattle.krb_service.proofs.PolicyLemmas.{Runs-length}

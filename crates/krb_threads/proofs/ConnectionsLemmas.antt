@@ -7,8 +7,8 @@ use Rattle.std.specs.List.{filter}
 use Rattle.std.specs.Map.{keys_of}
 use Rattle.std.proofs.lemmas.List.{map-append}
 use Rattle.std.proofs.lemmas.Cmp.{ranked}
-use Rattle.krb_text.specs.declared.item.Acceptor.{Acceptor}
-use Rattle.krb_text.specs.declared.item.Key.{Key}
+use Rattle.krb_script.specs.declared.item.Acceptor.{Acceptor}
+use Rattle.krb_script.specs.declared.item.Key.{Key}
 use Rattle.krb_service.specs.Described.{connection_of, connections_with}
 use Rattle.krb_service.specs.declared.connection.Connection.{Connection}
 use Rattle.krb_service.proofs.OrderLemmas.{AreBelow, put-last}

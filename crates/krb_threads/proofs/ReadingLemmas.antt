@@ -2,11 +2,11 @@
 use Rattle.std.proofs.Common.{◌≡◌, ℕ, ◌+◌, ◌<◌, ◌≤◌, true, false, List, [], ◌∷◌, ◌++◌, length, length-append, Option, Some, None, IfSome, refl, ap, sym, ◌∙◌, subst, append_assoc, arith}
 use Rattle.std.specs.Io.KnownBytes.{Consumes, IsAtEnd, prepend_known}
 use Rattle.std.proofs.lemmas.List.{append-nil}
-use Rattle.krb_text.specs.Limits.{max_line, max_input}
+use Rattle.krb_text.specs.Limits.{max_line, max_input, is_long}
 use Rattle.krb_text.specs.Lines.{Cut, cut, lines, unended}
-use Rattle.krb_text.specs.Script.{Reading, declare_line, read_lines, read_on, reading_at, reading_of, is_long}
+use Rattle.krb_script.specs.Script.{Reading, declare_line, read_lines, read_on, reading_at, reading_of}
 use Rattle.krb_text.specs.Reader.{Reader, new_reader, ahead, IsWithin, CutsOn, TakesLine, TakesRest, LongComes}
-use Rattle.krb_text.specs.declared.stop.Stop.TheVariants.{Whole as WholeStop, Bad as BadStop, Long as LongStop}
+use Rattle.krb_script.specs.declared.stop.Stop.TheVariants.{Whole as WholeStop, Bad as BadStop, Long as LongStop}
 use Rattle.krb_text.proofs.CutLemmas.{cut_line, lines_line, lines_rest, cut_rest, some_end}
 use Rattle.krb_text.proofs.ReaderLemmas.{Consumes-trans}
 use Rattle.krb_service.specs.Serve.{IsTaken, whole_reading, IsSound}

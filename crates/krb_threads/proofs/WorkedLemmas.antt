@@ -11,7 +11,7 @@ use Rattle.krb_shared.specs.declared.entry.Entry.{Entry}
 use Rattle.krb_shared.specs.declared.entry.Receipt.{Receipt}
 use Rattle.krb_shared.specs.Desk.{Desk, Gate, AdmitsNext, next_call}
 use Rattle.krb_shared.specs.Seats.{Seat, AddsReceipt}
-use Rattle.krb_text.specs.declared.item.Event.{Event}
+use Rattle.krb_script.specs.declared.item.Event.{Event}
 use Rattle.sspi_core.specs.declared.cause.Cause.{Cause}
 use Rattle.krb_service.specs.Described.{no_env, with_gate}
 use Rattle.krb_service.specs.Policy.{State, Behind, AnswersCall, StepsBy, Steps, Runs, RunsOn, StopsBehind, reached, called}

@@ -6,8 +6,8 @@ use Rattle.krb_replay.specs.declared.ask.Verdict.TheVariants.{Admitted, Skew, No
 use Rattle.krb_shared.specs.Journal.{IsJournal}
 use Rattle.krb_shared.specs.declared.entry.Entry.{Entry}
 use Rattle.krb_shared.specs.declared.journal.Journal.{Journal}
-use Rattle.krb_text.specs.Script.{Declared}
-use Rattle.krb_text.specs.declared.item.Event.{Event}
+use Rattle.krb_script.specs.Script.{Declared}
+use Rattle.krb_script.specs.declared.item.Event.{Event}
 use Rattle.krb_service.specs.Described.{skew_of, connections_of as all_connections}
 use Rattle.krb_service.specs.Reply.{reply_line, admissions}
 use Rattle.krb_service.specs.Text.{end_line}

@@ -4,7 +4,7 @@ use Rattle.std.specs.List.{filter}
 use Rattle.krb_replay.specs.declared.ask.Ask.{Ask}
 use Rattle.krb_replay.specs.declared.ask.Verdict.{Verdict}
 use Rattle.krb_shared.specs.declared.entry.Entry.{Entry}
-use Rattle.krb_text.specs.declared.item.Event.{Event}
+use Rattle.krb_script.specs.declared.item.Event.{Event}
 use Rattle.krb_service.specs.Described.{no_env}
 use Rattle.krb_service.specs.Policy.{State, Runs}
 use Rattle.krb_service.specs.declared.connection.Connection.{Connection}

@@ -2,7 +2,7 @@
 use Rattle.std.specs.Prelude.{◌≡◌, ◌<◌, List, length, take, Result, Ok, Err}
 use Rattle.krb_replay.specs.declared.ask.Ask.{Ask}
 use Rattle.krb_replay.specs.declared.ask.Verdict.{Verdict}
-use Rattle.krb_text.specs.declared.item.Event.{Event}
+use Rattle.krb_script.specs.declared.item.Event.{Event}
 use Rattle.krb_service.specs.Policy.{State, RunsOn, StopsBehind}
 use Rattle.krb_service.specs.declared.reply.Reply.{Reply}
 use Rattle.krb_service.specs.declared.service.Stopped.{Stopped}

@@ -2,7 +2,7 @@
 use Rattle.std.specs.Prelude.{◌≡◌, ◌⊎◌, [], List, ℕ, Option, IfSome}
 use Rattle.std.specs.Io.KnownBytes.{Appends}
 use Rattle.krb_text.specs.Output.{IsFront, AppendsFront}
-use Rattle.krb_text.specs.Script.{Declared, reading_of}
+use Rattle.krb_script.specs.Script.{Declared, reading_of}
 use Rattle.krb_text.specs.declared.status.Status.{Status}
 use Rattle.krb_text.specs.declared.status.Status.TheVariants.{Done, BadWords, BadLine, TooLong, ReadFault, WriteFault, OutOfMemory}
 use Rattle.krb_service.specs.Serve.{IsSound, IsTaken, end_of}

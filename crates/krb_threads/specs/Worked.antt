@@ -4,7 +4,7 @@ use Rattle.krb_shared.specs.declared.entry.Entry.{Entry}
 use Rattle.krb_shared.specs.declared.entry.Receipt.{Receipt}
 use Rattle.krb_shared.specs.Desk.{Desk}
 use Rattle.krb_shared.specs.Seats.{Seat}
-use Rattle.krb_text.specs.declared.item.Event.{Event}
+use Rattle.krb_script.specs.declared.item.Event.{Event}
 use Rattle.krb_service.specs.declared.connection.Connection.{Connection}
 use Rattle.krb_service.specs.declared.reply.Reply.{Reply}
 use Rattle.krb_threads.specs.Journaled.{RunsBy}

@@ -22,10 +22,10 @@ impl Model for Known {
 
 impl Known {
     ghost use Rattle.std.specs.Prelude.{◌≡◌, ◌<◌, ◌^◌, ◌+◌, is_some, option_and_then, OnOk, OnErr};
-    ghost use Rattle.krb_text.specs.Gives.{GivesAfter};
-    ghost use Rattle.krb_text.specs.Script.{set_up_before, declare, declare_line};
-    ghost use Rattle.krb_text.specs.Items.{item_of};
-    ghost use Rattle.krb_text.specs.declared.item.Item.TheVariants.{Event as EventItem};
+    ghost use Rattle.krb_script.specs.Gives.{GivesAfter};
+    ghost use Rattle.krb_script.specs.Script.{set_up_before, declare, declare_line};
+    ghost use Rattle.krb_script.specs.Items.{item_of};
+    ghost use Rattle.krb_script.specs.declared.item.Item.TheVariants.{Event as EventItem};
     ghost use Rattle.krb_threads.specs.Known.{nothing_known};
 
     pub fn new(alloc: Global) -> Known

@@ -1,7 +1,7 @@
 use Rattle.std.proofs.Common.{◌+◌, arith}
 use Rattle.std.proofs.lemmas.Bool.Decides.{nat_tests}
 use Rattle.std.proofs.lemmas.Grind.{common_steps}
-use Rattle.krb_text.proofs.FieldLemmas.{decimal_value-take}
+use Rattle.krb_text.proofs.DecimalLemmas.{decimal_value-take}
 use Rattle.krb_keys.proofs.commands.number.Goals as goal
 
 pub returns-then-value-from : goal.returns-then-value-from

@@ -1,5 +1,5 @@
 use Rattle.std.proofs.Common.{◌≡◌, ◌≤◌, ◌^◌, ◌-◌, take}
-use Rattle.krb_text.specs.Fields.{decimal_value}
+use Rattle.krb_text.specs.Decimals.{decimal_value}
 use Rattle.krb_keys.proofs.commands.number.Given as goal
 
 abbrev pub invariant-loop-digit : goal.invariant-loop-digit

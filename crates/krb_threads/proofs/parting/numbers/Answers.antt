@@ -1,7 +1,7 @@
 use Rattle.std.proofs.Common.{◌≡◌, ◌+◌, ◌∷◌, [], ◌++◌, true, false, length, take, sym, ap, ◌∙◌, arith}
 use Rattle.std.proofs.lemmas.List.{take_more, length-take-le}
 use Rattle.std.proofs.lemmas.Bool.Decides.{nat_tests}
-use Rattle.krb_text.specs.declared.item.Event.{Event}
+use Rattle.krb_script.specs.declared.item.Event.{Event}
 use Rattle.krb_threads.specs.Journaled.{is_of, numbers_of}
 use Rattle.krb_threads.proofs.PartingLemmas.{numbers-in, numbers-out}
 use Rattle.krb_threads.proofs.parting.numbers.Goals.{then-events-index+in_ok-push, else-events-index}

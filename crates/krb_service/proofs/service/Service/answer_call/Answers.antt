@@ -3,7 +3,7 @@ use Rattle.std.specs.Ordering.{nat_cmp}
 use Rattle.std.specs.BTreeMap.{is_at}
 use Rattle.std.specs.Map.{set_value}
 use Rattle.std.proofs.lemmas.Result.{on_err_weaker}
-use Rattle.krb_service.proofs.StepLemmas.{set_same}
+use Rattle.krb_script.proofs.ScriptLemmas.{set_same}
 use Rattle.krb_service.proofs.service.Service.answer_call.Goals as goal
 
 pub returns-clause-err : goal.returns-clause-err

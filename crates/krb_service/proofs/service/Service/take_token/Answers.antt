@@ -6,7 +6,8 @@ use Rattle.std.proofs.lemmas.Result.{on_err_weaker}
 use Rattle.sspi_core.specs.declared.error.Error.{Error}
 use Rattle.krb_service.specs.Policy.{TakesToken}
 use Rattle.krb_service.specs.declared.reply.Reply.TheVariants.{Refused}
-use Rattle.krb_service.proofs.StepLemmas.{mapped_err, step-refused, set_same}
+use Rattle.krb_script.proofs.ScriptLemmas.{set_same}
+use Rattle.krb_service.proofs.StepLemmas.{mapped_err, step-refused}
 use Rattle.krb_service.proofs.service.Service.take_token.Goals as goal
 
 pub returns-in-Err-clause-step : goal.returns-in-Err-clause-step

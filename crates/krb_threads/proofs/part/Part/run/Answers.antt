@@ -1,5 +1,5 @@
 use Rattle.std.proofs.Common.{List, subst}
-use Rattle.krb_text.specs.declared.item.Event.{Event}
+use Rattle.krb_script.specs.declared.item.Event.{Event}
 use Rattle.krb_threads.specs.Runs.{EndsAs}
 use Rattle.krb_threads.proofs.WorkedLemmas.{ends-as}
 use Rattle.krb_threads.proofs.part.Part.run.Goals as goal

@@ -1,0 +1,4 @@
+pub mod FieldLemmas
+pub mod BufferLemmas
+pub mod KeytabLemmas
+pub mod ScriptLemmas

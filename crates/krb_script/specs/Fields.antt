@@ -1,0 +1,81 @@
+-- What a field of a line stands for.
+use Rattle.std.specs.Prelude.{ℕ, Bool, true, ◌&&◌, not, nat_lt, ◌==◌, if◌then◌else◌, List, [], ◌∷◌, length, fold, codes, Option, Some, None}
+use Rattle.std.specs.List.{list_all, list_any}
+use Rattle.std.specs.Char.{is_ascii_graphic}
+use Rattle.std.specs.Str.{bytes_eq, is_utf8}
+use Rattle.std.specs.Result.{result_ok}
+use Rattle.std.specs.Int.RustNames.{bit_or}
+use Rattle.hex.specs.Hex.{decode_of, decode_sized}
+use Rattle.krb_script.specs.Options.{◌>>=◌, if_so}
+use Rattle.sspi_core.specs.declared.flags.ClientRequestFlags.{ClientRequestFlags}
+
+-- the octets that hex digits of either case stand for
+abbrev pub octets_of : List ℕ → Option (List ℕ)
+octets_of text = if length text == 0 then None else result_ok (decode_of text)
+
+-- the same, where `-` stands for no octets
+abbrev pub octets_or_none_of : List ℕ → Option (List ℕ)
+octets_or_none_of text = if bytes_eq text (codes "-") then Some [] else octets_of text
+
+-- a text in UTF-8 by the hex digits of its octets, where `-` stands for the empty one
+abbrev pub text_of : List ℕ → Option (List ℕ)
+text_of text = do
+  octets ← octets_or_none_of text
+  if_so (is_utf8 octets) (Some octets)
+
+-- octets of a field, 21 to 7E, of which there is one at least
+abbrev pub is_name : List ℕ → Bool
+is_name text = nat_lt 0 (length text) && list_all is_ascii_graphic text
+
+-- a field that is taken as it stands
+abbrev pub name_of : List ℕ → Option (List ℕ)
+name_of text = if is_name text then Some text else None
+
+-- the same, where `-` stands for no field
+abbrev pub optional_name_of : List ℕ → Option (Option (List ℕ))
+optional_name_of text =
+    if bytes_eq text (codes "-") then Some None
+    else do
+      name ← name_of text
+      Some (Some name)
+
+-- the same, where `-` stands for the empty one
+abbrev pub name_or_none_of : List ℕ → Option (List ℕ)
+name_or_none_of text = if bytes_eq text (codes "-") then Some [] else name_of text
+
+-- each element stands once
+abbrev pub is_distinct : List ℕ → Bool
+is_distinct [] = true
+is_distinct (x ∷ xs) = not (list_any (λ y. y == x) xs) && is_distinct xs
+
+-- 64 octets in hex
+abbrev pub random_of : List ℕ → Option (List ℕ)
+random_of text = result_ok (decode_sized text 64)
+
+-- the bit of a flag's letter, and 0 for any other octet: D delegate, M mutual, R replay, S sequence, C confidentiality,
+-- K use session key, E DCE style, I integrity, N no integrity
+abbrev pub flag_bit : ℕ → ℕ
+flag_bit b =
+    if b == 68 then 0x1 else if b == 77 then 0x2 else if b == 82 then 0x4 else if b == 83 then 0x8 else if b == 67 then 0x10
+    else if b == 75 then 0x20 else if b == 69 then 0x200 else if b == 73 then 0x10000 else if b == 78 then 0x800000 else 0
+
+abbrev pub is_flag : ℕ → Bool
+is_flag b = not (flag_bit b == 0)
+
+-- letters of flags, each once, of which there is one at least
+abbrev pub are_flags : List ℕ → Bool
+are_flags text = nat_lt 0 (length text) && list_all is_flag text && is_distinct text
+
+abbrev pub flag_bits : List ℕ → ℕ
+flag_bits text = fold (λ bits letter. bit_or bits (flag_bit letter)) 0 text
+
+-- the set of flags that has these bits
+abbrev pub flags_from : ℕ → ClientRequestFlags
+flags_from bits = record { 0 = bits }
+
+-- flags by their letters, where `-` stands for none
+abbrev pub flags_of : List ℕ → Option ClientRequestFlags
+flags_of text =
+    if bytes_eq text (codes "-") then Some (flags_from 0)
+    else if are_flags text then Some (flags_from (flag_bits text))
+    else None

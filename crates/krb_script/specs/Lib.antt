@@ -1,0 +1,9 @@
+pub mod Options
+pub mod Gives
+pub mod Fields
+pub mod Buffers
+pub mod Inputs
+pub mod Endpoints
+pub mod Declarations
+pub mod Items
+pub mod Script
