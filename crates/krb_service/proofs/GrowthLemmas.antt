@@ -8,7 +8,8 @@ use Rattle.krb_script.specs.Items.{item_of}
 use Rattle.krb_script.specs.Script.{Setup, Declared, Reading, set_up_before, declare, declare_line, read_lines, read_on}
 use Rattle.krb_text.specs.Limits.{is_long}
 use Rattle.krb_script.specs.declared.item.Item.{Item}
-use Rattle.krb_script.specs.declared.item.Item.TheVariants.{Skew, Acceptor as AcceptorItem, Key as KeyItem, Event as EventItem}
+use Rattle.krb_script.specs.declared.item.Item.TheVariants.{Declaration as DeclarationItem, Event as EventItem}
+use Rattle.krb_script.specs.declared.declaration.Declaration.{Declaration}
 use Rattle.krb_script.specs.declared.item.Event.{Event}
 
 -- events are added behind the others, or there was none yet
@@ -39,15 +40,13 @@ event_grows : (so_far next : Declared) (event : Event) (t : Bool) → (if t then
 event_grows so_far next event true e = grows_to so_far (record so_far { events = so_far.events ++ event ∷ [] }) next (cc) (inr (refl, (event ∷ [], refl)))
 event_grows so_far next event false e = absurd (cc)
 
-setup_grows : (setup : Setup) (events : List Event) (next : Declared) (item : Item) → set_up_before events setup item ≡ Some next → Grows (record { setup = setup; events = events }) next
+setup_grows : (setup : Setup) (events : List Event) (next : Declared) (item : Declaration) → set_up_before events setup item ≡ Some next → Grows (record { setup = setup; events = events }) next
 setup_grows setup [] next item e = inl refl
 setup_grows setup (event ∷ events) next item e = absurd (cc)
 
 item_grows : (so_far next : Declared) (item : Item) → declare so_far item ≡ Some next → Grows so_far next
 item_grows so_far next (EventItem event) e = event_grows so_far next event (is_some so_far.setup.skew) e
-item_grows so_far next (Skew seconds) e = setup_grows so_far.setup so_far.events next (Skew seconds) e
-item_grows so_far next (AcceptorItem acceptor) e = setup_grows so_far.setup so_far.events next (AcceptorItem acceptor) e
-item_grows so_far next (KeyItem key) e = setup_grows so_far.setup so_far.events next (KeyItem key) e
+item_grows so_far next (DeclarationItem item) e = setup_grows so_far.setup so_far.events next item e
 
 content_grows : (so_far next : Declared) (o : Option Item) → (o >>= (λ item. declare so_far item)) ≡ Some next → Grows so_far next
 content_grows so_far next None e = absurd (cc)

@@ -9,7 +9,8 @@ use Rattle.krb_script.specs.Options.{◌>>=◌}
 use Rattle.krb_script.specs.Items.{item_of}
 use Rattle.krb_script.specs.Script.{Setup, Declared, set_up, set_up_before, declare, declare_line}
 use Rattle.krb_script.specs.declared.item.Item.{Item}
-use Rattle.krb_script.specs.declared.item.Item.TheVariants.{Skew, Acceptor as AcceptorItem, Key as KeyItem, Event as EventItem}
+use Rattle.krb_script.specs.declared.item.Item.TheVariants.{Declaration as DeclarationItem, Event as EventItem}
+use Rattle.krb_script.specs.declared.declaration.Declaration.{Declaration}
 use Rattle.krb_script.specs.declared.item.Event.{Event}
 use Rattle.krb_service.specs.declared.reply.Reply.{Reply}
 use Rattle.krb_replay.specs.Book.{Book, StandsFor}
@@ -125,7 +126,7 @@ prepared : (progress after : Progress) (o : Option Setup) → option_map (λ set
 prepared progress after None e = absurd (cc)
 prepared progress after (Some setup) e = (setup, refl, cc)
 
-setup_made : (progress : Progress) (so_far : Declared) (replies : List Reply) (item : Item) (text : List ℕ) (after : Progress) → Follows progress so_far replies
+setup_made : (progress : Progress) (so_far : Declared) (replies : List Reply) (item : Declaration) (text : List ℕ) (after : Progress) → Follows progress so_far replies
     → IsBefore progress so_far replies ⊎ IsAmid progress so_far replies → Prepares progress item text after → Made progress so_far replies (set_up_before so_far.events so_far.setup item) text progress.lines after
 setup_made progress so_far replies item text after f (inl b) p =
     let made = prepared progress after (set_up so_far.setup item)
@@ -161,9 +162,7 @@ setup_made progress so_far replies item text after f (inr m) p =
 item_made : (progress : Progress) (so_far : Declared) (replies : List Reply) (item : Item) (text : List ℕ) (after : Progress) → Follows progress so_far replies → TakesItem progress item text after
     → Made progress so_far replies (declare so_far item) text progress.lines after
 item_made progress so_far replies (EventItem event) text after f t = event_made progress so_far replies event text after f t
-item_made progress so_far replies (Skew seconds) text after f t = setup_made progress so_far replies (Skew seconds) text after f f.state t
-item_made progress so_far replies (AcceptorItem acceptor) text after f t = setup_made progress so_far replies (AcceptorItem acceptor) text after f f.state t
-item_made progress so_far replies (KeyItem key) text after f t = setup_made progress so_far replies (KeyItem key) text after f f.state t
+item_made progress so_far replies (DeclarationItem item) text after f t = setup_made progress so_far replies item text after f f.state t
 
 line_made : (progress : Progress) (so_far : Declared) (replies : List Reply) (line text : List ℕ) (after : Progress) (t : Bool) → Follows progress so_far replies
     → MatchBool t ((text ≡ []) × (after ≡ progress)) (TakesContent progress line text after)
@@ -215,11 +214,11 @@ mapped_none : {A B : Type 0} (f : A → B) (o : Option A) → option_map f o ≡
 mapped_none f None e = refl
 mapped_none f (Some x) e = absurd (cc)
 
-setup_behind : (setup : Setup) (events : List Event) (item : Item) → 0 < length events → set_up_before events setup item ≡ None
+setup_behind : (setup : Setup) (events : List Event) (item : Declaration) → 0 < length events → set_up_before events setup item ≡ None
 setup_behind setup [] item some = absurd (omega arith)
 setup_behind setup (event ∷ events) item some = refl
 
-setup_refused : (progress : Progress) (so_far : Declared) (replies : List Reply) (item : Item) → IsBefore progress so_far replies ⊎ IsAmid progress so_far replies → prepare progress item ≡ None
+setup_refused : (progress : Progress) (so_far : Declared) (replies : List Reply) (item : Declaration) → IsBefore progress so_far replies ⊎ IsAmid progress so_far replies → prepare progress item ≡ None
     → set_up_before so_far.events so_far.setup item ≡ None
 setup_refused progress so_far replies item (inl b) none =
     let no_setup : set_up so_far.setup item ≡ None = mapped_none (λ setup. record progress { setup = setup }) (set_up so_far.setup item)
@@ -229,9 +228,7 @@ setup_refused progress so_far replies item (inr m) none = setup_behind so_far.se
 
 item_refused : (progress : Progress) (so_far : Declared) (replies : List Reply) (item : Item) → IsBefore progress so_far replies ⊎ IsAmid progress so_far replies → RefusesItem progress item → declare so_far item ≡ None
 item_refused progress so_far replies (EventItem event) s r = event_refused progress so_far replies event s r
-item_refused progress so_far replies (Skew seconds) s r = setup_refused progress so_far replies (Skew seconds) s r
-item_refused progress so_far replies (AcceptorItem acceptor) s r = setup_refused progress so_far replies (AcceptorItem acceptor) s r
-item_refused progress so_far replies (KeyItem key) s r = setup_refused progress so_far replies (KeyItem key) s r
+item_refused progress so_far replies (DeclarationItem item) s r = setup_refused progress so_far replies item s r
 
 content_refused : (progress : Progress) (so_far : Declared) (replies : List Reply) (o : Option Item) → IsBefore progress so_far replies ⊎ IsAmid progress so_far replies → IfSome o (λ item. RefusesItem progress item)
     → (o >>= (λ item. declare so_far item)) ≡ None

@@ -6,10 +6,11 @@ use Rattle.krb_text.specs.Lines.{is_skipped}
 use Rattle.krb_script.specs.Items.{item_of}
 use Rattle.krb_script.specs.Script.{Setup, empty_setup, set_up}
 use Rattle.krb_script.specs.declared.item.Item.{Item}
-use Rattle.krb_script.specs.declared.item.Item.TheVariants.{Skew, Acceptor as AcceptorItem, Key as KeyItem, Event as EventItem}
+use Rattle.krb_script.specs.declared.item.Item.TheVariants.{Declaration as DeclarationItem, Event as EventItem}
+use Rattle.krb_script.specs.declared.declaration.Declaration.{Declaration}
 use Rattle.krb_script.specs.declared.item.Event.{Event}
 use Rattle.krb_service.specs.Policy.{State, Steps}
-use Rattle.krb_service.specs.Described.{skew_of, no_env, connections_of}
+use Rattle.krb_service.specs.Described.{skew_of, connections_of}
 use Rattle.krb_service.specs.Reply.{reply_line, admits_peer}
 use Rattle.krb_service.specs.declared.reply.Reply.{Reply}
 
@@ -28,7 +29,7 @@ new_progress = record { setup = empty_setup; service = None; lines = 0; answered
 -- a service of what was declared, over a book that was asked nothing
 pub record IsNew (setup : Setup) (state : State Book) : Type 0 where
   pub connections : state.connections ≡ connections_of setup
-  pub env : state.env ≡ no_env
+  pub env : state.env ≡ setup.env
   pub skew : state.gate.skew ≡ skew_of setup
   pub stands : StandsFor state.gate no_history
 
@@ -58,30 +59,26 @@ pub record Answers (progress : Progress) (event : Event) (text : List ℕ) (afte
   pub admitted_is : after.admitted ≡ progress.admitted + one_if_admits reply
 
 -- before the first event
-abbrev pub prepare_by : Option (State Book) → Progress → Item → Option Progress
-prepare_by (Some state) progress item = None
-prepare_by None progress item = option_map (λ setup. record progress { setup = setup }) (set_up progress.setup item)
+abbrev pub prepare_by : Option (State Book) → Progress → Declaration → Option Progress
+prepare_by (Some state) progress declaration = None
+prepare_by None progress declaration = option_map (λ setup. record progress { setup = setup }) (set_up progress.setup declaration)
 
-abbrev pub prepare : Progress → Item → Option Progress
-prepare progress item = prepare_by progress.service progress item
+abbrev pub prepare : Progress → Declaration → Option Progress
+prepare progress declaration = prepare_by progress.service progress declaration
 
 -- nothing is written for what is declared
-pub record Prepares (progress : Progress) (item : Item) (text : List ℕ) (after : Progress) : Type 0 where
+pub record Prepares (progress : Progress) (declaration : Declaration) (text : List ℕ) (after : Progress) : Type 0 where
   pub text_is : text ≡ []
-  pub after_is : prepare progress item ≡ Some after
+  pub after_is : prepare progress declaration ≡ Some after
 
 abbrev pub TakesItem : Progress → Item → List ℕ → Progress → Type 0
 TakesItem progress (EventItem event) text after = Answers progress event text after
-TakesItem progress (Skew seconds) text after = Prepares progress (Skew seconds) text after
-TakesItem progress (AcceptorItem acceptor) text after = Prepares progress (AcceptorItem acceptor) text after
-TakesItem progress (KeyItem key) text after = Prepares progress (KeyItem key) text after
+TakesItem progress (DeclarationItem declaration) text after = Prepares progress declaration text after
 
 -- an item that does not meet the conditions
 abbrev pub RefusesItem : Progress → Item → Type 0
 RefusesItem progress (EventItem event) = CannotBegin progress
-RefusesItem progress (Skew seconds) = prepare progress (Skew seconds) ≡ None
-RefusesItem progress (AcceptorItem acceptor) = prepare progress (AcceptorItem acceptor) ≡ None
-RefusesItem progress (KeyItem key) = prepare progress (KeyItem key) ≡ None
+RefusesItem progress (DeclarationItem declaration) = prepare progress declaration ≡ None
 
 -- a line that is not skipped
 pub record TakesContent (progress : Progress) (line text : List ℕ) (after : Progress) : Type 0 where

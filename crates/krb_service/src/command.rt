@@ -11,7 +11,8 @@ ghost use Rattle.krb_service.specs.Halts.{Halts};
 use crate::closing::{closing, status_at};
 use crate::halt::Halt;
 use crate::session::Session;
-use krb_text::{FieldError, LineReader, ReadError, Sink, Source, Status, Words, write_line};
+use krb_script::FieldError;
+use krb_text::{LineReader, ReadError, Sink, Source, Status, Words, write_line};
 use std::alloc::Global;
 
 /// Takes one line, and writes the reply to its event, if it is one.

@@ -28,9 +28,10 @@ pub use closing::{ROOM, end_line, numbered_line};
 pub use command::serve;
 pub use connection::Connection;
 pub use demonstration::demo;
-pub use described::{acceptor_context, secret_at};
+pub use described::connection_of;
+pub use krb_script::{Event, Input};
 pub use krb_text::{
-    Calls, CutFault, Event, Failed, Input, LineCutter, MemSink, MemSource, Sink, Source, Status,
+    Calls, CutFault, Failed, LineCutter, MemSink, MemSource, Sink, Source, Status,
     StdSink, StdSource, SureSink, SureSource, Words,
 };
 pub use reply::Reply;

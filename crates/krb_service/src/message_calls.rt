@@ -10,7 +10,7 @@ use crate::reply::Reply;
 use crate::service::is_memory;
 use krb_context::Kerberos;
 use krb_der::{Items, Octets, OutOfMemory};
-use krb_text::Input;
+use krb_script::Input;
 use sspi_core::{BufferType, Error, Message, SecurityBufferRef};
 use std::alloc::Global;
 

@@ -4,7 +4,8 @@ use crate::reply::Reply;
 use crate::service::Service;
 use krb_der::OutOfMemory;
 use krb_replay::ReplayBook;
-use krb_text::{Event, FieldError, Item, Script, is_skipped, parse_item};
+use krb_script::{Declaration, Event, FieldError, Item, Script, parse_item};
+use krb_text::is_skipped;
 use std::alloc::Global;
 use std::marker::Model;
 use std::mem;
@@ -129,18 +130,18 @@ impl Session {
         Ok(text)
     }
 
-    /// One item before the first event.
-    fn prepare(&mut self, alloc: Global, item: Item) -> Result<String, FieldError>
+    /// One line before the first event.
+    fn prepare(&mut self, alloc: Global, declaration: Declaration) -> Result<String, FieldError>
         ensures turn { MatchResult result
-            (λ text. Prepares self.old item (string_bytes text) self.new)
-            (λ e. e ≡ Bad → (prepare self.old item ≡ None) × (self.new ≡ self.old)) }
+            (λ text. Prepares self.old declaration (string_bytes text) self.new)
+            (λ e. e ≡ Bad → (prepare self.old declaration ≡ None) × (self.new ≡ self.old)) }
         ensures err { OnErr result (self.new ≡ self.old) }
         ensures lines { self.new.lines ≡ self.old.lines }
     {
         if self.service.is_some() {
             return Err(FieldError::Bad);
         }
-        self.script.set_up(item)?;
+        self.script.set_up(declaration)?;
         Ok(String::new(alloc))
     }
 
@@ -155,9 +156,7 @@ impl Session {
     {
         match parse_item(alloc, line)? {
             Item::Event(event) => self.answer(alloc, &event),
-            Item::Skew(seconds) => self.prepare(alloc, Item::Skew(seconds)),
-            Item::Acceptor(acceptor) => self.prepare(alloc, Item::Acceptor(acceptor)),
-            Item::Key(key) => self.prepare(alloc, Item::Key(key)),
+            Item::Declaration(declaration) => self.prepare(alloc, declaration),
         }
     }
 

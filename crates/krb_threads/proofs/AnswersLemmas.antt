@@ -16,6 +16,7 @@ use Rattle.krb_script.specs.declared.item.Event.{Event}
 use Rattle.krb_service.specs.declared.connection.Connection.{Connection}
 use Rattle.krb_service.specs.declared.reply.Reply.{Reply}
 use Rattle.krb_service.proofs.PolicyLemmas.{Runs-length}
+use Rattle.krb_conf.specs.declared.env.Env.{Env}
 use Rattle.krb_threads.specs.Journaled.{events_of, numbers_of, entries_of, connections_of, Reads, RunsBy}
 use Rattle.krb_threads.specs.Answers.{AreAnswers}
 use Rattle.krb_threads.specs.Worked.{log_of, WorksAt, AreOf, WorksThere}
@@ -36,17 +37,18 @@ log-agrees : (journal : List Entry) (seat : Seat) (number : ℕ) → seat.number
 log-agrees journal seat number at agrees = ap (map (λ (r : Receipt). r.entry)) agrees ∙ placed-entries 1 seat.number journal ∙ ap (λ (n : ℕ). entries_of n journal) at
 
 -- the run of a worker at a seat that was new, and that agrees with the journal
-pub told : (journal : List Entry) (old new : Seat) (number : ℕ) (connections : List (ℕ × Connection)) (events : List Event) (replies : List Reply) → old.receipts ≡ [] → old.number ≡ number
-    → (own : List (ℕ × Connection)) → own ≡ connections → WorksAt old own events replies new → new.receipts ≡ placed_from 1 new.number journal
-    → RunsBy 1 number connections events (entries_of number journal) replies
-told journal old new number connections events replies fresh at own own_is works agrees =
+pub told : (journal : List Entry) (old new : Seat) (number : ℕ) (env : Env) (connections : List (ℕ × Connection)) (events : List Event) (replies : List Reply) → old.receipts ≡ [] → old.number ≡ number
+    → (own_env : Env) → own_env ≡ env → (own : List (ℕ × Connection)) → own ≡ connections → WorksAt old own_env own events replies new → new.receipts ≡ placed_from 1 new.number journal
+    → RunsBy 1 number env connections events (entries_of number journal) replies
+told journal old new number env connections events replies fresh at own_env env_is own own_is works agrees =
     let gained : works.gained ≡ entries_of number journal =
     sym (works.log ∙ ap (λ (rs : List Receipt). map (λ (r : Receipt). r.entry) rs ++ works.gained) fresh) ∙ log-agrees journal new number (works.number ∙ at) agrees in
-    let P : List Entry → Type 0 = λ l. RunsBy 1 number connections events l replies in
-    let Q : ℕ → Type 0 = λ n. RunsBy 1 n connections events works.gained replies in
-    let R : List Receipt → Type 0 = λ rs. RunsBy (length rs + 1) old.number connections events works.gained replies in
-    let O : List (ℕ × Connection) → Type 0 = λ cs. RunsBy (length old.receipts + 1) old.number cs events works.gained replies in
-    subst P gained (subst Q at (subst R fresh (subst O own_is works.runs)))
+    let P : List Entry → Type 0 = λ l. RunsBy 1 number env connections events l replies in
+    let Q : ℕ → Type 0 = λ n. RunsBy 1 n env connections events works.gained replies in
+    let R : List Receipt → Type 0 = λ rs. RunsBy (length rs + 1) old.number env connections events works.gained replies in
+    let O : List (ℕ × Connection) → Type 0 = λ cs. RunsBy (length old.receipts + 1) old.number env cs events works.gained replies in
+    let E : Env → Type 0 = λ e. RunsBy (length old.receipts + 1) old.number e own events works.gained replies in
+    subst P gained (subst Q at (subst R fresh (subst O own_is (subst E env_is works.runs))))
 
 log-length : (journal : List Entry) (seat : Seat) (number : ℕ) → seat.number ≡ number → seat.receipts ≡ placed_from 1 seat.number journal → length seat.receipts ≡ length (entries_of number journal)
 log-length journal seat number at agrees = sym (length-map seat.receipts (λ (r : Receipt). r.entry)) ∙ ap length (log-agrees journal seat number at agrees)
@@ -84,11 +86,12 @@ own-none seat other (entry ∷ entries) apart own =
     ap (λ b. cond b (entry ∷ entries_of other entries) (entries_of other entries)) is ∙ own-none seat other entries apart own.1
 
 -- the runs of both workers, one after the other, over one new desk
-pub told-there : (skew : ℕ) (connections : List (ℕ × Connection)) (low high : List Event) (first second : List Reply) (a b c : Desk) (journal : Journal) → a.skew ≡ skew → a.journal ≡ []
+pub told-there : (skew : ℕ) (env : Env) (connections : List (ℕ × Connection)) (low high : List Event) (first second : List Reply) (a b c : Desk) (journal : Journal) → a.skew ≡ skew → a.journal ≡ []
+    → (low_env high_env : Env) → low_env ≡ env → high_env ≡ env
     → (low_own high_own : List (ℕ × Connection)) → low_own ≡ connections_of 0 connections → high_own ≡ connections_of 1 connections
-    → WorksThere a 1 0 low_own low first b → WorksThere b 1 1 high_own high second c → IsJournal c.skew journal → journal.entries ≡ c.journal
-    → AreAnswers skew connections low high first second journal
-told-there skew connections low high first second a b c journal skew_is fresh low_own high_own low_own_is high_own_is one two legal entries_are =
+    → WorksThere a 1 0 low_env low_own low first b → WorksThere b 1 1 high_env high_own high second c → IsJournal c.skew journal → journal.entries ≡ c.journal
+    → AreAnswers skew env connections low high first second journal
+told-there skew env connections low high first second a b c journal skew_is fresh low_env high_env low_env_is high_env_is low_own high_own low_own_is high_own_is one two legal entries_are =
     let all : journal.entries ≡ one.gained ++ two.gained = entries_are ∙ two.journal ∙ ap (λ l. l ++ two.gained) (one.journal ∙ ap (λ l. l ++ one.gained) fresh) in
     let low_are : entries_of 0 journal.entries ≡ one.gained =
     ap (entries_of 0) all ∙ filter-append (λ (e : Entry). e.seat == 0) one.gained two.gained
@@ -97,19 +100,21 @@ told-there skew connections low high first second a b c journal skew_is fresh lo
     ap (entries_of 1) all ∙ filter-append (λ (e : Entry). e.seat == 1) one.gained two.gained
     ∙ ap (λ l. l ++ entries_of 1 two.gained) (own-none 0 1 one.gained refl one.own) ∙ own-all 1 two.gained two.own in
     let S : ℕ → Type 0 = λ s. IsJournal s journal in
-    let F : List Entry → Type 0 = λ l. RunsBy 1 0 (connections_of 0 connections) low l first in
-    let G : List Entry → Type 0 = λ l. RunsBy 1 1 (connections_of 1 connections) high l second in
-    let M : List (ℕ × Connection) → Type 0 = λ cs. RunsBy 1 0 cs low one.gained first in
-    let N : List (ℕ × Connection) → Type 0 = λ cs. RunsBy 1 1 cs high two.gained second in
+    let F : List Entry → Type 0 = λ l. RunsBy 1 0 env (connections_of 0 connections) low l first in
+    let G : List Entry → Type 0 = λ l. RunsBy 1 1 env (connections_of 1 connections) high l second in
+    let M : List (ℕ × Connection) → Type 0 = λ cs. RunsBy 1 0 env cs low one.gained first in
+    let K : Env → Type 0 = λ e. RunsBy 1 0 e low_own low one.gained first in
+    let L : Env → Type 0 = λ e. RunsBy 1 1 e high_own high two.gained second in
+    let N : List (ℕ × Connection) → Type 0 = λ cs. RunsBy 1 1 env cs high two.gained second in
     record {
       legal = subst S (two.skew ∙ one.skew ∙ skew_is) legal;
       whole = let p = ap length all in let q = length-append one.gained two.gained in let r = ap length low_are in let s = ap length high_are in omega (arith, p, q, r, s);
-      low_runs = subst F (sym low_are) (subst M low_own_is one.runs);
-      high_runs = subst G (sym high_are) (subst N high_own_is two.runs);
+      low_runs = subst F (sym low_are) (subst M low_own_is (subst K low_env_is one.runs));
+      high_runs = subst G (sym high_are) (subst N high_own_is (subst L high_env_is two.runs));
     }
 
 -- each reply of a worker has the number of its event
-pub numbered : (worker call : ℕ) (events own : List Event) (numbers : List ℕ) (connections : List (ℕ × Connection)) (entries : List Entry) (replies : List Reply) → numbers ≡ numbers_of worker events
-    → own ≡ events_of worker events → RunsBy call worker connections own entries replies → length numbers ≡ length replies
-numbered worker call events own numbers connections entries replies numbers_are own_are runs =
+pub numbered : (worker call : ℕ) (events own : List Event) (numbers : List ℕ) (env : Env) (connections : List (ℕ × Connection)) (entries : List Entry) (replies : List Reply) → numbers ≡ numbers_of worker events
+    → own ≡ events_of worker events → RunsBy call worker env connections own entries replies → length numbers ≡ length replies
+numbered worker call events own numbers env connections entries replies numbers_are own_are runs =
     ap length numbers_are ∙ numbers-length 1 worker events ∙ ap length (sym own_are) ∙ sym (Runs-length (Reads worker) _ own replies runs.after runs.runs)

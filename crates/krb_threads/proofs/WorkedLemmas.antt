@@ -13,7 +13,7 @@ use Rattle.krb_shared.specs.Desk.{Desk, Gate, AdmitsNext, next_call}
 use Rattle.krb_shared.specs.Seats.{Seat, AddsReceipt}
 use Rattle.krb_script.specs.declared.item.Event.{Event}
 use Rattle.sspi_core.specs.declared.cause.Cause.{Cause}
-use Rattle.krb_service.specs.Described.{no_env, with_gate}
+use Rattle.krb_service.specs.Described.{with_gate}
 use Rattle.krb_service.specs.Policy.{State, Behind, AnswersCall, StepsBy, Steps, Runs, RunsOn, StopsBehind, reached, called}
 use Rattle.krb_service.specs.MessageCalls.{is_call}
 use Rattle.krb_service.proofs.CallLemmas.{call-gate}
@@ -179,15 +179,15 @@ module _ {G N : Type 0} (admits : G → Ask → Verdict → G → Type 0) (log :
     pub own : AreOf (seat state.gate) gained
     pub seat_is : seat after.gate ≡ seat state.gate
     pub kept_is : kept after.gate ≡ kept state.gate
-    pub runs : state.env ≡ no_env → RunsBy (next state.gate) (seat state.gate) state.connections events gained replies
+    pub runs : RunsBy (next state.gate) (seat state.gate) state.env state.connections events gained replies
 
-  worked_runs : (state : State G) (events : List Event) (replies : List Reply) (after : State G) (by : IsBy state events replies after) → state.env ≡ no_env
-      → RunsBy (next state.gate) (seat state.gate) state.connections events by.gained replies
-  worked_runs state events replies after by none =
+  worked_runs : (state : State G) (events : List Event) (replies : List Reply) (after : State G) (by : IsBy state events replies after)
+      → RunsBy (next state.gate) (seat state.gate) state.env state.connections events by.gained replies
+  worked_runs state events replies after by =
       let T : State Rest → Type 0 = λ s. Runs (Reads (seat state.gate)) s events replies (with_gate after (rest_at after.gate [])) in
       record {
         after = with_gate after (rest_at after.gate []);
-        runs = subst T (ap (λ l. with_gate state (rest_at state.gate l)) (append-nil by.gained) ∙ ap (λ e. record { connections = state.connections; env = e; gate = rest_at state.gate by.gained }) none) (by.runs []);
+        runs = subst T (ap (λ l. with_gate state (rest_at state.gate l)) (append-nil by.gained)) (by.runs []);
         used = refl;
       }
 
@@ -200,7 +200,7 @@ module _ {G N : Type 0} (admits : G → Ask → Verdict → G → Type 0) (log :
         own = by.gains.own;
         seat_is = by.gains.seat_is;
         kept_is = by.gains.kept_is;
-        runs = λ none. worked_runs state events replies after by none;
+        runs = worked_runs state events replies after by;
       }
 
   pub worked : (state : State G) (events : List Event) (old replies : List Reply) (after : State G) → RunsOn admits state events old replies after → old ≡ [] → Worked state events replies after
@@ -263,19 +263,19 @@ module _ {G N : Type 0} (admits : G → Ask → Verdict → G → Type 0) (is_sa
       (keeps {N = N × ℕ} admits (λ g. log_of (view g)) (λ g. length (view g).receipts + 1) (λ g. (view g).number) (λ g. (name g, (view g).parts)) seat_step is_same state events old replies after ended h fresh
       (λ a b s. both_same a b (same a b s)))
 
-  seat_worked : (state : State G) (events : List Event) (old replies : List Reply) (after : State G) → RunsOn admits state events old replies after → old ≡ [] → state.env ≡ no_env
-      → WorksAt (view state.gate) state.connections events replies (view after.gate)
-  seat_worked state events old replies after runs fresh none =
+  seat_worked : (state : State G) (events : List Event) (old replies : List Reply) (after : State G) → RunsOn admits state events old replies after → old ≡ []
+      → WorksAt (view state.gate) state.env state.connections events replies (view after.gate)
+  seat_worked state events old replies after runs fresh =
       let w = worked {N = N × ℕ} admits (λ g. log_of (view g)) (λ g. length (view g).receipts + 1) (λ g. (view g).number) (λ g. (name g, (view g).parts)) seat_step state events old replies after runs fresh in
-      record { number = w.seat_is; parts = ap (λ (p : N × ℕ). p.1) w.kept_is; gained = w.gained; log = w.log_is; runs = w.runs none }
+      record { number = w.seat_is; parts = ap (λ (p : N × ℕ). p.1) w.kept_is; gained = w.gained; log = w.log_is; runs = w.runs }
 
   -- and where all events were taken, the seat has gained the receipts of the run
   pub seat-works : (state : State G) (events : List Event) (old replies : List Reply) (after : State G) (ended : Option (Result (Unit {0}) Stopped))
-      → IsSomeAnd ended (λ (e : Result (Unit {0}) Stopped). EndsAs admits is_same state events old e replies after) → old ≡ [] → state.env ≡ no_env
-      → IsSomeAnd ended (λ (e : Result (Unit {0}) Stopped). OnOk e (WorksAt (view state.gate) state.connections events replies (view after.gate)))
-  seat-works state events old replies after None h fresh none = absurd h
-  seat-works state events old replies after (Some (Ok done)) h fresh none = seat_worked state events old replies after h fresh none
-  seat-works state events old replies after (Some (Err stopped)) h fresh none = tt
+      → IsSomeAnd ended (λ (e : Result (Unit {0}) Stopped). EndsAs admits is_same state events old e replies after) → old ≡ []
+      → IsSomeAnd ended (λ (e : Result (Unit {0}) Stopped). OnOk e (WorksAt (view state.gate) state.env state.connections events replies (view after.gate)))
+  seat-works state events old replies after None h fresh = absurd h
+  seat-works state events old replies after (Some (Ok done)) h fresh = seat_worked state events old replies after h fresh
+  seat-works state events old replies after (Some (Err stopped)) h fresh = tt
 
 -- a part whose gate stands over a desk
 module _ {G N : Type 0} (admits : G → Ask → Verdict → G → Type 0) (view : G → Gate) (name : G → N) (enough : (a : G) → (view a).before ≤ length (view a).desk.journal)
@@ -292,11 +292,11 @@ module _ {G N : Type 0} (admits : G → Ask → Verdict → G → Type 0) (view 
   pub desk-keeps : (state : State G) (events : List Event) (old replies : List Reply) (after : State G) → RunsOn admits state events old replies after → old ≡ [] → name after.gate ≡ name state.gate
   desk-keeps state events old replies after runs fresh = ap (λ (p : N × ℕ). p.0) (desk_worked state events old replies after runs fresh).kept_is
 
-  pub desk-works : (state : State G) (events : List Event) (old replies : List Reply) (after : State G) → RunsOn admits state events old replies after → old ≡ [] → state.env ≡ no_env
-      → WorksThere (view state.gate).desk (next_call (view state.gate)) (view state.gate).seat state.connections events replies (view after.gate).desk
-  desk-works state events old replies after runs fresh none =
+  pub desk-works : (state : State G) (events : List Event) (old replies : List Reply) (after : State G) → RunsOn admits state events old replies after → old ≡ []
+      → WorksThere (view state.gate).desk (next_call (view state.gate)) (view state.gate).seat state.env state.connections events replies (view after.gate).desk
+  desk-works state events old replies after runs fresh =
       let w = desk_worked state events old replies after runs fresh in
-      record { skew = ap (λ (p : N × ℕ). p.1) w.kept_is; gained = w.gained; journal = w.log_is; own = w.own; runs = w.runs none }
+      record { skew = ap (λ (p : N × ℕ). p.1) w.kept_is; gained = w.gained; journal = w.log_is; own = w.own; runs = w.runs }
 
 -- how a run of a service ends, by its answer
 pub ends-as : {G : Type 0} (admits : G → Ask → Verdict → G → Type 0) (is_same : G → G → Type 0) (service : State G) (events : List Event) (old : List Reply) (result : Result (Unit {0}) Stopped) (new : List Reply) (after : State G)

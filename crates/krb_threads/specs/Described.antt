@@ -6,4 +6,4 @@ use Rattle.krb_threads.specs.declared.described.Described.{Described}
 
 -- those of both workers
 abbrev pub all_connections : Described → List (ℕ × Connection)
-all_connections described = connections_with described.skew described.keys.entries described.acceptors.entries
+all_connections described = connections_with described.skew described.endpoints.entries

@@ -5,7 +5,7 @@ use Rattle.krb_replay.specs.declared.ask.Ask.{Ask}
 use Rattle.krb_replay.specs.declared.ask.Verdict.{Verdict}
 use Rattle.krb_shared.specs.declared.entry.Entry.{Entry}
 use Rattle.krb_script.specs.declared.item.Event.{Event}
-use Rattle.krb_service.specs.Described.{no_env}
+use Rattle.krb_conf.specs.declared.env.Env.{Env}
 use Rattle.krb_service.specs.Policy.{State, Runs}
 use Rattle.krb_service.specs.declared.connection.Connection.{Connection}
 use Rattle.krb_service.specs.declared.reply.Reply.{Reply}
@@ -46,9 +46,9 @@ pub record Reads (seat : ℕ) (old : Rest) (ask : Ask) (verdict : Verdict) (new 
   pub entries : old.entries ≡ record { seat = seat; call = old.call; ask = ask; verdict = verdict } ∷ new.entries
   pub call : new.call ≡ old.call + 1
 
--- a run of a service with these connections over these events, from this call on: the k-th event that reaches the gate is given
+-- a run of a service with this environment and these connections over these events, from this call on: the k-th event that reaches the gate is given
 -- the verdict of the k-th entry, which has its ask, and no entry is left
-pub record RunsBy (call seat : ℕ) (connections : List (ℕ × Connection)) (events : List Event) (entries : List Entry) (replies : List Reply) : Type 0 where
+pub record RunsBy (call seat : ℕ) (env : Env) (connections : List (ℕ × Connection)) (events : List Event) (entries : List Entry) (replies : List Reply) : Type 0 where
   pub after : State Rest
-  pub runs : Runs (Reads seat) (record { connections = connections; env = no_env; gate = record { call = call; entries = entries } }) events replies after
+  pub runs : Runs (Reads seat) (record { connections = connections; env = env; gate = record { call = call; entries = entries } }) events replies after
   pub used : after.gate.entries ≡ []

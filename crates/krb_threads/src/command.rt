@@ -36,11 +36,11 @@ fn answer_text<R: Threads + Wait + Sync, P: Pause + Send, Q: Pause + Send>(
     let Known { script, events, .. } = known;
     let low = numbers(alloc, &events, 0)?;
     let high = numbers(alloc, &events, 1)?;
-    let (skew, acceptors, keys) = script.into_parts();
+    let (skew, env, endpoints) = script.into_parts();
     let described = Described {
         skew,
-        acceptors,
-        keys,
+        env,
+        endpoints,
     };
     let (one, two) = parted(alloc, events)?;
     let answers = answers_of(rt, alloc, &described, one, two, first, second)?;

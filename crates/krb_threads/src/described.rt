@@ -3,38 +3,33 @@
 ghost use Rattle.std.specs.Prelude.{◌≡◌, IfOk, OnOk};
 ghost use Rattle.std.specs.Ordering.{nat_cmp};
 ghost use Rattle.std.specs.BTreeMap.{insert_entry};
-ghost use Rattle.krb_service.specs.Described.{connection_of, connections_with, no_env};
+ghost use Rattle.krb_service.specs.Described.{connections_with};
 ghost use Rattle.krb_threads.specs.Journaled.{connections_of};
 
-use krb_der::OutOfMemory;
+use krb_conf::Env;
+use krb_der::{OutOfMemory, TryCopy};
 use krb_replay::ReplayGate;
-use krb_service::{Connection, Service, acceptor_context, secret_at};
-use krb_text::{Acceptor, Key};
+use krb_script::Endpoint;
+use krb_service::{Connection, Service, connection_of};
 use std::alloc::Global;
 use std::collections::BTreeMap;
 
-/// The acceptors and keys that the lines declare, and the skew in seconds.
+/// The ends that the lines declare, the environment, and the skew in seconds.
 #[derive(Drop)]
 pub struct Described {
     pub skew: u32,
-    pub acceptors: BTreeMap<u32, Acceptor>,
-    pub keys: BTreeMap<u32, Key>,
+    pub env: Env,
+    pub endpoints: BTreeMap<u32, Endpoint>,
 }
 
-/// The connection of an acceptor.
-fn connection(
-    alloc: Global,
-    described: &Described,
-    id: u32,
-    acceptor: &Acceptor,
-) -> Result<Connection, OutOfMemory>
-    ensures { IfOk result (λ made. made ≡ connection_of described.now.skew described.now.keys.entries (id, acceptor.now)) }
+/// The environment, for one worker.
+pub fn copied_env(alloc: Global, described: &Described) -> Result<Env, OutOfMemory>
+    ensures { IfOk result (λ env. env ≡ described.now.env) }
 {
-    let key = secret_at(alloc, &described.keys, id)?;
-    let context = acceptor_context(alloc, described.skew, acceptor, key)?;
-    Ok(Connection {
-        context,
-        target: None,
+    let vars = described.env.vars.copy(alloc)?;
+    Ok(Env {
+        vars,
+        files: described.env.files.copy(alloc)?,
     })
 }
 
@@ -57,26 +52,32 @@ pub fn connections(
     worker: u32,
 ) -> Result<BTreeMap<u32, Connection>, OutOfMemory>
     ensures { IfOk result (λ made.
-        made.entries ≡ connections_of worker (connections_with described.now.skew described.now.keys.entries described.now.acceptors.entries)) }
+        made.entries ≡ connections_of worker (connections_with described.now.skew described.now.endpoints.entries)) }
 {
     let mut made = BTreeMap::new(alloc);
-    for (id, acceptor) in described.acceptors.iter() {
+    for (id, endpoint) in described.endpoints.iter() {
         if *id % 2 == worker {
-            put(&mut made, *id, connection(alloc, described, *id, acceptor)?)?;
+            put(
+                &mut made,
+                *id,
+                connection_of(alloc, described.skew, endpoint)?,
+            )?;
         }
     }
     Ok(made)
 }
 
-/// A service of these connections over a gate.
+/// A service of this environment and these connections over a gate.
 pub fn service_of<G: ReplayGate>(
     alloc: Global,
+    env: Env,
     connections: BTreeMap<u32, Connection>,
     gate: G,
 ) -> Service<G>
-    ensures { result ≡ record { connections = connections.entries; env = no_env; gate = gate } }
+    ensures { result ≡ record { connections = connections.entries; env = env; gate = gate } }
 {
     let mut service = Service::new(alloc, gate);
+    service.env = env;
     service.connections = connections;
     service
 }

@@ -1,16 +1,16 @@
 //! The run on one thread, over a desk.
 
 ghost use Rattle.std.specs.Prelude.{◌≡◌, [], length, IfOk, OnOk};
-ghost use Rattle.krb_service.specs.Described.{no_env};
 ghost use Rattle.krb_threads.specs.Answers.{AreAnswers};
 ghost use Rattle.krb_threads.specs.Described.{all_connections};
 ghost use Rattle.krb_threads.specs.Worked.{WorksThere};
 
-use crate::described::{Described, connections, service_of};
+use crate::described::{Described, connections, copied_env, service_of};
 use crate::part::Part;
 use crate::pause::Pause;
 use crate::paused_gate::PausedGate;
 use crate::workers::Answers;
+use krb_conf::Env;
 use krb_der::OutOfMemory;
 use krb_service::{Connection, Event, Reply, Service};
 use krb_shared::{Desk, DeskGate};
@@ -23,11 +23,10 @@ fn run_gate<'a, P: Pause>(
     part: &mut Part<PausedGate<'a, P, DeskGate<'a>>>,
 ) -> Result<(), OutOfMemory>
     requires new { part.old.replies.items ≡ [] }
-    requires env { part.old.service.env ≡ no_env }
     requires fresh { part.old.service.gate.gate.before ≡ length part.old.service.gate.gate.desk.now.journal }
     ensures reference { OnOk result (part.new.service.gate.gate.desk.ghost_name ≡ part.old.service.gate.gate.desk.ghost_name) }
     ensures works { OnOk result (WorksThere part.old.service.gate.gate.desk.now 1 part.old.service.gate.gate.seat
-        part.old.service.connections part.old.events.items part.new.replies.items part.new.service.gate.gate.desk.now) }
+        part.old.service.env part.old.service.connections part.old.events.items part.new.replies.items part.new.service.gate.gate.desk.now) }
 {
     match part.run(alloc) {
         Ok(()) => Ok(()),
@@ -38,13 +37,14 @@ fn run_gate<'a, P: Pause>(
 /// Runs one worker's events over its connections, at the desk.
 fn run_at<'a, P: Pause>(
     alloc: Global,
+    env: Env,
     connections: BTreeMap<u32, Connection>,
     desk: &'a mut Desk,
     seat: u32,
     pause: &'a mut P,
     events: Vec<Event>,
 ) -> Result<Vec<Reply>, OutOfMemory>
-    ensures { IfOk result (λ replies. WorksThere desk.old 1 seat connections.entries events.items replies.items desk.new) }
+    ensures { IfOk result (λ replies. WorksThere desk.old 1 seat env connections.entries events.items replies.items desk.new) }
 {
     let at_desk = DeskGate::new(desk, seat);
     let paused = PausedGate {
@@ -52,7 +52,7 @@ fn run_at<'a, P: Pause>(
         gate: at_desk,
     };
     let mut part = Part {
-        service: service_of(alloc, connections, paused),
+        service: service_of(alloc, env, connections, paused),
         events,
         replies: Vec::new(alloc),
     };
@@ -83,13 +83,15 @@ pub fn run_at_desk<P: Pause, Q: Pause>(
     second: &mut Q,
 ) -> Result<Answers, OutOfMemory>
     ensures { IfOk result (λ answers.
-        AreAnswers described.now.skew (all_connections described.now) low.items high.items answers.first.items answers.second.items answers.journal) }
+        AreAnswers described.now.skew described.now.env (all_connections described.now) low.items high.items answers.first.items answers.second.items answers.journal) }
 {
     let mut desk = Desk::new(alloc, described.skew)?;
+    let env = copied_env(alloc, described)?;
     let own = connections(alloc, described, 0)?;
-    let first = run_at(alloc, own, &mut desk, 0, first, low)?;
+    let first = run_at(alloc, env, own, &mut desk, 0, first, low)?;
+    let env = copied_env(alloc, described)?;
     let own = connections(alloc, described, 1)?;
-    let second = run_at(alloc, own, &mut desk, 1, second, high)?;
+    let second = run_at(alloc, env, own, &mut desk, 1, second, high)?;
     Ok(Answers {
         first,
         second,

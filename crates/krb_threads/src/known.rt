@@ -1,6 +1,7 @@
 //! What the lines of an input declare.
 
-use krb_text::{Event, FieldError, Item, Script, is_skipped, parse_item};
+use krb_script::{Declaration, Event, FieldError, Item, Script, parse_item};
+use krb_text::is_skipped;
 use std::alloc::Global;
 use std::marker::Model;
 
@@ -65,16 +66,16 @@ impl Known {
         Ok(())
     }
 
-    /// One item that is not an event.
-    fn set_up(&mut self, item: Item) -> Result<(), FieldError>
-        ensures given { GivesAfter (set_up_before self.old.so_far.events self.old.so_far.setup item) result self.new.so_far }
+    /// One line before the first event.
+    fn set_up(&mut self, declaration: Declaration) -> Result<(), FieldError>
+        ensures given { GivesAfter (set_up_before self.old.so_far.events self.old.so_far.setup declaration) result self.new.so_far }
         ensures err { OnErr result (self.new ≡ self.old) }
         ensures lines { self.new.lines ≡ self.old.lines }
     {
         if !self.events.is_empty() {
             return Err(FieldError::Bad);
         }
-        self.script.set_up(item)
+        self.script.set_up(declaration)
     }
 
     fn declare(&mut self, item: Item) -> Result<(), FieldError>
@@ -84,9 +85,7 @@ impl Known {
     {
         match item {
             Item::Event(event) => self.add(event),
-            Item::Skew(seconds) => self.set_up(Item::Skew(seconds)),
-            Item::Acceptor(acceptor) => self.set_up(Item::Acceptor(acceptor)),
-            Item::Key(key) => self.set_up(Item::Key(key)),
+            Item::Declaration(declaration) => self.set_up(declaration),
         }
     }
 

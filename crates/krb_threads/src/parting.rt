@@ -4,7 +4,7 @@ ghost use Rattle.std.specs.Prelude.{◌≡◌, IfOk};
 ghost use Rattle.krb_threads.specs.Journaled.{events_of, numbers_of};
 
 use krb_der::OutOfMemory;
-use krb_text::Event;
+use krb_script::Event;
 use std::alloc::Global;
 
 /// The events of worker 0 and those of worker 1, each in their order.

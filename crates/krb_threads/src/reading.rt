@@ -7,7 +7,8 @@ ghost use Rattle.krb_threads.specs.Known.{nothing_known, Ends};
 
 use crate::ending::Ending;
 use crate::known::Known;
-use krb_text::{FieldError, LineReader, ReadError, Source};
+use krb_script::FieldError;
+use krb_text::{LineReader, ReadError, Source};
 use std::alloc::Global;
 
 /// Reads line after line, and takes what each declares.

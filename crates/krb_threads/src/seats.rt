@@ -1,7 +1,6 @@
 //! Two workers at two seats of one book, in two threads.
 
 ghost use Rattle.std.specs.Prelude.{◌≡◌, [], IfOk, OnOk, IsSomeAnd, slice_get};
-ghost use Rattle.krb_service.specs.Described.{no_env};
 ghost use Rattle.krb_threads.specs.Worked.{WorksAt};
 
 use crate::both::run_two;
@@ -9,6 +8,7 @@ use crate::described::service_of;
 use crate::part::Part;
 use crate::pause::Pause;
 use crate::paused_gate::PausedGate;
+use krb_conf::Env;
 use krb_der::OutOfMemory;
 use krb_service::{Connection, Event, Reply, Service, Stopped};
 use krb_shared::{Calls, Seat, SeatGate, SharedBook};
@@ -20,6 +20,7 @@ use std::thread::Threads;
 /// What one worker is to do, and what is left of it.
 #[derive(Drop)]
 pub struct Work {
+    pub env: Env,
     pub connections: BTreeMap<u32, Connection>,
     pub events: Vec<Event>,
 }
@@ -47,14 +48,12 @@ fn run_gates<
 ) -> [Result<(), Stopped>; 2]
     requires first_new { first.old.replies.items ≡ [] }
     requires second_new { second.old.replies.items ≡ [] }
-    requires first_env { first.old.service.env ≡ no_env }
-    requires second_env { second.old.service.env ≡ no_env }
     ensures first_reference { first.new.service.gate.gate.seat.ghost_name ≡ first.old.service.gate.gate.seat.ghost_name }
     ensures second_reference { second.new.service.gate.gate.seat.ghost_name ≡ second.old.service.gate.gate.seat.ghost_name }
     ensures first { IsSomeAnd (slice_get result 0) (λ ended. OnOk ended (WorksAt first.old.service.gate.gate.seat.now
-        first.old.service.connections first.old.events.items first.new.replies.items first.new.service.gate.gate.seat.now)) }
+        first.old.service.env first.old.service.connections first.old.events.items first.new.replies.items first.new.service.gate.gate.seat.now)) }
     ensures second { IsSomeAnd (slice_get result 1) (λ ended. OnOk ended (WorksAt second.old.service.gate.gate.seat.now
-        second.old.service.connections second.old.events.items second.new.replies.items second.new.service.gate.gate.seat.now)) }
+        second.old.service.env second.old.service.connections second.old.events.items second.new.replies.items second.new.service.gate.gate.seat.now)) }
     ensures first_events { first.new.events ≡ first.old.events }
     ensures second_events { second.new.events ≡ second.old.events }
 {
@@ -82,8 +81,8 @@ pub fn run_seats<
     one: Work,
     two: Work,
 ) -> Result<(Done, Done), OutOfMemory>
-    ensures first { IfOk result (λ done. WorksAt low.old one.connections.entries one.events.items done.0.replies.items low.new) }
-    ensures second { IfOk result (λ done. WorksAt high.old two.connections.entries two.events.items done.1.replies.items high.new) }
+    ensures first { IfOk result (λ done. WorksAt low.old one.env one.connections.entries one.events.items done.0.replies.items low.new) }
+    ensures second { IfOk result (λ done. WorksAt high.old two.env two.connections.entries two.events.items done.1.replies.items high.new) }
     ensures first_events { IfOk result (λ done. done.0.events ≡ one.events) }
     ensures second_events { IfOk result (λ done. done.1.events ≡ two.events) }
 {
@@ -92,7 +91,7 @@ pub fn run_seats<
         gate: SeatGate::new(low_rt, low_book, low),
     };
     let mut one = Part {
-        service: service_of(alloc, one.connections, low_gate),
+        service: service_of(alloc, one.env, one.connections, low_gate),
         events: one.events,
         replies: Vec::new(alloc),
     };
@@ -101,7 +100,7 @@ pub fn run_seats<
         gate: SeatGate::new(high_rt, high_book, high),
     };
     let mut two = Part {
-        service: service_of(alloc, two.connections, high_gate),
+        service: service_of(alloc, two.env, two.connections, high_gate),
         events: two.events,
         replies: Vec::new(alloc),
     };

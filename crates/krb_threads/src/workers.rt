@@ -4,7 +4,7 @@ ghost use Rattle.std.specs.Prelude.{◌≡◌, IfOk};
 ghost use Rattle.krb_threads.specs.Answers.{AreAnswers};
 ghost use Rattle.krb_threads.specs.Described.{all_connections};
 
-use crate::described::{Described, connections};
+use crate::described::{Described, connections, copied_env};
 use crate::desk::run_at_desk;
 use crate::pause::Pause;
 use crate::seats::{Work, run_seats};
@@ -36,7 +36,7 @@ pub fn answers_of<R: Threads + Wait + Sync, P: Pause + Send, Q: Pause + Send>(
     second: &mut Q,
 ) -> Result<Answers, OutOfMemory>
     ensures { IfOk result (λ answers.
-        AreAnswers described.now.skew (all_connections described.now) low.items high.items answers.first.items answers.second.items answers.journal) }
+        AreAnswers described.now.skew described.now.env (all_connections described.now) low.items high.items answers.first.items answers.second.items answers.journal) }
 {
     answers_as::<Brand, R, P, Q>(
         rt,
@@ -70,16 +70,18 @@ fn answers_as<L: Calls + Send + Sync, R: Threads + Wait + Sync, P: Pause + Send,
     requires skew { skew ≡ L.skew }
     requires own_skew { described.now.skew ≡ skew }
     ensures { IfOk result (λ answers.
-        AreAnswers described.now.skew (all_connections described.now) low.items high.items answers.first.items answers.second.items answers.journal) }
+        AreAnswers described.now.skew described.now.env (all_connections described.now) low.items high.items answers.first.items answers.second.items answers.journal) }
 {
     let (book, all) = blank.open::<L>();
     let (shared, seats) = SharedBook::with_seats(alloc, book, all, skew, 2)?;
     let mut seats = seats.into_inner();
     let one = Work {
+        env: copied_env(alloc, described)?,
         connections: connections(alloc, described, 0)?,
         events: low,
     };
     let two = Work {
+        env: copied_env(alloc, described)?,
         connections: connections(alloc, described, 1)?,
         events: high,
     };

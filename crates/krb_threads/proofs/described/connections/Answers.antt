@@ -15,19 +15,19 @@ loop-id-preserved-in_ok-put c =
     let d = c.args.described.now in
     let front = map deref_pair c.loop-id.yielded in
     let id = c.in-Some.id.now in
-    let acceptor = c.in-Some.acceptor.now in
+    let endpoint = c.in-Some.endpoint.now in
     let began = c.into_iter-id-iterator.ensures.into_iter_gives ∙ c.iter-id-items.ensures.rest in
-    let turn = btree_map_turn deref_pair c.loop-id.yielded c.into_iter-id-iterator.result c.loop-id.id-iterator c.next.new.self c.next.result (c.in-Some.id, c.in-Some.acceptor) c.loop-id.yielded_by c.in-Some.is
-    c.next.ensures.steps nat_cmp_total d.acceptors began c.iter-id-items.ensures.ordered in
+    let turn = btree_map_turn deref_pair c.loop-id.yielded c.into_iter-id-iterator.result c.loop-id.id-iterator c.next.new.self c.next.result (c.in-Some.id, c.in-Some.endpoint) c.loop-id.yielded_by c.in-Some.is
+    c.next.ensures.steps nat_cmp_total d.endpoints began c.iter-id-items.ensures.ordered in
     let split = sym began ∙ rest_so_far deref_pair c.loop-id.yielded c.into_iter-id-iterator.result c.loop-id.id-iterator c.loop-id.yielded_by in
-    let below = below-turn d.acceptors.entries front c.loop-id.id-iterator id split (λ i e lt. turn.2 i e (omega (arith, lt, length-map c.loop-id.yielded deref_pair))) in
+    let below = below-turn d.endpoints.entries front c.loop-id.id-iterator id split (λ i e lt. turn.2 i e (omega (arith, lt, length-map c.loop-id.yielded deref_pair))) in
     let is : is_of c.args.worker id ≡ true = let e = c.if-id-worker.true in grind (arith, nat_tests) in
-    put-own c.args.worker d.skew d.keys.entries front id acceptor c.in_ok-connection.field-0 c.loop-id.made.entries c.put.new.made.entries c.loop-id.invariant is c.in_ok-connection.ensures below c.in_ok-put.ensures
-    ∙ ap (λ es. connections_of c.args.worker (connections_with d.skew d.keys.entries es)) (sym (map-append deref_pair c.loop-id.yielded ((c.in-Some.id, c.in-Some.acceptor) ∷ [])))
+    put-own c.args.worker d.skew front id endpoint c.in_ok-connection_of.field-0 c.loop-id.made.entries c.put.new.made.entries c.loop-id.invariant is c.in_ok-connection_of.ensures below c.in_ok-put.ensures
+    ∙ ap (λ es. connections_of c.args.worker (connections_with d.skew es)) (sym (map-append deref_pair c.loop-id.yielded ((c.in-Some.id, c.in-Some.endpoint) ∷ [])))
 
 pub loop-id-preserved : goal.loop-id-preserved
 loop-id-preserved c =
     let d = c.args.described.now in
     let is : is_of c.args.worker c.in-Some.id.now ≡ false = let e = c.if-id-worker.false in grind (arith, nat_tests) in
-    c.loop-id.invariant ∙ put-other c.args.worker d.skew d.keys.entries (map deref_pair c.loop-id.yielded) c.in-Some.id.now c.in-Some.acceptor.now is
-    ∙ ap (λ es. connections_of c.args.worker (connections_with d.skew d.keys.entries es)) (sym (map-append deref_pair c.loop-id.yielded ((c.in-Some.id, c.in-Some.acceptor) ∷ [])))
+    c.loop-id.invariant ∙ put-other c.args.worker d.skew (map deref_pair c.loop-id.yielded) c.in-Some.id.now c.in-Some.endpoint.now is
+    ∙ ap (λ es. connections_of c.args.worker (connections_with d.skew es)) (sym (map-append deref_pair c.loop-id.yielded ((c.in-Some.id, c.in-Some.endpoint) ∷ [])))

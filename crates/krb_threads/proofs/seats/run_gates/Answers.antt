@@ -15,9 +15,9 @@ returns-clause-second_reference g c =
 pub returns-clause-first : goal.returns-clause-first
 returns-clause-first g c =
     seat-works _ _ _ (λ gate. gate.gate.seat.now) (λ gate. gate.gate.seat.ghost_name) (λ a ask verdict b s. s) c.args.first.now.service c.args.first.now.events.items _ c.run_two.new.first.replies.items c.run_two.new.first.service
-    (slice_get c.run_two.result 0) c.run_two.ensures.first c.requires.first_new c.requires.first_env
+    (slice_get c.run_two.result 0) c.run_two.ensures.first c.requires.first_new
 
 pub returns-clause-second : goal.returns-clause-second
 returns-clause-second g c =
     seat-works _ _ _ (λ gate. gate.gate.seat.now) (λ gate. gate.gate.seat.ghost_name) (λ a ask verdict b s. s) c.args.second.now.service c.args.second.now.events.items _ c.run_two.new.second.replies.items c.run_two.new.second.service
-    (slice_get c.run_two.result 1) c.run_two.ensures.second c.requires.second_new c.requires.second_env
+    (slice_get c.run_two.result 1) c.run_two.ensures.second c.requires.second_new

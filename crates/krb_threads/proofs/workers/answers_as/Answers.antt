@@ -28,6 +28,6 @@ returns-in-Ok g c =
       legal = subst (λ (n : ℕ). IsJournal n c.in-Ok.journal) (sym (c.requires.own_skew ∙ c.requires.skew)) c.in-Ok.ensures.journal;
       whole = told-whole journal c.new.result c.run_seats.new.low c.run_seats.new.high d (search (rules, places)) low_ended low_ended_too
           (c.in_ok-one.ensures.first.number ∙ low_at) (c.in_ok-one.ensures.second.number ∙ high_at) low_agrees high_agrees c.in-Ok.ensures.calls;
-      low_runs = told journal _ c.run_seats.new.low 0 _ _ _ low_new low_at _ c.in_ok-connections.ensures c.in_ok-one.ensures.first low_agrees;
-      high_runs = told journal _ c.run_seats.new.high 1 _ _ _ high_new high_at _ c.in_ok-connections-2.ensures c.in_ok-one.ensures.second high_agrees;
+      low_runs = told journal _ c.run_seats.new.low 0 _ _ _ _ low_new low_at _ c.in_ok-env.ensures _ c.in_ok-connections.ensures c.in_ok-one.ensures.first low_agrees;
+      high_runs = told journal _ c.run_seats.new.high 1 _ _ _ _ high_new high_at _ c.in_ok-env-2.ensures _ c.in_ok-connections-2.ensures c.in_ok-one.ensures.second high_agrees;
     }
