@@ -26,21 +26,37 @@ fn part(message: &Message, part: Part) -> &[u8] {
     }
 }
 
+fn is_sealed(message: &Message, ec: u16, len: usize) -> bool {
+    part(message, Part::Plain).len() == len && part(message, Part::Token).len() == 60 + ec as usize
+}
+
+fn is_open(message: &Message, len: usize) -> bool {
+    let text = part(message, Part::Plain);
+    text.len() == len && text.iter().all(|octet| *octet == 0x61)
+}
+
+/// Whether a new end seals it.
+fn seals(alloc: Global, end: &End, message: &mut Message) -> Result<bool, Fail> {
+    let mut context = context_of(alloc, end)?;
+    Ok(context.encrypt_message(alloc, message, CONFOUNDER).is_ok())
+}
+
+/// Whether a new end opens it.
+fn opens(alloc: Global, end: &End, message: &mut Message) -> Result<bool, Fail> {
+    let mut context = context_of(alloc, end)?;
+    Ok(context.decrypt_message(alloc, message).is_ok())
+}
+
 /// Whether the text is as it was, and is not while it is sealed.
 fn goes_across(alloc: Global, sender: &End, len: usize) -> Result<bool, Fail> {
     let receiver = End {
         acceptor: !sender.acceptor,
         ..*sender
     };
-    let mut from = context_of(alloc, sender)?;
-    let mut to = context_of(alloc, &receiver)?;
     let mut message = plain_message(alloc, len)?;
-    from.encrypt_message(alloc, &mut message, CONFOUNDER)?;
-    let sealed = part(&message, Part::Plain).len() == len
-        && part(&message, Part::Token).len() == 60 + sender.ec as usize;
-    to.decrypt_message(alloc, &mut message)?;
-    let opened = part(&message, Part::Plain);
-    Ok(sealed && opened.len() == len && opened.iter().all(|octet| *octet == 0x61))
+    let sealed = seals(alloc, sender, &mut message)? && is_sealed(&message, sender.ec, len);
+    let opened = opens(alloc, &receiver, &mut message)? && is_open(&message, len);
+    Ok(sealed && opened)
 }
 
 static LENGTHS: [usize; 6] = [0, 1, 15, 16, 17, 1000];

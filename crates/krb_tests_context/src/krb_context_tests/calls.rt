@@ -45,11 +45,15 @@ fn refusal(alloc: Global, context: &mut Kerberos, call: Call) -> Option<Cause> {
     }
 }
 
+fn new_client_refuses(alloc: Global, call: Call) -> Result<Option<Cause>, Fail> {
+    let mut client = new_client(alloc)?;
+    Ok(refusal(alloc, &mut client, call))
+}
+
 #[test]
 fn calls_are_refused(rt: HostRuntime) -> Result<(), Fail> {
-    let mut client = new_client(rt.alloc())?;
     for &(call, cause) in refused() {
-        assert_eq!(rt; refusal(rt.alloc(), &mut client, call), Some(cause));
+        assert_eq!(rt; new_client_refuses(rt.alloc(), call)?, Some(cause));
     }
     Ok(())
 }
@@ -97,11 +101,18 @@ fn counts_on(alloc: Global, client: &mut Kerberos) -> Result<bool, Fail> {
     )
 }
 
+fn speaks_and_counts_on(alloc: Global, client: &mut Kerberos) -> Result<bool, Fail> {
+    Ok(takes_credentials(alloc, client)? && counts_on(alloc, client)?)
+}
+
+fn new_client_speaks_and_counts_on(alloc: Global) -> Result<bool, Fail> {
+    let mut client = new_client(alloc)?;
+    speaks_and_counts_on(alloc, &mut client)
+}
+
 #[test]
 fn a_client_speaks_for_its_credentials_and_counts_on(rt: HostRuntime) -> Result<(), Fail> {
-    let mut client = new_client(rt.alloc())?;
-    assert!(rt; takes_credentials(rt.alloc(), &mut client)?);
-    assert!(rt; counts_on(rt.alloc(), &mut client)?);
+    assert!(rt; new_client_speaks_and_counts_on(rt.alloc())?);
     Ok(())
 }
 
@@ -116,10 +127,16 @@ fn tells_kdc(alloc: Global, client: &Kerberos, env: &Env, kdc_url: &str) -> Resu
 /// A client of EXAMPLE.COM.
 fn client_with_kdc(alloc: Global, kdc_url: &str) -> Result<Kerberos, Fail> {
     let name = Text::new(String::from_str(alloc, "hostname")?);
+    let realm = Text::new(String::from_str(alloc, "EXAMPLE.COM")?);
     let config = KerberosConfig::new(alloc, kdc_url, name)?;
     let mut client = Kerberos::new_client_from_config(config, [0; 4]);
-    client.realm = Some(Text::new(String::from_str(alloc, "EXAMPLE.COM")?));
+    client.realm = Some(realm);
     Ok(client)
+}
+
+fn has_kdc_in(alloc: Global, env: &Env, kdc_url: &str) -> Result<bool, Fail> {
+    let client = client_with_kdc(alloc, kdc_url)?;
+    tells_kdc(alloc, &client, env, kdc_url)
 }
 
 fn has_kdc(alloc: Global, kdc_url: &str) -> Result<bool, Fail> {
@@ -127,8 +144,7 @@ fn has_kdc(alloc: Global, kdc_url: &str) -> Result<bool, Fail> {
         vars: Items::new(Vec::new(alloc)),
         files: Items::new(Vec::new(alloc)),
     };
-    let client = client_with_kdc(alloc, kdc_url)?;
-    tells_kdc(alloc, &client, &env, kdc_url)
+    has_kdc_in(alloc, &env, kdc_url)
 }
 
 #[test]

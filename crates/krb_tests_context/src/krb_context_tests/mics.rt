@@ -2,6 +2,7 @@
 
 use super::cause_of;
 use super::ends::{ACCEPTOR, End, INITIATOR, SHORT_ACCEPTOR, context_of, octets};
+use krb_der::Octets;
 use sspi_core::{Cause, Error, ErrorKind};
 use std::alloc::Global;
 use std::test::Fail;
@@ -80,11 +81,16 @@ fn changed() -> &'static [(&'static str, Cause)] {
     &CHANGED
 }
 
+/// What a new end makes.
+fn made(alloc: Global, end: &End, payload: &str) -> Result<Result<Octets, Error>, Fail> {
+    let mut context = context_of(alloc, end)?;
+    Ok(context.generate_mic_token(alloc, payload.as_bytes()))
+}
+
 /// Whether the row's end makes the row's token.
 fn makes(alloc: Global, row: &Mic) -> Result<bool, Fail> {
-    let mut context = context_of(alloc, &row.end)?;
-    let made = context.generate_mic_token(alloc, row.payload.as_bytes())?;
-    Ok(made == octets(alloc, row.token)?)
+    let wanted = octets(alloc, row.token)?;
+    Ok(made(alloc, &row.end, row.payload)? == Ok(wanted))
 }
 
 #[test]

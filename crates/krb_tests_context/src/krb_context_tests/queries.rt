@@ -212,11 +212,16 @@ fn copy_tells(alloc: Global, context: &Kerberos, row: &Told) -> Result<bool, Fai
     tells(alloc, &copied, row)
 }
 
-/// Whether the row's context tells what the row says, and a copy of it does.
+/// Whether a context tells what the row says, and a copy of it does.
+fn both_tell(alloc: Global, context: &mut Kerberos, row: &Told) -> Result<bool, Fail> {
+    begin(alloc, context, row.asked)?;
+    Ok(tells(alloc, context, row)? && copy_tells(alloc, context, row)?)
+}
+
+/// Whether the row's context does.
 fn is_told(alloc: Global, row: &Told) -> Result<bool, Fail> {
     let mut context = context(alloc, row.asked)?;
-    begin(alloc, &mut context, row.asked)?;
-    Ok(tells(alloc, &context, row)? && copy_tells(alloc, &context, row)?)
+    both_tell(alloc, &mut context, row)
 }
 
 #[test]
