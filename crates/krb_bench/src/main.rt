@@ -9,10 +9,8 @@ mod admissions;
 mod books;
 mod messages;
 mod replay;
-mod serving;
 mod suites;
 mod timing;
-mod two_threads;
 
 use anyhow::Result;
 use std::env;
@@ -34,7 +32,5 @@ fn main(rt: HostRuntime) -> Result<()> {
     messages::run(&rt, full)?;
     replay::run(&rt, full)?;
     books::run(&rt, full)?;
-    admissions::run(&rt, full)?;
-    serving::run(&rt, full)?;
-    two_threads::run(&rt, full)
+    admissions::run(&rt, full)
 }

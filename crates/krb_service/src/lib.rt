@@ -31,8 +31,8 @@ pub use demonstration::demo;
 pub use described::connection_of;
 pub use krb_script::{Event, Input};
 pub use krb_text::{
-    Calls, CutFault, Failed, LineCutter, MemSink, MemSource, Sink, Source, Status,
-    StdSink, StdSource, SureSink, SureSource, Words,
+    Calls, CutFault, Failed, LineCutter, MemSink, MemSource, Sink, Source, Status, StdSink,
+    StdSource, SureSink, SureSource, Words,
 };
 pub use reply::Reply;
 pub use service::{Service, Stopped};

@@ -12,8 +12,8 @@ use krb_conf::Env;
 use krb_context::Kerberos;
 use krb_der::{Items, Name, OutOfMemory};
 use krb_replay::ReplayGate;
-use krb_server::{Accepted, accept_security_context};
 use krb_script::{Event, Input};
+use krb_server::{Accepted, accept_security_context};
 use sspi_core::{
     Cause, ClientRequestFlags, Draw, Error, ErrorKind, MAX_MOMENT, ServerRequestFlags,
 };
