@@ -2,6 +2,7 @@
 ghost use Rattle.std.specs.Prelude.{◌≡◌, ◌++◌, ◌∷◌, [], None, fold, map, IfOk, OnOk};
 ghost use Rattle.krb_context.specs.ServiceKeys.{new_properties};
 ghost use Rattle.krb_service.specs.Described.{components, named_key, with_key, acceptor_properties, acceptor_context, initiator_context, connection_of, connections_with};
+ghost use Rattle.krb_service.specs.Policy.{with_connection};
 ghost use Rattle.krb_service.specs.Progress.{IsNew};
 
 use crate::connection::Connection;
@@ -192,6 +193,20 @@ pub fn connection_of(
     }
 }
 
+/// Puts an end into the service, at its number.
+fn put_endpoint<G: ReplayGate>(
+    alloc: Global,
+    skew: u32,
+    id: u32,
+    endpoint: Endpoint,
+    service: &mut Service<G>,
+) -> Result<(), OutOfMemory>
+    ensures { OnOk result (service.new ≡ with_connection service.old id (connection_of skew endpoint)) }
+{
+    let connection = connection_of(alloc, skew, &endpoint)?;
+    service.put(id, connection)
+}
+
 /// Puts each end into the service.
 fn put_endpoints<G: ReplayGate>(
     alloc: Global,
@@ -204,7 +219,7 @@ fn put_endpoints<G: ReplayGate>(
 {
     let mut endpoints = endpoints;
     while let Some((id, endpoint)) = endpoints.pop_first() {
-        service.put(id, connection_of(alloc, skew, &endpoint)?)?;
+        put_endpoint(alloc, skew, id, endpoint, service)?;
     }
     Ok(())
 }

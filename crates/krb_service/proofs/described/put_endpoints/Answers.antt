@@ -12,11 +12,11 @@ loop-id-init g c = (refl, put-none (λ entry. connection_of c.args.skew entry.1)
 pub loop-id-preserved : goal.loop-id-preserved
 loop-id-preserved g c =
     let f = λ (entry : ℕ × Endpoint). connection_of c.args.skew entry.1 in
-    let put = c.in_ok-put.ensures.put in
-    let now = c.put.new.self in (
+    let put = c.in_ok-put_endpoint.ensures in
+    let now = c.put_endpoint.new.service in (
       ap (λ env. record { connections = now.connections; env = env; gate = now.gate }) (ap (λ s. s.env) put ∙ ap (λ s. s.env) c.loop-id.invariant.0)
           ∙ ap (λ gate. record { connections = now.connections; env = c.args.service.now.env; gate = gate }) (ap (λ s. s.gate) put ∙ ap (λ s. s.gate) c.loop-id.invariant.0),
       put-next f c.loop-id.service.connections now.connections c.loop-id.endpoints.entries c.pop_first.new.self.entries (connections_with c.args.skew c.args.endpoints.entries)
           c.in-Some.id c.in-Some.endpoint c.in-Some.ensures.removal c.loop-id.invariant.1
-          (ap (λ s. s.connections) put ∙ ap (λ x. insert_entry nat_cmp c.loop-id.service.connections c.in-Some.id x) c.in_ok-connection_of.ensures) c.in-Some.ensures.all_above,
+          (ap (λ s. s.connections) put) c.in-Some.ensures.all_above,
     )
