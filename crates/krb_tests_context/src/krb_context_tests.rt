@@ -99,8 +99,21 @@ fn messages_of_others_are_opened_once_or_refused(rt: HostRuntime) -> Result<(), 
     Ok(())
 }
 
-/// Whether a new end seals so, and counts a message only where it seals it.
+/// Whether an end seals so, and counts a message only where it seals it.
 fn seals_and_counts(
+    alloc: Global,
+    context: &mut Kerberos,
+    before: &str,
+    after: &str,
+    refusal: Option<Cause>,
+) -> Result<bool, Fail> {
+    let number = context.seq_number.wrapping_add(refusal.is_none() as u32);
+    let sealed = answers(alloc, context, Call::Seal, before, after, refusal)?;
+    Ok(sealed && context.seq_number == number)
+}
+
+/// Whether a new end does.
+fn new_end_seals_and_counts(
     alloc: Global,
     end: &End,
     before: &str,
@@ -108,16 +121,14 @@ fn seals_and_counts(
     refusal: Option<Cause>,
 ) -> Result<bool, Fail> {
     let mut context = context_of(alloc, end)?;
-    let sealed = answers(alloc, &mut context, Call::Seal, before, after, refusal)?;
-    let number = end.number.wrapping_add(refusal.is_none() as u32);
-    Ok(sealed && context.seq_number == number)
+    seals_and_counts(alloc, &mut context, before, after, refusal)
 }
 
 #[test]
 fn messages_are_sealed_as_by_a_second_implementation(rt: HostRuntime) -> Result<(), Fail> {
     for row in wraps() {
         assert!(rt;
-            seals_and_counts(rt.alloc(), &row.end, row.before, row.after, row.refusal)?,
+            new_end_seals_and_counts(rt.alloc(), &row.end, row.before, row.after, row.refusal)?,
             "{}",
             row.before
         );

@@ -100,6 +100,14 @@ fn answers(alloc: Global, server: &mut Kerberos, exchange: &Exchange) -> Result<
     Ok(answer == Ok(wanted))
 }
 
+fn answers_and_seals(
+    alloc: Global,
+    server: &mut Kerberos,
+    exchange: &Exchange,
+) -> Result<bool, Fail> {
+    Ok(answers(alloc, server, exchange)? && seals(alloc, server, exchange)?)
+}
+
 /// Whether the exchange goes so at an acceptor of this service with this number.
 fn goes_so(
     alloc: Global,
@@ -108,7 +116,7 @@ fn goes_so(
     exchange: &Exchange,
 ) -> Result<bool, Fail> {
     let mut server = context_with(alloc, service, number)?;
-    Ok(answers(alloc, &mut server, exchange)? && seals(alloc, &mut server, exchange)?)
+    answers_and_seals(alloc, &mut server, exchange)
 }
 
 #[test]

@@ -3,6 +3,7 @@
 
 use super::{ONE_WAY, answer_at, context_of};
 use bitflags::Flags;
+use krb_context::Kerberos;
 use krb_replay::CacheGate;
 use sspi_core::{Cause, ServerRequestFlags};
 use std::alloc::Global;
@@ -51,18 +52,20 @@ fn pairs() -> &'static [Pair] {
     &PAIRS
 }
 
+fn refusal_at(
+    alloc: Global,
+    server: &mut Kerberos,
+    gate: &mut CacheGate,
+    token: &str,
+) -> Result<Option<Cause>, Fail> {
+    let token = hex::decode(alloc, token)?;
+    Ok(answer_at(alloc, server, gate, &token, ServerRequestFlags::empty()).err())
+}
+
 /// What the token is refused with at a new acceptor with this gate.
 fn refusal_of(alloc: Global, gate: &mut CacheGate, token: &str) -> Result<Option<Cause>, Fail> {
-    let token = hex::decode(alloc, token)?;
     let mut server = context_of(alloc, 100)?;
-    Ok(answer_at(
-        alloc,
-        &mut server,
-        gate,
-        &token,
-        ServerRequestFlags::empty(),
-    )
-    .err())
+    refusal_at(alloc, &mut server, gate, token)
 }
 
 fn is_refused_so(alloc: Global, pair: &Pair) -> Result<bool, Fail> {

@@ -2,6 +2,7 @@
 
 use super::{answer, context_of};
 use bitflags::Flags;
+use krb_context::Kerberos;
 use sspi_core::{Cause, ServerRequestFlags};
 use std::alloc::Global;
 use std::test::Fail;
@@ -37,17 +38,21 @@ fn token_of(alloc: Global, row: &LongToken) -> Result<Vec<u8>, Fail> {
     Ok(token)
 }
 
-fn is_refused_so(alloc: Global, row: &LongToken) -> Result<bool, Fail> {
+fn refusal(alloc: Global, server: &mut Kerberos, row: &LongToken) -> Result<Option<Cause>, Fail> {
     let token = token_of(alloc, row)?;
+    Ok(answer(alloc, server, &token, ServerRequestFlags::empty())?.err())
+}
+
+/// Why a new acceptor refuses the token.
+fn new_acceptors_refusal(alloc: Global, row: &LongToken) -> Result<Option<Cause>, Fail> {
     let mut server = context_of(alloc, 100)?;
-    let answer = answer(alloc, &mut server, &token, ServerRequestFlags::empty())?;
-    Ok(answer.err() == Some(row.refusal))
+    refusal(alloc, &mut server, row)
 }
 
 #[test]
 fn a_token_has_at_most_2_to_the_24_octets(rt: HostRuntime) -> Result<(), Fail> {
     for row in long_tokens() {
-        assert!(rt; is_refused_so(rt.alloc(), row)?);
+        assert_eq!(rt; new_acceptors_refusal(rt.alloc(), row)?, Some(row.refusal));
     }
     Ok(())
 }

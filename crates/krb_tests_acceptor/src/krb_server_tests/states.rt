@@ -2,7 +2,7 @@
 
 use super::{ONE_WAY, answer, context_of};
 use bitflags::Flags;
-use krb_context::KerberosState;
+use krb_context::{Kerberos, KerberosState};
 use sspi_core::{Cause, ServerRequestFlags};
 use std::alloc::Global;
 use std::test::Fail;
@@ -50,18 +50,23 @@ fn flags_of(dce: bool) -> ServerRequestFlags {
     }
 }
 
-/// Whether an acceptor in this state answers the AP-REQ so.
-fn waits_so(alloc: Global, wait: &Wait) -> Result<bool, Fail> {
+/// Why the acceptor refuses the AP-REQ in this state, if it does.
+fn refusal_in(alloc: Global, server: &mut Kerberos, wait: &Wait) -> Result<Option<Cause>, Fail> {
     let token = hex::decode(alloc, ONE_WAY)?;
-    let mut server = context_of(alloc, 100)?;
     server.state = wait.state;
-    Ok(answer(alloc, &mut server, &token, flags_of(wait.dce))?.err() == wait.refusal)
+    Ok(answer(alloc, server, &token, flags_of(wait.dce))?.err())
+}
+
+/// The same of a new acceptor.
+fn new_acceptors_refusal(alloc: Global, wait: &Wait) -> Result<Option<Cause>, Fail> {
+    let mut server = context_of(alloc, 100)?;
+    refusal_in(alloc, &mut server, wait)
 }
 
 #[test]
 fn a_context_waits_for_a_token_before_it_is_established(rt: HostRuntime) -> Result<(), Fail> {
     for wait in waits() {
-        assert!(rt; waits_so(rt.alloc(), wait)?);
+        assert_eq!(rt; new_acceptors_refusal(rt.alloc(), wait)?, wait.refusal);
     }
     Ok(())
 }

@@ -106,11 +106,18 @@ fn ends_so(alloc: Global, server: &mut Kerberos, book: &mut ReplayBook) -> Resul
     Ok(first && last && established)
 }
 
+fn ends_so_at_a_new_book(alloc: Global, server: &mut Kerberos) -> Result<bool, Fail> {
+    let mut book = ReplayBook::new(alloc, 300)?;
+    ends_so(alloc, server, &mut book)
+}
+
+fn new_acceptor_ends_so(alloc: Global) -> Result<bool, Fail> {
+    let mut server = context_of(alloc, 100)?;
+    ends_so_at_a_new_book(alloc, &mut server)
+}
+
 #[test]
 fn the_last_word_has_the_acceptors_number(rt: HostRuntime) -> Result<(), Fail> {
-    let alloc = rt.alloc();
-    let mut server = context_of(alloc, 100)?;
-    let mut book = ReplayBook::new(alloc, 300)?;
-    assert!(rt; ends_so(alloc, &mut server, &mut book)?);
+    assert!(rt; new_acceptor_ends_so(rt.alloc())?);
     Ok(())
 }

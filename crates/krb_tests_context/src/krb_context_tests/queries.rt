@@ -108,11 +108,19 @@ fn server_config(alloc: Global) -> Result<KerberosServerConfig, Fail> {
     })
 }
 
+fn copied_config(alloc: Global) -> Result<ProtocolConfig, Fail> {
+    let config = server_config(alloc)?;
+    Ok(ProtocolConfig::Server(config.copy(alloc)?))
+}
+
+fn instance(alloc: Global, config: &ProtocolConfig) -> Result<Kerberos, Fail> {
+    Ok(config.new_instance(alloc, [0, 0, 0, 0])?)
+}
+
 /// The acceptor that a copy of its configuration makes.
 fn new_server(alloc: Global) -> Result<Kerberos, Fail> {
-    let config = server_config(alloc)?;
-    let copied = ProtocolConfig::Server(config.copy(alloc)?);
-    Ok(copied.new_instance(alloc, [0, 0, 0, 0])?)
+    let config = copied_config(alloc)?;
+    instance(alloc, &config)
 }
 
 /// user@example.com and its password.

@@ -39,8 +39,9 @@ fn installed(
 }
 
 /// A file, a realm, and how many keys are installed: one of an unknown type is not.
-static INSTALLED: [(&str, &str, u32); 6] = [
+static INSTALLED: [(&str, &str, u32); 7] = [
     (KAFKA, "EXAMPLE.COM", 1),
+    (KAFKA_LOCALHOST, "EXAMPLE.COM", 1),
     (KAFKA, "OTHER.COM", 0),
     (KAFKA_RC4, "EXAMPLE.COM", 0),
     (MIT_AGAIN, "EXAMPLE.COM", 1),
@@ -131,36 +132,59 @@ fn is_part(alloc: Global, message: &Message, part: Part, wanted: &str) -> Result
     })
 }
 
+fn is_sealed(alloc: Global, message: &Message) -> Result<bool, Fail> {
+    Ok(
+        is_part(alloc, message, Part::Token, SEALED_TOKEN)?
+            && is_part(alloc, message, Part::Plain, SEALED_DATA)?,
+    )
+}
+
 /// Whether `abc` is sealed so.
 fn seals(alloc: Global, server: &mut Kerberos) -> Result<bool, Fail> {
     let mut message = plain_message(alloc)?;
     let confounder = [0, 1, 2, 3, 4, 5, 6, 7, 8, 9, 10, 11, 12, 13, 14, 15];
     server.encrypt_message(alloc, &mut message, confounder)?;
-    Ok(
-        is_part(alloc, &message, Part::Token, SEALED_TOKEN)?
-            && is_part(alloc, &message, Part::Plain, SEALED_DATA)?,
-    )
+    is_sealed(alloc, &message)
+}
+
+/// Whether the client is admitted, and what is sealed for it is sealed so.
+fn admits_and_seals(alloc: Global, server: &mut Kerberos) -> Result<bool, Fail> {
+    Ok(refusal(alloc, server)?.is_none() && seals(alloc, server)?)
+}
+
+/// The service with the keys of a file.
+fn broker_with(alloc: Global, file: &str) -> Result<ServerProperties, Fail> {
+    let keytab = read(alloc, file)?;
+    let mut properties = broker(alloc)?;
+    installed(alloc, &keytab, "EXAMPLE.COM", &mut properties)?;
+    Ok(properties)
+}
+
+fn acceptor_admits(alloc: Global, properties: ServerProperties) -> Result<bool, Fail> {
+    let mut server = acceptor(alloc, properties)?;
+    admits_and_seals(alloc, &mut server)
+}
+
+fn refusal_at_an_acceptor(
+    alloc: Global,
+    properties: ServerProperties,
+) -> Result<Option<Cause>, Fail> {
+    let mut server = acceptor(alloc, properties)?;
+    refusal(alloc, &mut server)
 }
 
 #[test]
 fn an_installed_key_admits_a_client(rt: HostRuntime) -> Result<(), Fail> {
-    let keytab = read(rt.alloc(), KAFKA_LOCALHOST)?;
-    let mut properties = broker(rt.alloc())?;
-    assert_eq!(rt;
-        installed(rt.alloc(), &keytab, "EXAMPLE.COM", &mut properties)?,
-        1
-    );
-    let mut server = acceptor(rt.alloc(), properties)?;
-    assert_eq!(rt; refusal(rt.alloc(), &mut server)?, None);
-    assert!(rt; seals(rt.alloc(), &mut server)?);
+    let properties = broker_with(rt.alloc(), KAFKA_LOCALHOST)?;
+    assert!(rt; acceptor_admits(rt.alloc(), properties)?);
     Ok(())
 }
 
 #[test]
 fn without_a_keytab_there_is_no_key(rt: HostRuntime) -> Result<(), Fail> {
-    let mut server = acceptor(rt.alloc(), broker(rt.alloc())?)?;
+    let properties = broker(rt.alloc())?;
     assert_eq!(rt;
-        refusal(rt.alloc(), &mut server)?,
+        refusal_at_an_acceptor(rt.alloc(), properties)?,
         Some(Cause::NoServiceKey)
     );
     Ok(())
