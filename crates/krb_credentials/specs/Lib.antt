@@ -1,0 +1,3 @@
+pub mod Clients
+pub mod FirstBodies
+pub mod ReplyKeys
