@@ -1,0 +1,3 @@
+mod Complete
+pub mod Granted
+pub mod Bodies

@@ -1,3 +1,4 @@
 pub mod Clients
 pub mod FirstBodies
 pub mod ReplyKeys
+pub mod Granted

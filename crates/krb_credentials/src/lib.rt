@@ -7,8 +7,10 @@
 
 mod body;
 mod client;
+mod granted;
 mod key;
 
 pub use body::{FirstService, first_body};
 pub use client::{Client, client_of, short_name};
+pub use granted::{granted_as_rep, granted_tgs_rep};
 pub use key::{ReplyKey, reply_key};
