@@ -1,3 +1,3 @@
 mod Complete
-pub mod Granted
-pub mod Bodies
+pub mod ReplyLengths
+pub mod BodyNames

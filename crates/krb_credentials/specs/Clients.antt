@@ -19,7 +19,7 @@ stated (Key identity) = client_name identity.principal
 
 -- the realm of that name
 abbrev pub realm_of : Env → List ℕ × List ℕ × ℕ → List ℕ
-realm_of env name = client_realm env.vars env.files name.0 name.1.0
+realm_of env name = client_realm env.vars env.files name.0 name.1
 
 -- the client: its name, its realm and its machine's name, each of ASCII
 unfoldable pub NamesClient : CredentialsBuffers → List ℕ → Env → Result Client Cause → Type 0
@@ -27,7 +27,7 @@ NamesClient credentials machine env = do
   name ← Takes NotAscii (name_of (stated credentials).0)
   realm ← Takes NotAscii (name_of (realm_of env (stated credentials)))
   host ← Takes NotAscii (name_of machine)
-  Gives (record { name = name; name_type = (stated credentials).1.1; realm = realm; host = host })
+  Gives (record { name = name; name_type = (stated credentials).2; realm = realm; host = host })
 
 -- texts of at most 2^24 octets each; the realm and the name of its ticket-granting service have together no more
 pub record IsShort (client : Client) : Type 0 where

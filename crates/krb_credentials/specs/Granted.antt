@@ -1,5 +1,5 @@
 -- What a reply of a KDC has to send on (RFC 4120, section 5.4.2).
-use Rattle.std.specs.Prelude.{ℕ, ◌≤◌, ◌^◌, length}
+use Rattle.std.specs.Prelude.{◌≤◌, ◌^◌, length}
 use Rattle.krb_messages.specs.Layouts.{principal_name_layout, ticket_layout}
 use Rattle.krb_exchange.specs.declared.kdc_rep.KdcRep.{KdcRep}
 use Rattle.krb_requests.specs.Pieces.{Fits}

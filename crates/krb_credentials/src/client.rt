@@ -4,8 +4,7 @@ ghost use Rattle.std.specs.Prelude.{◌≡◌, ◌+◌, ◌≤◌, ◌^◌, IfOk
 ghost use Rattle.sspi_core.specs.declared.cause.Cause.TheVariants as causes;
 ghost use Rattle.sspi_core.specs.Checks.{Answers, Takes, Gives};
 ghost use Rattle.krb_requests.specs.Pieces.{name_of};
-ghost use Rattle.krb_conf.specs.Realm.{client_realm};
-ghost use Rattle.krb_credentials.specs.Clients.{stated, NamesClient, IsShort};
+ghost use Rattle.krb_credentials.specs.Clients.{stated, realm_of, NamesClient, IsShort};
 
 use krb_conf::{
     ClientPrincipalName, Env, get_client_principal_name, get_client_principal_name_type,
@@ -36,7 +35,9 @@ pub struct Client {
 
 /// The name of credentials, and the domain beside it.
 fn stated(credentials: &CredentialsBuffers) -> ClientPrincipalName<'_>
-    ensures { (result.name.now, result.realm_domain.now, result.name_type) ≡ stated credentials.entry.now }
+    ensures name { result.name.now ≡ (stated credentials.entry.now).0 }
+    ensures domain { result.realm_domain.now ≡ (stated credentials.entry.now).1 }
+    ensures name_type { result.name_type ≡ (stated credentials.entry.now).2 }
 {
     match credentials {
         CredentialsBuffers::AuthIdentity(identity) => ClientPrincipalName {
@@ -51,11 +52,24 @@ fn stated(credentials: &CredentialsBuffers) -> ClientPrincipalName<'_>
     }
 }
 
-fn realm_of(alloc: Global, env: &Env, name: &str, domain: &str) -> Result<Name, Cause>
-    ensures { Answers (Takes causes.NotAscii (name_of (client_realm env.now.vars env.now.files name.now domain.now))) result }
+fn name_in(alloc: Global, credentials: &CredentialsBuffers) -> Result<Name, Cause>
+    ensures { Answers (Takes causes.NotAscii (name_of (stated credentials.now).0)) result }
 {
-    let realm = get_client_principal_realm(alloc, env, name, domain)?;
+    name_of(alloc, stated(credentials).name)
+}
+
+fn realm_in(alloc: Global, env: &Env, credentials: &CredentialsBuffers) -> Result<Name, Cause>
+    ensures { Answers (Takes causes.NotAscii (name_of (realm_of env.now (stated credentials.now)))) result }
+{
+    let stated = stated(credentials);
+    let realm = get_client_principal_realm(alloc, env, stated.name, stated.realm_domain)?;
     name_of(alloc, realm.as_str())
+}
+
+fn type_in(credentials: &CredentialsBuffers) -> u8
+    ensures { result ≡ (stated credentials.now).2 }
+{
+    stated(credentials).name_type
 }
 
 /// The client with these names, which are not longer than can be sent: a longer one takes more memory than there is.
@@ -91,11 +105,10 @@ pub fn client_of(
     ensures named { Answers (NamesClient credentials.now host.now env.now) result }
     ensures short { IfOk result (λ client. IsShort client) }
 {
-    let stated = stated(credentials);
-    let name = name_of(alloc, stated.name)?;
-    let realm = realm_of(alloc, env, stated.name, stated.realm_domain)?;
+    let name = name_in(alloc, credentials)?;
+    let realm = realm_in(alloc, env, credentials)?;
     let host = name_of(alloc, host.as_str())?;
-    sendable(name, stated.name_type, realm, host)
+    sendable(name, type_in(credentials), realm, host)
 }
 
 /// A copy of a name that is not longer than can be sent: a longer one takes more memory than there is.

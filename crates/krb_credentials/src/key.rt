@@ -2,6 +2,7 @@
 
 ghost use Rattle.std.specs.Prelude.{◌≡◌, IfOk};
 ghost use Rattle.sspi_core.specs.Checks.{Answers, Gives};
+ghost use Rattle.krb_replies.specs.Salts.{TellsEtype};
 ghost use Rattle.krb_replies.specs.Keys.{BringsKey};
 ghost use Rattle.krb_requests.specs.PaDatas.{suite_of};
 ghost use Rattle.krb_credentials.specs.ReplyKeys.{client_key, TakesReplyKey};
@@ -56,10 +57,32 @@ fn session_key(
     }
 }
 
-fn with_suite(suite: CipherSuite, key: Secret<Octets>) -> Result<ReplyKey, Cause>
-    ensures { Gives (record { suite = suite; key = key }) result }
+/// The number of the suite and the salt that an AS-REP tells.
+fn told_hint(alloc: Global, used: &Text, as_rep: &AsRep) -> Result<(u8, Text), Cause>
+    ensures { Answers (TellsEtype used.now as_rep.now) result }
 {
-    Ok(ReplyKey { suite, key })
+    told_etype(alloc, as_rep, used.as_str())
+}
+
+/// The session key, in the suite and with the salt that were told.
+fn told_key(
+    alloc: Global,
+    credentials: &CredentialsBuffers,
+    hint: &(u8, Text),
+    as_rep: &AsRep,
+) -> Result<Secret<Octets>, Cause>
+    ensures { Answers (BringsKey (suite_of hint.now.0) (client_key (suite_of hint.now.0) hint.now.1 credentials.now) as_rep.now) result }
+{
+    session_key(alloc, credentials, suite_of(hint.0), &hint.1, as_rep)
+}
+
+fn with_suite(etype: u8, key: Secret<Octets>) -> Result<ReplyKey, Cause>
+    ensures { Gives (record { suite = suite_of etype; key = key }) result }
+{
+    Ok(ReplyKey {
+        suite: suite_of(etype),
+        key,
+    })
 }
 
 /// The key that an AS-REP brings, which is sealed under the key of the credentials with the suite and the salt that it tells,
@@ -77,8 +100,7 @@ pub fn reply_key(
 ) -> Result<ReplyKey, Cause>
     ensures { Answers (TakesReplyKey asker.now.credentials salt.now as_rep.now) result }
 {
-    let hint = told_etype(alloc, as_rep, salt.as_str())?;
-    let suite = suite_of(hint.0);
-    let key = session_key(alloc, &asker.credentials, suite, &hint.1, as_rep)?;
-    with_suite(suite, key)
+    let hint = told_hint(alloc, salt, as_rep)?;
+    let key = told_key(alloc, &asker.credentials, &hint, as_rep)?;
+    with_suite(hint.0, key)
 }

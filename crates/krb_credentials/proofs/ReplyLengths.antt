@@ -1,15 +1,19 @@
 -- What a reply of a KDC brings can be written again, and is not longer than the reply.
-use Rattle.std.proofs.Common.{◌≡◌, ℕ, ◌≤◌, ◌^◌, List, ◌++◌, length, drop, Result, Ok, Err, refl, sym, ap, ◌∙◌, subst, arith, length-append}
+use Rattle.std.proofs.Common.{◌≡◌, ℕ, ◌+◌, ◌≤◌, ◌^◌, List, [], ◌++◌, length, map, Result, Ok, Err, ap, subst, arith, length-append}
+use Rattle.std.specs.Prelude.{IfOk, option_map}
+use Rattle.std.specs.Option.{option_map_or}
 use Rattle.std.proofs.lemmas.Bool.{leb-true}
 use Rattle.std.proofs.lemmas.List.{length-drop}
 use Rattle.krb_der.specs.Der.{tlv}
-use Rattle.krb_der.specs.Schema.{Spells}
+use Rattle.krb_der.specs.Schema.{Spells, tag_of, contents, IsComplete, sequence_of}
 use Rattle.krb_der.specs.Layout.{Layout}
 use Rattle.krb_der.proofs.Lengths.{contents_shorter}
-use Rattle.krb_messages.specs.Layouts.{principal_name_row, ticket_row}
-use Rattle.krb_exchange.specs.Table.{kdc_rep, as_rep, tgs_rep}
-use Rattle.krb_exchange.specs.Layouts.{kdc_rep_row, as_rep_row, as_rep_layout, tgs_rep_row, tgs_rep_layout}
+use Rattle.krb_messages.specs.Table.{encrypted_data}
+use Rattle.krb_messages.specs.Layouts.{principal_name_layout, ticket_layout, encrypted_data_row}
+use Rattle.krb_exchange.specs.Table.{pa_data, kdc_rep, as_rep, tgs_rep}
+use Rattle.krb_exchange.specs.Layouts.{pa_data_row, kdc_rep_row, as_rep_row, as_rep_layout, tgs_rep_row, tgs_rep_layout}
 use Rattle.krb_exchange.specs.Results.{IsResult}
+use Rattle.krb_exchange.specs.declared.kdc_rep.KdcRep.{KdcRep}
 use Rattle.krb_exchange.specs.declared.kdc_rep.AsRep.{AsRep}
 use Rattle.krb_exchange.specs.declared.kdc_rep.TgsRep.{TgsRep}
 use Rattle.krb_exchange.specs.declared.result.KrbResult.{KrbResult}
@@ -17,7 +21,7 @@ use Rattle.krb_exchange.specs.declared.result.KrbResult.TheVariants.{Ok as Reply
 use Rattle.sspi_core.specs.declared.protocol.NetworkProtocol.{NetworkProtocol}
 use Rattle.sspi_core.specs.declared.cause.Cause.{Cause}
 use Rattle.sspi_core.specs.declared.cause.Cause.TheVariants.{Shape}
-use Rattle.sspi_core.specs.Checks.{Answers, Gives, Holds}
+use Rattle.sspi_core.specs.Checks.{Answers}
 use Rattle.sspi_core.proofs.Chain.{held}
 use Rattle.sspi_generator.specs.declared.network.NetFault.{NetFault}
 use Rattle.krb_sending.specs.Replies.{is_short, Skips, Unpacks, Unwraps, Replies}
@@ -84,22 +88,32 @@ parts_le n outer inner a b c d e f g h =
       omega (arith, k, contents_shorter 0xa5 f),
     )
 
+module _ (outer : ℕ) (rep : KdcRep) where
+  kdc_rep_sendable : IsComplete kdc_rep (kdc_rep_row rep) → length (tlv outer (tlv (tag_of kdc_rep) (contents kdc_rep (kdc_rep_row rep)))) ≤ 2 ^ 24 → IsSendable rep
+  unfolding kdc_rep kdc_rep_row
+  kdc_rep_sendable complete short =
+      let hints : List ℕ = option_map_or (λ value. tlv 0xa2 (tlv (tag_of (sequence_of pa_data)) (contents (sequence_of pa_data) value))) (option_map (map pa_data_row) rep.padata) [] in
+      let sealed : List ℕ = tlv 0xa6 (tlv (tag_of encrypted_data) (contents encrypted_data (encrypted_data_row rep.enc_part))) ++ [] in
+      let le = parts_le (2 ^ 24) outer 0x30 (tlv 0xa0 (tlv 0x02 rep.pvno)) (tlv 0xa1 (tlv 0x02 rep.msg_type)) hints rep.crealm (spelling principal_name_layout rep.cname) (spelling ticket_layout rep.ticket) sealed short in
+      record {
+        realm = le.0;
+        name = record { complete = complete.1.1.1.1.0; short = le.1 };
+        ticket = record { complete = complete.1.1.1.1.1.0; short = le.2 };
+      }
+
 pub as_rep_sendable : (rep : AsRep) → Fits as_rep_layout (2 ^ 24) rep → IsSendable rep.0
-unfolding as_rep as_rep_row kdc_rep kdc_rep_row
-as_rep_sendable rep fits =
-    let le = parts_le (2 ^ 24) _ _ _ _ _ rep.0.crealm _ _ _ fits.short in
-    record {
-      realm = le.0;
-      name = record { complete = fits.complete.1.1.1.1.0; short = le.1.0 };
-      ticket = record { complete = fits.complete.1.1.1.1.1.0; short = le.1.1 };
-    }
+unfolding as_rep as_rep_row
+as_rep_sendable rep fits = kdc_rep_sendable 0x6b rep.0 fits.complete fits.short
 
 pub tgs_rep_sendable : (rep : TgsRep) → Fits tgs_rep_layout (2 ^ 24) rep → IsSendable rep.0
-unfolding tgs_rep tgs_rep_row kdc_rep kdc_rep_row
-tgs_rep_sendable rep fits =
-    let le = parts_le (2 ^ 24) _ _ _ _ _ rep.0.crealm _ _ _ fits.short in
-    record {
-      realm = le.0;
-      name = record { complete = fits.complete.1.1.1.1.0; short = le.1.0 };
-      ticket = record { complete = fits.complete.1.1.1.1.1.0; short = le.1.1 };
-    }
+unfolding tgs_rep tgs_rep_row
+tgs_rep_sendable rep fits = kdc_rep_sendable 0x6d rep.0 fits.complete fits.short
+
+-- what was granted can be sent on
+pub as_rep_granted : (protocol : NetworkProtocol) (reply : Result (List ℕ) NetFault) (answer : Result AsRep Cause) → Answers (Grants protocol as_rep_layout reply) answer → IfOk answer (λ rep. IsSendable rep.0)
+as_rep_granted protocol reply (Ok rep) h = as_rep_sendable rep (granted_fits protocol as_rep_layout reply rep h)
+as_rep_granted protocol reply (Err e) h = tt
+
+pub tgs_rep_granted : (protocol : NetworkProtocol) (reply : Result (List ℕ) NetFault) (answer : Result TgsRep Cause) → Answers (Grants protocol tgs_rep_layout reply) answer → IfOk answer (λ rep. IsSendable rep.0)
+tgs_rep_granted protocol reply (Ok rep) h = tgs_rep_sendable rep (granted_fits protocol tgs_rep_layout reply rep h)
+tgs_rep_granted protocol reply (Err e) h = tt
