@@ -1,15 +1,14 @@
 -- Which checks refuse because the network failed: none but the first one on a reply.
-use Rattle.std.proofs.Common.{◌≡◌, ℕ, List, [], ◌∷◌, Option, Some, None, Result, Ok, Err, sym, ◌∙◌}
+use Rattle.std.proofs.Common.{ℕ, List, [], ◌∷◌, Option, Some, None, Result, Err}
 use Rattle.krb_exchange.specs.declared.pa_data.EtypeInfo2Entry.{EtypeInfo2Entry}
 use Rattle.krb_exchange.specs.declared.kdc_req.KdcReqBody.{KdcReqBody}
 use Rattle.krb_exchange.specs.declared.kdc_rep.AsRep.{AsRep}
 use Rattle.krb_crypto.specs.declared.suite.CipherSuite.{CipherSuite}
 use Rattle.sspi_core.specs.declared.cause.Cause.{Cause}
-use Rattle.sspi_core.specs.declared.cause.Cause.TheVariants.{Shape, EtypeEntry, Salt, Etype, KeyLength, Short, Altered, Inner}
+use Rattle.sspi_core.specs.declared.cause.Cause.TheVariants.{Shape, Etype, KeyLength, Short, Altered, Inner}
 use Rattle.sspi_core.specs.declared.draw.Draw.{Draw}
 use Rattle.sspi_core.specs.declared.identity.CredentialsBuffers.{CredentialsBuffers}
 use Rattle.sspi_core.specs.declared.protocol.NetworkProtocol.{NetworkProtocol}
-use Rattle.sspi_core.proofs.Chain.{same_err}
 use Rattle.sspi_generator.specs.declared.network.NetFault.{NetFault}
 use Rattle.sspi_generator.specs.Steps.{IsFailure}
 use Rattle.krb_sending.specs.declared.kdc.Kdc.{Kdc}

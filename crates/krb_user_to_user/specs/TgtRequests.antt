@@ -1,5 +1,5 @@
 -- A TGT-REQ at a service (draft-swift-win2k-krb-user2user, section 3), up to the request to the KDC.
-use Rattle.std.specs.Prelude.{◌≡◌, ℕ, ◌≤◌, ◌^◌, ◌==◌, ◌&&◌, bit_and, Bool, true, false, List, length, Option, Some, None, Result, Ok, Err}
+use Rattle.std.specs.Prelude.{◌≤◌, ◌^◌, ◌==◌, ◌&&◌, bit_and, Bool, true, false, length, Option, Some, None, Result}
 use Rattle.std.specs.Cmp.Lexicographic.{pointwise}
 use Rattle.krb_conf.specs.declared.env.Env.{Env}
 use Rattle.krb_messages.specs.declared.principal_name.PrincipalName.{PrincipalName}
@@ -9,10 +9,8 @@ use Rattle.krb_context.specs.declared.server.ServerProperties.{ServerProperties}
 use Rattle.sspi_core.specs.declared.flags.ServerRequestFlags.{ServerRequestFlags}
 use Rattle.sspi_core.specs.declared.identity.CredentialsBuffers.{CredentialsBuffers}
 use Rattle.sspi_core.specs.declared.identity.CredentialsBuffers.TheVariants.{AuthIdentity as Password, Keytab as Key}
-use Rattle.sspi_core.specs.declared.error.Error.{Error}
 use Rattle.sspi_core.specs.declared.cause.Cause.{Cause}
-use Rattle.sspi_core.specs.declared.cause.Cause.TheVariants.{Memory, ServerName, KeytabUser}
-use Rattle.sspi_core.specs.Kinds.{error_of}
+use Rattle.sspi_core.specs.declared.cause.Cause.TheVariants.{ServerName, KeytabUser}
 use Rattle.sspi_core.specs.Checks.{Holds, Gives, ◌>>=◌, ◌>>◌}
 use Rattle.krb_client.specs.Askers.{asker_of}
 use Rattle.krb_credentials.specs.declared.client.Client.{Client}

@@ -17,9 +17,7 @@ use crate::tgt_rep::token_of;
 use bitflags::Flags;
 use krb_client::{Asker, InitDone, Turn, ask_again, begin};
 use krb_context::{ContextChange, EncryptionParams, KerberosState};
-use krb_credentials::{
-    Client, FirstService, ReplyKey, first_body, granted_as_rep, reply_key,
-};
+use krb_credentials::{Client, FirstService, ReplyKey, first_body, granted_as_rep, reply_key};
 use krb_crypto::CipherSuite;
 use krb_der::{Name, Octets, OutOfMemory, Text, TryCopy};
 use krb_exchange::{AsRep, KdcRep, KdcReqBody};
@@ -159,7 +157,8 @@ fn done_of(
     requires { IsSendable as_rep.0 }
     ensures { IfOk result (λ done. done ≡ done_of acceptor.now as_rep reply) }
 {
-    let AsRep(KdcRep { crealm, ticket, .. }) = as_rep;
+    let AsRep(rep) = as_rep;
+    let KdcRep { crealm, ticket, .. } = rep;
     let realm = text_of(alloc, &crealm)?;
     let encryption_params = params_with(alloc, &acceptor.params, reply.suite)?;
     let token = token_of(alloc, acceptor.dce, ticket)?;

@@ -17,4 +17,4 @@ returns-clause-want c = kept_of c.next-answer.result _ _ c.go_on.ensures.state (
 
 pub returns-clause-fault : goal.returns-clause-fault
 returns-clause-fault c =
-    faulted_of c.next-answer.result _ _ c.go_on.ensures.state (λ cause is network. next_refuses _ _ _ _ cause (refused _ _ cause c.next-answer.ensures.step is network) network)
+    faulted_of c.next-answer.result _ _ c.go_on.ensures.state (λ cause is network. next_refuses c.args.self.now.acceptor c.args.self.now.phase _ c.args.draw.now cause (refused _ _ cause c.next-answer.ensures.step is network) network)

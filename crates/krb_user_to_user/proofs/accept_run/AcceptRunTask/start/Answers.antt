@@ -17,4 +17,4 @@ returns-clause-want c = kept_of c.started-answer.result _ _ c.go_on.ensures.stat
 
 pub returns-clause-fault : goal.returns-clause-fault
 returns-clause-fault c =
-    faulted_of c.started-answer.result _ _ c.go_on.ensures.state (λ cause is network. starts_refuse _ _ _ cause (refused _ _ cause c.started-answer.ensures.step is network) network)
+    faulted_of c.started-answer.result _ _ c.go_on.ensures.state (λ cause is network. starts_refuse c.args.self.now.acceptor c.args.self.now.phase c.args.draw.now cause (refused _ _ cause c.started-answer.ensures.step is network) network)
