@@ -33,14 +33,10 @@ pub made_below : (ticket : Ticket) (made : TgtRep) → made ≡ tgt_rep ticket �
 made_below ticket made e h = let k = (made_fits ticket made e h).short in omega (arith, k)
 
 -- what is framed, behind the mechanism's name
-pub framed_short : (octets inside : List ℕ) → inside ≡ octets → length octets ≤ 2 ^ 25
-    → length (tlv 0x06 (0x2a ∷ 0x86 ∷ 0x48 ∷ 0x86 ∷ 0xf7 ∷ 0x12 ∷ 1 ∷ 2 ∷ 2 ∷ 3 ∷ []) ++ (4 ∷ 1 ∷ [] ++ inside)) < 2 ^ 31
-framed_short octets inside e h =
+pub framed_short : (oid octets inside : List ℕ) → length oid ≤ 10 → inside ≡ octets → length octets ≤ 2 ^ 25 → length (tlv 0x06 oid ++ (4 ∷ 1 ∷ [] ++ inside)) < 2 ^ 31
+framed_short oid octets inside name e h =
     let k : length inside ≤ 2 ^ 25 = subst (λ (o : List ℕ). length o ≤ 2 ^ 25) (sym e) h in
-    omega (
-      arith,
-      append_le (tlv 0x06 (0x2a ∷ 0x86 ∷ 0x48 ∷ 0x86 ∷ 0xf7 ∷ 0x12 ∷ 1 ∷ 2 ∷ 2 ∷ 3 ∷ [])) (4 ∷ 1 ∷ [] ++ inside) 16 (2 + 2 ^ 25) (tlv_le 0x06 _ 10 (lit≤ tt)) (append_le (4 ∷ 1 ∷ []) inside 2 (2 ^ 25) (lit≤ tt) k),
-    )
+    omega (arith, append_le (tlv 0x06 oid) (4 ∷ 1 ∷ [] ++ inside) 16 (2 + 2 ^ 25) (tlv_le 0x06 oid 10 name) (append_le (4 ∷ 1 ∷ []) inside 2 (2 ^ 25) (lit≤ tt) k))
 
 pub written_short : (ticket : Ticket) (made : TgtRep) (written : Result (List ℕ) OutOfMemory) → made ≡ tgt_rep ticket → Fits ticket_layout (2 ^ 24) ticket
     → IfOk written (λ octets. Spells tgt_rep_layout.kind (tgt_rep_layout.view made) octets) → IfOk written (λ octets. length octets ≤ 2 ^ 25)
