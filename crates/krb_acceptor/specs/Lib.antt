@@ -1,0 +1,2 @@
+pub mod TgtReqs
+pub mod Whole

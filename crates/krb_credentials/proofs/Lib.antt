@@ -1,0 +1,3 @@
+mod Complete
+pub mod ReplyLengths
+pub mod BodyNames

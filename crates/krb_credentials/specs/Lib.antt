@@ -1,0 +1,4 @@
+pub mod Clients
+pub mod FirstBodies
+pub mod ReplyKeys
+pub mod Granted

@@ -1,0 +1,4 @@
+pub mod TgtReps
+pub mod TgtRequests
+pub mod AcceptSteps
+pub mod AcceptRuns

@@ -1,0 +1,192 @@
+//! The exchange in which a service fetches its ticket, as a task.
+
+ghost use Rattle.std.specs.Prelude.{◌≡◌, ◌≤◌, ◌^◌, true, IfOk, length, Err, Result};
+ghost use Rattle.sspi_core.specs.declared.cause.Cause.{Cause};
+ghost use Rattle.sspi_core.specs.declared.cause.Cause.TheVariants as causes;
+ghost use Rattle.sspi_core.specs.declared.draw.TheConstants.{MAX_MOMENT};
+ghost use Rattle.sspi_core.specs.Kinds.{error_of};
+ghost use Rattle.sspi_core.specs.Checks.{Answers};
+ghost use Rattle.krb_client.specs.Turns.{is_want};
+ghost use Rattle.krb_user_to_user.specs.declared.request.Beginning.{Beginning};
+ghost use Rattle.krb_user_to_user.specs.declared.steps.AcceptPhase.TheVariants as phases;
+ghost use Rattle.krb_user_to_user.specs.TgtRequests.{is_bare, RequestsTgt, CanBegin};
+ghost use Rattle.krb_user_to_user.specs.AcceptRuns.{Starts, Next, IsNewPhase, IsAwaiting, IsNew, turns_left, GoesDown, StartsAt, ResumesAt, BeginsSo};
+
+use crate::request::{Acceptor, Beginning, begin_accept};
+use crate::steps::{AcceptPhase, ask_first, ask_second, body_of, take_as_rep};
+use bitflags::Flags;
+use krb_client::{InitDone, Turn, go_on, is_want};
+use krb_conf::Env;
+use krb_context::Kerberos;
+use krb_der::Octets;
+use krb_exchange::TgtReq;
+use sspi_core::{Cause, CredentialsBuffers, Draw, Error, ServerRequestFlags};
+use sspi_generator::{Generator, GeneratorState, NetFault, NetworkRequest, Resumable, Task};
+use std::alloc::Global;
+
+/// The exchange in which a service fetches its ticket: an AS exchange, whose end is the TGT-REP to the client, and the session
+/// key of the ticket as the service's key.
+#[derive(Drop)]
+pub struct AcceptRun {
+    alloc: Global,
+    acceptor: Acceptor,
+    phase: AcceptPhase,
+}
+
+/// What runs it.
+pub type GeneratorAcceptSecurityContext = Generator<AcceptRun>;
+
+impl AcceptRun {
+    /// The exchange that begins so.
+    pub fn new(alloc: Global, beginning: Beginning) -> AcceptRun
+        requires { CanBegin beginning }
+        ensures new { IsNew result }
+        ensures acceptor { result.acceptor ≡ beginning.acceptor }
+        ensures phase { result.phase ≡ phases.New beginning.client }
+    {
+        AcceptRun {
+            alloc,
+            acceptor: beginning.acceptor,
+            phase: AcceptPhase::New(beginning.client),
+        }
+    }
+}
+
+/// Begins user-to-user at an acceptor, with the user that the service is.
+///
+/// Refused, in this order, as InvalidToken ServerName where the TGT-REQ names another service, by the type or by the components
+/// of its name; as UnsupportedPreAuth KeytabUser where the user has a key and no password; as InternalError NotAscii where the
+/// user's name, its realm or the machine's name is past ASCII.
+pub fn request_tgt(
+    alloc: Global,
+    server: &Kerberos,
+    credentials: &CredentialsBuffers,
+    tgt_req: &TgtReq,
+    flags: ServerRequestFlags,
+    env: &Env,
+) -> Result<AcceptRun, Error>
+    ensures asked { (result ≡ Err (error_of causes.Memory) → ⊥)
+        → (answer : Result Beginning Cause) × RequestsTgt server.now credentials.now tgt_req.now (is_bare flags) env.now answer × BeginsSo answer result }
+    ensures new { IfOk result (λ run. IsNew run) }
+{
+    let dce = flags.contains(ServerRequestFlags::USE_DCE_STYLE);
+    match begin_accept(alloc, server, credentials, tgt_req, dce, env) {
+        Ok(beginning) => Ok(AcceptRun::new(alloc, beginning)),
+        Err(cause) => Err(Error::from(cause)),
+    }
+}
+
+/// What the start leads to in a phase that is new.
+fn started(
+    alloc: Global,
+    acceptor: &Acceptor,
+    phase: &AcceptPhase,
+    draw: &Draw,
+) -> Result<Turn<AcceptPhase, InitDone>, Cause>
+    requires new { IsNewPhase phase.now }
+    requires realm { length acceptor.now.asker.realm ≤ 2 ^ 24 }
+    requires moment { draw.now.moment ≤ MAX_MOMENT }
+    ensures step { Answers (Starts acceptor.now phase.now draw.now) result }
+    ensures down { IfOk result (λ turn. GoesDown (turns_left phase.now) turn) }
+{
+    match phase {
+        AcceptPhase::New(client) => {
+            let body = body_of(alloc, client, draw)?;
+            ask_first(alloc, &acceptor.asker, body)
+        }
+        AcceptPhase::AwaitsError(_, _) | AcceptPhase::AwaitsAsRep(_, _) | AcceptPhase::Over => {
+            unreachable!()
+        }
+    }
+}
+
+/// What an answer leads to in a phase that awaits one.
+fn in_phase(
+    alloc: Global,
+    acceptor: &Acceptor,
+    phase: &AcceptPhase,
+    reply: Result<Octets, NetFault>,
+    draw: &Draw,
+) -> Result<Turn<AcceptPhase, InitDone>, Cause>
+    requires awaiting { IsAwaiting phase.now }
+    requires moment { draw.now.moment ≤ MAX_MOMENT }
+    ensures step { Answers (Next acceptor.now phase.now reply draw.now) result }
+    ensures down { IfOk result (λ turn. GoesDown (turns_left phase.now) turn) }
+{
+    match phase {
+        AcceptPhase::AwaitsError(kdc, body) => {
+            ask_second(alloc, &acceptor.asker, kdc, body, reply, draw)
+        }
+        AcceptPhase::AwaitsAsRep(kdc, salt) => {
+            take_as_rep(alloc, acceptor, kdc.protocol, salt, reply)
+        }
+        AcceptPhase::New(_) | AcceptPhase::Over => unreachable!(),
+    }
+}
+
+/// What an answer leads to. Where the client wanted for memory, so does the step.
+fn next(
+    alloc: Global,
+    acceptor: &Acceptor,
+    phase: &AcceptPhase,
+    reply: Result<Octets, NetFault>,
+    draw: &Draw,
+) -> Result<Turn<AcceptPhase, InitDone>, Cause>
+    requires awaiting { IsAwaiting phase.now }
+    requires moment { draw.now.moment ≤ MAX_MOMENT }
+    ensures step { Answers (Next acceptor.now phase.now reply draw.now) result }
+    ensures down { IfOk result (λ turn. GoesDown (turns_left phase.now) turn) }
+    ensures memory { is_want reply ≡ true → result ≡ Err causes.Memory }
+{
+    if is_want(&reply) {
+        return Err(Cause::Memory);
+    }
+    in_phase(alloc, acceptor, phase, reply, draw)
+}
+
+impl Task for AcceptRun {
+    ghost use Rattle.krb_client.specs.Turns.{IsWant, IsFault};
+    ghost use Rattle.krb_user_to_user.specs.AcceptRuns.{IsNew, IsWaiting, StartsAt, turns_left};
+
+    type Out = Result<InitDone, Error>;
+
+    ghost turns = { λ run. turns_left run.phase };
+
+    ghost is_new = { IsNew };
+
+    ghost is_waiting = { IsWaiting };
+
+    ghost starts = { StartsAt };
+
+    ghost is_want = { IsWant };
+
+    ghost is_fault = { IsFault };
+
+    fn start(&mut self, draw: &Draw) -> GeneratorState<NetworkRequest, Result<InitDone, Error>> {
+        let answer = started(self.alloc, &self.acceptor, &self.phase, draw);
+        go_on(&mut self.phase, AcceptPhase::Over, answer)
+    }
+
+    fn turns(&self) -> u32 {
+        match self.phase {
+            AcceptPhase::New(_) => 2,
+            AcceptPhase::AwaitsError(_, _) => 1,
+            AcceptPhase::AwaitsAsRep(_, _) | AcceptPhase::Over => 0,
+        }
+    }
+}
+
+impl Resumable for AcceptRun {
+    ghost use Rattle.krb_user_to_user.specs.AcceptRuns.{ResumesAt};
+
+    ghost resumes = { ResumesAt };
+
+    fn resume(
+        &mut self,
+        reply: Result<Octets, NetFault>,
+        draw: &Draw,
+    ) -> GeneratorState<NetworkRequest, Result<InitDone, Error>> {
+        let answer = next(self.alloc, &self.acceptor, &self.phase, reply, draw);
+        go_on(&mut self.phase, AcceptPhase::Over, answer)
+    }
+}
