@@ -148,7 +148,7 @@ fn hands_on(alloc: Global, octets: &[u8], key: &Secret<Octets>, end: &Result<&st
 
 #[test]
 fn tgs_reps_bring_keys(rt: HostRuntime) -> Result<(), Fail> {
-    let key = key_20(rt.alloc())?;
+    let key = Secret::new(Octets::from_slice(rt.alloc(), &[0xc8; 32])?);
     for (digits, end) in &replies::TGS_KEYS {
         let row = octets(digits)?;
         assert!(rt; hands_on(rt.alloc(), row.as_slice(), &key, end), "{digits}");

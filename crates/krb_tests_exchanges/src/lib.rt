@@ -6,4 +6,6 @@
 #[cfg(test)]
 mod krb_replies_tests;
 #[cfg(test)]
+mod krb_sending_tests;
+#[cfg(test)]
 mod rows;

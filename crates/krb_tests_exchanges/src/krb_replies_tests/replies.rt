@@ -166,7 +166,7 @@ pub static AS_KEYS: [(&str, Result<&str, Cause>); 6] = [
          8cf707b5d1a8d644812285cd8f360f88a5fd45e81b10c0e6d848d8bb8de40d4aef6ed0838b33eff2ed3eeb811a909716cf064801b44b9a24b0080ef5\
          066ad2e60f10a4b148a9eceb4231ba3e3e99c38784e20941b7c4e53f93f67c4031b11efb9fb967e70edb52d6bbf45b1da31536995d2d2d90c78a6a8c\
          6cbd16a18d44618676ada46ecf9db31475",
-        Ok("202122232425262728292a2b2c2d2e2f303132333435363738393a3b3c3d3e3f"),
+        Ok("c8c8c8c8c8c8c8c8c8c8c8c8c8c8c8c8c8c8c8c8c8c8c8c8c8c8c8c8c8c8c8c8"),
     ),
     (
         "6b8201b1308201ada003020105a10302010ba30d1b0b4558414d504c452e434f4da4123010a003020101a10930071b05616c696365a5818461818130\
@@ -217,7 +217,7 @@ pub static AS_KEYS: [(&str, Result<&str, Cause>); 6] = [
     ),
 ];
 
-/// TGS-REPs under the key 20 to 3f hex, and the session key that each brings.
+/// TGS-REPs under a key of 32 octets c8 hex, and the session key that each brings.
 pub static TGS_KEYS: [(&str, Result<&str, Cause>); 5] = [
     (
         "6d8201bc308201b8a003020105a10302010da30d1b0b4558414d504c452e434f4da4123010a003020101a10930071b05616c696365a5818a61818730\
