@@ -4,6 +4,7 @@ ghost use Rattle.std.specs.Prelude.{◌≡◌, IfOk, OnOk};
 ghost use Rattle.std.specs.Ordering.{nat_cmp};
 ghost use Rattle.std.specs.BTreeMap.{insert_entry};
 ghost use Rattle.krb_service.specs.Described.{connections_with};
+ghost use Rattle.krb_threads.specs.Described.{AreEnds};
 ghost use Rattle.krb_threads.specs.Journaled.{connections_of};
 
 use krb_conf::Env;
@@ -23,7 +24,7 @@ pub struct Described {
 }
 
 /// The environment, for one worker.
-pub fn copied_env(alloc: Global, described: &Described) -> Result<Env, OutOfMemory>
+fn copied_env(alloc: Global, described: &Described) -> Result<Env, OutOfMemory>
     ensures { IfOk result (λ env. env ≡ described.now.env) }
 {
     let vars = described.env.vars.copy(alloc)?;
@@ -46,7 +47,7 @@ fn put(
 }
 
 /// The connections that a worker has, of whom there are two.
-pub fn connections(
+fn connections(
     alloc: Global,
     described: &Described,
     worker: u32,
@@ -67,17 +68,39 @@ pub fn connections(
     Ok(made)
 }
 
-/// A service of this environment and these connections over a gate.
-pub fn service_of<G: ReplayGate>(
-    alloc: Global,
-    env: Env,
-    connections: BTreeMap<u32, Connection>,
-    gate: G,
-) -> Service<G>
-    ensures { result ≡ record { connections = connections.entries; env = env; gate = gate } }
+/// The ends of connections that a worker has, and the environment.
+#[derive(Drop)]
+pub struct Ends {
+    pub env: Env,
+    pub connections: BTreeMap<u32, Connection>,
+}
+
+/// What one worker has of what the lines declare.
+pub fn ends_of(alloc: Global, described: &Described, worker: u32) -> Result<Ends, OutOfMemory>
+    ensures { IfOk result (AreEnds described.now worker) }
+{
+    let env = copied_env(alloc, described)?;
+    Ok(Ends {
+        env,
+        connections: connections(alloc, described, worker)?,
+    })
+}
+
+/// What both have.
+pub fn ends_of_both(alloc: Global, described: &Described) -> Result<(Ends, Ends), OutOfMemory>
+    ensures first { IfOk result (λ both. AreEnds described.now 0 both.0) }
+    ensures second { IfOk result (λ both. AreEnds described.now 1 both.1) }
+{
+    let low = ends_of(alloc, described, 0)?;
+    Ok((low, ends_of(alloc, described, 1)?))
+}
+
+/// A service of the environment and the connections of a worker over a gate.
+pub fn service_of<G: ReplayGate>(alloc: Global, ends: Ends, gate: G) -> Service<G>
+    ensures { result ≡ record { connections = ends.connections.entries; env = ends.env; gate = gate } }
 {
     let mut service = Service::new(alloc, gate);
-    service.env = env;
-    service.connections = connections;
+    service.env = ends.env;
+    service.connections = ends.connections;
     service
 }

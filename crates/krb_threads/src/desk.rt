@@ -5,17 +5,15 @@ ghost use Rattle.krb_threads.specs.Answers.{AreAnswers};
 ghost use Rattle.krb_threads.specs.Described.{all_connections};
 ghost use Rattle.krb_threads.specs.Worked.{WorksThere};
 
-use crate::described::{Described, connections, copied_env, service_of};
+use crate::described::{Described, Ends, ends_of_both, service_of};
 use crate::part::Part;
 use crate::pause::Pause;
 use crate::paused_gate::PausedGate;
 use crate::workers::Answers;
-use krb_conf::Env;
 use krb_der::OutOfMemory;
-use krb_service::{Connection, Event, Reply, Service};
+use krb_service::{Event, Reply, Service};
 use krb_shared::{Desk, DeskGate};
 use std::alloc::Global;
-use std::collections::BTreeMap;
 
 /// Runs a part behind its pause, at a desk.
 fn run_gate<'a, P: Pause>(
@@ -37,14 +35,13 @@ fn run_gate<'a, P: Pause>(
 /// Runs one worker's events over its connections, at the desk.
 fn run_at<'a, P: Pause>(
     alloc: Global,
-    env: Env,
-    connections: BTreeMap<u32, Connection>,
+    ends: Ends,
     desk: &'a mut Desk,
     seat: u32,
     pause: &'a mut P,
     events: Vec<Event>,
 ) -> Result<Vec<Reply>, OutOfMemory>
-    ensures { IfOk result (λ replies. WorksThere desk.old 1 seat env connections.entries events.items replies.items desk.new) }
+    ensures { IfOk result (λ replies. WorksThere desk.old 1 seat ends.env ends.connections.entries events.items replies.items desk.new) }
 {
     let at_desk = DeskGate::new(desk, seat);
     let paused = PausedGate {
@@ -52,7 +49,7 @@ fn run_at<'a, P: Pause>(
         gate: at_desk,
     };
     let mut part = Part {
-        service: service_of(alloc, env, connections, paused),
+        service: service_of(alloc, ends, paused),
         events,
         replies: Vec::new(alloc),
     };
@@ -86,12 +83,9 @@ pub fn run_at_desk<P: Pause, Q: Pause>(
         AreAnswers described.now.skew described.now.env (all_connections described.now) low.items high.items answers.first.items answers.second.items answers.journal) }
 {
     let mut desk = Desk::new(alloc, described.skew)?;
-    let env = copied_env(alloc, described)?;
-    let own = connections(alloc, described, 0)?;
-    let first = run_at(alloc, env, own, &mut desk, 0, first, low)?;
-    let env = copied_env(alloc, described)?;
-    let own = connections(alloc, described, 1)?;
-    let second = run_at(alloc, env, own, &mut desk, 1, second, high)?;
+    let (low_ends, high_ends) = ends_of_both(alloc, described)?;
+    let first = run_at(alloc, low_ends, &mut desk, 0, first, low)?;
+    let second = run_at(alloc, high_ends, &mut desk, 1, second, high)?;
     Ok(Answers {
         first,
         second,

@@ -4,24 +4,21 @@ ghost use Rattle.std.specs.Prelude.{◌≡◌, [], IfOk, OnOk, IsSomeAnd, slice_
 ghost use Rattle.krb_threads.specs.Worked.{WorksAt};
 
 use crate::both::run_two;
-use crate::described::service_of;
+use crate::described::{Ends, service_of};
 use crate::part::Part;
 use crate::pause::Pause;
 use crate::paused_gate::PausedGate;
-use krb_conf::Env;
 use krb_der::OutOfMemory;
-use krb_service::{Connection, Event, Reply, Service, Stopped};
+use krb_service::{Event, Reply, Service, Stopped};
 use krb_shared::{Calls, Seat, SeatGate, SharedBook};
 use std::alloc::Global;
-use std::collections::BTreeMap;
 use std::sync::Wait;
 use std::thread::Threads;
 
 /// What one worker is to do, and what is left of it.
 #[derive(Drop)]
 pub struct Work {
-    pub env: Env,
-    pub connections: BTreeMap<u32, Connection>,
+    pub ends: Ends,
     pub events: Vec<Event>,
 }
 
@@ -81,8 +78,8 @@ pub fn run_seats<
     one: Work,
     two: Work,
 ) -> Result<(Done, Done), OutOfMemory>
-    ensures first { IfOk result (λ done. WorksAt low.old one.env one.connections.entries one.events.items done.0.replies.items low.new) }
-    ensures second { IfOk result (λ done. WorksAt high.old two.env two.connections.entries two.events.items done.1.replies.items high.new) }
+    ensures first { IfOk result (λ done. WorksAt low.old one.ends.env one.ends.connections.entries one.events.items done.0.replies.items low.new) }
+    ensures second { IfOk result (λ done. WorksAt high.old two.ends.env two.ends.connections.entries two.events.items done.1.replies.items high.new) }
     ensures first_events { IfOk result (λ done. done.0.events ≡ one.events) }
     ensures second_events { IfOk result (λ done. done.1.events ≡ two.events) }
 {
@@ -91,7 +88,7 @@ pub fn run_seats<
         gate: SeatGate::new(low_rt, low_book, low),
     };
     let mut one = Part {
-        service: service_of(alloc, one.env, one.connections, low_gate),
+        service: service_of(alloc, one.ends, low_gate),
         events: one.events,
         replies: Vec::new(alloc),
     };
@@ -100,7 +97,7 @@ pub fn run_seats<
         gate: SeatGate::new(high_rt, high_book, high),
     };
     let mut two = Part {
-        service: service_of(alloc, two.env, two.connections, high_gate),
+        service: service_of(alloc, two.ends, high_gate),
         events: two.events,
         replies: Vec::new(alloc),
     };

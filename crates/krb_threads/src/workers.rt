@@ -4,7 +4,7 @@ ghost use Rattle.std.specs.Prelude.{◌≡◌, IfOk};
 ghost use Rattle.krb_threads.specs.Answers.{AreAnswers};
 ghost use Rattle.krb_threads.specs.Described.{all_connections};
 
-use crate::described::{Described, connections, copied_env};
+use crate::described::{Described, ends_of_both};
 use crate::desk::run_at_desk;
 use crate::pause::Pause;
 use crate::seats::{Work, run_seats};
@@ -75,14 +75,13 @@ fn answers_as<L: Calls + Send + Sync, R: Threads + Wait + Sync, P: Pause + Send,
     let (book, all) = blank.open::<L>();
     let (shared, seats) = SharedBook::with_seats(alloc, book, all, skew, 2)?;
     let mut seats = seats.into_inner();
+    let (low_ends, high_ends) = ends_of_both(alloc, described)?;
     let one = Work {
-        env: copied_env(alloc, described)?,
-        connections: connections(alloc, described, 0)?,
+        ends: low_ends,
         events: low,
     };
     let two = Work {
-        env: copied_env(alloc, described)?,
-        connections: connections(alloc, described, 1)?,
+        ends: high_ends,
         events: high,
     };
     let (low_seat, high_seat) = seats.split_at_mut(1);

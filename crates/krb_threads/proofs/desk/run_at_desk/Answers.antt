@@ -6,4 +6,5 @@ pub returns : goal.returns
 returns g c =
     told-there c.args.described.now.skew c.args.described.now.env (all_connections c.args.described.now) c.args.low.items c.args.high.items c.in_ok-first.first.items c.in_ok-second.second.items
     c.in_ok-desk.desk c.run_at.new.desk c.run_at-2.new.desk c.into_journal.result c.in_ok-desk.ensures.skew c.in_ok-desk.ensures.journal
-    c.in_ok-env.env c.in_ok-env-2.env c.in_ok-env.ensures c.in_ok-env-2.ensures c.in_ok-own.own.entries c.in_ok-own-2.own.entries c.in_ok-own.ensures c.in_ok-own-2.ensures c.in_ok-first.ensures c.in_ok-second.ensures c.into_journal.ensures.journal c.into_journal.ensures.entries
+    c.in_ok-low_ends.low_ends.env c.in_ok-low_ends.high_ends.env c.in_ok-low_ends.ensures.first.env c.in_ok-low_ends.ensures.second.env
+    c.in_ok-low_ends.low_ends.connections.entries c.in_ok-low_ends.high_ends.connections.entries c.in_ok-low_ends.ensures.first.connections c.in_ok-low_ends.ensures.second.connections c.in_ok-first.ensures c.in_ok-second.ensures c.into_journal.ensures.journal c.into_journal.ensures.entries

@@ -1,5 +1,5 @@
-use Rattle.std.proofs.Common.{◌≡◌, ℕ, length, get_or, ap, sym, ◌∙◌, subst, arith, rules}
-use Rattle.std.proofs.lemmas.List.{places, get_or_default}
+use Rattle.std.proofs.Common.{◌≡◌, ℕ, get_or, ap, sym, ◌∙◌, subst, arith, rules}
+use Rattle.std.proofs.lemmas.List.{places}
 use Rattle.krb_shared.specs.Journal.{IsJournal}
 use Rattle.krb_shared.specs.Seats.{Seat, Agrees}
 use Rattle.krb_shared.proofs.SeatLemmas.{number_at}
@@ -8,16 +8,15 @@ use Rattle.krb_threads.proofs.workers.answers_as.Goals as goal
 
 pub returns-in-Ok : goal.returns-in-Ok
 returns-in-Ok g c =
-    let d = c.index-low_seat-0.result in
     let e = c.index-high_seat-0.result in
+    let high_ended : get_or c.new.result 1 e ≡ c.run_seats.new.high = search (rules, places) in
+    let d = c.index-low_seat-0.result in
     let seats = c.in_ok-shared.seats in
     let count = c.in_ok-shared.ensures.count in
     let low_is : get_or c.split_at_mut-low_seat.result.0.now 0 d ≡ get_or seats 0 d = search (rules, places) in
     let high_is : get_or c.split_at_mut-low_seat.result.1.now 0 e ≡ get_or seats 1 e = search (rules, places) in
     let low_ended : get_or c.new.result 0 d ≡ c.run_seats.new.low = search (rules, places) in
     let low_ended_too : get_or c.new.result 1 d ≡ c.run_seats.new.high = search (rules, places) in
-    let two : length c.new.result ≡ 2 = search (rules, places) in
-    let high_ended : get_or c.new.result 1 e ≡ c.run_seats.new.high = get_or_default c.new.result 1 e d (omega (arith, two)) ∙ low_ended_too in
     let journal = c.in-Ok.journal.entries in
     let low_agrees = subst (Agrees journal) low_ended (c.in-Ok.ensures.ok 0 d (search (rules, places))) in
     let high_agrees = subst (Agrees journal) high_ended (c.in-Ok.ensures.ok 1 e (search (rules, places))) in
@@ -29,6 +28,6 @@ returns-in-Ok g c =
       legal = subst (λ (n : ℕ). IsJournal n c.in-Ok.journal) (sym (c.requires.own_skew ∙ c.requires.skew)) c.in-Ok.ensures.journal;
       whole = told-whole journal c.new.result c.run_seats.new.low c.run_seats.new.high d (search (rules, places)) low_ended low_ended_too
           (c.in_ok-one.ensures.first.number ∙ low_at) (c.in_ok-one.ensures.second.number ∙ high_at) low_agrees high_agrees c.in-Ok.ensures.calls;
-      low_runs = told journal _ c.run_seats.new.low 0 _ _ _ _ low_new low_at _ c.in_ok-copied_env.ensures _ c.in_ok-connections.ensures c.in_ok-one.ensures.first low_agrees;
-      high_runs = told journal _ c.run_seats.new.high 1 _ _ _ _ high_new high_at _ c.in_ok-copied_env-2.ensures _ c.in_ok-connections-2.ensures c.in_ok-one.ensures.second high_agrees;
+      low_runs = told journal _ c.run_seats.new.low 0 _ _ _ _ low_new low_at _ c.in_ok-low_ends.ensures.first.env _ c.in_ok-low_ends.ensures.first.connections c.in_ok-one.ensures.first low_agrees;
+      high_runs = told journal _ c.run_seats.new.high 1 _ _ _ _ high_new high_at _ c.in_ok-low_ends.ensures.second.env _ c.in_ok-low_ends.ensures.second.connections c.in_ok-one.ensures.second high_agrees;
     }
