@@ -1,0 +1,2 @@
+pub mod PartLengths
+pub mod ApRepTokens

@@ -1,0 +1,3 @@
+pub mod Initiators
+pub mod ApReps
+pub mod Answered
