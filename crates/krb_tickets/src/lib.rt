@@ -1,0 +1,12 @@
+//! The tickets that a client gets from ticket-granting services, one behind the other (RFC 4120, section 3.3; RFC 6806,
+//! section 8).
+//!
+//! [`ask_tgs`] is the request to the KDC of a realm, [`follow`] that behind a referral. Each is one chain of ordered checks in
+//! `specs/TgsAsked`.
+#![tactic(auto)]
+
+mod tgs;
+mod wanted;
+
+pub use tgs::{ask_tgs, follow};
+pub use wanted::{Shown, Wanted};
