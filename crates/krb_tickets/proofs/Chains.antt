@@ -6,7 +6,6 @@ use Rattle.krb_exchange.specs.declared.kdc_rep.TgsRep.{TgsRep}
 use Rattle.sspi_core.specs.declared.cause.Cause.{Cause}
 use Rattle.sspi_core.specs.declared.protocol.NetworkProtocol.{NetworkProtocol}
 use Rattle.sspi_core.specs.Checks.{Gives, Goes, Then}
-use Rattle.sspi_core.proofs.Chain.{same_ok}
 use Rattle.sspi_generator.specs.declared.network.NetFault.{NetFault}
 use Rattle.sspi_core.specs.declared.identity.CredentialsBuffers.{CredentialsBuffers}
 use Rattle.krb_replies.specs.Keys.{HandsOnKey}
@@ -31,6 +30,9 @@ pub chain_goes_on : (credentials : CredentialsBuffers) (used : List ℕ) (as_rep
     → IsChain credentials used as_rep suite (replies ++ (reply ∷ [])) last
 chain_goes_on credentials used as_rep suite replies reply middle last chain opened =
     record { start = chain.start; begins = chain.begins; hands_on = one_more suite reply middle last opened chain.start replies chain.hands_on }
+
+same_ok : {A : Type 0} (x y : A) → ◌≡◌ {A = Result A Cause} (Ok x) (Ok y) → x ≡ y
+same_ok x y e = cc
 
 -- the key that was taken from a TGS-REP is the one that it hands on
 module _ (suite : CipherSuite) (key : List ℕ) (shown : Shown) where
