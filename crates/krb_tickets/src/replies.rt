@@ -7,22 +7,39 @@ ghost use Rattle.krb_tickets.specs.Taken.{TakesAsRep, TakesTgsRep};
 
 use crate::wanted::Shown;
 use krb_client::Asker;
-use krb_credentials::{granted_as_rep, granted_tgs_rep, reply_key};
+use krb_credentials::{ReplyKey, granted_as_rep, granted_tgs_rep, reply_key};
 use krb_crypto::CipherSuite;
 use krb_der::{Octets, Text};
-use krb_exchange::{AsRep, KdcRep, TgsRep};
+use krb_exchange::{AsRep, TgsRep};
 use krb_replies::session_key_in_tgs_rep;
 use sspi_core::{Cause, NetworkProtocol, Secret};
 use sspi_generator::NetFault;
 use std::alloc::Global;
 
-/// What is shown next.
-fn shown_by(suite: CipherSuite, key: Secret<Octets>, rep: KdcRep) -> Result<Shown, Cause>
-    requires { IsSendable rep }
-    ensures made { Answers (Gives (record { suite = suite; key = key; rep = rep })) result }
+/// What an AS-REP brought.
+fn shown_by_as(taken: ReplyKey, as_rep: AsRep) -> Result<Shown, Cause>
+    requires { IsSendable as_rep.0 }
+    ensures made { Answers (Gives (record { suite = taken.suite; key = taken.key; rep = as_rep.0 })) result }
     ensures sendable { IfOk result (λ shown. IsSendable shown.rep) }
 {
-    Ok(Shown { suite, key, rep })
+    Ok(Shown {
+        suite: taken.suite,
+        key: taken.key,
+        rep: as_rep.0,
+    })
+}
+
+/// What a TGS-REP brought.
+fn shown_by_tgs(suite: CipherSuite, key: Secret<Octets>, tgs_rep: TgsRep) -> Result<Shown, Cause>
+    requires { IsSendable tgs_rep.0 }
+    ensures made { Answers (Gives (record { suite = suite; key = key; rep = tgs_rep.0 })) result }
+    ensures sendable { IfOk result (λ shown. IsSendable shown.rep) }
+{
+    Ok(Shown {
+        suite,
+        key,
+        rep: tgs_rep.0,
+    })
 }
 
 /// What an AS-REP brings: its ticket, and the session key that is sealed in it under the key of the credentials.
@@ -41,8 +58,7 @@ pub fn take_as_rep(
 {
     let as_rep = granted_as_rep(alloc, protocol, reply)?;
     let taken = reply_key(alloc, asker, salt, &as_rep)?;
-    let AsRep(rep) = as_rep;
-    shown_by(taken.suite, taken.key, rep)
+    shown_by_as(taken, as_rep)
 }
 
 /// What a TGS-REP brings: its ticket, and the session key that is sealed in it under that of the ticket that was shown.
@@ -62,6 +78,5 @@ pub fn take_tgs_rep(
 {
     let tgs_rep = granted_tgs_rep(alloc, protocol, reply)?;
     let next = session_key_in_tgs_rep(alloc, suite, key.as_ref().as_slice(), &tgs_rep)?;
-    let TgsRep(rep) = tgs_rep;
-    shown_by(suite, next, rep)
+    shown_by_tgs(suite, next, tgs_rep)
 }
