@@ -23,8 +23,8 @@ module _ (wanted : Wanted) (shown : Shown) (realm : List ℕ) (tickets : Option 
       → suite ≡ shown.suite → confounder ≡ drawn_confounder draw → nonce ≡ drawn_nonce draw → text ≡ realm → target ≡ wanted.target
       → ticket ≡ shown.rep.ticket → authenticator ≡ tgs_authenticator wanted shown.rep draw
       → tgs_req suite shown.key confounder ticket authenticator
-          (tgs_body text (parts_of (target_parts target)).0 (parts_of (target_parts target)).1 tickets wanted.flags.0 draw.moment nonce)
-        ≡ tgs_req_for wanted shown realm tickets draw
+      (tgs_body text (parts_of (target_parts target)).0 (parts_of (target_parts target)).1 tickets wanted.flags.0 draw.moment nonce)
+      ≡ tgs_req_for wanted shown realm tickets draw
   unfolding tgs_req_for
   same suite confounder nonce text target ticket authenticator es ec en er et ek ea = rw (es, ec, en, er, et, ek, ea) refl
 
@@ -32,7 +32,7 @@ module _ (wanted : Wanted) (shown : Shown) (realm : List ℕ) (tickets : Option 
       → suite ≡ shown.suite → confounder ≡ drawn_confounder draw → nonce ≡ drawn_nonce draw → text ≡ realm → target ≡ wanted.target
       → ticket ≡ shown.rep.ticket → authenticator ≡ tgs_authenticator wanted shown.rep draw
       → IsTgsReq suite shown.key confounder ticket authenticator
-          (λ service host. tgs_body text service host tickets wanted.flags.0 draw.moment nonce) (target_parts target) made
+      (λ service host. tgs_body text service host tickets wanted.flags.0 draw.moment nonce) (target_parts target) made
       → made ≡ tgs_req_for wanted shown realm tickets draw
   is_tgs_req suite confounder nonce text target ticket authenticator made es ec en er et ek ea h =
       behind suite shown.key confounder ticket authenticator (λ service host. tgs_body text service host tickets wanted.flags.0 draw.moment nonce) (target_parts target) made h

@@ -52,7 +52,7 @@ wanted_body wanted realm tickets draw service host = tgs_body realm service host
 unfoldable pub tgs_req_for : Wanted → Shown → List ℕ → Option (List Ticket) → Draw → TgsReq
 tgs_req_for wanted shown realm tickets draw =
     tgs_req shown.suite shown.key (drawn_confounder draw) shown.rep.ticket (tgs_authenticator wanted shown.rep draw)
-      (wanted_body wanted realm tickets draw (parts_of (target_parts wanted.target)).0 (parts_of (target_parts wanted.target)).1)
+    (wanted_body wanted realm tickets draw (parts_of (target_parts wanted.target)).0 (parts_of (target_parts wanted.target)).1)
 
 -- the same, sent to a realm's KDC
 unfoldable pub tgs_request : Wanted → Shown → Option (List Ticket) → Draw → Kdc → NetworkRequest

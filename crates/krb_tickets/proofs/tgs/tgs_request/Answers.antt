@@ -11,4 +11,4 @@ pub returns : goal.returns
 unfolding tgs_request
 returns c =
     subst (λ (o : List ℕ). IfOk c.request_to.result (λ r. r ≡ request_to c.args.kdc.now o))
-      (c.in_ok-octets.ensures.is ∙ ap (λ (r : TgsReq). spelling tgs_req_layout r) c.in_ok-request.ensures.made) c.request_to.ensures
+    (c.in_ok-octets.ensures.is ∙ ap (λ (r : TgsReq). spelling tgs_req_layout r) c.in_ok-request.ensures.made) c.request_to.ensures
