@@ -1,0 +1,3 @@
+pub mod PartLengths
+pub mod ApRepTokens
+pub mod ShownLengths

@@ -1,0 +1,5 @@
+pub mod Initiators
+pub mod ApReps
+pub mod Answered
+pub mod Shown
+pub mod TgsSteps

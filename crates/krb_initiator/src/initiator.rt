@@ -1,0 +1,27 @@
+//! The context of an initiator.
+
+ghost use Rattle.std.specs.Prelude.{◌≡◌};
+ghost use Rattle.krb_initiator.specs.Initiators.{is_bare};
+
+use bitflags::Flags;
+use krb_context::EncryptionParams;
+use krb_der::Text;
+use sspi_core::ClientRequestFlags;
+
+/// An initiator's context, as an exchange begins with it, and what its caller asks for. A step never changes it.
+#[derive(Drop)]
+pub struct Initiator {
+    pub params: EncryptionParams,
+    /// The context's own number.
+    pub number: u32,
+    pub realm: Option<Text>,
+    pub user_to_user: bool,
+    pub flags: ClientRequestFlags,
+}
+
+/// Whether tokens are bare: DCE style.
+pub(crate) fn is_bare(flags: ClientRequestFlags) -> bool
+    ensures { result ≡ is_bare flags }
+{
+    flags.contains(ClientRequestFlags::USE_DCE_STYLE)
+}
