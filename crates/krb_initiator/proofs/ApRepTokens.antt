@@ -1,5 +1,5 @@
 -- An AP-REP in a token, and the key that it was opened under.
-use Rattle.std.proofs.Common.{◌≡◌, ℕ, false, List, [], ◌∷◌, length, Result, Ok, Err, subst}
+use Rattle.std.proofs.Common.{◌≡◌, ℕ, Bool, false, List, [], ◌∷◌, length, Result, Ok, Err, subst}
 use Rattle.std.specs.Prelude.{◌==◌}
 use Rattle.std.proofs.lemmas.Bool.{eqb-true}
 use Rattle.sspi_core.specs.declared.cause.Cause.{Cause}
@@ -16,7 +16,7 @@ use Rattle.krb_messages.proofs.FrameLemmas.{one_frame_lem}
 use Rattle.krb_context.proofs.ChainLemmas.{passed}
 use Rattle.krb_replies.specs.Unseals.{IsRead, Unseals, Opens}
 use Rattle.krb_replies.specs.Answered.{OpensApRep}
-use Rattle.krb_initiator.specs.Answered.{IsApRep}
+use Rattle.krb_initiator.specs.Answered.{IsApRep, ReadsApRep}
 
 -- a frame is of one message
 framed_found : (token oid octets : List ℕ) (answer : Result ApRep Cause) → IsFrame oid (2 ∷ 0 ∷ []) octets token → Finds Shape (IsRead ap_rep_layout octets) answer → Finds Shape (IsApRep false token) answer
@@ -36,3 +36,10 @@ opened_under suite key message part h =
 
 pub sized : (suite same : CipherSuite) (key : List ℕ) (message : ApRep) (part : EncApRepPart) → suite ≡ same → Answers (OpensApRep suite key message) (Ok part) → length key ≡ key_size same
 sized suite same key message part e h = subst (λ (s : CipherSuite). length key ≡ key_size s) e (opened_under suite key message part (h.so (λ z. absurd cc)))
+
+-- the same checks, under another name of what they are over
+pub read_as : (dce bare : Bool) (token : List ℕ) (message : ApRep) → dce ≡ bare → Answers (ReadsApRep dce token) (Ok message) → Answers (ReadsApRep bare token) (Ok message)
+read_as dce bare token message e h = subst (λ (b : Bool). Answers (ReadsApRep b token) (Ok message)) e h
+
+pub refused_as : (suite same : CipherSuite) (key : List ℕ) (message : ApRep) (cause : Cause) → suite ≡ same → Answers (OpensApRep suite key message) (Err cause) → Answers (OpensApRep same key message) (Err cause)
+refused_as suite same key message cause e h = subst (λ (s : CipherSuite). Answers (OpensApRep s key message) (Err cause)) e h

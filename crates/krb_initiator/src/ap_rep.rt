@@ -20,11 +20,7 @@ use sspi_core::{Cause, Error, Secret};
 use std::alloc::Global;
 
 /// What the AP-REP seals.
-fn ap_rep_part(
-    alloc: Global,
-    seq_number: Octets,
-    now: u64,
-) -> Result<EncApRepPart, OutOfMemory>
+fn ap_rep_part(alloc: Global, seq_number: Octets, now: u64) -> Result<EncApRepPart, OutOfMemory>
     requires { now ≤ MAX_MOMENT }
     ensures { IfOk result (λ part. part ≡ ap_rep_part seq_number now) }
 {
@@ -66,7 +62,14 @@ fn sealed_part(
     ensures short { IfOk result (λ made. length made.cipher ≤ 2 ^ 26) }
 {
     let plain = part.write(alloc)?;
-    sealed_under(alloc, suite, key, AP_REP_USAGE, confounder, plain.as_slice())
+    sealed_under(
+        alloc,
+        suite,
+        key,
+        AP_REP_USAGE,
+        confounder,
+        plain.as_slice(),
+    )
 }
 
 /// An AP-REP with this number and no subkey, sealed under a session key of the suite's length.
@@ -116,7 +119,5 @@ pub fn generate_ap_rep(
     if key.len() != suite.key_size() {
         return Err(Error::from(Cause::KeyLength));
     }
-    Ok(seal_ap_rep(
-        alloc, suite, key, seq_number, now, confounder,
-    )?)
+    Ok(seal_ap_rep(alloc, suite, key, seq_number, now, confounder)?)
 }

@@ -86,7 +86,14 @@ fn open_ap_rep(
     ensures { Answers (OpensApRep suite key.now message.now) result }
 {
     let text = message.enc_part.cipher.as_slice();
-    open(alloc, SESSION_KEY, suite, key.as_ref().as_slice(), AP_REP_USAGE, text)
+    open(
+        alloc,
+        SESSION_KEY,
+        suite,
+        key.as_ref().as_slice(),
+        AP_REP_USAGE,
+        text,
+    )
 }
 
 fn key_in(subkey: Option<EncryptionKey>) -> Result<Secret<Octets>, Cause>

@@ -217,7 +217,10 @@ fn check_realm(leg: &TgsLeg, realm: &Name) -> Result<(), Cause>
     ensures { Holds causes.SameRealm (not (is_same_realm leg.now.kdc.realm realm.now)) result }
 {
     let asked = leg.kdc.realm.as_slice();
-    hold(!asked.eq_ignore_ascii_case(realm.as_slice()), Cause::SameRealm)
+    hold(
+        !asked.eq_ignore_ascii_case(realm.as_slice()),
+        Cause::SameRealm,
+    )
 }
 
 fn turn_to(next: TgsAsked) -> Result<Turn<TgsLeg, InitDone>, Cause>
