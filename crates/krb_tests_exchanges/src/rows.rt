@@ -1,0 +1,40 @@
+//! Rows of hex.
+
+ghost use Rattle.std.specs.Prelude.{◌≡◌, ◌<◌, ◌+◌, length};
+
+use std::test::Fail;
+
+/// The octets of a row. They lie in place, so that a row owns nothing, and a zero octet lies behind them.
+#[derive(Clone, Copy)]
+pub struct Row {
+    octets: [u8; 1280],
+    length: usize,
+    ghost fits: { length < 1280 },
+}
+
+impl Row {
+    pub fn as_slice(&self) -> &[u8] {
+        &self.octets[..self.length]
+    }
+}
+
+/// The octets that the digits are.
+pub fn octets(digits: &str) -> Result<Row, Fail> {
+    let length = digits.len() / 2;
+    if length >= 1280 {
+        return Err(Fail::from("a row is too long"));
+    }
+    let mut octets = [0; 1280];
+    hex::decode_to_slice(digits, &mut octets[..length])?;
+    Ok(Row { octets, length })
+}
+
+/// Whether the octets, up to 64 of them, are those digits.
+pub fn is_hex(found: &[u8], digits: &str) -> bool {
+    let length = digits.len() / 2;
+    if length > 64 {
+        return false;
+    }
+    let mut octets = [0; 64];
+    hex::decode_to_slice(digits, &mut octets[..length]).is_ok() && found == &octets[..length]
+}
