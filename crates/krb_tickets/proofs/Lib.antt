@@ -1,0 +1,2 @@
+mod TgsRequests
+pub mod Chains

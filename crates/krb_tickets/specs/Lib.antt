@@ -1,0 +1,3 @@
+pub mod TgsAsked
+pub mod Taken
+pub mod Chain
