@@ -9,7 +9,7 @@ use Rattle.krb_replay.specs.declared.ask.Verdict.{Verdict}
 use Rattle.sspi_core.specs.declared.draw.Draw.{Draw}
 use Rattle.sspi_core.specs.declared.identity.CredentialsBuffers.{CredentialsBuffers}
 use Rattle.sspi_core.specs.declared.cause.Cause.{Cause}
-use Rattle.sspi_core.specs.declared.cause.Cause.TheVariants.{Credentials, NotBuilt, Shape}
+use Rattle.sspi_core.specs.declared.cause.Cause.TheVariants.{Credentials}
 use Rattle.sspi_core.specs.Checks.{Takes, ◌>>=◌}
 use Rattle.krb_server.specs.declared.admission.Accepted.{Accepted as Judged}
 use Rattle.krb_server.specs.declared.admission.Accepted.TheVariants.{Done as JudgedDone}
@@ -18,6 +18,7 @@ use Rattle.krb_user_to_user.specs.declared.request.Beginning.{Beginning}
 use Rattle.krb_user_to_user.specs.declared.accept_run.AcceptRun.{AcceptRun}
 use Rattle.krb_user_to_user.specs.declared.steps.AcceptPhase.TheVariants.{New}
 use Rattle.krb_user_to_user.specs.TgtRequests.{RequestsTgt}
+use Rattle.krb_user_to_user.specs.AcceptRuns.{IsNew}
 use Rattle.krb_acceptor.specs.declared.accept.Accepted.{Accepted}
 use Rattle.krb_acceptor.specs.declared.accept.Accepted.TheVariants.{Done, Run}
 use Rattle.krb_acceptor.specs.TgtReqs.{Found, Begins}
@@ -50,13 +51,11 @@ abbrev pub answered_as : Result Judged Cause → Result Accepted Cause
 answered_as (Ok judged) = Ok (accepted_as judged)
 answered_as (Err cause) = Err cause
 
--- a token that is no TGT-REQ, judged by the checks of an AP-REQ and of the last word; a frame of a TGT-REQ that has none in it is NotBuilt
--- there, and like every token that is nothing out of the grammar
+-- a token that is no TGT-REQ, judged by the checks of an AP-REQ and of the last word
 pub record JudgesOther {G : Type 0} (admits : G → Ask → Verdict → G → Type 0) (server : Kerberos) (dce : Bool) (token : List ℕ) (draw : Draw) (old : G) (answer : Result Accepted Cause) (server' : Kerberos) (new : G) : Type 0 where
   pub judged : Result Judged Cause
   pub accepts : Accepts admits server dce token draw old judged server' new
-  pub nothing : judged ≡ Err NotBuilt → answer ≡ Err Shape
-  pub same : (judged ≡ Err NotBuilt → ⊥) → answer ≡ answered_as judged
+  pub answer_is : answer ≡ answered_as judged
 
 -- which of the two a token is decides
 abbrev pub Makes : {G : Type 0} → (G → Ask → Verdict → G → Type 0) → Kerberos → Bool → List ℕ → Env → Draw → G → Option TgtReq → Result Accepted Cause → Kerberos → G → Type 0
@@ -68,3 +67,8 @@ pub record AcceptsWhole {G : Type 0} (admits : G → Ask → Verdict → G → T
   pub tgt_req : Option TgtReq
   pub found : Found (Begins dce server.state token) tgt_req
   pub made : Makes admits server dce token env draw old tgt_req answer server' new
+
+-- an exchange that begins is not started yet, and what it is to send can be sent
+abbrev pub CanStart : Accepted → Type 0
+CanStart (Done status token admits) = Unit {0}
+CanStart (Run run) = IsNew run

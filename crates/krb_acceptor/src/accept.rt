@@ -10,7 +10,7 @@ ghost use Rattle.sspi_core.specs.Checks.{Answers, Takes, told};
 ghost use Rattle.krb_server.specs.Accepts.{asks_dce_style};
 ghost use Rattle.krb_user_to_user.specs.TgtRequests.{CanBegin};
 ghost use Rattle.krb_acceptor.specs.declared.accept.Accepted.{Accepted};
-ghost use Rattle.krb_acceptor.specs.Whole.{user_of, Checks, TakesTgtReq, accepted_as, JudgesOther, AcceptsWhole};
+ghost use Rattle.krb_acceptor.specs.Whole.{user_of, Checks, TakesTgtReq, accepted_as, JudgesOther, AcceptsWhole, CanStart};
 
 use crate::tgt_req::tgt_req_in;
 use bitflags::Flags;
@@ -75,7 +75,8 @@ fn take_tgt_req(
     dce: bool,
     env: &Env,
 ) -> Result<Accepted, Cause>
-    ensures { Answers (TakesTgtReq server.now tgt_req.now dce env.now) result }
+    ensures step { Answers (TakesTgtReq server.now tgt_req.now dce env.now) result }
+    ensures ready { IfOk result CanStart }
 {
     match check_tgt_req(alloc, server, tgt_req, dce, env) {
         Ok(beginning) => Ok(Accepted::Run(AcceptRun::new(alloc, beginning))),
@@ -84,7 +85,8 @@ fn take_tgt_req(
 }
 
 fn accepted_as(accepted: krb_server::Accepted) -> Accepted
-    ensures { result ≡ accepted_as accepted }
+    ensures same { result ≡ accepted_as accepted }
+    ensures ready { CanStart result }
 {
     let krb_server::Accepted::Done {
         status,
@@ -96,13 +98,6 @@ fn accepted_as(accepted: krb_server::Accepted) -> Accepted
         token,
         admits,
     }
-}
-
-fn is_not_built(cause: Cause) -> bool
-    ensures yes { result ≡ true → cause ≡ causes.NotBuilt }
-    ensures no { result ≡ false → cause ≡ causes.NotBuilt → ⊥ }
-{
-    matches!(cause, Cause::NotBuilt)
 }
 
 /// What a token that is no TGT-REQ is answered.
@@ -118,17 +113,12 @@ fn judge_other<G: ReplayGate>(
     ensures step { (result ≡ Err (error_of causes.Memory) → ⊥)
         → (answer : Result Accepted Cause) × (result ≡ told places.Elsewhere answer)
         × JudgesOther G.admits server.old (asks_dce_style flags) token.now draw.now gate.old answer server.new gate.new }
+    ensures ready { IfOk result CanStart }
     ensures memory { result ≡ Err (error_of causes.Memory) → (server.new ≡ server.old) × G.is_same gate.old gate.new }
 {
     match krb_server::accept_security_context(alloc, server, gate, token, flags, env, draw) {
         Ok(accepted) => Ok(accepted_as(accepted)),
-        Err(error) => {
-            if is_not_built(error.cause) {
-                Err(Error::from(Cause::Shape))
-            } else {
-                Err(error)
-            }
-        }
+        Err(error) => Err(error),
     }
 }
 
@@ -153,6 +143,8 @@ pub fn accept_security_context<G: ReplayGate>(
     ensures step { (result ≡ Err (error_of causes.Memory) → ⊥)
         → (answer : Result Accepted Cause) × (result ≡ told places.Elsewhere answer)
         × AcceptsWhole G.admits server.old (asks_dce_style flags) token.now env.now draw.now gate.old answer server.new gate.new }
+    // An exchange that begins can be started.
+    ensures ready { IfOk result CanStart }
     // Where memory runs out, context and gate are as before.
     ensures memory { result ≡ Err (error_of causes.Memory) → (server.new ≡ server.old) × G.is_same gate.old gate.new }
 {

@@ -2,4 +2,4 @@ mod Chains
 mod Sending
 mod Quiet
 mod Replying
-mod Carrying
+pub mod Carrying

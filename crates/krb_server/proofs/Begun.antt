@@ -16,16 +16,13 @@ use Rattle.krb_crypto.specs.Sealed.{IsSealed}
 use Rattle.krb_crypto.specs.declared.suite.CipherSuite.{CipherSuite}
 use Rattle.krb_crypto.proofs.SealedLemmas.{plain_shorter}
 use Rattle.krb_context.specs.declared.context.Kerberos.{Kerberos}
-use Rattle.krb_context.specs.declared.state.KerberosState.{KerberosState}
 use Rattle.sspi_core.specs.declared.cause.Cause.{Cause}
-use Rattle.sspi_core.specs.Checks.{Takes, Goes, Then}
+use Rattle.sspi_core.specs.Checks.{Goes, Then}
 use Rattle.sspi_core.proofs.Chain.{held}
 use Rattle.krb_server.specs.declared.request.Request.{Request}
-use Rattle.krb_server.specs.declared.token.Incoming.{Incoming}
-use Rattle.krb_server.specs.declared.token.Incoming.TheVariants.{ApReq as ApReqToken, TgtReq}
 use Rattle.krb_replies.specs.Unseals.{IsRead, Unseals, Opens}
 use Rattle.krb_server.specs.Opens.{OpensData}
-use Rattle.krb_server.specs.Tokens.{ap_req_id, IsApReq, IsIncoming, ap_req_of, Receives}
+use Rattle.krb_server.specs.Tokens.{ap_req_id, IsApReq, Receives}
 use Rattle.krb_server.specs.Requests.{OpensAuthenticator, Requests}
 use Rattle.krb_server.specs.Admission.{IsAnswerable}
 use Rattle.krb_server.specs.Accepts.{Begins}
@@ -90,17 +87,11 @@ received_in : (dce : Bool) (token : List ℕ) (message : ApReq) → length token
 received_in true token message short is = record { octets = token; read = is; short = short }
 received_in false token message short is = record { octets = is.octets; read = is.read; short = omega (arith, short, message_within is.oid ap_req_id is.octets token is.frame) }
 
-received_as : (dce : Bool) (state : KerberosState) (token : List ℕ) (incoming : Incoming) (cause : Cause) (message : ApReq) → IsIncoming dce state token incoming → Takes cause (ap_req_of incoming) (Ok message)
-    → IsApReq dce token message
-received_as dce state token (ApReqToken came) cause message is takes = subst (λ (m : ApReq). IsApReq dce token m) (same_ok came message (sym takes.is)) is
-received_as dce state token TgtReq cause message is takes = let e = takes.is in absurd cc
-
-pub received : (dce : Bool) (state : KerberosState) (token : List ℕ) (message : ApReq) → Receives dce state token (Ok message) → Received message
+pub received : (dce : Bool) (token : List ℕ) (message : ApReq) → Receives dce token (Ok message) → Received message
 unfolding Receives
-received dce state token message h =
+received dce token message h =
     let a = passed _ _ _ h in
-    let b = passed _ _ _ a.rest in
-    received_in dce token message (is_short token (held _ _ _ a.held)) (received_as dce state token b.found _ message b.held.is b.rest)
+    received_in dce token message (is_short token (held _ _ _ a.held)) a.rest.is
 
 -- a request that came to the gate
 pub record Begun (request : Request) : Type 0 where
@@ -120,7 +111,7 @@ begun server dce token request h =
     let e = same_ok _ _ s.rest.is in
     let same = same_ok _ _ v.rest.is in
     subst (λ (q : Request). Begun q) (sym e) (record {
-      received = received dce server.state token m.found m.held;
+      received = received dce token m.found m.held;
       opened = subst (λ (x : CipherSuite × Authenticator). Opened authenticator_layout t.found.key.key_value 11 m.found.authenticator x.0 x.1) (sym same) (opened _ _ _ _ _ u.held);
     })
 

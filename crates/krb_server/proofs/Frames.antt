@@ -1,4 +1,4 @@
--- A token is a frame of one message, with one token id; and a bare token is of one kind.
+-- A token is a frame of one message, with one token id.
 use Rattle.std.proofs.Common.{◌≡◌, ℕ, false, List, [], ◌++◌, refl, sym, subst, ap, ◌∙◌, Result, Err}
 use Rattle.std.specs.Result.{IsErrAnd}
 use Rattle.sspi_core.specs.declared.cause.Cause.{Cause}
@@ -10,15 +10,8 @@ use Rattle.krb_der.specs.Der.{tlv, StandsNext}
 use Rattle.krb_messages.specs.Frame.{IsFrame}
 use Rattle.krb_messages.specs.declared.ap_req.ApReq.{ApReq}
 use Rattle.krb_messages.specs.Layouts.{ap_req_layout}
-use Rattle.krb_messages.specs.Table.{ap_req}
-use Rattle.krb_exchange.specs.Layouts.{tgt_req_layout}
-use Rattle.krb_exchange.specs.Table.{tgt_req}
-use Rattle.krb_exchange.specs.declared.user_to_user.TgtReq.{TgtReq}
-use Rattle.krb_context.specs.declared.state.KerberosState.{KerberosState}
-use Rattle.krb_server.specs.declared.token.Incoming.{Incoming}
-use Rattle.krb_server.specs.declared.token.Incoming.TheVariants.{ApReq as ApReqToken, TgtReq as TgtReqToken}
 use Rattle.krb_replies.specs.Unseals.{IsRead}
-use Rattle.krb_server.specs.Tokens.{ap_req_id, tgt_req_id, IsIncoming}
+use Rattle.krb_server.specs.Tokens.{ap_req_id, IsApReq}
 use Rattle.krb_messages.proofs.FrameLemmas.{oid_opens, oid_is_shorter}
 
 stands : (oid token_id message octets : List ℕ) → IsFrame oid token_id message octets → StandsNext 0x60 (tlv 0x06 oid ++ (token_id ++ message)) octets []
@@ -29,7 +22,7 @@ stands_inside oid token_id message octets frame =
     record { value = tlv 0x06 oid; is_value = record { short = oid_is_shorter oid (token_id ++ message) frame.is.short; is = refl }; parts = refl }
 
 -- behind the mechanism's name stand the same octets, however a token is taken for a frame
-same_behind : (o p i j m n octets : List ℕ) → IsFrame o i m octets → IsFrame p j n octets → i ++ m ≡ j ++ n
+pub same_behind : (o p i j m n octets : List ℕ) → IsFrame o i m octets → IsFrame p j n octets → i ++ m ≡ j ++ n
 same_behind o p i j m n octets first second =
     (oid_opens p j n octets second _ [] o (i ++ m) (stands o i m octets first) (stands_inside o i m octets first)).1
 
@@ -37,24 +30,14 @@ same_behind o p i j m n octets first second =
 pub same_message : (o p i m n octets : List ℕ) → IsFrame o i m octets → IsFrame p i n octets → m ≡ n
 same_message o p i m n octets first second = append_cancel_left i m n (same_behind o p i i m n octets first second)
 
--- an AP-REQ is no TGT-REQ
-pub other_token_id : (o p m n octets : List ℕ) → IsFrame o ap_req_id m octets → IsFrame p tgt_req_id n octets → ⊥
-other_token_id o p m n octets first second = let e = same_behind o p ap_req_id tgt_req_id m n octets first second in absurd cc
-
--- neither is a bare one
-pub other_tag : (token : List ℕ) (m : ApReq) (t : TgtReq) → IsRead ap_req_layout token m → IsRead tgt_req_layout token t → ⊥
-unfolding ap_req tgt_req tlv
-other_tag token m t h k = let e = sym h.is ∙ k.is in absurd cc
-
--- a token that frames what is no AP-REQ is nothing to an acceptor
-pub nothing_comes : (state : KerberosState) (token oid octets : List ℕ) → IsFrame oid ap_req_id octets token → ((message : ApReq) → IsRead ap_req_layout octets message → ⊥) → (x : Incoming) → IsIncoming false state token x → ⊥
-nothing_comes state token oid octets frame none (ApReqToken message) h =
+-- a token that frames what is no AP-REQ has none
+nothing_comes : (token oid octets : List ℕ) → IsFrame oid ap_req_id octets token → ((message : ApReq) → IsRead ap_req_layout octets message → ⊥) → (message : ApReq) → IsApReq false token message → ⊥
+nothing_comes token oid octets frame none message h =
     none message (subst (λ (o : List ℕ). IsRead ap_req_layout o message) (same_message _ _ _ _ _ token h.frame frame) h.read)
-nothing_comes state token oid octets frame none TgtReqToken h = other_token_id oid _ octets _ token frame h.1.frame
 
-pub refuses_incoming : (state : KerberosState) (token oid octets : List ℕ) (e : Cause) (answer : Result Incoming Cause) → IsFrame oid ap_req_id octets token → Answers (Finds Shape (IsRead ap_req_layout octets)) (Err e) → IsErrAnd answer (λ d. d ≡ e) → Answers (Finds Shape (IsIncoming false state token)) answer
-refuses_incoming state token oid octets e answer frame h is = record {
+pub refuses_framed : (token oid octets : List ℕ) (e : Cause) (answer : Result ApReq Cause) → IsFrame oid ap_req_id octets token → Answers (Finds Shape (IsRead ap_req_layout octets)) (Err e) → IsErrAnd answer (λ d. d ≡ e) → Answers (Finds Shape (IsApReq false token)) answer
+refuses_framed token oid octets e answer frame h is = record {
   so = λ ne.
       let f = h.so (λ z. ne (is_err answer e is ∙ ap Err (same_err {A = ApReq} e Memory z))) in
-      subst (λ (a : Result Incoming Cause). Finds Shape (IsIncoming false state token) a) (sym (is_err answer e is)) (record { is = (f.is.0, nothing_comes state token oid octets frame f.is.1) });
+      subst (λ (a : Result ApReq Cause). Finds Shape (IsApReq false token) a) (sym (is_err answer e is)) (record { is = (f.is.0, nothing_comes token oid octets frame f.is.1) });
 }

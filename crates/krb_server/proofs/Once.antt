@@ -13,25 +13,22 @@ use Rattle.krb_crypto.specs.declared.suite.CipherSuite.{CipherSuite}
 use Rattle.krb_crypto.proofs.SealedLemmas.{sealed_once}
 use Rattle.krb_context.specs.declared.context.Kerberos.{Kerberos}
 use Rattle.krb_context.specs.declared.server.ServerProperties.{ServerProperties}
-use Rattle.krb_context.specs.declared.state.KerberosState.{KerberosState}
 use Rattle.krb_replay.specs.declared.ask.Verdict.{Verdict}
 use Rattle.sspi_core.specs.declared.cause.Cause.{Cause}
 use Rattle.sspi_core.specs.declared.draw.Draw.{Draw}
 use Rattle.sspi_core.proofs.Once.{Once, then_once, finds_once, takes_once, holds_once, passes_once, gives_once}
 use Rattle.krb_server.specs.declared.request.Request.{Request}
 use Rattle.krb_server.specs.declared.admission.Admission.{Admission}
-use Rattle.krb_server.specs.declared.token.Incoming.{Incoming}
-use Rattle.krb_server.specs.declared.token.Incoming.TheVariants.{ApReq as ApReqToken, TgtReq}
 use Rattle.krb_replies.specs.declared.unseal.Refusals.{Refusals}
 use Rattle.krb_replies.specs.Unseals.{IsRead, own_key, session_key, Unseals, Opens}
 use Rattle.krb_replies.specs.Answered.{OpensApRep, TellsNumber}
 use Rattle.krb_server.specs.Opens.{OpensData}
-use Rattle.krb_server.specs.Tokens.{IsApReq, IsTgtReq, IsIncoming, Receives}
+use Rattle.krb_server.specs.Tokens.{IsApReq, Receives}
 use Rattle.krb_server.specs.Requests.{OpensTicket, OpensAuthenticator, Requests}
 use Rattle.krb_server.specs.Complete.{Completes}
 use Rattle.krb_server.specs.ThirdLeg.{ReadsApRep, TellsLast, IsLastWord, Closes, Concludes}
 use Rattle.krb_server.specs.Accepts.{Begins, Finishes, Judged}
-use Rattle.krb_server.proofs.Frames.{same_message, other_token_id, other_tag}
+use Rattle.krb_server.proofs.Frames.{same_message}
 
 -- octets spell one record
 read_once : {A : Type 0} (layout : Layout A) (octets : List ℕ) (x y : A) → IsRead layout octets x → IsRead layout octets y → x ≡ y
@@ -57,20 +54,9 @@ same_ap_req true token m n h k = read_once ap_req_layout token m n h k
 same_ap_req false token m n h k =
     read_once ap_req_layout k.octets m n (subst (λ (octets : List ℕ). IsRead ap_req_layout octets m) (same_message _ _ _ _ _ token h.frame k.frame) h.read) k.read
 
--- an AP-REQ is no TGT-REQ
-no_tgt_req : (dce : Bool) (token : List ℕ) (m : ApReq) → IsApReq dce token m → IsTgtReq dce token → ⊥
-no_tgt_req true token m h k = other_tag token m k.message h k.read
-no_tgt_req false token m h k = other_token_id _ _ _ _ token h.frame k.frame
-
-incoming_once : (dce : Bool) (state : KerberosState) (token : List ℕ) (x y : Incoming) → IsIncoming dce state token x → IsIncoming dce state token y → x ≡ y
-incoming_once dce state token (ApReqToken m) (ApReqToken n) h k = ap ApReqToken (same_ap_req dce token m n h k)
-incoming_once dce state token (ApReqToken m) TgtReq h k = absurd (no_tgt_req dce token m h k.1)
-incoming_once dce state token TgtReq (ApReqToken n) h k = absurd (no_tgt_req dce token n k h.1)
-incoming_once dce state token TgtReq TgtReq h k = refl
-
-receives_once : (dce : Bool) (state : KerberosState) (token : List ℕ) → Once (Receives dce state token)
+receives_once : (dce : Bool) (token : List ℕ) → Once (Receives dce token)
 unfolding Receives
-receives_once dce state token = then_once _ _ (holds_once _ _) (λ _. then_once _ _ (finds_once _ _ (incoming_once dce state token)) (λ _. takes_once _ _))
+receives_once dce token = then_once _ _ (holds_once _ _) (λ _. finds_once _ _ (same_ap_req dce token))
 
 opens_ticket_once : (server : ServerProperties) (message : ApReq) → Once (OpensTicket server message)
 unfolding OpensTicket
@@ -82,16 +68,16 @@ unfolding OpensAuthenticator
 opens_authenticator_once message part =
     then_once _ _ (opens_data_once authenticator_layout part.key.key_value 11 message.authenticator) (λ _. then_once _ _ (holds_once _ _) (λ _. gives_once _))
 
-requests_once : (server : ServerProperties) (dce : Bool) (state : KerberosState) (token : List ℕ) → Once (Requests server dce state token)
+requests_once : (server : ServerProperties) (dce : Bool) (token : List ℕ) → Once (Requests server dce token)
 unfolding Requests
-requests_once server dce state token =
-    then_once _ _ (receives_once dce state token) (λ message. then_once _ _ (opens_ticket_once server message) (λ part.
+requests_once server dce token =
+    then_once _ _ (receives_once dce token) (λ message. then_once _ _ (opens_ticket_once server message) (λ part.
     then_once _ _ (opens_authenticator_once message part) (λ _. gives_once _)))
 
 pub begins_once : (server : Kerberos) (dce : Bool) (token : List ℕ) → Once (Begins server dce token)
 unfolding Begins
 begins_once server dce token =
-    then_once _ _ (holds_once _ _) (λ _. then_once _ _ (takes_once _ _) (λ p. requests_once p dce server.state token))
+    then_once _ _ (holds_once _ _) (λ _. then_once _ _ (takes_once _ _) (λ p. requests_once p dce token))
 
 completes_once : (request : Request) → Once (Completes request)
 unfolding Completes

@@ -44,7 +44,7 @@ unfoldable pub Begins : Kerberos → Bool → List ℕ → Result Request Cause 
 Begins server dce token = do
   Holds Sequence (is_waiting server.state)
   properties ← Takes Sequence server.server
-  Requests properties dce server.state token
+  Requests properties dce token
 
 -- the checks behind the gate, and what admission makes
 unfoldable pub Finishes : Kerberos → Bool → Draw → Request → Result Admission Cause → Type 0

@@ -8,7 +8,6 @@ use Rattle.krb_messages.specs.Layouts.{enc_ticket_part_layout, authenticator_lay
 use Rattle.krb_crypto.specs.declared.suite.CipherSuite.{CipherSuite}
 use Rattle.krb_replay.specs.declared.ask.Ask.{Ask}
 use Rattle.krb_context.specs.declared.server.ServerProperties.{ServerProperties}
-use Rattle.krb_context.specs.declared.state.KerberosState.{KerberosState}
 use Rattle.krb_context.specs.ServiceKeys.{service_key}
 use Rattle.krb_server.specs.declared.request.Request.{Request}
 use Rattle.krb_server.specs.Opens.{OpensData}
@@ -40,9 +39,9 @@ OpensAuthenticator message part = do
   Gives sealed
 
 -- the AP-REQ in a token, with what is sealed in it
-unfoldable pub Requests : ServerProperties → Bool → KerberosState → List ℕ → Result Request Cause → Type 0
-Requests server dce state token = do
-  message ← Receives dce state token
+unfoldable pub Requests : ServerProperties → Bool → List ℕ → Result Request Cause → Type 0
+Requests server dce token = do
+  message ← Receives dce token
   part ← OpensTicket server message
   sealed ← OpensAuthenticator message part
   Gives (record { message = message; part = part; suite = sealed.0; authenticator = sealed.1 })

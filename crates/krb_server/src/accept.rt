@@ -46,7 +46,7 @@ fn begin(alloc: Global, server: &Kerberos, dce: bool, token: &[u8]) -> Result<Re
 {
     check_state(server)?;
     let properties = properties(server)?;
-    read_request(alloc, properties, dce, server.state, token)
+    read_request(alloc, properties, dce, token)
 }
 
 /// What the gate's verdict refuses.
@@ -137,9 +137,9 @@ fn accept<G: ReplayGate>(
 /// them the AP-REP's confounder.
 ///
 /// The refusals of an AP-REQ, in their order: OutOfSequence Sequence where the context waits for no token; those of the checks
-/// of RFC 4120, section 3.2.3, as `specs/Requests` has them, the gate's, and those of `specs/Complete`. A TGT-REQ is refused as
-/// UnsupportedFunction NotBuilt, and the environment is not read yet: it is for user-to-user. The refusals of the last word are
-/// those of `specs/ThirdLeg`: InvalidToken Shape, DecryptFailure Reply, InvalidToken Inner, NoNumber, Number.
+/// of RFC 4120, section 3.2.3, as `specs/Requests` has them, the gate's, and those of `specs/Complete`. A TGT-REQ is no AP-REQ:
+/// InvalidToken Shape; `krb_acceptor` takes it, and reads the environment for it. The refusals of the last word are those of
+/// `specs/ThirdLeg`: InvalidToken Shape, DecryptFailure Reply, InvalidToken Inner, NoNumber, Number.
 pub fn accept_security_context<G: ReplayGate>(
     alloc: Global,
     server: &mut Kerberos,

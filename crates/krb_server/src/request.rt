@@ -9,7 +9,7 @@ ghost use Rattle.krb_server.specs.Requests.{is_same_client, OpensTicket, OpensAu
 
 use crate::open::open_data;
 use crate::token::receive;
-use krb_context::{KerberosState, ServerProperties};
+use krb_context::ServerProperties;
 use krb_crypto::CipherSuite;
 use krb_der::Octets;
 use krb_messages::constants::{AP_REQ_AUTHENTICATOR_USAGE, TICKET_USAGE};
@@ -87,12 +87,11 @@ pub(crate) fn read_request(
     alloc: Global,
     server: &ServerProperties,
     dce: bool,
-    state: KerberosState,
     token: &[u8],
 ) -> Result<Request, Cause>
-    ensures { Answers (Requests server.now dce state token.now) result }
+    ensures { Answers (Requests server.now dce token.now) result }
 {
-    let message = receive(alloc, dce, state, token)?;
+    let message = receive(alloc, dce, token)?;
     let part = open_ticket(alloc, server, &message)?;
     let (suite, authenticator) = open_authenticator(alloc, &message, &part)?;
     Ok(Request {

@@ -10,6 +10,6 @@ returns-in-Ok-Some-clause-step g c =
       record {
         tgt_req = Some c.in-Ok-Some.tgt_req;
         found = found_one _ _ _ c.in-Ok-Some.field-0-is (rw c.contains-dce.ensures at c.in-Ok-Some.ensures);
-        made = (taken _ _ _ _ _ _ (rw c.contains-dce.ensures at c.take_tgt_req.ensures) c.tell.ensures ne, refl, refl);
+        made = (taken _ _ _ _ _ _ (rw c.contains-dce.ensures at c.take_tgt_req.ensures.step) c.tell.ensures ne, refl, refl);
       },
     )

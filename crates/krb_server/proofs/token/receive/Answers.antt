@@ -7,10 +7,6 @@ pub returns-in_err-check_token_length : goal.returns-in_err-check_token_length
 unfolding Receives
 returns-in_err-check_token_length c = search (rules, chain)
 
-pub returns-in_err-incoming : goal.returns-in_err-incoming
-unfolding Receives
-returns-in_err-incoming c = search (rules, chain)
-
 pub returns : goal.returns
 unfolding Receives
 returns c = search (rules, chain)
