@@ -1,0 +1,18 @@
+//! The tests of user-to-user at the acceptor, and of the acceptor whole, a file for each crate that they try, over public items.
+//! Nothing stands on them.
+//!
+//! The octets of requests, replies and tokens are those of a second implementation.
+#![tactic(auto)]
+
+#[cfg(test)]
+mod kdc;
+#[cfg(test)]
+mod krb_acceptor_tests;
+#[cfg(test)]
+mod krb_credentials_tests;
+#[cfg(test)]
+mod krb_user_to_user_tests;
+#[cfg(test)]
+mod rows;
+#[cfg(test)]
+mod services;
