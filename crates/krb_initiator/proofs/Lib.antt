@@ -1,2 +1,4 @@
 pub mod PartLengths
 pub mod ApRepTokens
+pub mod Numbers
+pub mod ShownLengths

@@ -1,5 +1,5 @@
 -- How long the client's AP-REP can be, and the key that it is sealed under.
-use Rattle.std.proofs.Common.{◌≡◌, ℕ, ◌+◌, ◌<◌, ◌≤◌, ◌^◌, List, [], ◌∷◌, length, arith, lit≤, lit<, sym, subst}
+use Rattle.std.proofs.Common.{◌≡◌, ℕ, ◌<◌, ◌≤◌, ◌^◌, List, [], ◌∷◌, length, lit≤, lit<, sym, subst}
 use Rattle.krb_der.specs.Moment.{time_octets}
 use Rattle.krb_der.proofs.Lengths.{tlv_le, field_le, append_le}
 use Rattle.krb_messages.specs.Table.{enc_ap_rep_part, ap_rep as ap_rep_kind}

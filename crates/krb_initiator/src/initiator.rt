@@ -1,7 +1,7 @@
 //! The context of an initiator.
 
 ghost use Rattle.std.specs.Prelude.{◌≡◌};
-ghost use Rattle.krb_initiator.specs.Initiators.{is_bare};
+ghost use Rattle.krb_initiator.specs.Initiators.{is_bare, exchange_flags};
 
 use bitflags::Flags;
 use krb_context::EncryptionParams;
@@ -24,4 +24,15 @@ pub(crate) fn is_bare(flags: ClientRequestFlags) -> bool
     ensures { result ≡ is_bare flags }
 {
     flags.contains(ClientRequestFlags::USE_DCE_STYLE)
+}
+
+/// The flags that the exchange goes by: those of the caller, and in user-to-user a session key is used besides.
+pub fn exchange_flags(initiator: &Initiator) -> ClientRequestFlags
+    ensures { result.0 ≡ exchange_flags initiator.now }
+{
+    if initiator.user_to_user {
+        initiator.flags.union(ClientRequestFlags::USE_SESSION_KEY)
+    } else {
+        initiator.flags
+    }
 }

@@ -1,6 +1,6 @@
 //! The answer of the service: an AP-REP (RFC 4120, section 3.2.5), which DCE style answers in turn (MS-KILE, section 3.4.5.1).
 
-ghost use Rattle.std.specs.Prelude.{◌≡◌, ◌<◌, ◌≤◌, ◌^◌, length, nat_le, take, true, false, [], option_map, IfOk, Result};
+ghost use Rattle.std.specs.Prelude.{◌≡◌, ◌≤◌, ◌^◌, length, nat_le, take, true, false, [], option_map, IfOk, IfSome, Result};
 ghost use Rattle.std.specs.Result.{result_map_both};
 ghost use Rattle.krb_crypto.specs.Suite.{key_size};
 ghost use Rattle.sspi_core.specs.declared.cause.Cause.TheVariants as causes;
@@ -10,6 +10,7 @@ ghost use Rattle.krb_messages.specs.declared.encryption.EncryptionKey.{Encryptio
 ghost use Rattle.krb_context.specs.Params.{suite_of};
 ghost use Rattle.krb_replies.specs.Answered.{OpensApRep};
 ghost use Rattle.krb_initiator.specs.Initiators.{is_bare};
+ghost use Rattle.krb_initiator.specs.ApReps.{IsSendableNumber};
 ghost use Rattle.krb_initiator.specs.Answered.{IsApRep, ReadsApRep, confirmed, replied, last_word, Confirms, Replies, Finishes, TakesApRep};
 
 use crate::ap_rep::seal_ap_rep;
@@ -57,10 +58,11 @@ fn ap_rep_in(alloc: Global, dce: bool, token: &[u8]) -> Result<ApRep, Cause>
     }
 }
 
-/// The AP-REP in a token.
+/// The AP-REP in a token, no part of which is longer than a token.
 #[tactic(auto, unfolding(crate::specs::Answered::ReadsApRep))]
 fn read_ap_rep(alloc: Global, dce: bool, token: &[u8]) -> Result<ApRep, Cause>
-    ensures { Answers (ReadsApRep dce token.now) result }
+    ensures step { Answers (ReadsApRep dce token.now) result }
+    ensures short { IfOk result (λ message. length message.enc_part.cipher ≤ 2 ^ 24) }
 {
     check_token_length(token)?;
     ap_rep_in(alloc, dce, token)
@@ -75,7 +77,7 @@ fn session_key(initiator: &Initiator) -> Result<&Secret<Octets>, Cause>
     }
 }
 
-/// What is sealed in the AP-REP.
+/// What is sealed in the AP-REP. A number that it has can be sent back.
 #[tactic(auto, unfolding(krb_replies::specs::Answered::OpensApRep))]
 fn open_ap_rep(
     alloc: Global,
@@ -83,7 +85,9 @@ fn open_ap_rep(
     key: &Secret<Octets>,
     message: &ApRep,
 ) -> Result<EncApRepPart, Cause>
-    ensures { Answers (OpensApRep suite key.now message.now) result }
+    requires { length message.now.enc_part.cipher ≤ 2 ^ 24 }
+    ensures step { Answers (OpensApRep suite key.now message.now) result }
+    ensures number { IfOk result (λ part. IfSome part.seq_number IsSendableNumber) }
 {
     let text = message.enc_part.cipher.as_slice();
     open(
@@ -106,7 +110,9 @@ fn key_in(subkey: Option<EncryptionKey>) -> Result<Secret<Octets>, Cause>
 }
 
 fn number_in(number: Option<IntegerAsn1>) -> Result<Octets, Cause>
-    ensures { Takes causes.NoNumber number result }
+    requires { IfSome number IsSendableNumber }
+    ensures step { Takes causes.NoNumber number result }
+    ensures sendable { IfOk result IsSendableNumber }
 {
     match number {
         Some(number) => Ok(Octets::new(number.into_inner())),
@@ -162,29 +168,13 @@ fn last_word(
 ) -> Result<Octets, OutOfMemory>
     requires key { length key.now ≡ key_size suite }
     requires moment { draw.now.moment ≤ MAX_MOMENT }
-    requires some { 0 < length number }
-    requires short { length number ≤ 2 ^ 24 }
+    requires number { IsSendableNumber number }
     ensures { IfOk result (λ token. token ≡ last_word suite key.now number draw.now) }
 {
     let confounder = drawn_confounder(draw);
     let key = key.as_ref().as_slice();
     let message = seal_ap_rep(alloc, suite, key, number, draw.moment, confounder)?;
     message.write(alloc)
-}
-
-/// A number that can be sent: one of the grammar has an octet, and is no longer than the token that brought it. Else there is not
-/// the memory for it.
-fn sendable_number(number: Option<IntegerAsn1>) -> Result<Octets, Cause>
-    ensures step { Answers (Takes causes.NoNumber number) result }
-    ensures some { IfOk result (λ octets. 0 < length octets) }
-    ensures short { IfOk result (λ octets. length octets ≤ 2 ^ 24) }
-{
-    let number = number_in(number)?;
-    let length = number.as_slice().len();
-    if length == 0 || length > MAX_TOKEN {
-        return Err(Cause::Memory);
-    }
-    Ok(number)
 }
 
 /// The end in DCE style.
@@ -198,8 +188,7 @@ fn replied(
 ) -> Result<InitDone, Cause>
     requires key { length key.now ≡ key_size (suite_of initiator.now.params) }
     requires moment { draw.now.moment ≤ MAX_MOMENT }
-    requires some { 0 < length number }
-    requires short { length number ≤ 2 ^ 24 }
+    requires number { IsSendableNumber number }
     ensures { Answers (Gives (replied initiator.now key.now subkey number draw.now)) result }
 {
     let token = last_word(alloc, initiator.params.suite(), key, number, draw)?;
@@ -220,11 +209,12 @@ fn reply(
     draw: &Draw,
 ) -> Result<InitDone, Cause>
     requires key { length key.now ≡ key_size (suite_of initiator.now.params) }
+    requires number { IfSome part.seq_number IsSendableNumber }
     requires moment { draw.now.moment ≤ MAX_MOMENT }
     ensures { Answers (Replies initiator.now key.now part.subkey part.seq_number draw.now) result }
 {
     let subkey = key_in(part.subkey)?;
-    let number = sendable_number(part.seq_number)?;
+    let number = number_in(part.seq_number)?;
     replied(alloc, initiator, key, subkey, number, draw)
 }
 
@@ -238,6 +228,7 @@ fn finish(
     draw: &Draw,
 ) -> Result<InitDone, Cause>
     requires key { length key.now ≡ key_size (suite_of initiator.now.params) }
+    requires number { IfSome part.seq_number IsSendableNumber }
     requires moment { draw.now.moment ≤ MAX_MOMENT }
     ensures { Answers (Finishes dce initiator.now key.now part draw.now) result }
 {
