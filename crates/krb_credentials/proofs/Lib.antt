@@ -1,3 +1,4 @@
-mod Complete
+pub mod Complete
 pub mod ReplyLengths
 pub mod BodyNames
+pub mod Refusals

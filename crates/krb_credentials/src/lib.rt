@@ -5,11 +5,13 @@
 //! with a first ticket, and [`reply_key`] opens the AS-REP with the key of the credentials. Each is one definition in `specs/`.
 #![tactic(auto)]
 
+mod asker;
 mod body;
 mod client;
 mod granted;
 mod key;
 
+pub use asker::asker_of;
 pub use body::{FirstService, first_body};
 pub use client::{Client, client_of, short_name};
 pub use granted::{granted_as_rep, granted_tgs_rep};

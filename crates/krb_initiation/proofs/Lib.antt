@@ -1,0 +1,5 @@
+pub mod Tgts
+pub mod TgtReqs
+pub mod Refusals
+pub mod Tasks
+pub mod Chains
