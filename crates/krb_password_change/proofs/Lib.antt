@@ -1,0 +1,5 @@
+pub mod Ports
+pub mod Written
+pub mod Told
+pub mod Refusals
+pub mod Tasks

@@ -1,0 +1,21 @@
+use Rattle.std.proofs.Common.{refl, ap}
+use Rattle.krb_client.proofs.Tasks.{turns_of, kept_of, faulted_of, refused}
+use Rattle.krb_password_change.specs.declared.phase.ChangePhase.{ChangePhase}
+use Rattle.krb_password_change.specs.Changes.{IsReady}
+use Rattle.krb_password_change.specs.ChangeRuns.{turns_left}
+use Rattle.krb_password_change.proofs.Refusals.{starts_refuse}
+use Rattle.krb_password_change.proofs.Tasks.{awaits_of}
+use Rattle.krb_password_change.proofs.change_run.ChangePasswordRunTask.start.Goals as goal
+
+pub returns-clause-step : goal.returns-clause-step
+returns-clause-step c = record { turn = turns_of _ _ c.started-answer.result _ _ c.started-answer.ensures.step c.go_on.ensures.state c.go_on.ensures.phase; stays = refl }
+
+pub returns-clause-turns : goal.returns-clause-turns
+returns-clause-turns c = awaits_of (IsReady c.args.self.now.changer) c.requires.new.1 c.started-answer.result _ (turns_left c.args.self.now.phase) _ c.go_on.ensures.state c.started-answer.ensures.down c.go_on.ensures.phase
+
+pub returns-clause-want : goal.returns-clause-want
+returns-clause-want c = kept_of c.started-answer.result _ _ c.go_on.ensures.state (λ z. ap (λ (p : ChangePhase). record c.args.self.now { phase = p }) (c.go_on.ensures.want z))
+
+pub returns-clause-fault : goal.returns-clause-fault
+returns-clause-fault c =
+    faulted_of c.started-answer.result _ _ c.go_on.ensures.state (λ cause is network. starts_refuse c.args.self.now.changer c.args.self.now.phase c.args.draw.now cause (refused _ _ cause c.started-answer.ensures.step is network) network)

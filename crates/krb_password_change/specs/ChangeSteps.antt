@@ -1,0 +1,112 @@
+-- How a password is changed, step by step: an AS exchange (RFC 4120, section 3.1), and the request for a new password (RFC 3244,
+-- section 2).
+use Rattle.std.specs.Prelude.{◌≡◌, ℕ, ◌==◌, List, length, take, Option, Some, None, Result}
+use Rattle.krb_crypto.specs.Suite.{key_size}
+use Rattle.krb_messages.specs.declared.ap_rep.ApRep.{ApRep as Reply}
+use Rattle.krb_exchange.specs.declared.kdc_req.KdcReqBody.{KdcReqBody}
+use Rattle.krb_exchange.specs.declared.kdc_rep.KdcRep.{KdcRep}
+use Rattle.krb_exchange.specs.declared.krb_priv.KrbPriv.{KrbPriv}
+use Rattle.krb_exchange.specs.declared.priv_message.ApMessage.{ApMessage}
+use Rattle.krb_exchange.specs.declared.priv_message.ApMessage.TheVariants.{ApReq, ApRep}
+use Rattle.krb_exchange.specs.Layouts.{as_rep_layout}
+use Rattle.krb_exchange.specs.PrivMessages.{IsPrivMessage}
+use Rattle.krb_context.specs.declared.context.ContextChange.{ContextChange}
+use Rattle.sspi_core.specs.declared.protocol.NetworkProtocol.{NetworkProtocol}
+use Rattle.sspi_core.specs.declared.draw.Draw.{Draw}
+use Rattle.sspi_core.specs.declared.cause.Cause.{Cause}
+use Rattle.sspi_core.specs.declared.cause.Cause.TheVariants.{KeyLength, Port, Shape, ResultCode}
+use Rattle.sspi_core.specs.Checks.{Finds, Gives, Holds, Takes, ◌>>=◌, ◌>>◌}
+use Rattle.sspi_generator.specs.declared.network.NetFault.{NetFault}
+use Rattle.krb_sending.specs.declared.kdc.Kdc.{Kdc}
+use Rattle.krb_sending.specs.Replies.{Unwraps}
+use Rattle.krb_replies.specs.Answered.{TellsStatus}
+use Rattle.krb_client.specs.declared.turn.Turn.{Turn}
+use Rattle.krb_client.specs.declared.turn.Turn.TheVariants.{Asks, Ends}
+use Rattle.krb_client.specs.declared.asker.Asker.{Asker}
+use Rattle.krb_client.specs.Replied.{Grants}
+use Rattle.krb_client.specs.Asked.{Begins, AsksAgain}
+use Rattle.krb_credentials.specs.declared.client.Client.{Client}
+use Rattle.krb_credentials.specs.declared.body.FirstService.TheVariants.{PasswordChange}
+use Rattle.krb_credentials.specs.declared.key.ReplyKey.{ReplyKey}
+use Rattle.krb_credentials.specs.FirstBodies.{first_body}
+use Rattle.krb_credentials.specs.ReplyKeys.{TakesReplyKey}
+use Rattle.krb_password_change.specs.declared.change.Changer.{Changer}
+use Rattle.krb_password_change.specs.declared.phase.AnswerLeg.{AnswerLeg}
+use Rattle.krb_password_change.specs.declared.phase.ChangePhase.{ChangePhase}
+use Rattle.krb_password_change.specs.declared.phase.ChangePhase.TheVariants.{AwaitsError, AwaitsAsRep, AwaitsAnswer}
+use Rattle.krb_password_change.specs.Ports.{password_kdc}
+use Rattle.krb_password_change.specs.Requested.{drawn_key, number_after, change_request}
+
+-- what is asked for: a ticket to the service that changes passwords; the first four random octets are the nonce
+unfoldable pub body_of : Client → Draw → KdcReqBody
+body_of client draw = first_body client PasswordChange 0 (take 4 draw.random) draw.moment
+
+-- the start: the first request, and an error is awaited
+unfoldable pub AsksFirst : Asker → KdcReqBody → Result (Turn ChangePhase ContextChange) Cause → Type 0
+AsksFirst asker body = do
+  begun ← Begins asker body
+  Gives (Asks begun.request (AwaitsError begun.kdc body))
+
+-- the first reply: the second request, and an AS-REP is awaited
+unfoldable pub AsksSecond : Asker → Kdc → KdcReqBody → Result (List ℕ) NetFault → Draw → Result (Turn ChangePhase ContextChange) Cause → Type 0
+AsksSecond asker kdc body reply draw = do
+  again ← AsksAgain asker kdc body reply draw
+  Gives (Asks again.request (AwaitsAsRep kdc again.salt))
+
+-- the answer to the request that this AS-REP lets go: it is sealed under the drawn key
+abbrev pub answer_leg : KdcRep → ReplyKey → Kdc → Draw → AnswerLeg
+answer_leg rep key kdc draw = record { protocol = kdc.protocol; suite = key.suite; subkey = drawn_key key.suite draw; realm = rep.crealm }
+
+-- a ticket whose key has its length: the new password goes to the service beside the KDC
+unfoldable pub AsksChange : Changer → Kdc → KdcRep → ReplyKey → Draw → Result (Turn ChangePhase ContextChange) Cause → Type 0
+AsksChange changer kdc rep key draw = do
+  Holds KeyLength (length key.key == key_size key.suite)
+  service ← Takes Port (password_kdc kdc)
+  Gives (Asks (change_request changer key.suite key.key rep service draw) (AwaitsAnswer (answer_leg rep key service draw)))
+
+-- the second reply
+unfoldable pub TakesAsRep : Changer → Kdc → List ℕ → Result (List ℕ) NetFault → Draw → Result (Turn ChangePhase ContextChange) Cause → Type 0
+TakesAsRep changer kdc salt reply draw = do
+  as_rep ← Grants kdc.protocol as_rep_layout reply
+  key ← TakesReplyKey changer.asker.credentials salt as_rep
+  AsksChange changer kdc as_rep.0 key draw
+
+-- what stands behind an AP-REP, which is not looked at
+abbrev pub behind_reply : ApMessage → KrbPriv → Option KrbPriv
+behind_reply (ApReq request) sealed = None
+behind_reply (ApRep reply) sealed = Some sealed
+
+-- the octets are this KRB-PRIV behind an AP-REP
+pub record IsAnswer (octets : List ℕ) (answer : KrbPriv) : Type 0 where
+  pub ap_rep : Reply
+  pub read : IsPrivMessage (record { ap_message = ApRep ap_rep; krb_priv = answer }) octets
+
+-- the answer of the service
+unfoldable pub ReadsAnswer : NetworkProtocol → Result (List ℕ) NetFault → Result KrbPriv Cause → Type 0
+ReadsAnswer protocol reply = do
+  octets ← Unwraps protocol reply
+  Finds Shape (IsAnswer octets)
+
+-- the context knows its realm and its suite, and its number has risen; all else of it stays
+abbrev pub change_of : Changer → AnswerLeg → ContextChange
+change_of changer leg = record {
+  state = changer.state;
+  realm = Some leg.realm;
+  encryption_params = record changer.params { encryption_type = Some leg.suite };
+  seq_number = number_after changer.number;
+  krb5_user_to_user = changer.user_to_user;
+  ticket_decryption_key = None;
+}
+
+-- the password is changed where the code is 0
+unfoldable pub Concludes : Changer → AnswerLeg → ℕ → Result (Turn ChangePhase ContextChange) Cause → Type 0
+Concludes changer leg code = do
+  Holds (ResultCode code) (code == 0)
+  Gives (Ends (change_of changer leg))
+
+-- the third reply ends the exchange
+unfoldable pub TakesAnswer : Changer → AnswerLeg → Result (List ℕ) NetFault → Result (Turn ChangePhase ContextChange) Cause → Type 0
+TakesAnswer changer leg reply = do
+  answer ← ReadsAnswer leg.protocol reply
+  code ← TellsStatus (Some leg.suite) leg.subkey answer
+  Concludes changer leg code

@@ -1,0 +1,5 @@
+pub mod Changes
+pub mod Ports
+pub mod Requested
+pub mod ChangeSteps
+pub mod ChangeRuns

@@ -1,0 +1,152 @@
+//! The answer of the service that changes passwords (RFC 3244, section 2).
+
+ghost use Rattle.std.specs.Prelude.{◌≡◌, ◌==◌, IfOk, Some};
+ghost use Rattle.sspi_core.specs.declared.cause.Cause.TheVariants as causes;
+ghost use Rattle.sspi_core.specs.Checks.{Answers, Finds, Gives, Holds, Takes};
+ghost use Rattle.krb_replies.specs.Answered.{TellsStatus};
+ghost use Rattle.krb_client.specs.declared.turn.Turn.TheVariants as turns;
+ghost use Rattle.krb_password_change.specs.ChangeSteps.{behind_reply, IsAnswer, ReadsAnswer, change_of, Concludes, TakesAnswer};
+ghost use Rattle.krb_password_change.specs.ChangeRuns.{GoesDown};
+
+use crate::change::Changer;
+use crate::phase::{AnswerLeg, ChangePhase};
+use crate::request::{number_after, params_in};
+use krb_client::Turn;
+use krb_context::{ContextChange, EncryptionParams};
+use krb_crypto::CipherSuite;
+use krb_der::{Fault, Octets, OutOfMemory, Text, TryCopy};
+use krb_exchange::{ApMessage, KrbPriv, KrbPrivMessage};
+use krb_replies::extract_status_code_from_krb_priv_response;
+use krb_sending::unwrap_reply;
+use sspi_core::{Cause, NetworkProtocol, hold};
+use sspi_generator::NetFault;
+use std::alloc::Global;
+
+/// What stands behind an AP-REP.
+fn behind_reply(message: KrbPrivMessage) -> Result<KrbPriv, Cause>
+    ensures { Takes causes.Shape (behind_reply message.ap_message message.krb_priv) result }
+{
+    let KrbPrivMessage {
+        ap_message,
+        krb_priv,
+    } = message;
+    match ap_message {
+        ApMessage::ApReq(_) => Err(Cause::Shape),
+        ApMessage::ApRep(_) => Ok(krb_priv),
+    }
+}
+
+/// The KRB-PRIV in the octets of an answer.
+fn answer_in(alloc: Global, octets: &Octets) -> Result<KrbPriv, Cause>
+    ensures { Answers (Finds causes.Shape (IsAnswer octets.now)) result }
+{
+    match KrbPrivMessage::read(alloc, octets.as_slice()) {
+        Ok(message) => behind_reply(message),
+        Err(Fault::Shape) => Err(Cause::Shape),
+        Err(Fault::OutOfMemory) => Err(Cause::Memory),
+    }
+}
+
+/// The KRB-PRIV that a reply brings.
+#[tactic(auto, unfolding(crate::specs::ChangeSteps::ReadsAnswer))]
+fn read_answer(
+    alloc: Global,
+    protocol: NetworkProtocol,
+    reply: Result<Octets, NetFault>,
+) -> Result<KrbPriv, Cause>
+    ensures { Answers (ReadsAnswer protocol reply) result }
+{
+    let octets = unwrap_reply(alloc, protocol, reply)?;
+    answer_in(alloc, &octets)
+}
+
+/// The result code that is sealed in it.
+fn told_code(alloc: Global, leg: &AnswerLeg, answer: &KrbPriv) -> Result<u16, Cause>
+    ensures { Answers (TellsStatus (Some leg.now.suite) leg.now.subkey answer.now) result }
+{
+    let params = params_in(leg.suite);
+    let key = leg.subkey.as_ref().as_slice();
+    match extract_status_code_from_krb_priv_response(alloc, answer, key, &params) {
+        Ok(code) => Ok(code),
+        Err(error) => Err(error.cause),
+    }
+}
+
+fn check_code(code: u16) -> Result<(), Cause>
+    ensures { Holds (causes.ResultCode code) (code == 0) result }
+{
+    hold(code == 0, Cause::ResultCode(code))
+}
+
+fn params_with(
+    alloc: Global,
+    params: &EncryptionParams,
+    suite: CipherSuite,
+) -> Result<EncryptionParams, OutOfMemory>
+    ensures { IfOk result (λ made. made ≡ record params.now { encryption_type = Some suite }) }
+{
+    let mut made = params.copy(alloc)?;
+    made.encryption_type = Some(suite);
+    Ok(made)
+}
+
+/// What the context becomes.
+fn change_of(
+    alloc: Global,
+    changer: &Changer,
+    leg: &AnswerLeg,
+) -> Result<ContextChange, OutOfMemory>
+    ensures { IfOk result (λ change. change ≡ change_of changer.now leg.now) }
+{
+    let realm = Text::from_str(alloc, leg.realm.as_str())?;
+    let encryption_params = params_with(alloc, &changer.params, leg.suite)?;
+    Ok(ContextChange {
+        state: changer.state,
+        realm: Some(realm),
+        encryption_params,
+        seq_number: number_after(changer.number),
+        krb5_user_to_user: changer.user_to_user,
+        ticket_decryption_key: None,
+    })
+}
+
+fn end(
+    alloc: Global,
+    changer: &Changer,
+    leg: &AnswerLeg,
+) -> Result<Turn<ChangePhase, ContextChange>, Cause>
+    ensures step { Answers (Gives (turns.Ends (change_of changer.now leg.now))) result }
+    ensures down { IfOk result (λ turn. GoesDown 0 turn) }
+{
+    Ok(Turn::Ends(change_of(alloc, changer, leg)?))
+}
+
+#[tactic(auto, unfolding(crate::specs::ChangeSteps::Concludes))]
+fn conclude(
+    alloc: Global,
+    changer: &Changer,
+    leg: &AnswerLeg,
+    code: u16,
+) -> Result<Turn<ChangePhase, ContextChange>, Cause>
+    ensures step { Answers (Concludes changer.now leg.now code) result }
+    ensures down { IfOk result (λ turn. GoesDown 0 turn) }
+{
+    check_code(code)?;
+    end(alloc, changer, leg)
+}
+
+/// What follows the third reply.
+#[tactic(auto, unfolding(crate::specs::ChangeSteps::TakesAnswer))]
+pub(crate) fn take_answer(
+    alloc: Global,
+    changer: &Changer,
+    leg: &AnswerLeg,
+    reply: Result<Octets, NetFault>,
+) -> Result<Turn<ChangePhase, ContextChange>, Cause>
+    ensures step { Answers (TakesAnswer changer.now leg.now reply) result }
+    ensures down { IfOk result (λ turn. GoesDown 0 turn) }
+{
+    let answer = read_answer(alloc, leg.protocol, reply)?;
+    let code = told_code(alloc, leg, &answer)?;
+    conclude(alloc, changer, leg, code)
+}

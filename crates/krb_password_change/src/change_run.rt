@@ -1,0 +1,195 @@
+//! The change of a password, as a task.
+
+ghost use Rattle.std.specs.Prelude.{◌≡◌, ◌≤◌, ◌^◌, true, IfOk, length, Err, Result};
+ghost use Rattle.sspi_core.specs.declared.cause.Cause.{Cause};
+ghost use Rattle.sspi_core.specs.declared.cause.Cause.TheVariants as causes;
+ghost use Rattle.sspi_core.specs.declared.draw.TheConstants.{MAX_MOMENT};
+ghost use Rattle.sspi_core.specs.Kinds.{error_of};
+ghost use Rattle.sspi_core.specs.Checks.{Answers};
+ghost use Rattle.krb_client.specs.Turns.{is_want};
+ghost use Rattle.krb_password_change.specs.declared.change.Changer.{Changer};
+ghost use Rattle.krb_password_change.specs.declared.phase.ChangePhase.TheVariants as phases;
+ghost use Rattle.krb_password_change.specs.Changes.{BeginsChange, IsReady};
+ghost use Rattle.krb_password_change.specs.ChangeRuns.{Starts, Next, IsNewPhase, IsAwaiting, IsNew, turns_left, GoesDown, StartsAt, ResumesAt, BeginsSo};
+
+use crate::answer::take_answer;
+use crate::change::{ChangePassword, Changer, begin_change};
+use crate::phase::ChangePhase;
+use crate::steps::{ask_first, ask_second, body_of, take_as_rep};
+use krb_client::{Turn, go_on, is_want};
+use krb_conf::Env;
+use krb_context::{ContextChange, Kerberos};
+use krb_der::Octets;
+use sspi_core::{Cause, Draw, Error};
+use sspi_generator::{Generator, GeneratorState, NetFault, NetworkRequest, Resumable, Task};
+use std::alloc::Global;
+
+/// The change of a password: an AS exchange for a ticket to the service that changes passwords, and the new password to that
+/// service. It ends with what the context becomes.
+#[derive(Drop)]
+pub struct ChangePasswordRun {
+    alloc: Global,
+    changer: Changer,
+    phase: ChangePhase,
+}
+
+/// What runs it.
+pub type GeneratorChangePassword = Generator<ChangePasswordRun>;
+
+impl ChangePasswordRun {
+    /// The exchange of this client.
+    pub fn new(alloc: Global, changer: Changer) -> ChangePasswordRun
+        requires { IsReady changer }
+        ensures new { IsNew result }
+        ensures changer { result.changer ≡ changer }
+        ensures phase { result.phase ≡ phases.New }
+    {
+        ChangePasswordRun {
+            alloc,
+            changer,
+            phase: ChangePhase::New,
+        }
+    }
+}
+
+/// Begins the change of a password. Refused as InternalError NotAscii where the account's name, its realm or the machine's name is
+/// past ASCII. The exchange refuses at its start as NoAuthenticatingAuthority NoKdc, then as InvalidParameter Scheme.
+pub fn change_password(
+    alloc: Global,
+    client: &Kerberos,
+    change: ChangePassword,
+    env: Env,
+) -> Result<ChangePasswordRun, Error>
+    requires new_password { length change.new_password ≤ 2 ^ 24 }
+    ensures asked { (result ≡ Err (error_of causes.Memory) → ⊥)
+        → (answer : Result Changer Cause) × BeginsChange client.now change env answer × BeginsSo answer result }
+    ensures new { IfOk result (λ run. IsNew run) }
+{
+    match begin_change(alloc, client, change, env) {
+        Ok(changer) => Ok(ChangePasswordRun::new(alloc, changer)),
+        Err(cause) => Err(Error::from(cause)),
+    }
+}
+
+/// What the start leads to in a phase that is new.
+fn started(
+    alloc: Global,
+    changer: &Changer,
+    phase: &ChangePhase,
+    draw: &Draw,
+) -> Result<Turn<ChangePhase, ContextChange>, Cause>
+    requires new { IsNewPhase phase.now }
+    requires changer { IsReady changer.now }
+    requires moment { draw.now.moment ≤ MAX_MOMENT }
+    ensures step { Answers (Starts changer.now phase.now draw.now) result }
+    ensures down { IfOk result (λ turn. GoesDown (turns_left phase.now) turn) }
+{
+    match phase {
+        ChangePhase::New => {
+            let body = body_of(alloc, &changer.client, draw)?;
+            ask_first(alloc, &changer.asker, body)
+        }
+        ChangePhase::AwaitsError(_, _)
+        | ChangePhase::AwaitsAsRep(_, _)
+        | ChangePhase::AwaitsAnswer(_)
+        | ChangePhase::Over => unreachable!(),
+    }
+}
+
+/// What an answer leads to in a phase that awaits one.
+fn in_phase(
+    alloc: Global,
+    changer: &Changer,
+    phase: &ChangePhase,
+    reply: Result<Octets, NetFault>,
+    draw: &Draw,
+) -> Result<Turn<ChangePhase, ContextChange>, Cause>
+    requires awaiting { IsAwaiting phase.now }
+    requires changer { IsReady changer.now }
+    requires moment { draw.now.moment ≤ MAX_MOMENT }
+    ensures step { Answers (Next changer.now phase.now reply draw.now) result }
+    ensures down { IfOk result (λ turn. GoesDown (turns_left phase.now) turn) }
+{
+    match phase {
+        ChangePhase::AwaitsError(kdc, body) => {
+            ask_second(alloc, &changer.asker, kdc, body, reply, draw)
+        }
+        ChangePhase::AwaitsAsRep(kdc, salt) => {
+            take_as_rep(alloc, changer, kdc, salt, reply, draw)
+        }
+        ChangePhase::AwaitsAnswer(leg) => take_answer(alloc, changer, leg, reply),
+        ChangePhase::New | ChangePhase::Over => unreachable!(),
+    }
+}
+
+/// What an answer leads to. Where the client wanted for memory, so does the step.
+fn next(
+    alloc: Global,
+    changer: &Changer,
+    phase: &ChangePhase,
+    reply: Result<Octets, NetFault>,
+    draw: &Draw,
+) -> Result<Turn<ChangePhase, ContextChange>, Cause>
+    requires awaiting { IsAwaiting phase.now }
+    requires changer { IsReady changer.now }
+    requires moment { draw.now.moment ≤ MAX_MOMENT }
+    ensures step { Answers (Next changer.now phase.now reply draw.now) result }
+    ensures down { IfOk result (λ turn. GoesDown (turns_left phase.now) turn) }
+    ensures memory { is_want reply ≡ true → result ≡ Err causes.Memory }
+{
+    if is_want(&reply) {
+        return Err(Cause::Memory);
+    }
+    in_phase(alloc, changer, phase, reply, draw)
+}
+
+impl Task for ChangePasswordRun {
+    ghost use Rattle.krb_client.specs.Turns.{IsWant, IsFault};
+    ghost use Rattle.krb_password_change.specs.ChangeRuns.{IsNew, IsWaiting, StartsAt, turns_left};
+
+    type Out = Result<ContextChange, Error>;
+
+    ghost turns = { λ run. turns_left run.phase };
+
+    ghost is_new = { IsNew };
+
+    ghost is_waiting = { IsWaiting };
+
+    ghost starts = { StartsAt };
+
+    ghost is_want = { IsWant };
+
+    ghost is_fault = { IsFault };
+
+    fn start(
+        &mut self,
+        draw: &Draw,
+    ) -> GeneratorState<NetworkRequest, Result<ContextChange, Error>> {
+        let answer = started(self.alloc, &self.changer, &self.phase, draw);
+        go_on(&mut self.phase, ChangePhase::Over, answer)
+    }
+
+    fn turns(&self) -> u32 {
+        match self.phase {
+            ChangePhase::New => 3,
+            ChangePhase::AwaitsError(_, _) => 2,
+            ChangePhase::AwaitsAsRep(_, _) => 1,
+            ChangePhase::AwaitsAnswer(_) | ChangePhase::Over => 0,
+        }
+    }
+}
+
+impl Resumable for ChangePasswordRun {
+    ghost use Rattle.krb_password_change.specs.ChangeRuns.{ResumesAt};
+
+    ghost resumes = { ResumesAt };
+
+    fn resume(
+        &mut self,
+        reply: Result<Octets, NetFault>,
+        draw: &Draw,
+    ) -> GeneratorState<NetworkRequest, Result<ContextChange, Error>> {
+        let answer = next(self.alloc, &self.changer, &self.phase, reply, draw);
+        go_on(&mut self.phase, ChangePhase::Over, answer)
+    }
+}

@@ -1,0 +1,32 @@
+//! How far a change of a password has come.
+
+use krb_crypto::CipherSuite;
+use krb_der::{Name, Octets, Text};
+use krb_exchange::KdcReqBody;
+use krb_sending::Kdc;
+use sspi_core::{NetworkProtocol, Secret};
+
+/// The answer of the service that changes passwords, as it is awaited.
+#[derive(Drop)]
+pub struct AnswerLeg {
+    pub protocol: NetworkProtocol,
+    /// The suite of the whole exchange.
+    pub suite: CipherSuite,
+    /// The key that the answer is to be sealed under.
+    pub subkey: Secret<Octets>,
+    /// The client's realm, by the AS-REP.
+    pub realm: Name,
+}
+
+/// How far the exchange has come.
+#[derive(Drop)]
+pub enum ChangePhase {
+    New,
+    /// The first request was sent there.
+    AwaitsError(Kdc, KdcReqBody),
+    /// The second one was sent there, under a key with this salt.
+    AwaitsAsRep(Kdc, Text),
+    /// The new password was sent.
+    AwaitsAnswer(AnswerLeg),
+    Over,
+}

@@ -1,0 +1,52 @@
+//! Where a password is changed.
+
+ghost use Rattle.std.specs.Prelude.{◌≡◌, ◌≤◌, ◌^◌, IfOk, length};
+ghost use Rattle.sspi_core.specs.declared.cause.Cause.TheVariants as causes;
+ghost use Rattle.sspi_core.specs.Checks.{Answers, Takes};
+ghost use Rattle.krb_password_change.specs.Ports.{at_port, password_url, password_kdc};
+
+use krb_der::TryCopy;
+use krb_sending::Kdc;
+use sspi_core::{Cause, NetworkProtocol};
+use std::alloc::Global;
+use url::{ParseError, Url};
+
+/// The port of the service that changes passwords (RFC 3244, section 2).
+const PASSWORD_PORT: u16 = 464;
+
+/// The URL with that port.
+fn at_port(url: &Url) -> Result<Url, Cause>
+    ensures { Answers (Takes causes.Port (at_port url.now)) result }
+{
+    let mut changed = url.clone()?;
+    match changed.set_port(Some(PASSWORD_PORT)) {
+        Ok(()) => Ok(changed),
+        Err(ParseError::CannotSet) => Err(Cause::Port),
+        Err(_) => Err(Cause::Memory),
+    }
+}
+
+/// Where the service is reached: a proxy is told the realm, and stays.
+fn password_url(protocol: NetworkProtocol, url: &Url) -> Result<Url, Cause>
+    ensures { Answers (Takes causes.Port (password_url protocol url.now)) result }
+{
+    match protocol {
+        NetworkProtocol::Tcp | NetworkProtocol::Udp => at_port(url),
+        NetworkProtocol::Http | NetworkProtocol::Https => Ok(url.clone()?),
+    }
+}
+
+/// The service that changes passwords beside a KDC. Refused as `Port` exactly where the KDC's URL takes no port.
+pub(crate) fn password_kdc(alloc: Global, kdc: &Kdc) -> Result<Kdc, Cause>
+    requires { length kdc.now.realm ≤ 2 ^ 24 }
+    ensures step { Answers (Takes causes.Port (password_kdc kdc.now)) result }
+    ensures realm { IfOk result (λ found. length found.realm ≤ 2 ^ 24) }
+{
+    let url = password_url(kdc.protocol, &kdc.url)?;
+    let realm = kdc.realm.copy(alloc)?;
+    Ok(Kdc {
+        protocol: kdc.protocol,
+        url,
+        realm,
+    })
+}

@@ -1,0 +1,201 @@
+//! The request for a new password, and what is drawn for it.
+
+ghost use Rattle.std.specs.Prelude.{◌≡◌, ◌<◌, ◌≤◌, ◌^◌, length, get_or, Some, [], IfOk};
+ghost use Rattle.krb_crypto.specs.Suite.{key_size};
+ghost use Rattle.krb_messages.specs.Layouts.{authenticator_layout, ticket_layout};
+ghost use Rattle.krb_context.specs.Params.{suite_of};
+ghost use Rattle.sspi_core.specs.declared.draw.TheConstants.{MAX_MOMENT};
+ghost use Rattle.krb_requests.specs.Pieces.{Fits};
+ghost use Rattle.krb_authenticators.specs.Passwords.{FitsPriv};
+ghost use Rattle.krb_credentials.specs.Granted.{IsSendable};
+ghost use Rattle.krb_password_change.specs.Changes.{IsReady};
+ghost use Rattle.krb_password_change.specs.Requested.{drawn_key, first_confounder, second_confounder, number_after, change_authenticator, message_by, change_message, written, change_request};
+
+use crate::change::Changer;
+use krb_authenticators::{
+    EncKey, GenerateAuthenticatorOptions, generate_authenticator, generate_krb_priv_request,
+};
+use krb_context::EncryptionParams;
+use krb_crypto::CipherSuite;
+use krb_der::{Items, Octets, OutOfMemory, TryCopy};
+use krb_exchange::{KdcRep, KrbPrivMessage};
+use krb_messages::{Authenticator, Ticket};
+use krb_sending::{Kdc, request_to};
+use sspi_core::{Draw, Secret};
+use sspi_generator::NetworkRequest;
+use std::alloc::Global;
+
+/// The key that the new password and the answer are sealed under.
+pub(crate) fn drawn_key(
+    alloc: Global,
+    suite: CipherSuite,
+    draw: &Draw,
+) -> Result<Secret<Octets>, OutOfMemory>
+    ensures drawn { IfOk result (λ key. key ≡ drawn_key suite draw.now) }
+    ensures short { IfOk result (λ key. length key ≤ 2 ^ 24) }
+{
+    let key = &draw.random[..suite.key_size()];
+    Ok(Secret::new(Octets::from_slice(alloc, key)?))
+}
+
+fn first_confounder(suite: CipherSuite, draw: &Draw) -> [u8; 16]
+    ensures { result ≡ first_confounder suite draw.now }
+{
+    let start = suite.key_size();
+    let mut confounder = [0; 16];
+    confounder.copy_from_slice(&draw.random[start..start + 16]);
+    confounder
+}
+
+fn second_confounder(suite: CipherSuite, draw: &Draw) -> [u8; 16]
+    ensures { result ≡ second_confounder suite draw.now }
+{
+    let start = suite.key_size() + 16;
+    let mut confounder = [0; 16];
+    confounder.copy_from_slice(&draw.random[start..start + 16]);
+    confounder
+}
+
+/// The number after the context's own, going round at 2^32.
+pub(crate) fn number_after(number: u32) -> u32
+    ensures { result ≡ number_after number }
+{
+    number.wrapping_add(1)
+}
+
+/// Who asks.
+fn change_authenticator(
+    alloc: Global,
+    number: u32,
+    suite: CipherSuite,
+    rep: &KdcRep,
+    draw: &Draw,
+) -> Result<Authenticator, OutOfMemory>
+    requires rep { IsSendable rep.now }
+    requires moment { draw.now.moment ≤ MAX_MOMENT }
+    ensures made { IfOk result (λ made. made ≡ change_authenticator number suite rep.now draw.now) }
+    ensures within { IfOk result (λ made. Fits authenticator_layout (2 ^ 27) made) }
+{
+    let key_value = drawn_key(alloc, suite, draw)?;
+    let options = GenerateAuthenticatorOptions {
+        kdc_rep: rep,
+        seq_num: Some(number),
+        sub_key: Some(EncKey {
+            key_type: suite,
+            key_value,
+        }),
+        checksum: None,
+        channel_bindings: None,
+        extensions: Items::new(Vec::new(alloc)),
+    };
+    match generate_authenticator(alloc, options, draw.moment) {
+        Ok(authenticator) => Ok(authenticator),
+        Err(_) => Err(OutOfMemory),
+    }
+}
+
+/// Parameters of a suite, without keys.
+pub(crate) fn params_in(suite: CipherSuite) -> EncryptionParams
+    ensures chosen { result.encryption_type ≡ Some suite }
+    ensures suite { suite_of result ≡ suite }
+{
+    let mut params = EncryptionParams::default_for_client();
+    params.encryption_type = Some(suite);
+    params
+}
+
+fn confounders(suite: CipherSuite, draw: &Draw) -> [[u8; 16]; 2]
+    ensures first { get_or result 0 [] ≡ first_confounder suite draw.now }
+    ensures second { get_or result 1 [] ≡ second_confounder suite draw.now }
+{
+    [
+        first_confounder(suite, draw),
+        second_confounder(suite, draw),
+    ]
+}
+
+/// The AP-REQ with this authenticator, and the new password.
+fn message_by(
+    alloc: Global,
+    changer: &Changer,
+    suite: CipherSuite,
+    key: &Secret<Octets>,
+    ticket: Ticket,
+    authenticator: &Authenticator,
+    draw: &Draw,
+) -> Result<KrbPrivMessage, OutOfMemory>
+    requires changer { IsReady changer.now }
+    requires ticket { Fits ticket_layout (2 ^ 24) ticket }
+    requires authenticator { Fits authenticator_layout (2 ^ 27) authenticator.now }
+    ensures made { IfOk result (λ message. message ≡ message_by changer.now suite key.now ticket authenticator.now draw.now) }
+    ensures fits { IfOk result FitsPriv }
+{
+    let params = params_in(suite);
+    let message = generate_krb_priv_request(
+        alloc,
+        ticket,
+        key,
+        changer.new_password.as_ref().as_str().as_bytes(),
+        authenticator,
+        &params,
+        number_after(changer.number),
+        changer.client.host.as_str(),
+        confounders(suite, draw),
+    );
+    match message {
+        Ok(message) => Ok(message),
+        Err(_) => Err(OutOfMemory),
+    }
+}
+
+/// The AP-REQ and the new password.
+fn change_message(
+    alloc: Global,
+    changer: &Changer,
+    suite: CipherSuite,
+    key: &Secret<Octets>,
+    rep: &KdcRep,
+    draw: &Draw,
+) -> Result<KrbPrivMessage, OutOfMemory>
+    requires changer { IsReady changer.now }
+    requires rep { IsSendable rep.now }
+    requires moment { draw.now.moment ≤ MAX_MOMENT }
+    ensures made { IfOk result (λ message. message ≡ change_message changer.now suite key.now rep.now draw.now) }
+    ensures fits { IfOk result FitsPriv }
+{
+    let number = number_after(changer.number);
+    let authenticator = change_authenticator(alloc, number, suite, rep, draw)?;
+    let ticket = rep.ticket.copy(alloc)?;
+    message_by(alloc, changer, suite, key, ticket, &authenticator, draw)
+}
+
+/// Its octets.
+fn written(alloc: Global, message: &KrbPrivMessage) -> Result<Octets, OutOfMemory>
+    requires { FitsPriv message.now }
+    ensures written { IfOk result (λ octets. octets ≡ written message.now) }
+    ensures short { IfOk result (λ octets. length octets < 2 ^ 30) }
+{
+    message.write(alloc)
+}
+
+/// The request to the service that changes passwords.
+#[tactic(auto, unfolding(crate::specs::Requested::change_request))]
+pub(crate) fn change_request(
+    alloc: Global,
+    changer: &Changer,
+    suite: CipherSuite,
+    key: &Secret<Octets>,
+    rep: &KdcRep,
+    service: &Kdc,
+    draw: &Draw,
+) -> Result<NetworkRequest, OutOfMemory>
+    requires changer { IsReady changer.now }
+    requires rep { IsSendable rep.now }
+    requires realm { length service.now.realm ≤ 2 ^ 24 }
+    requires moment { draw.now.moment ≤ MAX_MOMENT }
+    ensures { IfOk result (λ request. request ≡ change_request changer.now suite key.now rep.now service.now draw.now) }
+{
+    let message = change_message(alloc, changer, suite, key, rep, draw)?;
+    let octets = written(alloc, &message)?;
+    request_to(alloc, service, octets)
+}
