@@ -11,13 +11,13 @@ use Rattle.krb_exchange.specs.declared.priv_message.ApMessage.TheVariants.{ApReq
 use Rattle.krb_exchange.specs.PrivMessages.{IsPrivMessage}
 use Rattle.sspi_core.specs.declared.cause.Cause.{Cause}
 use Rattle.sspi_core.specs.declared.cause.Cause.TheVariants.{Shape}
-use Rattle.sspi_core.specs.Checks.{Answers, Finds, Takes}
+use Rattle.sspi_core.specs.Checks.{Answers, Finds, FoundOr, Takes, ok_or}
 use Rattle.krb_password_change.specs.ChangeSteps.{IsAnswer, behind_reply}
 
 never : true ≡ false → ⊥
 never e = absurd cc
 
-numbers_differ : 0x6e ≡ 0x6f → ⊥
+numbers_differ : ◌≡◌ {A = ℕ} 0x6e 0x6f → ⊥
 numbers_differ e = never (ap (λ (n : ℕ). n == 0x6e) e)
 
 -- an AP-REQ and an AP-REP have other tags
@@ -30,18 +30,13 @@ no_answer : (octets : List ℕ) (request : Request) (sealed : KrbPriv) → IsPri
 unfolding ap_req ap_rep
 no_answer octets request sealed h answer k = tags_differ _ _ _ h.ap_message.is k.read.ap_message.is
 
+for_reply : (octets : List ℕ) (message : ApMessage) (sealed : KrbPriv) → IsPrivMessage (record { ap_message = message; krb_priv = sealed }) octets → FoundOr Shape (IsAnswer octets) (ok_or Shape (behind_reply message sealed))
+for_reply octets (ApRep reply) sealed h = record { ap_rep = reply; read = h }
+for_reply octets (ApReq request) sealed h = (refl, no_answer octets request sealed h)
+
 behind : (octets : List ℕ) (message : ApMessage) (sealed : KrbPriv) (answer : Result KrbPriv Cause) → IsPrivMessage (record { ap_message = message; krb_priv = sealed }) octets
     → Takes Shape (behind_reply message sealed) answer → Finds Shape (IsAnswer octets) answer
-behind octets (ApRep reply) sealed (Ok x) h t =
-    let i : ◌≡◌ {A = Result KrbPriv Cause} (Ok x) (Ok sealed) = t.is in
-    let e : x ≡ sealed = cc in
-    record { is = record { ap_rep = reply; read = subst (λ (p : KrbPriv). IsPrivMessage (record { ap_message = ApRep reply; krb_priv = p }) octets) (sym e) h } }
-behind octets (ApRep reply) sealed (Err e) h t = let i = t.is in absurd cc
-behind octets (ApReq request) sealed (Ok x) h t = let i = t.is in absurd cc
-behind octets (ApReq request) sealed (Err e) h t =
-    let i : ◌≡◌ {A = Result KrbPriv Cause} (Err e) (Err Shape) = t.is in
-    let k : e ≡ Shape = cc in
-    record { is = (k, no_answer octets request sealed h) }
+behind octets message sealed answer h t = record { is = subst (λ (r : Result KrbPriv Cause). FoundOr Shape (IsAnswer octets) r) (sym t.is) (for_reply octets message sealed h) }
 
 -- a message that was read
 pub read_answer : (octets same : List ℕ) (message : KrbPrivMessage) (answer : Result KrbPriv Cause) → same ≡ octets → IsPrivMessage message same

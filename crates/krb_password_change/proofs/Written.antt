@@ -1,5 +1,5 @@
 -- The octets of a request for a new password, and how many there are.
-use Rattle.std.proofs.Common.{◌≡◌, ℕ, ◌+◌, ◌<◌, ◌≤◌, ◌^◌, List, [], ◌∷◌, ◌++◌, length, take, Result, Ok, Err, IfOk, arith, lit≤, sym, subst, ap, ◌∙◌, rw, refl}
+use Rattle.std.proofs.Common.{◌≡◌, ℕ, ◌+◌, ◌<◌, ◌≤◌, ◌^◌, List, [], ◌∷◌, ◌++◌, length, take, Result, Ok, Err, IfOk, arith, lit≤, sym, subst, ap, ◌∙◌, refl}
 use Rattle.std.proofs.lemmas.List.{length-take}
 use Rattle.krb_der.specs.declared.memory.OutOfMemory.{OutOfMemory}
 use Rattle.krb_der.proofs.Lengths.{append_le}
