@@ -103,19 +103,19 @@ ticket_fits octets reply read short = record {
 }
 
 -- the parts of a frame are not longer than the frame
-frame_le : (n : ℕ) (oid octets token : List ℕ) → IsFrame oid (4 ∷ 1 ∷ []) octets token → length token ≤ n → (length oid ≤ n) × (length octets ≤ n)
-frame_le n oid octets token frame h =
-    let whole : length (tlv 0x60 (tlv 0x06 oid ++ (4 ∷ 1 ∷ [] ++ octets))) ≤ n = subst (λ (o : List ℕ). length o ≤ n) frame.is.is h in
-    let inner : length (tlv 0x06 oid) + length (4 ∷ 1 ∷ [] ++ octets) ≤ n =
-    omega (arith, whole, contents_shorter 0x60 (tlv 0x06 oid ++ (4 ∷ 1 ∷ [] ++ octets)), length-append (tlv 0x06 oid) (4 ∷ 1 ∷ [] ++ octets)) in
-    (omega (arith, inner, contents_shorter 0x06 oid), omega (arith, inner, length-append (4 ∷ 1 ∷ []) octets))
+frame_le : (n : ℕ) (oid token_id octets token : List ℕ) → IsFrame oid token_id octets token → length token ≤ n → (length oid ≤ n) × (length octets ≤ n)
+frame_le n oid token_id octets token frame h =
+    let whole : length (tlv 0x60 (tlv 0x06 oid ++ (token_id ++ octets))) ≤ n = subst (λ (o : List ℕ). length o ≤ n) frame.is.is h in
+    let inner : length (tlv 0x06 oid) + length (token_id ++ octets) ≤ n =
+    omega (arith, whole, contents_shorter 0x60 (tlv 0x06 oid ++ (token_id ++ octets)), length-append (tlv 0x06 oid) (token_id ++ octets)) in
+    (omega (arith, inner, contents_shorter 0x06 oid), omega (arith, inner, length-append token_id octets))
 
 -- so what a token tells can be sent on
 framed_short : (token : List ℕ) (found : Option (Ticket × Oid)) → HasTicket token found → length token ≤ 2 ^ 24 → IsShortTgt (framed_tgt found)
 framed_short token None h short = record { tickets = tt; named = lit< tt; mechanism = lit≤ tt }
 framed_short token (Some found) h short =
     let rep = h.0 in
-    let le = frame_le (2 ^ 24) _ rep.octets token rep.frame short in
+    let le = frame_le (2 ^ 24) _ rep.token_id rep.octets token rep.frame short in
     record {
       tickets =
           subst (λ (t : Ticket). Fits (items_layout ticket_layout) (2 ^ 24) (t ∷ [])) (sym rep.is) (ticket_fits rep.octets rep.reply rep.read le.1);

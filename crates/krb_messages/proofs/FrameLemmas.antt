@@ -66,3 +66,19 @@ one_frame_lem oid other token_id message another octets f g =
     let stand : StandsNext 0x60 here octets [] = record { value = octets; is_value = f.is; parts = sym (append-nil octets) } in
     let same = same_value 0x06 oid (token_id ++ message) other (token_id ++ another) (oid_short oid token_id message octets f) (oid_short other token_id another octets g) (frame_opens other token_id another octets g here [] stand).0 in
     (same.0, sym (drop_at token_id message (length token_id) refl) ∙ ap (drop (length token_id)) same.1 ∙ drop_at token_id another (length token_id) refl)
+
+-- A frame with a token id is a frame of all that stands behind its object identifier.
+pub opens_all : (oid token_id message octets : List ℕ) → IsFrame oid token_id message octets → IsFrame oid [] (token_id ++ message) octets
+opens_all oid token_id message octets f = record { named = f.named; is = f.is }
+
+-- What is too short for a token id has none.
+pub none_fits : (found inside octets : List ℕ) → IsFrame found [] inside octets → length inside < 2 → (token_id : List ℕ) → length token_id ≡ 2 → NoFrame token_id octets
+none_fits found inside octets f short token_id two oid message g =
+    let same = (one_frame_lem found oid [] inside (token_id ++ message) octets f (opens_all oid token_id message octets g)).1 in
+    omega (arith, short, ap length same, length-append token_id message, two)
+
+-- Octets are one frame at the most, whatever the two octets of token id are.
+pub one_any_frame : (oid other i j message another octets : List ℕ) → length i ≡ 2 → length j ≡ 2 → IsFrame oid i message octets → IsFrame other j another octets → message ≡ another
+one_any_frame oid other i j message another octets two also f g =
+    let e = (one_frame_lem oid other [] (i ++ message) (j ++ another) octets (opens_all oid i message octets f) (opens_all other j another octets g)).1 in
+    sym (drop_at i message 2 two) ∙ ap (drop 2) e ∙ drop_at j another 2 also

@@ -51,6 +51,22 @@ pub fn read_framed(octets: &[u8], token_id: [u8; 2]) -> Result<(Oid<'_>, &[u8]),
     Ok((Oid::from_contents(oid), message))
 }
 
+/// The object identifier, the token id and the message of a frame, where the octets are one frame with any token id of
+/// two octets and nothing else: some mechanisms leave the token id to their reader.
+pub fn read_any_framed(octets: &[u8]) -> Result<(Oid<'_>, &[u8], &[u8]), Shape>
+    ensures frame { IfOk result (λ x. IsFrame (contents_of x.0) x.1.now x.2.now octets.now) }
+    ensures token_id { IfOk result (λ x. length x.1.now ≡ 2) }
+    ensures by_name { IfOk result (λ x. IsByName x.0) }
+    ensures shape { OnErr result ((token_id : List ℕ) → length token_id ≡ 2 → NoFrame token_id octets.now) }
+{
+    let (oid, inside) = split_frame(octets, &[])?;
+    if inside.len() < 2 {
+        return Err(Shape);
+    }
+    let (token_id, message) = inside.split_at(2);
+    Ok((Oid::from_contents(oid), token_id, message))
+}
+
 /// The frame of a message. `Other` has at least one octet.
 pub fn write_framed(
     alloc: Global,

@@ -21,7 +21,7 @@ pub use authenticator::Authenticator;
 pub use authorization_data::{AuthorizationData, AuthorizationDataElement};
 pub use enc_ticket_part::{EncTicketPart, TransitedEncoding};
 pub use encryption::{Checksum, EncryptedData, EncryptionKey};
-pub use frame::{read_framed, serialize_message, write_framed};
+pub use frame::{read_any_framed, read_framed, serialize_message, write_framed};
 pub use host_address::{HostAddress, HostAddresses};
 pub use oid::Oid;
 pub use principal_name::PrincipalName;

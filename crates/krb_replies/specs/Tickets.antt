@@ -1,5 +1,5 @@
 -- The ticket of user-to-user in a framed TGT-REP (draft-swift-win2k-krb-user2user, section 3; RFC 4121, section 4.1).
-use Rattle.std.specs.Prelude.{◌≡◌, ℕ, nat_le, List, [], ◌∷◌, length, Option, Some, None, Result}
+use Rattle.std.specs.Prelude.{◌≡◌, ℕ, nat_le, List, [], length, Option, Some, None, Result}
 use Rattle.krb_messages.specs.Frame.{IsFrame}
 use Rattle.krb_messages.specs.Oid.{contents_of, IsByName}
 use Rattle.krb_messages.specs.declared.oid.Oid.{Oid}
@@ -11,11 +11,13 @@ use Rattle.sspi_core.specs.declared.cause.Cause.TheVariants.{Shape}
 use Rattle.sspi_core.specs.Checks.{Finds, Holds, ◌>>◌}
 use Rattle.krb_replies.specs.Unseals.{IsRead}
 
--- the token is a frame of a TGT-REP with this ticket, under this mechanism
+-- the token is a frame of a TGT-REP with this ticket, under this mechanism; the two octets of token id are any
 pub record IsTgtRep (token : List ℕ) (ticket : Ticket) (oid : List ℕ) : Type 0 where
+  pub token_id : List ℕ
   pub octets : List ℕ
   pub reply : TgtRep
-  pub frame : IsFrame oid (4 ∷ 1 ∷ []) octets token
+  pub two : length token_id ≡ 2
+  pub frame : IsFrame oid token_id octets token
   pub read : IsRead tgt_rep_layout octets reply
   pub is : ticket ≡ reply.ticket
 

@@ -9,8 +9,7 @@ ghost use Rattle.krb_replies.specs.Tickets.{HasTicket, TakesTicket};
 use crate::told::tell;
 use crate::unseal::read_or;
 use krb_exchange::TgtRep;
-use krb_messages::constants::TGT_REP_TOKEN_ID;
-use krb_messages::{Oid, Ticket, read_framed};
+use krb_messages::{Oid, Ticket, read_any_framed};
 use sspi_core::{Cause, Error, hold};
 use std::alloc::Global;
 
@@ -29,9 +28,9 @@ fn ticket_in(alloc: Global, token: &[u8]) -> Result<Option<(Ticket, Oid<'_>)>, C
     if token.is_empty() {
         return Ok(None);
     }
-    match read_framed(token, TGT_REP_TOKEN_ID) {
+    match read_any_framed(token) {
         Err(_) => Err(Cause::Shape),
-        Ok((oid, message)) => match read_or::<TgtRep>(alloc, message, Cause::Shape) {
+        Ok((oid, _, message)) => match read_or::<TgtRep>(alloc, message, Cause::Shape) {
             Ok(reply) => Ok(Some((reply.ticket, oid))),
             Err(cause) => Err(cause),
         },
@@ -46,7 +45,7 @@ fn take_ticket(alloc: Global, token: &[u8]) -> Result<Option<(Ticket, Oid<'_>)>,
 }
 
 /// The ticket in a framed TGT-REP and the object identifier of its mechanism, which lends from the token; None where the
-/// token is empty (draft-swift-win2k-krb-user2user, section 3). Refused as InvalidToken Shape where it is another token, or
+/// token is empty (draft-swift-win2k-krb-user2user, section 3). The token id is not compared. Refused as InvalidToken Shape where it is another token, or
 /// has more than 16,777,216 octets.
 #[tactic(auto, using(crate::proofs::Telling::tells))]
 pub fn extract_tgt_ticket_with_oid(
