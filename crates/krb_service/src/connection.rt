@@ -1,4 +1,5 @@
 //! One connection of a service.
+use crate::exchange::Exchange;
 use krb_context::Kerberos;
 use krb_der::Name;
 
@@ -9,4 +10,6 @@ pub struct Connection {
     pub context: Kerberos,
     /// The name of an initiator's peer. An acceptor has none.
     pub target: Option<Name>,
+    /// The exchange whose KDC it waits for, if it does. The context is as it was before that began.
+    pub exchange: Option<Exchange>,
 }

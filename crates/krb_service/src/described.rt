@@ -182,12 +182,14 @@ pub fn connection_of(
         Role::Acceptor(service) => Ok(Connection {
             context: acceptor_context(alloc, skew, service, endpoint)?,
             target: None,
+            exchange: None,
         }),
         Role::Initiator(target) => {
             let target = copied_target(alloc, target)?;
             Ok(Connection {
                 context: initiator_context(alloc, endpoint)?,
                 target,
+                exchange: None,
             })
         }
     }

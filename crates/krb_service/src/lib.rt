@@ -17,6 +17,7 @@ mod command;
 mod connection;
 mod demonstration;
 mod described;
+mod exchange;
 mod halt;
 pub mod laws;
 mod message_calls;
@@ -29,6 +30,7 @@ pub use command::serve;
 pub use connection::Connection;
 pub use demonstration::demo;
 pub use described::connection_of;
+pub use exchange::Exchange;
 pub use krb_script::{Event, Input};
 pub use krb_text::{
     Calls, CutFault, Failed, LineCutter, MemSink, MemSource, Sink, Source, Status, StdSink,
