@@ -1,4 +1,4 @@
--- How a connection's exchange with a KDC goes on, and what it is answered. Between its steps the connection awaits what the KDC answers,
+-- How a connection's exchange with KDCs goes on, and what it is answered. Between its steps the connection awaits what a KDC answers,
 -- and its context is as it was before.
 use Rattle.std.specs.Prelude.{◌≡◌, ℕ, Bool, false, List, Option, Some, None, is_some, Result, Ok, Err}
 use Rattle.krb_context.specs.Contexts.{settled}
@@ -6,15 +6,11 @@ use Rattle.krb_script.specs.declared.input.Input.{Input}
 use Rattle.krb_script.specs.declared.input.Input.TheVariants.{Token, Start, KdcReply, KdcFault, Wrap, Unwrap, MakeMic, VerifyMic}
 use Rattle.krb_acceptor.specs.declared.accept.Accepted.{Accepted as Taken}
 use Rattle.krb_acceptor.specs.declared.accept.Accepted.TheVariants as taken
-use Rattle.krb_client.specs.declared.done.InitDone.{InitDone}
-use Rattle.krb_client.specs.declared.turn.Turn.{Turn}
-use Rattle.krb_client.specs.declared.turn.Turn.TheVariants.{Asks, Ends}
-use Rattle.krb_user_to_user.specs.declared.accept_run.AcceptRun.{AcceptRun}
-use Rattle.krb_user_to_user.specs.declared.request.Acceptor.{Acceptor}
-use Rattle.krb_user_to_user.specs.declared.steps.AcceptPhase.{AcceptPhase}
-use Rattle.krb_user_to_user.specs.AcceptRuns.{Starts, Next}
+use Rattle.krb_exchanges.specs.Steps.{Begins, GoesOn as ExchangeGoesOn}
+use Rattle.krb_exchanges.specs.declared.exchange.Step.{Step}
+use Rattle.krb_exchanges.specs.declared.exchange.Step.TheVariants.{Asks, Ends, Refused as Refuses}
+use Rattle.krb_exchanges.specs.declared.run.Run.{Run}
 use Rattle.sspi_core.specs.Kinds.{error_of}
-use Rattle.sspi_core.specs.declared.cause.Cause.{Cause}
 use Rattle.sspi_core.specs.declared.cause.Cause.TheVariants.{Memory}
 use Rattle.sspi_core.specs.declared.error.Error.{Error}
 use Rattle.sspi_core.specs.declared.draw.Draw.{Draw}
@@ -44,26 +40,25 @@ answer_of (Unwrap message) = None
 answer_of (MakeMic payload) = None
 answer_of (VerifyMic token payload) = None
 
--- what a turn of an exchange leads to: a request to a KDC, whose answer the connection awaits then; the end, whose change the context
--- takes; or a refusal, which ends the exchange too and leaves the context
-abbrev pub LeadsTo : Acceptor → Connection → Result (Turn AcceptPhase InitDone) Cause → Reply → Connection → Type 0
-LeadsTo acceptor connection (Ok (Asks request phase)) reply next =
-    (run : AcceptRun) × (run.acceptor ≡ acceptor) × (run.phase ≡ phase) × (reply ≡ Ask request) × (next ≡ record connection { exchange = Some run })
-LeadsTo acceptor connection (Ok (Ends done)) reply next =
+-- what a step of an exchange makes of its connection: a request to a KDC, whose answer the connection awaits then; the end, whose change
+-- the context takes; or a refusal, which ends the exchange too and leaves the context
+abbrev pub LeadsTo : Connection → Step → Reply → Connection → Type 0
+LeadsTo connection (Asks request run) reply next = (reply ≡ Ask request) × (next ≡ record connection { exchange = Some run })
+LeadsTo connection (Ends done) reply next =
     (reply ≡ Done done.status done.token false) × (next ≡ record connection { context = settled connection.context done.change; exchange = None })
-LeadsTo acceptor connection (Err cause) reply next = (reply ≡ Refused (error_of cause)) × (next ≡ record connection { exchange = None })
+LeadsTo connection (Refuses error) reply next = (reply ≡ Refused error) × (next ≡ record connection { exchange = None })
 
 -- an exchange begins
-pub record Opens (connection : Connection) (run : AcceptRun) (draw : Draw) (reply : Reply) (next : Connection) : Type 0 where
-  pub turn : Result (Turn AcceptPhase InitDone) Cause
-  pub starts : Starts run.acceptor run.phase draw turn
-  pub leads : LeadsTo run.acceptor connection turn reply next
+pub record Opens (connection : Connection) (run : Run) (draw : Draw) (reply : Reply) (next : Connection) : Type 0 where
+  pub step : Step
+  pub begins : Begins run draw step
+  pub leads : LeadsTo connection step reply next
 
 -- an exchange goes on with what the network brought
-pub record GoesOn (connection : Connection) (run : AcceptRun) (answer : Result (List ℕ) NetFault) (draw : Draw) (reply : Reply) (next : Connection) : Type 0 where
-  pub turn : Result (Turn AcceptPhase InitDone) Cause
-  pub resumes : Next run.acceptor run.phase answer draw turn
-  pub leads : LeadsTo run.acceptor connection turn reply next
+pub record GoesOn (connection : Connection) (run : Run) (answer : Result (List ℕ) NetFault) (draw : Draw) (reply : Reply) (next : Connection) : Type 0 where
+  pub step : Step
+  pub resumes : ExchangeGoesOn run answer draw step
+  pub leads : LeadsTo connection step reply next
 
 -- where memory can run out behind an acceptor's answer: for the answer itself, or for the exchange that it begins
 abbrev pub StopsAt : Result Taken Error → Type 0

@@ -19,7 +19,7 @@ use Rattle.krb_service.specs.declared.connection.Connection.{Connection}
 use Rattle.krb_service.specs.declared.reply.Reply.{Reply}
 use Rattle.krb_service.specs.MessageCalls.{is_call}
 use Rattle.krb_service.specs.Exchanges.{answer_of}
-use Rattle.krb_service.specs.Policy.{State, Behind, StepsOnward, StepsBy, Steps, Runs, reached}
+use Rattle.krb_service.specs.Policy.{State, Behind, TakesPart, StepsOnward, StepsBy, Steps, Runs, reached, is_initiator}
 
 -- that of a request which the gate admits
 abbrev pub left_by : Result Request Cause → Verdict → ℕ → List Record
@@ -38,11 +38,17 @@ module _ {G : Type 0} (admits : G → Ask → Verdict → G → Type 0) where
   left_behind state event (Ok found) reply after judges = left_made _ _ _ _ _ _ judges.accepts.tgt_req _ _ _ judges.accepts.made
   left_behind state event (Err cause) reply after refused = []
 
+  -- an initiator asks none
+  abbrev pub left_by_part : (initiates : Bool) (state : State G) (event : Event) (reply : Reply) (after : State G)
+      → TakesPart admits initiates state event reply after → List Record
+  left_by_part true state event reply after step = []
+  left_by_part false state event reply after step = left_behind state event (reached state.connections event) reply after step
+
   -- what the network brings asks none either
   abbrev pub left_onward : (answer : Option (Result (List ℕ) NetFault)) (state : State G) (event : Event) (reply : Reply) (after : State G)
       → StepsOnward admits answer state event reply after → List Record
   left_onward (Some answer) state event reply after step = []
-  left_onward None state event reply after step = left_behind state event (reached state.connections event) reply after step
+  left_onward None state event reply after step = left_by_part (is_initiator event.connection state.connections) state event reply after step
 
   -- what one event leaves: one record, or none
   abbrev pub left_by_kind : (is_call : Bool) (state : State G) (event : Event) (reply : Reply) (after : State G) → StepsBy admits is_call state event reply after → List Record

@@ -1,5 +1,5 @@
 -- The policy machine: what a service answers to an event, and what it is afterwards.
-use Rattle.std.specs.Prelude.{◌≡◌, ℕ, nat_le, Bool, true, false, not, if◌then◌else◌, List, [], ◌∷◌, ◌++◌, Option, Some, None, is_some, Result, Ok, Err, IfErr}
+use Rattle.std.specs.Prelude.{◌≡◌, ℕ, nat_le, Bool, true, false, not, if◌then◌else◌, List, [], ◌∷◌, ◌++◌, Option, Some, None, is_some, is_none, Result, Ok, Err, IfErr}
 use Rattle.std.specs.Ordering.{nat_cmp}
 use Rattle.std.specs.BTreeMap.{is_at, insert_entry}
 use Rattle.std.specs.Result.{result_map_both}
@@ -16,7 +16,8 @@ use Rattle.krb_server.specs.declared.request.Request.{Request}
 use Rattle.krb_acceptor.specs.Whole.{AcceptsWhole}
 use Rattle.krb_acceptor.specs.declared.accept.Accepted.{Accepted as Taken}
 use Rattle.krb_acceptor.specs.declared.accept.Accepted.TheVariants as taken
-use Rattle.krb_user_to_user.specs.declared.accept_run.AcceptRun.{AcceptRun}
+use Rattle.krb_exchanges.specs.declared.run.Run.{Run}
+use Rattle.krb_exchanges.specs.declared.run.Run.TheVariants.{Accepts}
 use Rattle.sspi_generator.specs.declared.network.NetFault.{NetFault}
 use Rattle.krb_script.specs.Script.{at_id}
 use Rattle.krb_script.specs.declared.item.Event.{Event}
@@ -36,6 +37,7 @@ use Rattle.krb_service.specs.declared.reply.Reply.{Reply}
 use Rattle.krb_service.specs.declared.reply.Reply.TheVariants.{Done, Refused}
 use Rattle.krb_service.specs.MessageCalls.{is_call, Calls}
 use Rattle.krb_service.specs.Exchanges.{awaits, answer_of, Opens, GoesOn}
+use Rattle.krb_service.specs.Initiations.{token_heard, options_of, Undertakes}
 
 -- a service: its connections by their numbers, its environment, and its replay gate
 pub record State (G : Type 0) : Type 0 where
@@ -80,17 +82,31 @@ ready connections event = do
   free ← check causes.Sequence (not (awaits connection))
   Ok connection
 
--- the first checks of an event of an exchange with the peer: those of a call; the connection is an acceptor, since an initiator's exchange
--- is not built; and the event brings a token
+-- the connection with this number is an initiator's
+abbrev pub is_initiating : Option Connection → Bool
+is_initiating None = false
+is_initiating (Some connection) = is_none connection.context.server
+
+abbrev pub is_initiator : ℕ → List (ℕ × Connection) → Bool
+is_initiator id connections = is_initiating (at_id id connections)
+
+-- the first checks of an event of an exchange with the peer, at an acceptor: those of a call, and that the event brings a token
 abbrev pub reached : List (ℕ × Connection) → Event → Result (Connection × List ℕ) Cause
 reached connections event = do
   connection ← ready connections event
-  built ← check causes.NotBuilt (is_acceptor connection.context)
+  judges ← check causes.Sequence (is_acceptor connection.context)
   token ← ok_or causes.Sequence (token_of event.input)
   Ok (connection, token)
 
+-- those at an initiator: also that it is the time for what the event brings
+abbrev pub heard : List (ℕ × Connection) → Event → Result (Connection × List ℕ) Cause
+heard connections event = do
+  connection ← ready connections event
+  token ← token_heard connection.context.state event.input
+  Ok (connection, token)
+
 -- the first checks of what the network brings: the connection awaits it
-abbrev pub awaited : List (ℕ × Connection) → Event → Result (Connection × AcceptRun) Cause
+abbrev pub awaited : List (ℕ × Connection) → Event → Result (Connection × Run) Cause
 awaited connections event = do
   connection ← called connections event
   run ← ok_or causes.Sequence connection.exchange
@@ -119,7 +135,7 @@ reply_of (Err cause) = Refused (error_of cause)
 -- what an acceptor's answer to a token leads to: its reply; or an exchange with a KDC begins, at a TGT-REQ
 abbrev pub Settles : Draw → Connection → Result Taken Error → Reply → Connection → Type 0
 Settles draw connection (Ok (taken.Done status token admits)) reply next = (reply ≡ Done status token admits) × (next ≡ connection)
-Settles draw connection (Ok (taken.Run run)) reply next = Opens connection run draw reply next
+Settles draw connection (Ok (taken.Run run)) reply next = Opens connection (Accepts run) draw reply next
 Settles draw connection (Err error) reply next = (reply ≡ Refused error) × (next ≡ connection)
 
 -- the number has a connection
@@ -140,6 +156,9 @@ IsRefusedFor None result = IfErr result (λ e. e ≡ error_of causes.Memory)
 -- the token that the first checks let through
 abbrev pub token_reached : List (ℕ × Connection) → Event → Result (List ℕ) Cause
 token_reached connections event = result_map_both (λ found. found.1) (λ cause. cause) (reached connections event)
+
+abbrev pub token_for : List (ℕ × Connection) → Event → Result (List ℕ) Cause
+token_for connections event = result_map_both (λ found. found.1) (λ cause. cause) (heard connections event)
 
 -- a service with this connection at the number, in the place of one that has it
 abbrev pub with_connection : {G : Type 0} → State G → ℕ → Connection → State G
@@ -169,7 +188,7 @@ AnswersCall state event (Ok connection) reply after = CallsAt state event connec
 AnswersCall state event (Err cause) reply after = (reply ≡ Refused (error_of cause)) × (after ≡ state)
 
 -- the exchange of a connection takes what the network brought, and all else stays
-pub record Resumes {G : Type 0} (state : State G) (event : Event) (found : Connection × AcceptRun) (answer : Result (List ℕ) NetFault) (reply : Reply) (after : State G) : Type 0 where
+pub record Resumes {G : Type 0} (state : State G) (event : Event) (found : Connection × Run) (answer : Result (List ℕ) NetFault) (reply : Reply) (after : State G) : Type 0 where
   pub next : Connection
   pub goes_on : GoesOn found.0 found.1 answer (draw_of event) reply next
   pub connections : after.connections ≡ set_value (is_at (nat_cmp event.connection)) state.connections next
@@ -177,9 +196,22 @@ pub record Resumes {G : Type 0} (state : State G) (event : Event) (found : Conne
   pub gate : after.gate ≡ state.gate
 
 -- behind its first checks: a refusal of theirs leaves the service
-abbrev pub TakesAnswer : {G : Type 0} → State G → Event → Result (Connection × AcceptRun) Cause → Result (List ℕ) NetFault → Reply → State G → Type 0
+abbrev pub TakesAnswer : {G : Type 0} → State G → Event → Result (Connection × Run) Cause → Result (List ℕ) NetFault → Reply → State G → Type 0
 TakesAnswer state event (Ok found) answer reply after = Resumes state event found answer reply after
 TakesAnswer state event (Err cause) answer reply after = (reply ≡ Refused (error_of cause)) × (after ≡ state)
+
+-- an initiator begins, or hears its peer, and all else stays
+pub record Initiates {G : Type 0} (state : State G) (event : Event) (connection : Connection) (token : List ℕ) (reply : Reply) (after : State G) : Type 0 where
+  pub next : Connection
+  pub undertakes : Undertakes connection (options_of connection state.env event.flags token) (draw_of event) reply next
+  pub connections : after.connections ≡ set_value (is_at (nat_cmp event.connection)) state.connections next
+  pub env : after.env ≡ state.env
+  pub gate : after.gate ≡ state.gate
+
+-- behind its first checks: a refusal of theirs leaves the service
+abbrev pub TakesTurn : {G : Type 0} → State G → Event → Result (Connection × List ℕ) Cause → Reply → State G → Type 0
+TakesTurn state event (Ok found) reply after = Initiates state event found.0 found.1 reply after
+TakesTurn state event (Err cause) reply after = (reply ≡ Refused (error_of cause)) × (after ≡ state)
 
 module _ {G : Type 0} (admits : G → Ask → Verdict → G → Type 0) where
   -- the acceptor of a connection judges a token: its context, its exchange and the gate take the step, and all else stays
@@ -201,10 +233,15 @@ module _ {G : Type 0} (admits : G → Ask → Verdict → G → Type 0) where
   abbrev pub TakesToken : State G → Event → Reply → State G → Type 0
   TakesToken state event reply after = Behind state event (reached state.connections event) reply after
 
-  -- an event of an exchange: what the network brings, or what the peer sends
+  -- an event of an exchange with the peer, by the role of its connection
+  abbrev pub TakesPart : Bool → State G → Event → Reply → State G → Type 0
+  TakesPart true state event reply after = TakesTurn state event (heard state.connections event) reply after
+  TakesPart false state event reply after = TakesToken state event reply after
+
+  -- an event of an exchange: what the network brings, or what goes on with the peer
   abbrev pub StepsOnward : Option (Result (List ℕ) NetFault) → State G → Event → Reply → State G → Type 0
   StepsOnward (Some answer) state event reply after = TakesAnswer state event (awaited state.connections event) answer reply after
-  StepsOnward None state event reply after = TakesToken state event reply after
+  StepsOnward None state event reply after = TakesPart (is_initiator event.connection state.connections) state event reply after
 
   -- one event may be answered so, and the service is this afterwards
   abbrev pub StepsBy : Bool → State G → Event → Reply → State G → Type 0

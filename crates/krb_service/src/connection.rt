@@ -1,7 +1,7 @@
 //! One connection of a service.
-use crate::exchange::Exchange;
 use krb_context::Kerberos;
 use krb_der::Name;
+use krb_exchanges::Exchange;
 
 /// A connection of a service: an acceptor, or an initiator with the name of whom it speaks to.
 #[derive(Drop)]

@@ -1,5 +1,5 @@
 //! The service: many connections, one replay gate, one event after another.
-ghost use Rattle.std.specs.Prelude.{◌≡◌, ◌≢◌, ◌≤◌, ◌↔◌, Err, None, IsTrue, IfOk, OnErr};
+ghost use Rattle.std.specs.Prelude.{◌≡◌, ◌≢◌, ◌≤◌, Err, None, IfOk, OnErr};
 ghost use Rattle.sspi_core.specs.Kinds.{error_of};
 ghost use Rattle.sspi_core.specs.declared.cause.Cause.TheVariants as causes;
 ghost use Rattle.sspi_core.specs.declared.draw.TheConstants.{MAX_MOMENT};
@@ -9,6 +9,7 @@ ghost use Rattle.krb_service.specs.Policy.{server_flags, draw_of, Settles};
 
 use crate::connection::Connection;
 use crate::exchange::{answer_of, go_on, open};
+use crate::initiation::{token_heard, undertake};
 use crate::message_calls::{call, is_call};
 use crate::reply::Reply;
 use bitflags::Flags;
@@ -16,11 +17,10 @@ use krb_acceptor::{Accepted, accept_security_context};
 use krb_conf::Env;
 use krb_context::Kerberos;
 use krb_der::{Items, Name, Octets, OutOfMemory};
+use krb_exchanges::{Run, is_memory};
 use krb_replay::ReplayGate;
 use krb_script::{Event, Input};
-use sspi_core::{
-    Cause, ClientRequestFlags, Draw, Error, ErrorKind, MAX_MOMENT, ServerRequestFlags,
-};
+use sspi_core::{Cause, ClientRequestFlags, Draw, Error, MAX_MOMENT, ServerRequestFlags};
 use sspi_generator::NetFault;
 use std::alloc::Global;
 use std::collections::BTreeMap;
@@ -67,19 +67,6 @@ fn draw_of(event: &Event) -> Draw
     }
 }
 
-/// Whether memory ran out.
-pub(crate) fn is_memory(error: &Error) -> bool
-    ensures { IsTrue result ↔ (error.now ≡ error_of causes.Memory) }
-{
-    matches!(
-        error,
-        Error {
-            error_type: ErrorKind::OutOfMemory,
-            cause: Cause::Memory
-        }
-    )
-}
-
 /// What an acceptor's answer leads to, unless memory ran out: its reply, or the beginning of an exchange with a KDC.
 fn settle(
     connection: &mut Connection,
@@ -105,7 +92,7 @@ fn settle(
             token,
             admits,
         }),
-        Ok(Accepted::Run(run)) => open(connection, run, draw),
+        Ok(Accepted::Run(run)) => open(connection, Run::Accepts(run), draw),
         Err(error) if is_memory(&error) => Err(OutOfMemory),
         Err(error) => Ok(Reply::Refused(error)),
     }
@@ -119,7 +106,7 @@ impl<G: ReplayGate> Service<G> {
     ghost use Rattle.krb_service.specs.Described.{no_env};
     ghost use Rattle.krb_service.specs.MessageCalls.{is_call};
     ghost use Rattle.krb_service.specs.Exchanges.{answer_of, IsFree};
-    ghost use Rattle.krb_service.specs.Policy.{with_connection, token_reached, is_taken, refusal_to_add, IsRefusedFor, IsSameState, called, ready, awaited, AnswersCall, TakesAnswer, TakesToken, StepsOnward, Steps, StepsOn, RunsOn, StopsBehind};
+    ghost use Rattle.krb_service.specs.Policy.{with_connection, token_reached, is_taken, refusal_to_add, IsRefusedFor, IsSameState, called, ready, awaited, is_initiator, heard, token_for, AnswersCall, TakesAnswer, TakesTurn, TakesPart, TakesToken, StepsOnward, Steps, StepsOn, RunsOn, StopsBehind};
 
     /// A service without connections, whose environment has no variable and no file.
     pub fn new(alloc: Global, gate: G) -> Service<G>
@@ -260,7 +247,7 @@ impl<G: ReplayGate> Service<G> {
     {
         let connection = self.ready(event)?;
         if connection.context.is_client() {
-            return Err(Cause::NotBuilt);
+            return Err(Cause::Sequence);
         }
         let Input::Token(token) = &event.input else {
             return Err(Cause::Sequence);
@@ -312,7 +299,7 @@ impl<G: ReplayGate> Service<G> {
     {
         match answer_of(alloc, &event.input)? {
             Some(answer) => self.take_answer(event, answer),
-            None => self.take_token(alloc, event),
+            None => self.take_part(alloc, event),
         }
     }
 
@@ -328,7 +315,62 @@ impl<G: ReplayGate> Service<G> {
         }
     }
 
-    /// A token of the peer's.
+    /// Whether the connection with this number is an initiator's.
+    fn is_initiator(&self, id: u32) -> bool
+        ensures { result ≡ is_initiator id self.now.connections }
+    {
+        match self.connections.get(&id) {
+            Some(connection) => connection.context.is_client(),
+            None => false,
+        }
+    }
+
+    /// The first checks of an event at an initiator. What stays for it is the token.
+    fn hear<'a>(&self, event: &'a Event) -> Result<&'a [u8], Cause>
+        ensures found { result_map_both (λ token. token.now) (λ cause. cause) result ≡ token_for self.now.connections event.now }
+        ensures free { IfOk result (λ _. IsFree (at_id event.now.connection self.now.connections)) }
+        ensures moment { IfOk result (λ _. event.now.moment ≤ MAX_MOMENT) }
+    {
+        let connection = self.ready(event)?;
+        token_heard(connection.context.state, &event.input)
+    }
+
+    /// An initiator begins, or hears its peer. Out of memory, the service stays.
+    fn initiate(&mut self, alloc: Global, event: &Event) -> Result<Reply, OutOfMemory>
+        ensures step { IfOk result (λ reply. TakesTurn self.old event.now (heard self.old.connections event.now) reply self.new) }
+        ensures err { OnErr result (self.new ≡ self.old) }
+    {
+        let token = match self.hear(event) {
+            Ok(token) => token,
+            Err(cause) => return Ok(Reply::Refused(Error::from(cause))),
+        };
+        let Some(connection) = self.connections.get_mut(&event.connection) else {
+            return Ok(Reply::Refused(Error::from(Cause::Connection)));
+        };
+        undertake(
+            alloc,
+            connection,
+            &self.env,
+            event.flags,
+            token,
+            &draw_of(event),
+        )
+    }
+
+    /// An event of an exchange with the peer, by the role of its connection. Out of memory, the connections and the environment
+    /// stay, and no caller can tell the gate from what it was.
+    fn take_part(&mut self, alloc: Global, event: &Event) -> Result<Reply, OutOfMemory>
+        ensures step { IfOk result (λ reply. TakesPart G.admits (is_initiator event.now.connection self.old.connections) self.old event.now reply self.new) }
+        ensures err { OnErr result (IsSameState G.is_same self.old self.new) }
+    {
+        if self.is_initiator(event.connection) {
+            self.initiate(alloc, event)
+        } else {
+            self.take_token(alloc, event)
+        }
+    }
+
+    /// A token at an acceptor.
     fn take_token(&mut self, alloc: Global, event: &Event) -> Result<Reply, OutOfMemory>
         ensures step { IfOk result (λ reply. TakesToken G.admits self.old event.now reply self.new) }
         ensures err { OnErr result (IsSameState G.is_same self.old self.new) }
