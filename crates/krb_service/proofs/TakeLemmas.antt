@@ -79,7 +79,7 @@ module _ {G : Type 0} (admits : G → Ask → Verdict → G → Type 0) where
   taken_by : (state after : State G) (event : Event) (connection : Connection) (token : List ℕ) (result : Result Taken Error) (server : Kerberos) (next : Connection) (reply : Reply)
       → reached state.connections event ≡ Ok (connection, token) → (result ≡ Err (error_of causes.Memory) → ⊥)
       → ((result ≡ Err (error_of causes.Memory) → ⊥) → (answer : Result Taken Cause) × (result ≡ told Elsewhere answer)
-          × AcceptsWhole admits connection.context (asks_dce_style (server_flags event.flags)) token state.env (draw_of event) state.gate answer server after.gate)
+      × AcceptsWhole admits connection.context (asks_dce_style (server_flags event.flags)) token state.env (draw_of event) state.gate answer server after.gate)
       → Settles (draw_of event) (record connection { context = server }) result reply next
       → after.connections ≡ set_value (is_at (nat_cmp event.connection)) state.connections next → after.env ≡ state.env → TakesToken admits state event reply after
   taken_by state after event connection token result server next reply reaches other step settles put env =
@@ -92,7 +92,7 @@ module _ {G : Type 0} (admits : G → Ask → Verdict → G → Type 0) where
   pub token-taken : (state after : State G) (event : Event) (connection : Connection) (token : List ℕ) (result : Result Taken Error) (server : Kerberos) (next : Connection) (made : Result Reply OutOfMemory)
       → at_id event.connection state.connections ≡ Some connection → token_reached state.connections event ≡ Ok token
       → ((result ≡ Err (error_of causes.Memory) → ⊥) → (answer : Result Taken Cause) × (result ≡ told Elsewhere answer)
-          × AcceptsWhole admits connection.context (asks_dce_style (server_flags event.flags)) token state.env (draw_of event) state.gate answer server after.gate)
+      × AcceptsWhole admits connection.context (asks_dce_style (server_flags event.flags)) token state.env (draw_of event) state.gate answer server after.gate)
       → IfOk made (λ _. result ≡ Err (error_of causes.Memory) → ⊥) → IfOk made (λ reply. Settles (draw_of event) (record connection { context = server }) result reply next)
       → after.connections ≡ set_value (is_at (nat_cmp event.connection)) state.connections next → after.env ≡ state.env → IfOk made (λ reply. TakesToken admits state event reply after)
   token-taken state after event connection token result server next (Ok reply) stands e step other settles put env =

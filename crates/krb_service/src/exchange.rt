@@ -56,11 +56,7 @@ fn lead(connection: &mut Connection, step: Step) -> Reply
 }
 
 /// An exchange begins. Where memory runs out it does not.
-pub(crate) fn open(
-    connection: &mut Connection,
-    run: Run,
-    draw: &Draw,
-) -> Result<Reply, OutOfMemory>
+pub(crate) fn open(connection: &mut Connection, run: Run, draw: &Draw) -> Result<Reply, OutOfMemory>
     requires new { IsNew run }
     requires moment { draw.now.moment ≤ MAX_MOMENT }
     requires free { connection.old.exchange ≡ None }

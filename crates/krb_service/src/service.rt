@@ -20,9 +20,7 @@ use krb_der::{Items, Name, Octets, OutOfMemory};
 use krb_exchanges::{Run, is_memory};
 use krb_replay::ReplayGate;
 use krb_script::{Event, Input};
-use sspi_core::{
-    Cause, ClientRequestFlags, Draw, Error, MAX_MOMENT, ServerRequestFlags,
-};
+use sspi_core::{Cause, ClientRequestFlags, Draw, Error, MAX_MOMENT, ServerRequestFlags};
 use sspi_generator::NetFault;
 use std::alloc::Global;
 use std::collections::BTreeMap;
