@@ -8,6 +8,7 @@ use Rattle.sspi_core.specs.Buffer.{Buffer}
 use Rattle.sspi_core.specs.Checks.{ok_or}
 use Rattle.sspi_core.specs.declared.cause.Cause.{Cause}
 use Rattle.sspi_core.specs.declared.cause.Cause.TheVariants as causes
+use Rattle.sspi_generator.specs.declared.network.NetFault.{NetFault}
 use Rattle.krb_context.proofs.OnceLemmas.{unwraps_once}
 use Rattle.krb_context.specs.Contexts.{is_acceptor, is_peer_acceptor}
 use Rattle.krb_context.specs.Mics.{MakesMic, MicHeads, MicKeys, ReadsMic}
@@ -20,7 +21,8 @@ use Rattle.krb_script.specs.declared.item.Event.{Event}
 use Rattle.krb_script.specs.declared.input.Input.{Input}
 use Rattle.krb_script.specs.declared.input.Input.TheVariants as inputs
 use Rattle.krb_service.specs.MessageCalls.{is_call, IsSealedBy, IsOpenedBy, IsSignedBy, Seals, Opens, Signs, Verifies, verified, Calls}
-use Rattle.krb_service.specs.Policy.{State, ◌>>=◌, check, token_of, reached, called, CallsAt, AnswersCall, StepsBy, Steps, TakesToken}
+use Rattle.krb_service.specs.Exchanges.{answer_of}
+use Rattle.krb_service.specs.Policy.{State, ◌>>=◌, check, token_of, reached, ready, CallsAt, AnswersCall, Behind, Judges, StepsOnward, StepsBy, Steps}
 use Rattle.krb_service.specs.Reply.{admits_peer}
 use Rattle.krb_service.specs.declared.connection.Connection.{Connection}
 use Rattle.krb_service.specs.declared.reply.Reply.{Reply}
@@ -40,27 +42,31 @@ nothing_follows : (found : Result Connection Cause) (x : Connection × List ℕ)
 nothing_follows (Ok connection) x e = no_token connection (check causes.NotBuilt (is_acceptor connection.context)) x e
 nothing_follows (Err cause) x e = absurd (cc)
 
-no_call : (input : Input) (found : Result Connection Cause) (x : Connection × List ℕ) → behind (token_of input) found ≡ Ok x → is_call input ≡ false
-no_call (inputs.Token octets) found x e = refl
-no_call inputs.Start found x e = refl
-no_call (inputs.KdcReply octets) found x e = refl
-no_call (inputs.KdcFault code) found x e = refl
+no_call : (input : Input) (found : Result Connection Cause) (x : Connection × List ℕ) → behind (token_of input) found ≡ Ok x → (is_call input ≡ false) × (answer_of input ≡ None)
+no_call (inputs.Token octets) found x e = (refl, refl)
+no_call inputs.Start found x e = (refl, refl)
+no_call (inputs.KdcReply octets) found x e = absurd (nothing_follows found x e)
+no_call (inputs.KdcFault code) found x e = absurd (nothing_follows found x e)
 no_call (inputs.Wrap message) found x e = absurd (nothing_follows found x e)
 no_call (inputs.Unwrap message) found x e = absurd (nothing_follows found x e)
 no_call (inputs.MakeMic payload) found x e = absurd (nothing_follows found x e)
 no_call (inputs.VerifyMic token payload) found x e = absurd (nothing_follows found x e)
 
--- what reaches an acceptor's checks is no call
+-- what reaches an acceptor's checks is no call, and nothing that the network brings
 pub reached-no_call : (connections : List (ℕ × Connection)) (event : Event) (connection : Connection) (token : List ℕ) → reached connections event ≡ Ok (connection, token)
-    → is_call event.input ≡ false
-reached-no_call connections event connection token e = no_call event.input (called connections event) (connection, token) e
+    → (is_call event.input ≡ false) × (answer_of event.input ≡ None)
+reached-no_call connections event connection token e = no_call event.input (ready connections event) (connection, token) e
 
 module _ {G : Type 0} (admits : G → Ask → Verdict → G → Type 0) where
   -- so it is answered as a token is
   pub token-step : (state : State G) (event : Event) (connection : Connection) (token : List ℕ) (reply : Reply) (after : State G)
-      → reached state.connections event ≡ Ok (connection, token) → Steps admits state event reply after → TakesToken admits state event reply after
+      → reached state.connections event ≡ Ok (connection, token) → Steps admits state event reply after → Judges admits state event connection token reply after
   token-step state event connection token reply after e step =
-      let P : Bool → Type 0 = λ b. StepsBy admits b state event reply after in subst P (reached-no_call state.connections event connection token e) step
+      let none = reached-no_call state.connections event connection token e in
+      let P : Bool → Type 0 = λ b. StepsBy admits b state event reply after in
+      let O : Option (Result (List ℕ) NetFault) → Type 0 = λ a. StepsOnward admits a state event reply after in
+      let B : Result (Connection × List ℕ) Cause → Type 0 = λ f. Behind admits state event f reply after in
+      subst B e (subst O none.1 (subst P none.0 step))
 
 seals_not : (context : Kerberos) (answer : Result (List Buffer) Cause) (reply : Reply) (after : Kerberos) → IsSealedBy context answer reply after → admits_peer reply ≡ true → ⊥
 seals_not context (Ok message) reply after made done = let z = ap admits_peer (sym made.0) ∙ done in absurd (cc)

@@ -1,21 +1,30 @@
 -- A service over a book answers as the one over the gate that never forgets.
-use Rattle.std.proofs.Common.{◌≡◌, ℕ, Bool, true, false, List, [], ◌∷◌, ◌++◌, Result, Ok, Err, refl, ap, sym, ◌∙◌, subst}
+use Rattle.std.proofs.Common.{◌≡◌, ℕ, Bool, true, false, List, [], ◌∷◌, ◌++◌, Option, Some, None, Result, Ok, Err, refl, ap, sym, ◌∙◌, subst}
 use Rattle.krb_replay.specs.Book.{Book, Follows, StandsFor}
 use Rattle.krb_replay.specs.History.{History, verdict_of, history_after}
 use Rattle.krb_replay.specs.declared.ask.Verdict.{Verdict}
 use Rattle.krb_server.specs.Accepts.{Asks}
 use Rattle.krb_server.specs.Requests.{ask_of}
-use Rattle.krb_server.specs.declared.admission.Accepted.{Accepted}
+use Rattle.krb_acceptor.specs.Whole.{Makes}
+use Rattle.krb_acceptor.specs.declared.accept.Accepted.{Accepted as Taken}
+use Rattle.krb_conf.specs.declared.env.Env.{Env}
+use Rattle.krb_context.specs.declared.context.Kerberos.{Kerberos}
+use Rattle.krb_exchange.specs.declared.user_to_user.TgtReq.{TgtReq}
+use Rattle.krb_user_to_user.specs.declared.accept_run.AcceptRun.{AcceptRun}
+use Rattle.sspi_core.specs.declared.draw.Draw.{Draw}
+use Rattle.sspi_generator.specs.declared.network.NetFault.{NetFault}
 use Rattle.krb_server.specs.declared.request.Request.{Request}
 use Rattle.krb_script.specs.declared.item.Event.{Event}
 use Rattle.sspi_core.specs.declared.cause.Cause.{Cause}
 use Rattle.krb_service.specs.declared.connection.Connection.{Connection}
 use Rattle.krb_service.specs.declared.reply.Reply.{Reply}
-use Rattle.krb_service.specs.Policy.{State, Behind, AnswersCall, StepsBy, Steps, Runs, reached, called}
+use Rattle.krb_service.specs.Exchanges.{answer_of}
+use Rattle.krb_service.specs.Policy.{State, Behind, AnswersCall, TakesAnswer, StepsOnward, StepsBy, Steps, Runs, reached, ready, awaited}
 use Rattle.krb_service.specs.Described.{Remembers, with_gate}
-use Rattle.krb_service.specs.Left.{left_behind, left_by_kind, record_left, records_left}
+use Rattle.krb_service.specs.Left.{left_made, left_behind, left_onward, left_by_kind, record_left, records_left}
 use Rattle.krb_service.specs.MessageCalls.{is_call}
 use Rattle.krb_service.proofs.CallLemmas.{call-gate}
+use Rattle.krb_service.proofs.ExchangeLemmas.{answer-gate}
 
 -- a book of this skew that stands for the history
 record Keeps (skew : ℕ) (book : Book) (h : History) : Type 0 where
@@ -40,37 +49,65 @@ asks_remembered skew moment old h (Err cause) verdict new k same =
       record { stands = subst S (sym same) k.stands; own_skew = ap (λ (b : Book). b.skew) same ∙ k.own_skew },
     )
 
--- an event over the book is one over the gate that never forgets, and leaves the same record
-record BehindRemembered (skew : ℕ) (before next : State Book) (h : History) (event : Event) (found : Result (Connection × List ℕ) Cause) (answer : Result Accepted Cause) (b : Behind (Follows StandsFor) before event found answer next) : Type 0 where
+-- a token over the book is one over the gate that never forgets, and leaves the same record
+record MadeRemembered (skew : ℕ) (server : Kerberos) (dce : Bool) (token : List ℕ) (env : Env) (draw : Draw) (old new : Book) (h : History) (found : Option TgtReq) (answer : Result Taken Cause) (server' : Kerberos) (m : Makes (Follows StandsFor) server dce token env draw old found answer server' new) : Type 0 where
   after : History
-  behind : Behind (Remembers skew) (with_gate before h) event found answer (with_gate next after)
-  keeps : Keeps skew next.gate after
-  left : left_behind (Remembers skew) (with_gate before h) event found answer (with_gate next after) behind ≡ left_behind (Follows StandsFor) before event found answer next b
+  made : Makes (Remembers skew) server dce token env draw h found answer server' after
+  keeps : Keeps skew new after
+  left : left_made (Remembers skew) server dce token env draw h found answer server' after made ≡ left_made (Follows StandsFor) server dce token env draw old found answer server' new m
 
-behind_remembered : (skew : ℕ) (before next : State Book) (h : History) (event : Event) (found : Result (Connection × List ℕ) Cause) (answer : Result Accepted Cause) → Keeps skew before.gate h
-    → (b : Behind (Follows StandsFor) before event found answer next) → BehindRemembered skew before next h event found answer b
-behind_remembered skew before next h event (Ok found) answer k j =
-    let a = asks_remembered skew event.moment before.gate h j.accepts.request j.accepts.verdict next.gate k j.accepts.gate in
+made_remembered : (skew : ℕ) (server : Kerberos) (dce : Bool) (token : List ℕ) (env : Env) (draw : Draw) (old new : Book) (h : History) (found : Option TgtReq) (answer : Result Taken Cause) (server' : Kerberos) → Keeps skew old h
+    → (m : Makes (Follows StandsFor) server dce token env draw old found answer server' new) → MadeRemembered skew server dce token env draw old new h found answer server' m
+made_remembered skew server dce token env draw old new h (Some tgt_req) answer server' k m =
+    let K : Book → Type 0 = λ b. Keeps skew b h in
+    record { after = h; made = (m.0, m.1, refl); keeps = subst K (sym m.2) k; left = refl }
+made_remembered skew server dce token env draw old new h None answer server' k m =
+    let a = asks_remembered skew draw.moment old h m.accepts.request m.accepts.verdict new k m.accepts.gate in
     record {
       after = a.0;
-      behind = record {
-        server = j.server;
+      made = record {
+        judged = m.judged;
         accepts = record {
-          verdict = j.accepts.verdict;
-          request = j.accepts.request;
-          begun = j.accepts.begun;
+          verdict = m.accepts.verdict;
+          request = m.accepts.request;
+          begun = m.accepts.begun;
           gate = a.1;
-          outcome = j.accepts.outcome;
-          judged = j.accepts.judged;
-          made = j.accepts.made;
+          outcome = m.accepts.outcome;
+          judged = m.accepts.judged;
+          made = m.accepts.made;
         };
-        connections = j.connections;
-        env = j.env;
+        answer_is = m.answer_is;
       };
       keeps = a.2;
       left = refl;
     }
-behind_remembered skew before next h event (Err cause) answer k b =
+
+-- an event over the book is one over the gate that never forgets, and leaves the same record
+record BehindRemembered (skew : ℕ) (before next : State Book) (h : History) (event : Event) (found : Result (Connection × List ℕ) Cause) (reply : Reply) (b : Behind (Follows StandsFor) before event found reply next) : Type 0 where
+  after : History
+  behind : Behind (Remembers skew) (with_gate before h) event found reply (with_gate next after)
+  keeps : Keeps skew next.gate after
+  left : left_behind (Remembers skew) (with_gate before h) event found reply (with_gate next after) behind ≡ left_behind (Follows StandsFor) before event found reply next b
+
+behind_remembered : (skew : ℕ) (before next : State Book) (h : History) (event : Event) (found : Result (Connection × List ℕ) Cause) (reply : Reply) → Keeps skew before.gate h
+    → (b : Behind (Follows StandsFor) before event found reply next) → BehindRemembered skew before next h event found reply b
+behind_remembered skew before next h event (Ok found) reply k j =
+    let m = made_remembered skew _ _ _ _ _ before.gate next.gate h j.accepts.tgt_req j.answer j.server k j.accepts.made in
+    record {
+      after = m.after;
+      behind = record {
+        answer = j.answer;
+        server = j.server;
+        accepts = record { tgt_req = j.accepts.tgt_req; found = j.accepts.found; made = m.made };
+        next = j.next;
+        settles = j.settles;
+        connections = j.connections;
+        env = j.env;
+      };
+      keeps = m.keeps;
+      left = m.left;
+    }
+behind_remembered skew before next h event (Err cause) reply k b =
     let K : State Book → Type 0 = λ s. Keeps skew s.gate h in
     record { after = h; behind = (b.0, ap (λ (s : State Book). with_gate s h) b.1); keeps = subst K (sym b.1) k; left = refl }
 
@@ -94,19 +131,44 @@ call_remembered : (before : State Book) (h : History) (event : Event) (found : R
 call_remembered before h event (Ok connection) reply next c = record { context = c.context; calls = c.calls; connections = c.connections; env = c.env; gate = refl }
 call_remembered before h event (Err cause) reply next c = (c.0, ap (λ (s : State Book). with_gate s h) c.1)
 
+answer_remembered : (before : State Book) (h : History) (event : Event) (found : Result (Connection × AcceptRun) Cause) (answer : Result (List ℕ) NetFault) (reply : Reply) (next : State Book) → TakesAnswer before event found answer reply next
+    → TakesAnswer (with_gate before h) event found answer reply (with_gate next h)
+answer_remembered before h event (Ok found) answer reply next s = record { next = s.next; goes_on = s.goes_on; connections = s.connections; env = s.env; gate = refl }
+answer_remembered before h event (Err cause) answer reply next s = (s.0, ap (λ (s : State Book). with_gate s h) s.1)
+
+record OnwardRemembered (skew : ℕ) (before : State Book) (h : History) (event : Event) (reply : Reply) (next : State Book) (answer : Option (Result (List ℕ) NetFault)) (s : StepsOnward (Follows StandsFor) answer before event reply next) : Type 0 where
+  after : History
+  steps : StepsOnward (Remembers skew) answer (with_gate before h) event reply (with_gate next after)
+  keeps : Keeps skew next.gate after
+  left : left_onward (Remembers skew) answer (with_gate before h) event reply (with_gate next after) steps ≡ left_onward (Follows StandsFor) answer before event reply next s
+
+onward_remembered : (skew : ℕ) (before : State Book) (h : History) (event : Event) (reply : Reply) (next : State Book) (answer : Option (Result (List ℕ) NetFault)) → Keeps skew before.gate h
+    → (s : StepsOnward (Follows StandsFor) answer before event reply next) → OnwardRemembered skew before h event reply next answer s
+onward_remembered skew before h event reply next (Some answer) k s =
+    let K : Book → Type 0 = λ g. Keeps skew g h in
+    record {
+      after = h;
+      steps = answer_remembered before h event (awaited before.connections event) answer reply next s;
+      keeps = subst K (sym (answer-gate before event (awaited before.connections event) answer reply next s)) k;
+      left = refl;
+    }
+onward_remembered skew before h event reply next None k s =
+    let b = behind_remembered skew before next h event (reached before.connections event) reply k s in
+    record { after = b.after; steps = b.behind; keeps = b.keeps; left = b.left }
+
 remembered_by : (skew : ℕ) (before : State Book) (h : History) (event : Event) (reply : Reply) (next : State Book) (b : Bool) → Keeps skew before.gate h
     → (s : StepsBy (Follows StandsFor) b before event reply next) → RememberedBy skew before h event reply next b s
 remembered_by skew before h event reply next true k s =
     let K : Book → Type 0 = λ g. Keeps skew g h in
     record {
       after = h;
-      steps = call_remembered before h event (called before.connections event) reply next s;
-      keeps = subst K (sym (call-gate before event (called before.connections event) reply next s)) k;
+      steps = call_remembered before h event (ready before.connections event) reply next s;
+      keeps = subst K (sym (call-gate before event (ready before.connections event) reply next s)) k;
       left = refl;
     }
 remembered_by skew before h event reply next false k s =
-    let b = behind_remembered skew before next h event (reached before.connections event) s.answer k s.behind in
-    record { after = b.after; steps = record { answer = s.answer; behind = b.behind; reply_is = s.reply_is }; keeps = b.keeps; left = b.left }
+    let o = onward_remembered skew before h event reply next (answer_of event.input) k s in
+    record { after = o.after; steps = o.steps; keeps = o.keeps; left = o.left }
 
 pub step-remembered : (skew : ℕ) (before : State Book) (h : History) (event : Event) (reply : Reply) (next : State Book) → StandsFor before.gate h → before.gate.skew ≡ skew
     → (s : Steps (Follows StandsFor) before event reply next) → Remembered skew before h event reply next s

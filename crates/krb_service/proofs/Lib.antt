@@ -1,5 +1,8 @@
 pub mod MessageLemmas
 pub mod CallLemmas
+pub mod ExchangeLemmas
+pub mod TurnLemmas
+pub mod TakeLemmas
 pub mod PolicyLemmas
 pub mod StepLemmas
 pub mod HistoryLemmas

@@ -1,5 +1,5 @@
 -- Over a gate whose step is determined, each event has one reply, and each run one list of replies.
-use Rattle.std.proofs.Common.{◌≡◌, ℕ, Bool, true, false, List, [], ◌∷◌, ◌++◌, Result, Ok, Err, refl, sym, ap, ◌∙◌, subst}
+use Rattle.std.proofs.Common.{◌≡◌, ℕ, Bool, true, false, List, [], ◌∷◌, ◌++◌, Option, Some, None, Result, Ok, Err, refl, sym, ap, ◌∙◌, subst}
 use Rattle.std.specs.Ordering.{nat_cmp}
 use Rattle.std.specs.BTreeMap.{is_at}
 use Rattle.std.specs.Map.{set_value}
@@ -10,18 +10,27 @@ use Rattle.krb_replay.specs.declared.ask.Verdict.{Verdict}
 use Rattle.krb_server.proofs.Once.{begins_once, one_outcome_lem, concludes_once}
 use Rattle.krb_server.specs.Accepts.{Begins, Finishes, Judged, Asks, Makes, Ends, Accepts, awaits_last_word, refusal, asks_dce_style}
 use Rattle.krb_server.specs.declared.admission.Accepted.{Accepted}
+use Rattle.krb_acceptor.proofs.Once.{found_once, tgt_req_once}
+use Rattle.krb_acceptor.specs.Whole.{answered_as, AcceptsWhole, Makes as MakesWhole}
+use Rattle.krb_acceptor.specs.declared.accept.Accepted.{Accepted as Taken}
+use Rattle.krb_conf.specs.declared.env.Env.{Env}
+use Rattle.krb_exchange.specs.declared.user_to_user.TgtReq.{TgtReq}
+use Rattle.sspi_generator.specs.declared.network.NetFault.{NetFault}
 use Rattle.krb_server.specs.declared.admission.Admission.{Admission}
 use Rattle.krb_server.specs.declared.request.Request.{Request}
 use Rattle.krb_script.specs.declared.item.Event.{Event}
 use Rattle.krb_script.specs.Script.{reading_of}
-use Rattle.sspi_core.specs.Checks.{Passes, Goes, ◌>>◌}
+use Rattle.sspi_core.specs.Checks.{Passes, Goes, told, ◌>>◌}
+use Rattle.sspi_core.specs.declared.error.Place.TheVariants.{Elsewhere}
 use Rattle.sspi_core.specs.declared.cause.Cause.{Cause}
 use Rattle.sspi_core.specs.declared.draw.Draw.{Draw}
 use Rattle.krb_service.specs.declared.connection.Connection.{Connection}
 use Rattle.krb_service.specs.declared.reply.Reply.{Reply}
-use Rattle.krb_service.specs.Policy.{State, Says, Judges, Behind, StepsBy, Steps, Runs, reached, called, reply_of, server_flags, draw_of}
+use Rattle.krb_service.specs.Exchanges.{answer_of}
+use Rattle.krb_service.specs.Policy.{State, Says, Settles, Judges, Behind, StepsOnward, StepsBy, Steps, Runs, reached, ready, awaited, server_flags, draw_of}
 use Rattle.krb_service.specs.MessageCalls.{is_call}
 use Rattle.krb_service.proofs.CallLemmas.{call-once}
+use Rattle.krb_service.proofs.ExchangeLemmas.{settles_once, answer-once, same_state}
 use Rattle.krb_service.specs.Described.{Remembers, skew_of, service_of}
 use Rattle.krb_service.specs.Reply.{replies_text}
 use Rattle.krb_service.specs.Text.{IsText, last_line}
@@ -77,28 +86,43 @@ module _ {G : Type 0} (admits : G → Ask → Verdict → G → Type 0) (determi
       let made = ends_once last server token h.outcome r s x y h.made (subst M (sym same.0) k.made) in
       (made.0, made.1, same.1)
 
-  judges_once : (state : State G) (event : Event) (connection : Connection) (token : List ℕ) (r s : Result Accepted Cause) (a b : State G) → Judges admits state event connection token r a
+  makes_whole_once : (server : Kerberos) (dce : Bool) (token : List ℕ) (env : Env) (draw : Draw) (old : G) (found : Option TgtReq) (r s : Result Taken Cause) (x y : Kerberos) (a b : G)
+      → MakesWhole admits server dce token env draw old found r x a → MakesWhole admits server dce token env draw old found s y b → (r ≡ s) × (x ≡ y) × (a ≡ b)
+  makes_whole_once server dce token env draw old (Some tgt_req) r s x y a b h k = (tgt_req_once server tgt_req dce env r s h.0 k.0, h.1 ∙ sym k.1, h.2 ∙ sym k.2)
+  makes_whole_once server dce token env draw old None r s x y a b h k =
+      let same = accepts_once server dce token draw old h.judged k.judged x y a b h.accepts k.accepts in
+      (h.answer_is ∙ ap answered_as same.0 ∙ sym k.answer_is, same.1, same.2)
+
+  whole_once : (server : Kerberos) (dce : Bool) (token : List ℕ) (env : Env) (draw : Draw) (old : G) (r s : Result Taken Cause) (x y : Kerberos) (a b : G)
+      → AcceptsWhole admits server dce token env draw old r x a → AcceptsWhole admits server dce token env draw old s y b → (r ≡ s) × (x ≡ y) × (a ≡ b)
+  whole_once server dce token env draw old r s x y a b h k =
+      let M : Option TgtReq → Type 0 = λ f. MakesWhole admits server dce token env draw old f s y b in
+      makes_whole_once server dce token env draw old h.tgt_req r s x y a b h.made (subst M (sym (found_once dce server.state token h.tgt_req k.tgt_req h.found k.found)) k.made)
+
+  judges_once : (state : State G) (event : Event) (connection : Connection) (token : List ℕ) (r s : Reply) (a b : State G) → Judges admits state event connection token r a
       → Judges admits state event connection token s b → (r ≡ s) × (a ≡ b)
   judges_once state event connection token r s a b h k =
-      let same = accepts_once connection.context (asks_dce_style (server_flags event.flags)) token (draw_of event) state.gate r s h.server k.server a.gate b.gate h.accepts k.accepts in
-      let put : Kerberos → List (ℕ × Connection) = λ server. set_value (is_at (nat_cmp event.connection)) state.connections (record connection { context = server }) in
-      let connections : a.connections ≡ b.connections = h.connections ∙ ap put same.1 ∙ sym k.connections in (
-        same.0,
-        ap (λ c. record { connections = c; env = a.env; gate = a.gate }) connections
-            ∙ ap (λ e. record { connections = b.connections; env = e; gate = a.gate }) (h.env ∙ sym k.env)
-            ∙ ap (λ g. record { connections = b.connections; env = b.env; gate = g }) same.2,
-      )
+      let draw = draw_of event in
+      let same = whole_once connection.context (asks_dce_style (server_flags event.flags)) token state.env draw state.gate h.answer k.answer h.server k.server a.gate b.gate h.accepts k.accepts in
+      let S : Result Taken Cause → Kerberos → Type 0 = λ answer server. Settles draw (record connection { context = server }) (told Elsewhere answer) s k.next in
+      let moved : S h.answer h.server = subst (λ answer. S answer h.server) (sym same.0) (subst (λ server. S k.answer server) (sym same.1) k.settles) in
+      let settled = settles_once draw (record connection { context = h.server }) (told Elsewhere h.answer) r s h.next k.next h.settles moved in
+      let put : Connection → List (ℕ × Connection) = λ next. set_value (is_at (nat_cmp event.connection)) state.connections next in
+      (settled.0, same_state a b (h.connections ∙ ap put settled.1 ∙ sym k.connections) (h.env ∙ sym k.env) same.2)
 
-  behind_once : (state : State G) (event : Event) (found : Result (Connection × List ℕ) Cause) (r s : Result Accepted Cause) (a b : State G) → Behind admits state event found r a
+  behind_once : (state : State G) (event : Event) (found : Result (Connection × List ℕ) Cause) (r s : Reply) (a b : State G) → Behind admits state event found r a
       → Behind admits state event found s b → (r ≡ s) × (a ≡ b)
   behind_once state event (Ok found) r s a b h k = judges_once state event found.0 found.1 r s a b h k
   behind_once state event (Err cause) r s a b h k = (h.0 ∙ sym k.0, h.1 ∙ sym k.1)
 
+  onward_once : (answer : Option (Result (List ℕ) NetFault)) (state : State G) (event : Event) (r s : Reply) (a b : State G) → StepsOnward admits answer state event r a → StepsOnward admits answer state event s b
+      → (r ≡ s) × (a ≡ b)
+  onward_once (Some answer) state event r s a b h k = answer-once state event (awaited state.connections event) answer r s a b h k
+  onward_once None state event r s a b h k = behind_once state event (reached state.connections event) r s a b h k
+
   step_by_once : (is_call : Bool) (state : State G) (event : Event) (r s : Reply) (a b : State G) → StepsBy admits is_call state event r a → StepsBy admits is_call state event s b → (r ≡ s) × (a ≡ b)
-  step_by_once true state event r s a b h k = call-once state event (called state.connections event) r s a b h k
-  step_by_once false state event r s a b h k =
-      let same = behind_once state event (reached state.connections event) h.answer k.answer a b h.behind k.behind in
-      (h.reply_is ∙ ap reply_of same.0 ∙ sym k.reply_is, same.1)
+  step_by_once true state event r s a b h k = call-once state event (ready state.connections event) r s a b h k
+  step_by_once false state event r s a b h k = onward_once (answer_of event.input) state event r s a b h k
 
   pub step-once : (state : State G) (event : Event) (r s : Reply) (a b : State G) → Steps admits state event r a → Steps admits state event s b → (r ≡ s) × (a ≡ b)
   step-once state event r s a b h k = step_by_once (is_call event.input) state event r s a b h k

@@ -24,5 +24,5 @@ module _ {G : Type 0} (admits : G → Ask → Verdict → G → Type 0) where
   -- the first checks refuse
   pub step-refused : (state : State G) (event : Event) (cause : Cause) → reached state.connections event ≡ Err cause → TakesToken admits state event (Refused (error_of cause)) state
   step-refused state event cause e =
-      let B : Result (Connection × List ℕ) Cause → Type 0 = λ f. Behind admits state event f (Err cause) state in
-      record { answer = Err cause; behind = subst B (sym e) (refl, refl); reply_is = refl }
+      let B : Result (Connection × List ℕ) Cause → Type 0 = λ f. Behind admits state event f (Refused (error_of cause)) state in
+      subst B (sym e) (refl, refl)

@@ -61,8 +61,8 @@ abbrev pub initiator_context : Endpoint → Kerberos
 initiator_context endpoint = record (new_context (default_params 24 22) (config_of endpoint) None endpoint.number) { auth_identity = endpoint.credentials }
 
 abbrev pub connection_in : ℕ → Endpoint → Role → Connection
-connection_in skew endpoint (Acceptor service) = record { context = acceptor_context skew service endpoint; target = None }
-connection_in skew endpoint (Initiator target) = record { context = initiator_context endpoint; target = target }
+connection_in skew endpoint (Acceptor service) = record { context = acceptor_context skew service endpoint; target = None; exchange = None }
+connection_in skew endpoint (Initiator target) = record { context = initiator_context endpoint; target = target; exchange = None }
 
 -- the connection of an end
 abbrev pub connection_of : ℕ → Endpoint → Connection

@@ -1,5 +1,7 @@
 pub mod Reply
 pub mod MessageCalls
+pub mod Exchanges
+pub mod Initiations
 pub mod Policy
 pub mod Described
 pub mod Left

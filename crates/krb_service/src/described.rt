@@ -24,7 +24,7 @@ fn components(alloc: Global, service: &str) -> Result<Vec<&str>, AllocError>
     service.split('/').collect(alloc)
 }
 
-fn copied_credentials(
+pub(crate) fn copied_credentials(
     alloc: Global,
     credentials: &Option<CredentialsBuffers>,
 ) -> Result<Option<CredentialsBuffers>, OutOfMemory>
@@ -161,7 +161,10 @@ fn initiator_context(alloc: Global, endpoint: &Endpoint) -> Result<Kerberos, Out
     Ok(client)
 }
 
-fn copied_target(alloc: Global, target: &Option<Name>) -> Result<Option<Name>, OutOfMemory>
+pub(crate) fn copied_target(
+    alloc: Global,
+    target: &Option<Name>,
+) -> Result<Option<Name>, OutOfMemory>
     ensures { IfOk result (λ copy. copy ≡ target.now) }
 {
     match target {
@@ -182,12 +185,14 @@ pub fn connection_of(
         Role::Acceptor(service) => Ok(Connection {
             context: acceptor_context(alloc, skew, service, endpoint)?,
             target: None,
+            exchange: None,
         }),
         Role::Initiator(target) => {
             let target = copied_target(alloc, target)?;
             Ok(Connection {
                 context: initiator_context(alloc, endpoint)?,
                 target,
+                exchange: None,
             })
         }
     }

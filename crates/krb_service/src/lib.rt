@@ -17,7 +17,9 @@ mod command;
 mod connection;
 mod demonstration;
 mod described;
+mod exchange;
 mod halt;
+mod initiation;
 pub mod laws;
 mod message_calls;
 mod reply;
@@ -29,6 +31,7 @@ pub use command::serve;
 pub use connection::Connection;
 pub use demonstration::demo;
 pub use described::connection_of;
+pub use krb_exchanges::Exchange;
 pub use krb_script::{Event, Input};
 pub use krb_text::{
     Calls, CutFault, Failed, LineCutter, MemSink, MemSource, Sink, Source, Status, StdSink,

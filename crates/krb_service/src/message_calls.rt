@@ -7,9 +7,9 @@ ghost use Rattle.krb_service.specs.MessageCalls.{is_call, Seals, Opens, Signs, V
 ghost use Rattle.krb_service.specs.declared.reply.Reply.TheVariants.{Refused};
 
 use crate::reply::Reply;
-use crate::service::is_memory;
 use krb_context::Kerberos;
 use krb_der::{Items, Octets, OutOfMemory};
+use krb_exchanges::is_memory;
 use krb_script::Input;
 use sspi_core::{BufferType, Error, Message, SecurityBufferRef};
 use std::alloc::Global;
@@ -63,7 +63,7 @@ fn copy_message(alloc: Global, message: &Message) -> Result<Message, OutOfMemory
 }
 
 /// A refusal, unless memory ran out.
-fn refused(error: Error) -> Result<Reply, OutOfMemory>
+pub(crate) fn refused(error: Error) -> Result<Reply, OutOfMemory>
     ensures refused { IfOk result (λ reply. (reply ≡ Refused error) × (error ≢ error_of causes.Memory)) }
 {
     if is_memory(&error) {

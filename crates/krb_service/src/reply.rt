@@ -3,13 +3,14 @@ ghost use Rattle.std.specs.Prelude.{◌≡◌, ◌++◌, codes, IfOk, string_byt
 ghost use Rattle.std.specs.List.{flat_map};
 ghost use Rattle.hex.specs.Hex.{encode_lower};
 ghost use Rattle.sspi_core.specs.Buffer.{has_checksum_flag};
-ghost use Rattle.krb_service.specs.Reply.{hex_or_dash, letter_of, buffer_text};
+ghost use Rattle.krb_service.specs.Reply.{hex_or_dash, letter_of, buffer_text, ask_line};
 
 use bitflags::Flags;
 use krb_der::Octets;
 use sspi_core::{
     BufferType, Error, Message, SecurityBufferFlags, SecurityBufferRef, SecurityStatus,
 };
+use sspi_generator::NetworkRequest;
 use std::alloc::{AllocError, Global};
 
 /// What an event is answered.
@@ -22,6 +23,8 @@ pub enum Reply {
         /// Whether it admits the peer. The last word of an exchange in DCE style does so no second time.
         admits: bool,
     },
+    /// Octets are to be sent to a KDC: the connection awaits what it answers.
+    Ask(NetworkRequest),
     /// The buffers of a message that was sealed, or opened.
     Buffers(Message),
     /// The MIC token of a payload.
@@ -42,7 +45,11 @@ impl Reply {
     {
         match self {
             Reply::Done { admits, .. } => *admits,
-            Reply::Buffers(_) | Reply::Mic(_) | Reply::Verified | Reply::Refused(_) => false,
+            Reply::Ask(_)
+            | Reply::Buffers(_)
+            | Reply::Mic(_)
+            | Reply::Verified
+            | Reply::Refused(_) => false,
         }
     }
 
@@ -52,6 +59,7 @@ impl Reply {
     {
         match self {
             Reply::Done { status, token, .. } => done_line(alloc, *status, token),
+            Reply::Ask(request) => ask_line(alloc, request),
             Reply::Buffers(message) => buffers_line(alloc, message.buffers()),
             Reply::Mic(token) => mic_line(alloc, token),
             Reply::Verified => String::from_str(alloc, "verified\n"),
@@ -70,6 +78,15 @@ fn done_line(alloc: Global, status: SecurityStatus, token: &Octets) -> Result<St
         SecurityStatus::Ok => format!(in alloc; "ok {digits}\n"),
         SecurityStatus::ContinueNeeded => format!(in alloc; "continue {digits}\n"),
     }
+}
+
+fn ask_line(alloc: Global, request: &NetworkRequest) -> Result<String, AllocError>
+    ensures { IfOk result (λ line. string_bytes line ≡ ask_line request.now) }
+{
+    let digits = hex_or_dash(alloc, request.payload.as_slice())?;
+    let protocol = request.protocol.scheme();
+    let url = request.url.as_str();
+    format!(in alloc; "ask {protocol} {url} {digits}\n")
 }
 
 fn mic_line(alloc: Global, token: &Octets) -> Result<String, AllocError>

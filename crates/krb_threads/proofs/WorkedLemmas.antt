@@ -5,7 +5,14 @@ use Rattle.krb_replay.specs.declared.ask.Ask.{Ask}
 use Rattle.krb_replay.specs.declared.ask.Verdict.{Verdict}
 use Rattle.krb_server.specs.Accepts.{Asks}
 use Rattle.krb_server.specs.Requests.{ask_of}
-use Rattle.krb_server.specs.declared.admission.Accepted.{Accepted}
+use Rattle.krb_acceptor.specs.Whole.{Makes}
+use Rattle.krb_acceptor.specs.declared.accept.Accepted.{Accepted as Taken}
+use Rattle.krb_conf.specs.declared.env.Env.{Env}
+use Rattle.krb_context.specs.declared.context.Kerberos.{Kerberos}
+use Rattle.krb_exchange.specs.declared.user_to_user.TgtReq.{TgtReq}
+use Rattle.krb_user_to_user.specs.declared.accept_run.AcceptRun.{AcceptRun}
+use Rattle.sspi_core.specs.declared.draw.Draw.{Draw}
+use Rattle.sspi_generator.specs.declared.network.NetFault.{NetFault}
 use Rattle.krb_server.specs.declared.request.Request.{Request}
 use Rattle.krb_shared.specs.declared.entry.Entry.{Entry}
 use Rattle.krb_shared.specs.declared.entry.Receipt.{Receipt}
@@ -14,9 +21,11 @@ use Rattle.krb_shared.specs.Seats.{Seat, AddsReceipt}
 use Rattle.krb_script.specs.declared.item.Event.{Event}
 use Rattle.sspi_core.specs.declared.cause.Cause.{Cause}
 use Rattle.krb_service.specs.Described.{with_gate}
-use Rattle.krb_service.specs.Policy.{State, Behind, AnswersCall, StepsBy, Steps, Runs, RunsOn, StopsBehind, reached, called}
+use Rattle.krb_service.specs.Exchanges.{answer_of}
+use Rattle.krb_service.specs.Policy.{State, Behind, AnswersCall, TakesAnswer, StepsOnward, StepsBy, Steps, Runs, RunsOn, StopsBehind, reached, ready, awaited}
 use Rattle.krb_service.specs.MessageCalls.{is_call}
 use Rattle.krb_service.proofs.CallLemmas.{call-gate}
+use Rattle.krb_service.proofs.ExchangeLemmas.{answer-gate, answer-env}
 use Rattle.krb_service.specs.declared.connection.Connection.{Connection}
 use Rattle.krb_service.specs.declared.reply.Reply.{Reply}
 use Rattle.krb_service.specs.declared.service.Stopped.{Stopped}
@@ -76,36 +85,60 @@ module _ {G N : Type 0} (admits : G → Ask → Verdict → G → Type 0) (log :
       }
   asks_by moment old (Err cause) verdict new same = record { gained = []; gains = gains_none old new same; asks = λ more. ap (λ g. rest_at g more) same }
 
-  record BehindBy (state : State G) (event : Event) (found : Result (Connection × List ℕ) Cause) (answer : Result Accepted Cause) (after : State G) : Type 0 where
+  record MadeBy (server : Kerberos) (dce : Bool) (token : List ℕ) (env : Env) (draw : Draw) (old : G) (found : Option TgtReq) (answer : Result Taken Cause) (server' : Kerberos) (new : G) : Type 0 where
     gained : List Entry
-    gains : Gains state.gate after.gate gained
-    env : after.env ≡ state.env
-    behind : (more : List Entry) → Behind (Reads (seat state.gate)) (with_gate state (rest_at state.gate (gained ++ more))) event found answer (with_gate after (rest_at after.gate more))
+    gains : Gains old new gained
+    made : (more : List Entry) → Makes (Reads (seat old)) server dce token env draw (rest_at old (gained ++ more)) found answer server' (rest_at new more)
 
-  behind_by : (state : State G) (event : Event) (found : Result (Connection × List ℕ) Cause) (answer : Result Accepted Cause) (after : State G) → Behind admits state event found answer after
-      → BehindBy state event found answer after
-  behind_by state event (Ok found) answer after j =
-      let a = asks_by event.moment state.gate j.accepts.request j.accepts.verdict after.gate j.accepts.gate in
+  made_by : (server : Kerberos) (dce : Bool) (token : List ℕ) (env : Env) (draw : Draw) (old : G) (found : Option TgtReq) (answer : Result Taken Cause) (server' : Kerberos) (new : G)
+      → Makes admits server dce token env draw old found answer server' new → MadeBy server dce token env draw old found answer server' new
+  made_by server dce token env draw old (Some tgt_req) answer server' new m =
+      record { gained = []; gains = gains_none old new m.2; made = λ more. (m.0, m.1, ap (λ g. rest_at g more) m.2) }
+  made_by server dce token env draw old None answer server' new m =
+      let a = asks_by draw.moment old m.accepts.request m.accepts.verdict new m.accepts.gate in
       record {
         gained = a.gained;
         gains = a.gains;
+        made = λ more. record {
+          judged = m.judged;
+          accepts = record {
+            verdict = m.accepts.verdict;
+            request = m.accepts.request;
+            begun = m.accepts.begun;
+            gate = a.asks more;
+            outcome = m.accepts.outcome;
+            judged = m.accepts.judged;
+            made = m.accepts.made;
+          };
+          answer_is = m.answer_is;
+        };
+      }
+
+  record BehindBy (state : State G) (event : Event) (found : Result (Connection × List ℕ) Cause) (reply : Reply) (after : State G) : Type 0 where
+    gained : List Entry
+    gains : Gains state.gate after.gate gained
+    env : after.env ≡ state.env
+    behind : (more : List Entry) → Behind (Reads (seat state.gate)) (with_gate state (rest_at state.gate (gained ++ more))) event found reply (with_gate after (rest_at after.gate more))
+
+  behind_by : (state : State G) (event : Event) (found : Result (Connection × List ℕ) Cause) (reply : Reply) (after : State G) → Behind admits state event found reply after
+      → BehindBy state event found reply after
+  behind_by state event (Ok found) reply after j =
+      let m = made_by _ _ _ _ _ state.gate j.accepts.tgt_req j.answer j.server after.gate j.accepts.made in
+      record {
+        gained = m.gained;
+        gains = m.gains;
         env = j.env;
         behind = λ more. record {
+          answer = j.answer;
           server = j.server;
-          accepts = record {
-            verdict = j.accepts.verdict;
-            request = j.accepts.request;
-            begun = j.accepts.begun;
-            gate = a.asks more;
-            outcome = j.accepts.outcome;
-            judged = j.accepts.judged;
-            made = j.accepts.made;
-          };
+          accepts = record { tgt_req = j.accepts.tgt_req; found = j.accepts.found; made = m.made more };
+          next = j.next;
+          settles = j.settles;
           connections = j.connections;
           env = j.env;
         };
       }
-  behind_by state event (Err cause) answer after b = record {
+  behind_by state event (Err cause) reply after b = record {
     gained = [];
     gains = gains_none state.gate after.gate (ap (λ (s : State G). s.gate) b.1);
     env = ap (λ (s : State G). s.env) b.1;
@@ -128,16 +161,39 @@ module _ {G N : Type 0} (admits : G → Ask → Verdict → G → Type 0) (log :
     env : after.env ≡ state.env
     steps : (more : List Entry) → StepsBy (Reads (seat state.gate)) b (with_gate state (rest_at state.gate (gained ++ more))) event reply (with_gate after (rest_at after.gate more))
 
+  -- what the network brings asks no gate either
+  answer_by : (state : State G) (event : Event) (found : Result (Connection × AcceptRun) Cause) (answer : Result (List ℕ) NetFault) (reply : Reply) (after : State G) → TakesAnswer state event found answer reply after
+      → (more : List Entry) → TakesAnswer (with_gate state (rest_at state.gate more)) event found answer reply (with_gate after (rest_at after.gate more))
+  answer_by state event (Ok found) answer reply after s more = record { next = s.next; goes_on = s.goes_on; connections = s.connections; env = s.env; gate = ap (λ g. rest_at g more) s.gate }
+  answer_by state event (Err cause) answer reply after s more = (s.0, ap (λ (s : State G). with_gate s (rest_at s.gate more)) s.1)
+
+  record OnwardBy (answer : Option (Result (List ℕ) NetFault)) (state : State G) (event : Event) (reply : Reply) (after : State G) : Type 0 where
+    gained : List Entry
+    gains : Gains state.gate after.gate gained
+    env : after.env ≡ state.env
+    steps : (more : List Entry) → StepsOnward (Reads (seat state.gate)) answer (with_gate state (rest_at state.gate (gained ++ more))) event reply (with_gate after (rest_at after.gate more))
+
+  onward_by : (answer : Option (Result (List ℕ) NetFault)) (state : State G) (event : Event) (reply : Reply) (after : State G) → StepsOnward admits answer state event reply after → OnwardBy answer state event reply after
+  onward_by (Some answer) state event reply after step = record {
+    gained = [];
+    gains = gains_none state.gate after.gate (answer-gate state event (awaited state.connections event) answer reply after step);
+    env = answer-env state event (awaited state.connections event) answer reply after step;
+    steps = λ more. answer_by state event (awaited state.connections event) answer reply after step more;
+  }
+  onward_by None state event reply after step =
+      let b = behind_by state event (reached state.connections event) reply after step in
+      record { gained = b.gained; gains = b.gains; env = b.env; steps = b.behind }
+
   step_by : (b : Bool) (state : State G) (event : Event) (reply : Reply) (after : State G) → StepsBy admits b state event reply after → StepBy b state event reply after
   step_by true state event reply after call = record {
     gained = [];
-    gains = gains_none state.gate after.gate (call-gate state event (called state.connections event) reply after call);
-    env = call_env state event (called state.connections event) reply after call;
-    steps = λ more. call_by state event (called state.connections event) reply after call more;
+    gains = gains_none state.gate after.gate (call-gate state event (ready state.connections event) reply after call);
+    env = call_env state event (ready state.connections event) reply after call;
+    steps = λ more. call_by state event (ready state.connections event) reply after call more;
   }
-  step_by false state event reply after taken =
-      let b = behind_by state event (reached state.connections event) taken.answer after taken.behind in
-      record { gained = b.gained; gains = b.gains; env = b.env; steps = λ more. record { answer = taken.answer; behind = b.behind more; reply_is = taken.reply_is } }
+  step_by false state event reply after step =
+      let o = onward_by (answer_of event.input) state event reply after step in
+      record { gained = o.gained; gains = o.gains; env = o.env; steps = o.steps }
 
   record IsBy (state : State G) (events : List Event) (replies : List Reply) (after : State G) : Type 0 where
     gained : List Entry

@@ -9,8 +9,8 @@ use Rattle.krb_service.proofs.service.Service.answer_call.Goals as goal
 pub returns-clause-err : goal.returns-clause-err
 returns-clause-err g c =
     rw (← c.self.view_is) (on_err_weaker c.call.result (λ stays.
-    let put = (c.get_mut.follows.holds (record { context = c.call.new.context; target = c.in-Some.connection.now.target })).0 in
+    let put = (c.get_mut.follows.holds (record { context = c.call.new.context; target = c.in-Some.connection.now.target; exchange = c.in-Some.connection.now.exchange })).0 in
     ap (λ connections. record { connections = connections; env = c.self.inside.env; gate = c.self.inside.gate })
     (put
-    ∙ ap (λ context. set_value (is_at (nat_cmp c.args.event.now.connection)) c.self.inside.connections.entries (record { context = context; target = c.in-Some.connection.now.target })) stays
+    ∙ ap (λ context. set_value (is_at (nat_cmp c.args.event.now.connection)) c.self.inside.connections.entries (record { context = context; target = c.in-Some.connection.now.target; exchange = c.in-Some.connection.now.exchange })) stays
     ∙ set_same (is_at (nat_cmp c.args.event.now.connection)) c.self.inside.connections.entries c.in-Some.connection.now (sym c.in-Some.ensures.value))) c.call.ensures.err)

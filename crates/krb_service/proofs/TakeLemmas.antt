@@ -1,0 +1,99 @@
+-- A token that reached the acceptor of its connection, and what is answered to it.
+use Rattle.std.proofs.Common.{◌≡◌, ℕ, Bool, true, false, not, List, Option, None, Some, Result, Ok, Err, IfOk, refl, sym, ap, ◌∙◌, subst}
+use Rattle.std.specs.Result.{result_map_both}
+use Rattle.std.specs.Ordering.{nat_cmp}
+use Rattle.std.specs.BTreeMap.{is_at}
+use Rattle.std.specs.Map.{set_value}
+use Rattle.krb_acceptor.specs.Whole.{AcceptsWhole}
+use Rattle.krb_acceptor.specs.declared.accept.Accepted.{Accepted as Taken}
+use Rattle.krb_context.specs.Contexts.{is_acceptor}
+use Rattle.krb_context.specs.declared.context.Kerberos.{Kerberos}
+use Rattle.krb_der.specs.declared.memory.OutOfMemory.{OutOfMemory}
+use Rattle.krb_replay.specs.declared.ask.Ask.{Ask}
+use Rattle.krb_replay.specs.declared.ask.Verdict.{Verdict}
+use Rattle.krb_script.specs.Script.{at_id}
+use Rattle.krb_script.specs.declared.item.Event.{Event}
+use Rattle.krb_server.specs.Accepts.{asks_dce_style}
+use Rattle.sspi_core.specs.Checks.{ok_or, told}
+use Rattle.sspi_core.specs.Kinds.{error_of}
+use Rattle.sspi_core.specs.declared.cause.Cause.{Cause}
+use Rattle.sspi_core.specs.declared.cause.Cause.TheVariants as causes
+use Rattle.sspi_core.specs.declared.error.Error.{Error}
+use Rattle.sspi_core.specs.declared.error.Place.TheVariants.{Elsewhere}
+use Rattle.krb_service.specs.Exchanges.{awaits}
+use Rattle.krb_service.specs.Policy.{State, ◌>>=◌, check, token_of, called, ready, reached, token_reached, server_flags, draw_of, Settles, Judges, Behind, TakesToken}
+use Rattle.krb_service.specs.declared.connection.Connection.{Connection}
+use Rattle.krb_service.specs.declared.reply.Reply.{Reply}
+
+same_ok : {A : Type 0} (x y : A) → ◌≡◌ {A = Result A Cause} (Ok x) (Ok y) → x ≡ y
+same_ok x y e = cc
+
+-- a check that passes hands on what was there
+passes_on : (connection c : Connection) (checked : Result (Unit {0}) Cause) → (checked >>= (λ u. Ok connection)) ≡ Ok c → connection ≡ c
+passes_on connection c (Ok u) e = same_ok connection c e
+passes_on connection c (Err cause) e = absurd (cc)
+
+stands_by : (in_range : Result (Unit {0}) Cause) (found : Option Connection) (c : Connection)
+    → (in_range >>= (λ u. ok_or causes.Connection found) >>= (λ connection. check causes.Sequence (not (awaits connection)) >>= (λ u. Ok connection))) ≡ Ok c → found ≡ Some c
+stands_by (Ok u) (Some connection) c e = ap Some (passes_on connection c (check causes.Sequence (not (awaits connection))) e)
+stands_by (Ok u) None c e = absurd (cc)
+stands_by (Err cause) found c e = absurd (cc)
+
+-- behind the checks of the connection
+abbrev with_token : Connection → Option (List ℕ) → Result (Unit {0}) Cause → Result (Connection × List ℕ) Cause
+with_token connection token built = built >>= (λ u. ok_or causes.Sequence token >>= (λ t. Ok (connection, t)))
+
+abbrev behind : Option (List ℕ) → Result Connection Cause → Result (Connection × List ℕ) Cause
+behind token found = found >>= (λ connection. with_token connection token (check causes.NotBuilt (is_acceptor connection.context)))
+
+record Reached (found : Result Connection Cause) (brought : Option (List ℕ)) (token : List ℕ) : Type 0 where
+  connection : Connection
+  found_is : found ≡ Ok connection
+  reaches : behind brought found ≡ Ok (connection, token)
+
+with_ok : (connection : Connection) (brought : Option (List ℕ)) (built : Result (Unit {0}) Cause) (token : List ℕ)
+    → result_map_both (λ (x : Connection × List ℕ). x.1) (λ (c : Cause). c) (with_token connection brought built) ≡ Ok token → with_token connection brought built ≡ Ok (connection, token)
+with_ok connection (Some t) (Ok u) token e = ap (λ (x : List ℕ). Ok (connection, x)) (same_ok t token e)
+with_ok connection None (Ok u) token e = absurd (cc)
+with_ok connection brought (Err cause) token e = absurd (cc)
+
+reached_by : (found : Result Connection Cause) (brought : Option (List ℕ)) (token : List ℕ) → result_map_both (λ (x : Connection × List ℕ). x.1) (λ (c : Cause). c) (behind brought found) ≡ Ok token → Reached found brought token
+reached_by (Ok connection) brought token e =
+    record { connection = connection; found_is = refl; reaches = with_ok connection brought (check causes.NotBuilt (is_acceptor connection.context)) token e }
+reached_by (Err cause) brought token e = absurd (cc)
+
+some_one : (x y : Connection) (o : Option Connection) → o ≡ Some x → o ≡ Some y → x ≡ y
+some_one x y o p q = let e : Some x ≡ Some y = sym p ∙ q in cc
+
+-- the connection that stands at the number has the token that was let through
+pub reached_there : (connections : List (ℕ × Connection)) (event : Event) (connection : Connection) (token : List ℕ) → at_id event.connection connections ≡ Some connection → token_reached connections event ≡ Ok token
+    → reached connections event ≡ Ok (connection, token)
+reached_there connections event connection token stands e =
+    let r = reached_by (ready connections event) (token_of event.input) token e in
+    let there = stands_by (check causes.Moment _) (at_id event.connection connections) r.connection r.found_is in
+    r.reaches ∙ ap (λ (c : Connection). Ok (c, token)) (some_one r.connection connection (at_id event.connection connections) there stands)
+
+module _ {G : Type 0} (admits : G → Ask → Verdict → G → Type 0) where
+  -- what a token is answered
+  taken_by : (state after : State G) (event : Event) (connection : Connection) (token : List ℕ) (result : Result Taken Error) (server : Kerberos) (next : Connection) (reply : Reply)
+      → reached state.connections event ≡ Ok (connection, token) → (result ≡ Err (error_of causes.Memory) → ⊥)
+      → ((result ≡ Err (error_of causes.Memory) → ⊥) → (answer : Result Taken Cause) × (result ≡ told Elsewhere answer)
+      × AcceptsWhole admits connection.context (asks_dce_style (server_flags event.flags)) token state.env (draw_of event) state.gate answer server after.gate)
+      → Settles (draw_of event) (record connection { context = server }) result reply next
+      → after.connections ≡ set_value (is_at (nat_cmp event.connection)) state.connections next → after.env ≡ state.env → TakesToken admits state event reply after
+  taken_by state after event connection token result server next reply reaches other step settles put env =
+      let s = step other in
+      let S : Result Taken Error → Type 0 = λ r. Settles (draw_of event) (record connection { context = server }) r reply next in
+      let B : Result (Connection × List ℕ) Cause → Type 0 = λ f. Behind admits state event f reply after in
+      let judges : Judges admits state event connection token reply after = record { answer = s.0; server = server; accepts = s.2; next = next; settles = subst S s.1 settles; connections = put; env = env } in
+      subst B (sym reaches) judges
+
+  pub token-taken : (state after : State G) (event : Event) (connection : Connection) (token : List ℕ) (result : Result Taken Error) (server : Kerberos) (next : Connection) (made : Result Reply OutOfMemory)
+      → at_id event.connection state.connections ≡ Some connection → token_reached state.connections event ≡ Ok token
+      → ((result ≡ Err (error_of causes.Memory) → ⊥) → (answer : Result Taken Cause) × (result ≡ told Elsewhere answer)
+      × AcceptsWhole admits connection.context (asks_dce_style (server_flags event.flags)) token state.env (draw_of event) state.gate answer server after.gate)
+      → IfOk made (λ _. result ≡ Err (error_of causes.Memory) → ⊥) → IfOk made (λ reply. Settles (draw_of event) (record connection { context = server }) result reply next)
+      → after.connections ≡ set_value (is_at (nat_cmp event.connection)) state.connections next → after.env ≡ state.env → IfOk made (λ reply. TakesToken admits state event reply after)
+  token-taken state after event connection token result server next (Ok reply) stands e step other settles put env =
+      taken_by state after event connection token result server next reply (reached_there state.connections event connection token stands e) other step settles put env
+  token-taken state after event connection token result server next (Err memory) stands e step other settles put env = tt
