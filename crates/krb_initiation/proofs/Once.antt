@@ -5,7 +5,6 @@ use Rattle.krb_conf.specs.declared.env.Env.{Env}
 use Rattle.krb_context.specs.declared.context.Kerberos.{Kerberos}
 use Rattle.krb_context.specs.declared.state.KerberosState.{KerberosState}
 use Rattle.krb_context.specs.declared.state.KerberosState.TheVariants.{TgtExchange, Preauthentication, ApExchange, Final}
-use Rattle.krb_messages.specs.Frame.{IsFrame}
 use Rattle.krb_messages.specs.Oid.{contents_of, user_to_user_oid, IsByName}
 use Rattle.krb_messages.specs.declared.oid.Oid.{Oid}
 use Rattle.krb_messages.specs.declared.oid.Oid.TheVariants.{Krb5, MsKrb5, UserToUser, Other}
@@ -106,6 +105,7 @@ same_ticket_in token t u o p h k =
 
 -- what a framed token tells is one, wherever the octets of its mechanism lie
 same_tgt : (token : List ℕ) (x y : Option (Ticket × Oid)) → HasTicket token x → HasTicket token y → framed_tgt x ≡ framed_tgt y
+unfolding tgt_with
 same_tgt token None None h k = refl
 same_tgt token None (Some y) h k = absurd (no_value token _ _ h k.0.frame.is.is)
 same_tgt token (Some x) None h k = absurd (no_value token _ _ k h.0.frame.is.is)
