@@ -13,17 +13,33 @@ Lines, with one space between two fields; a line that is empty or begins with # 
 
     skew <seconds>                                 first, once: the clock skew that is allowed, 0 to 86400
     acceptor <id> <number> <host> <service>        an acceptor, and its first sequence number
-    key <id> <service> <hex>                       the key of an acceptor for its own service
+    key <id> <service> <hex>                       a key of an acceptor, for this service
+    initiator <id> <number> <host> <target>        an initiator, and the service that it speaks to, or -
+    password <id> <user> <domain> <hex>            who an initiator, or an acceptor in user-to-user, is; - is none
+    keytab <id> <principal> <type> <hex>           the same with a key of the type 17 or 18
+    kdc <id> <url>                                 where its KDC is
+    env <name> <hex>, file <path> <hex>            a variable, a file: where KDCs and realms are looked for
     event <id> <moment> <random> <flags> <input>   an event at a connection
 
 An id and a number have at most 32 bits. A moment is in microseconds since 1970-01-01T00:00:00Z. The random octets are
 64, in hex. Flags are letters, each once, or - for none: D delegate, M mutual, R replay, S sequence, C confidentiality,
-K use session key, E DCE style, I integrity, N no integrity. An input is token <hex>, where - stands for no octets. The
-inputs start, reply, fault, wrap, unwrap, mic and verify are not built yet. Behind the first event only events stand.
+K use session key, E DCE style, I integrity, N no integrity. Behind the first event only events stand. Inputs, where - stands
+for no octets:
+
+    token <hex>, start                 what the peer sent; what an initiator begins with
+    reply <hex>, fault <number>        what a KDC answered; that it did not, with a code
+    wrap <buffers>, unwrap <buffers>   a message to seal, to open
+    mic <hex>, verify <hex> <hex>      a payload to sign; a MIC token and its payload
+
+Buffers are fields T:<hex>:<limit>, the token, D:<hex>:<limit>, the data, R:<hex>:<limit>, data that are covered and not
+sealed, and S:<hex>:<limit>, a whole message.
 
 Replies:
 
     ok <hex>, continue <hex>     the event was taken; the token for the peer, or -
+    ask <protocol> <url> <hex>   these octets are to be sent to a KDC, whose answer is awaited
+    buffers <buffers>            the message that was sealed or opened
+    mic <hex>, verified          the MIC token; it is the peer's
     refused <kind> <cause>       it was not
 
 The last line is one of these:

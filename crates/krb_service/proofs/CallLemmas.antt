@@ -1,5 +1,5 @@
 -- Calls at a context: none reaches an acceptor's checks or the gate, none admits a peer, and each has one answer.
-use Rattle.std.proofs.Common.{◌≡◌, ℕ, Bool, true, false, List, take, Option, None, Result, Ok, Err, refl, sym, ap, ◌∙◌, subst}
+use Rattle.std.proofs.Common.{◌≡◌, ℕ, nat_le, Bool, true, false, List, take, Option, Some, None, is_some, is_none, Result, Ok, Err, refl, sym, ap, ◌∙◌, subst}
 use Rattle.std.specs.Ordering.{nat_cmp}
 use Rattle.std.specs.BTreeMap.{is_at}
 use Rattle.std.specs.Map.{set_value}
@@ -17,12 +17,14 @@ use Rattle.krb_context.specs.Wraps.{Readies, Wraps}
 use Rattle.krb_context.specs.declared.context.Kerberos.{Kerberos}
 use Rattle.krb_replay.specs.declared.ask.Ask.{Ask}
 use Rattle.krb_replay.specs.declared.ask.Verdict.{Verdict}
+use Rattle.krb_script.specs.Script.{at_id}
 use Rattle.krb_script.specs.declared.item.Event.{Event}
 use Rattle.krb_script.specs.declared.input.Input.{Input}
 use Rattle.krb_script.specs.declared.input.Input.TheVariants as inputs
 use Rattle.krb_service.specs.MessageCalls.{is_call, IsSealedBy, IsOpenedBy, IsSignedBy, Seals, Opens, Signs, Verifies, verified, Calls}
+use Rattle.krb_service.proofs.TakeLemmas.{stands_by}
 use Rattle.krb_service.specs.Exchanges.{answer_of}
-use Rattle.krb_service.specs.Policy.{State, ◌>>=◌, check, token_of, reached, ready, CallsAt, AnswersCall, Behind, Judges, StepsOnward, StepsBy, Steps}
+use Rattle.krb_service.specs.Policy.{State, ◌>>=◌, check, token_of, last_moment, is_initiating, is_initiator, reached, ready, CallsAt, AnswersCall, Behind, Judges, TakesPart, StepsOnward, StepsBy, Steps}
 use Rattle.krb_service.specs.Reply.{admits_peer}
 use Rattle.krb_service.specs.declared.connection.Connection.{Connection}
 use Rattle.krb_service.specs.declared.reply.Reply.{Reply}
@@ -32,14 +34,14 @@ abbrev with_token : Connection → Option (List ℕ) → Result (Unit {0}) Cause
 with_token connection token built = built >>= (λ u. ok_or causes.Sequence token >>= (λ t. Ok (connection, t)))
 
 abbrev behind : Option (List ℕ) → Result Connection Cause → Result (Connection × List ℕ) Cause
-behind token found = found >>= (λ connection. with_token connection token (check causes.NotBuilt (is_acceptor connection.context)))
+behind token found = found >>= (λ connection. with_token connection token (check causes.Sequence (is_acceptor connection.context)))
 
 no_token : (connection : Connection) (built : Result (Unit {0}) Cause) (x : Connection × List ℕ) → with_token connection None built ≡ Ok x → ⊥
 no_token connection (Ok u) x e = absurd (cc)
 no_token connection (Err cause) x e = absurd (cc)
 
 nothing_follows : (found : Result Connection Cause) (x : Connection × List ℕ) → behind None found ≡ Ok x → ⊥
-nothing_follows (Ok connection) x e = no_token connection (check causes.NotBuilt (is_acceptor connection.context)) x e
+nothing_follows (Ok connection) x e = no_token connection (check causes.Sequence (is_acceptor connection.context)) x e
 nothing_follows (Err cause) x e = absurd (cc)
 
 no_call : (input : Input) (found : Result Connection Cause) (x : Connection × List ℕ) → behind (token_of input) found ≡ Ok x → (is_call input ≡ false) × (answer_of input ≡ None)
@@ -52,7 +54,28 @@ no_call (inputs.Unwrap message) found x e = absurd (nothing_follows found x e)
 no_call (inputs.MakeMic payload) found x e = absurd (nothing_follows found x e)
 no_call (inputs.VerifyMic token payload) found x e = absurd (nothing_follows found x e)
 
--- what reaches an acceptor's checks is no call, and nothing that the network brings
+-- what reaches an acceptor's checks comes at an acceptor,
+not_none : {S : Type 0} (o : Option S) → is_some o ≡ true → is_none o ≡ false
+not_none None e = absurd (cc)
+not_none (Some x) e = refl
+
+tested : (connection : Connection) (brought : Option (List ℕ)) (test : Bool) (x : Connection × List ℕ) → with_token connection brought (check causes.Sequence test) ≡ Ok x → test ≡ true
+tested connection brought true x e = refl
+tested connection brought false x e = absurd (cc)
+
+judged_at : (at : Option Connection) (found : Result Connection Cause) (brought : Option (List ℕ)) (x : Connection × List ℕ) → ((c : Connection) → found ≡ Ok c → at ≡ Some c) → behind brought found ≡ Ok x → is_initiating at ≡ false
+judged_at at (Ok connection) brought x stands e =
+    let P : Option Connection → Type 0 = λ o. is_initiating o ≡ false in
+    subst P (sym (stands connection refl)) (not_none connection.context.server (tested connection brought (is_acceptor connection.context) x e))
+judged_at at (Err cause) brought x stands e = absurd (cc)
+
+pub reached-acceptor : (connections : List (ℕ × Connection)) (event : Event) (connection : Connection) (token : List ℕ) → reached connections event ≡ Ok (connection, token)
+    → is_initiator event.connection connections ≡ false
+reached-acceptor connections event connection token e =
+    judged_at (at_id event.connection connections) (ready connections event) (token_of event.input) (connection, token)
+    (λ c is. stands_by (check causes.Moment (nat_le event.moment last_moment)) (at_id event.connection connections) c is) e
+
+-- and is no call, and nothing that the network brings
 pub reached-no_call : (connections : List (ℕ × Connection)) (event : Event) (connection : Connection) (token : List ℕ) → reached connections event ≡ Ok (connection, token)
     → (is_call event.input ≡ false) × (answer_of event.input ≡ None)
 reached-no_call connections event connection token e = no_call event.input (ready connections event) (connection, token) e
@@ -65,8 +88,9 @@ module _ {G : Type 0} (admits : G → Ask → Verdict → G → Type 0) where
       let none = reached-no_call state.connections event connection token e in
       let P : Bool → Type 0 = λ b. StepsBy admits b state event reply after in
       let O : Option (Result (List ℕ) NetFault) → Type 0 = λ a. StepsOnward admits a state event reply after in
+      let T : Bool → Type 0 = λ b. TakesPart admits b state event reply after in
       let B : Result (Connection × List ℕ) Cause → Type 0 = λ f. Behind admits state event f reply after in
-      subst B e (subst O none.1 (subst P none.0 step))
+      subst B e (subst T (reached-acceptor state.connections event connection token e) (subst O none.1 (subst P none.0 step)))
 
 seals_not : (context : Kerberos) (answer : Result (List Buffer) Cause) (reply : Reply) (after : Kerberos) → IsSealedBy context answer reply after → admits_peer reply ≡ true → ⊥
 seals_not context (Ok message) reply after made done = let z = ap admits_peer (sym made.0) ∙ done in absurd (cc)

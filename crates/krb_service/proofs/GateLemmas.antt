@@ -25,13 +25,13 @@ use Rattle.sspi_core.specs.declared.error.Place.TheVariants.{Elsewhere}
 use Rattle.sspi_core.specs.declared.cause.Cause.{Cause}
 use Rattle.sspi_core.specs.declared.draw.Draw.{Draw}
 use Rattle.krb_service.specs.Exchanges.{answer_of}
-use Rattle.krb_service.specs.Policy.{State, Settles, Judges, Behind, StepsOnward, StepsBy, Steps, Runs, Brings, reached, ready, awaited, reply_of, server_flags, draw_of}
+use Rattle.krb_service.specs.Policy.{State, Settles, Judges, Behind, TakesPart, StepsOnward, StepsBy, Steps, Runs, Brings, reached, heard, ready, awaited, is_initiator, reply_of, server_flags, draw_of}
 use Rattle.krb_service.specs.Reply.{admits_peer}
 use Rattle.krb_service.specs.declared.connection.Connection.{Connection}
 use Rattle.krb_service.specs.declared.reply.Reply.{Reply}
 use Rattle.krb_service.specs.MessageCalls.{is_call}
 use Rattle.krb_service.proofs.CallLemmas.{call-gate, token-step}
-use Rattle.krb_service.proofs.ExchangeLemmas.{settles_admitted, settles_refused, answer-gate}
+use Rattle.krb_service.proofs.ExchangeLemmas.{settles_admitted, settles_refused, answer-gate, turn-gate}
 use Rattle.krb_service.proofs.LeftLemmas.{made_admission, judged-other, passed_admitted}
 
 -- what passes is admitted by the gate
@@ -72,9 +72,13 @@ module _ {G : Type 0} (admits : G → Ask → Verdict → G → Type 0) (skew : 
   behind_skew state after event (Ok found) reply b = made_skew _ _ _ _ _ state.gate b.accepts.tgt_req b.answer b.server after.gate b.accepts.made
   behind_skew state after event (Err cause) reply b = ap (λ (s : State G). skew s.gate) b.1
 
+  part_skew : (initiates : Bool) (state after : State G) (event : Event) (reply : Reply) → TakesPart admits initiates state event reply after → skew after.gate ≡ skew state.gate
+  part_skew true state after event reply step = ap skew (turn-gate state event (heard state.connections event) reply after step)
+  part_skew false state after event reply step = behind_skew state after event (reached state.connections event) reply step
+
   onward_skew : (answer : Option (Result (List ℕ) NetFault)) (state after : State G) (event : Event) (reply : Reply) → StepsOnward admits answer state event reply after → skew after.gate ≡ skew state.gate
   onward_skew (Some answer) state after event reply step = ap skew (answer-gate state event (awaited state.connections event) answer reply after step)
-  onward_skew None state after event reply step = behind_skew state after event (reached state.connections event) reply step
+  onward_skew None state after event reply step = part_skew (is_initiator event.connection state.connections) state after event reply step
 
   step_skew : (is_call : Bool) (state after : State G) (event : Event) (reply : Reply) → StepsBy admits is_call state event reply after → skew after.gate ≡ skew state.gate
   step_skew true state after event reply step = ap skew (call-gate state event (ready state.connections event) reply after step)

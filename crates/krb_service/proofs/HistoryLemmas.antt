@@ -10,7 +10,7 @@ use Rattle.krb_acceptor.specs.declared.accept.Accepted.{Accepted as Taken}
 use Rattle.krb_conf.specs.declared.env.Env.{Env}
 use Rattle.krb_context.specs.declared.context.Kerberos.{Kerberos}
 use Rattle.krb_exchange.specs.declared.user_to_user.TgtReq.{TgtReq}
-use Rattle.krb_user_to_user.specs.declared.accept_run.AcceptRun.{AcceptRun}
+use Rattle.krb_exchanges.specs.declared.run.Run.{Run}
 use Rattle.sspi_core.specs.declared.draw.Draw.{Draw}
 use Rattle.sspi_generator.specs.declared.network.NetFault.{NetFault}
 use Rattle.krb_server.specs.declared.request.Request.{Request}
@@ -19,12 +19,12 @@ use Rattle.sspi_core.specs.declared.cause.Cause.{Cause}
 use Rattle.krb_service.specs.declared.connection.Connection.{Connection}
 use Rattle.krb_service.specs.declared.reply.Reply.{Reply}
 use Rattle.krb_service.specs.Exchanges.{answer_of}
-use Rattle.krb_service.specs.Policy.{State, Behind, AnswersCall, TakesAnswer, StepsOnward, StepsBy, Steps, Runs, reached, ready, awaited}
+use Rattle.krb_service.specs.Policy.{State, Behind, AnswersCall, TakesAnswer, TakesTurn, TakesPart, StepsOnward, StepsBy, Steps, Runs, reached, heard, ready, awaited, is_initiator}
 use Rattle.krb_service.specs.Described.{Remembers, with_gate}
-use Rattle.krb_service.specs.Left.{left_made, left_behind, left_onward, left_by_kind, record_left, records_left}
+use Rattle.krb_service.specs.Left.{left_made, left_behind, left_by_part, left_onward, left_by_kind, record_left, records_left}
 use Rattle.krb_service.specs.MessageCalls.{is_call}
 use Rattle.krb_service.proofs.CallLemmas.{call-gate}
-use Rattle.krb_service.proofs.ExchangeLemmas.{answer-gate}
+use Rattle.krb_service.proofs.ExchangeLemmas.{answer-gate, turn-gate}
 
 -- a book of this skew that stands for the history
 record Keeps (skew : ℕ) (book : Book) (h : History) : Type 0 where
@@ -131,10 +131,35 @@ call_remembered : (before : State Book) (h : History) (event : Event) (found : R
 call_remembered before h event (Ok connection) reply next c = record { context = c.context; calls = c.calls; connections = c.connections; env = c.env; gate = refl }
 call_remembered before h event (Err cause) reply next c = (c.0, ap (λ (s : State Book). with_gate s h) c.1)
 
-answer_remembered : (before : State Book) (h : History) (event : Event) (found : Result (Connection × AcceptRun) Cause) (answer : Result (List ℕ) NetFault) (reply : Reply) (next : State Book) → TakesAnswer before event found answer reply next
+answer_remembered : (before : State Book) (h : History) (event : Event) (found : Result (Connection × Run) Cause) (answer : Result (List ℕ) NetFault) (reply : Reply) (next : State Book) → TakesAnswer before event found answer reply next
     → TakesAnswer (with_gate before h) event found answer reply (with_gate next h)
 answer_remembered before h event (Ok found) answer reply next s = record { next = s.next; goes_on = s.goes_on; connections = s.connections; env = s.env; gate = refl }
 answer_remembered before h event (Err cause) answer reply next s = (s.0, ap (λ (s : State Book). with_gate s h) s.1)
+
+turn_remembered : (before : State Book) (h : History) (event : Event) (found : Result (Connection × List ℕ) Cause) (reply : Reply) (next : State Book) → TakesTurn before event found reply next
+    → TakesTurn (with_gate before h) event found reply (with_gate next h)
+turn_remembered before h event (Ok found) reply next s = record { next = s.next; undertakes = s.undertakes; connections = s.connections; env = s.env; gate = refl }
+turn_remembered before h event (Err cause) reply next s = (s.0, ap (λ (s : State Book). with_gate s h) s.1)
+
+record PartRemembered (skew : ℕ) (before : State Book) (h : History) (event : Event) (reply : Reply) (next : State Book) (initiates : Bool) (s : TakesPart (Follows StandsFor) initiates before event reply next) : Type 0 where
+  after : History
+  steps : TakesPart (Remembers skew) initiates (with_gate before h) event reply (with_gate next after)
+  keeps : Keeps skew next.gate after
+  left : left_by_part (Remembers skew) initiates (with_gate before h) event reply (with_gate next after) steps ≡ left_by_part (Follows StandsFor) initiates before event reply next s
+
+part_remembered : (skew : ℕ) (before : State Book) (h : History) (event : Event) (reply : Reply) (next : State Book) (initiates : Bool) → Keeps skew before.gate h
+    → (s : TakesPart (Follows StandsFor) initiates before event reply next) → PartRemembered skew before h event reply next initiates s
+part_remembered skew before h event reply next true k s =
+    let K : Book → Type 0 = λ g. Keeps skew g h in
+    record {
+      after = h;
+      steps = turn_remembered before h event (heard before.connections event) reply next s;
+      keeps = subst K (sym (turn-gate before event (heard before.connections event) reply next s)) k;
+      left = refl;
+    }
+part_remembered skew before h event reply next false k s =
+    let b = behind_remembered skew before next h event (reached before.connections event) reply k s in
+    record { after = b.after; steps = b.behind; keeps = b.keeps; left = b.left }
 
 record OnwardRemembered (skew : ℕ) (before : State Book) (h : History) (event : Event) (reply : Reply) (next : State Book) (answer : Option (Result (List ℕ) NetFault)) (s : StepsOnward (Follows StandsFor) answer before event reply next) : Type 0 where
   after : History
@@ -153,8 +178,8 @@ onward_remembered skew before h event reply next (Some answer) k s =
       left = refl;
     }
 onward_remembered skew before h event reply next None k s =
-    let b = behind_remembered skew before next h event (reached before.connections event) reply k s in
-    record { after = b.after; steps = b.behind; keeps = b.keeps; left = b.left }
+    let p = part_remembered skew before h event reply next (is_initiator event.connection before.connections) k s in
+    record { after = p.after; steps = p.steps; keeps = p.keeps; left = p.left }
 
 remembered_by : (skew : ℕ) (before : State Book) (h : History) (event : Event) (reply : Reply) (next : State Book) (b : Bool) → Keeps skew before.gate h
     → (s : StepsBy (Follows StandsFor) b before event reply next) → RememberedBy skew before h event reply next b s

@@ -36,13 +36,13 @@ use Rattle.sspi_core.specs.declared.cause.Cause.{Cause}
 use Rattle.sspi_core.specs.declared.draw.Draw.{Draw}
 use Rattle.krb_service.specs.declared.connection.Connection.{Connection}
 use Rattle.krb_service.specs.declared.reply.Reply.{Reply}
-use Rattle.krb_service.specs.Policy.{State, Settles, Judges, Behind, StepsOnward, StepsBy, Steps, Runs, reached, ready, awaited, reply_of, server_flags, draw_of}
+use Rattle.krb_service.specs.Policy.{State, Settles, Judges, Behind, TakesPart, StepsOnward, StepsBy, Steps, Runs, reached, heard, ready, awaited, is_initiator, reply_of, server_flags, draw_of}
 use Rattle.krb_service.specs.Exchanges.{answer_of}
 use Rattle.krb_service.specs.Described.{Remembers}
-use Rattle.krb_service.specs.Left.{left_by, left_made, left_behind, left_onward, left_by_kind, record_left, records_left}
+use Rattle.krb_service.specs.Left.{left_by, left_made, left_behind, left_by_part, left_onward, left_by_kind, record_left, records_left}
 use Rattle.krb_service.specs.MessageCalls.{is_call}
 use Rattle.krb_service.proofs.CallLemmas.{call-gate, call-admits_not, token-step}
-use Rattle.krb_service.proofs.ExchangeLemmas.{settles_admitted, settles_done, answer-gate, answer-admits_not}
+use Rattle.krb_service.proofs.ExchangeLemmas.{settles_admitted, settles_done, answer-gate, answer-admits_not, turn-gate, turn-admits_not}
 use Rattle.krb_service.specs.Reply.{admits_peer}
 
 recorded_is : (records : List Record) (entry : Record) (b : Bool) → (if b then records ++ entry ∷ [] else records) ≡ records ++ (if b then entry ∷ [] else [])
@@ -93,12 +93,17 @@ stays_left old new gate distinct =
     let D : History → Type 0 = λ h. IsDistinct h.admitted in
     record { is = ap (λ (h : History). h.admitted) gate ∙ sym (append-nil old.admitted); distinct = subst D (sym gate) distinct }
 
+part_left : (skew : ℕ) (initiates : Bool) (state : State History) (event : Event) (reply : Reply) (after : State History) → (step : TakesPart (Remembers skew) initiates state event reply after) → IsDistinct state.gate.admitted
+    → Leaves state.gate.admitted after.gate.admitted (left_by_part (Remembers skew) initiates state event reply after step)
+part_left skew true state event reply after step distinct = stays_left state.gate after.gate (turn-gate state event (heard state.connections event) reply after step) distinct
+part_left skew false state event reply after step distinct = behind_left skew state event (reached state.connections event) reply after step distinct
+
 onward_left : (skew : ℕ) (answer : Option (Result (List ℕ) NetFault)) (state : State History) (event : Event) (reply : Reply) (after : State History)
     → (step : StepsOnward (Remembers skew) answer state event reply after) → IsDistinct state.gate.admitted
     → Leaves state.gate.admitted after.gate.admitted (left_onward (Remembers skew) answer state event reply after step)
 onward_left skew (Some answer) state event reply after step distinct =
     stays_left state.gate after.gate (answer-gate state event (awaited state.connections event) answer reply after step) distinct
-onward_left skew None state event reply after step distinct = behind_left skew state event (reached state.connections event) reply after step distinct
+onward_left skew None state event reply after step distinct = part_left skew (is_initiator event.connection state.connections) state event reply after step distinct
 
 step_left : (skew : ℕ) (b : Bool) (state : State History) (event : Event) (reply : Reply) (after : State History) (step : StepsBy (Remembers skew) b state event reply after) → IsDistinct state.gate.admitted
     → Leaves state.gate.admitted after.gate.admitted (left_by_kind (Remembers skew) b state event reply after step)
@@ -198,10 +203,15 @@ module _ {G : Type 0} (admits : G → Ask → Verdict → G → Type 0) where
   done_behind state event (Err cause) reply after b done =
       let refused : admits_peer (reply_of (Err cause)) ≡ true = ap admits_peer (sym b.0) ∙ done in absurd (cc)
 
+  done_part : (initiates : Bool) (state after : State G) (event : Event) (reply : Reply) (step : TakesPart admits initiates state event reply after) → admits_peer reply ≡ true
+      → length (left_by_part admits initiates state event reply after step) ≡ 1
+  done_part true state after event reply step done = absurd (turn-admits_not state event (heard state.connections event) reply after step done)
+  done_part false state after event reply step done = done_behind state event (reached state.connections event) reply after step done
+
   done_onward : (answer : Option (Result (List ℕ) NetFault)) (state after : State G) (event : Event) (reply : Reply) (step : StepsOnward admits answer state event reply after) → admits_peer reply ≡ true
       → length (left_onward admits answer state event reply after step) ≡ 1
   done_onward (Some answer) state after event reply step done = absurd (answer-admits_not state event (awaited state.connections event) answer reply after step done)
-  done_onward None state after event reply step done = done_behind state event (reached state.connections event) reply after step done
+  done_onward None state after event reply step done = done_part (is_initiator event.connection state.connections) state after event reply step done
 
   done_by : (b : Bool) (state after : State G) (event : Event) (reply : Reply) (step : StepsBy admits b state event reply after) → admits_peer reply ≡ true
       → length (left_by_kind admits b state event reply after step) ≡ 1

@@ -1,8 +1,7 @@
 pub mod MessageLemmas
-pub mod CallLemmas
-pub mod ExchangeLemmas
-pub mod TurnLemmas
 pub mod TakeLemmas
+pub mod ExchangeLemmas
+pub mod CallLemmas
 pub mod PolicyLemmas
 pub mod StepLemmas
 pub mod HistoryLemmas

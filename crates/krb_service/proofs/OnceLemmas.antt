@@ -27,10 +27,10 @@ use Rattle.sspi_core.specs.declared.draw.Draw.{Draw}
 use Rattle.krb_service.specs.declared.connection.Connection.{Connection}
 use Rattle.krb_service.specs.declared.reply.Reply.{Reply}
 use Rattle.krb_service.specs.Exchanges.{answer_of}
-use Rattle.krb_service.specs.Policy.{State, Says, Settles, Judges, Behind, StepsOnward, StepsBy, Steps, Runs, reached, ready, awaited, server_flags, draw_of}
+use Rattle.krb_service.specs.Policy.{State, Says, Settles, Judges, Behind, TakesPart, StepsOnward, StepsBy, Steps, Runs, reached, heard, ready, awaited, is_initiator, server_flags, draw_of}
 use Rattle.krb_service.specs.MessageCalls.{is_call}
 use Rattle.krb_service.proofs.CallLemmas.{call-once}
-use Rattle.krb_service.proofs.ExchangeLemmas.{settles_once, answer-once, same_state}
+use Rattle.krb_service.proofs.ExchangeLemmas.{settles_once, answer-once, turn-once, same_state}
 use Rattle.krb_service.specs.Described.{Remembers, skew_of, service_of}
 use Rattle.krb_service.specs.Reply.{replies_text}
 use Rattle.krb_service.specs.Text.{IsText, last_line}
@@ -115,10 +115,14 @@ module _ {G : Type 0} (admits : G → Ask → Verdict → G → Type 0) (determi
   behind_once state event (Ok found) r s a b h k = judges_once state event found.0 found.1 r s a b h k
   behind_once state event (Err cause) r s a b h k = (h.0 ∙ sym k.0, h.1 ∙ sym k.1)
 
+  part_once : (initiates : Bool) (state : State G) (event : Event) (r s : Reply) (a b : State G) → TakesPart admits initiates state event r a → TakesPart admits initiates state event s b → (r ≡ s) × (a ≡ b)
+  part_once true state event r s a b h k = turn-once state event (heard state.connections event) r s a b h k
+  part_once false state event r s a b h k = behind_once state event (reached state.connections event) r s a b h k
+
   onward_once : (answer : Option (Result (List ℕ) NetFault)) (state : State G) (event : Event) (r s : Reply) (a b : State G) → StepsOnward admits answer state event r a → StepsOnward admits answer state event s b
       → (r ≡ s) × (a ≡ b)
   onward_once (Some answer) state event r s a b h k = answer-once state event (awaited state.connections event) answer r s a b h k
-  onward_once None state event r s a b h k = behind_once state event (reached state.connections event) r s a b h k
+  onward_once None state event r s a b h k = part_once (is_initiator event.connection state.connections) state event r s a b h k
 
   step_by_once : (is_call : Bool) (state : State G) (event : Event) (r s : Reply) (a b : State G) → StepsBy admits is_call state event r a → StepsBy admits is_call state event s b → (r ≡ s) × (a ≡ b)
   step_by_once true state event r s a b h k = call-once state event (ready state.connections event) r s a b h k

@@ -33,7 +33,8 @@ passes_on : (connection c : Connection) (checked : Result (Unit {0}) Cause) → 
 passes_on connection c (Ok u) e = same_ok connection c e
 passes_on connection c (Err cause) e = absurd (cc)
 
-stands_by : (in_range : Result (Unit {0}) Cause) (found : Option Connection) (c : Connection)
+-- what the checks found stands at the number
+pub stands_by : (in_range : Result (Unit {0}) Cause) (found : Option Connection) (c : Connection)
     → (in_range >>= (λ u. ok_or causes.Connection found) >>= (λ connection. check causes.Sequence (not (awaits connection)) >>= (λ u. Ok connection))) ≡ Ok c → found ≡ Some c
 stands_by (Ok u) (Some connection) c e = ap Some (passes_on connection c (check causes.Sequence (not (awaits connection))) e)
 stands_by (Ok u) None c e = absurd (cc)
@@ -44,7 +45,7 @@ abbrev with_token : Connection → Option (List ℕ) → Result (Unit {0}) Cause
 with_token connection token built = built >>= (λ u. ok_or causes.Sequence token >>= (λ t. Ok (connection, t)))
 
 abbrev behind : Option (List ℕ) → Result Connection Cause → Result (Connection × List ℕ) Cause
-behind token found = found >>= (λ connection. with_token connection token (check causes.NotBuilt (is_acceptor connection.context)))
+behind token found = found >>= (λ connection. with_token connection token (check causes.Sequence (is_acceptor connection.context)))
 
 record Reached (found : Result Connection Cause) (brought : Option (List ℕ)) (token : List ℕ) : Type 0 where
   connection : Connection
@@ -59,7 +60,7 @@ with_ok connection brought (Err cause) token e = absurd (cc)
 
 reached_by : (found : Result Connection Cause) (brought : Option (List ℕ)) (token : List ℕ) → result_map_both (λ (x : Connection × List ℕ). x.1) (λ (c : Cause). c) (behind brought found) ≡ Ok token → Reached found brought token
 reached_by (Ok connection) brought token e =
-    record { connection = connection; found_is = refl; reaches = with_ok connection brought (check causes.NotBuilt (is_acceptor connection.context)) token e }
+    record { connection = connection; found_is = refl; reaches = with_ok connection brought (check causes.Sequence (is_acceptor connection.context)) token e }
 reached_by (Err cause) brought token e = absurd (cc)
 
 some_one : (x y : Connection) (o : Option Connection) → o ≡ Some x → o ≡ Some y → x ≡ y

@@ -10,7 +10,7 @@ use Rattle.krb_acceptor.specs.declared.accept.Accepted.{Accepted as Taken}
 use Rattle.krb_conf.specs.declared.env.Env.{Env}
 use Rattle.krb_context.specs.declared.context.Kerberos.{Kerberos}
 use Rattle.krb_exchange.specs.declared.user_to_user.TgtReq.{TgtReq}
-use Rattle.krb_user_to_user.specs.declared.accept_run.AcceptRun.{AcceptRun}
+use Rattle.krb_exchanges.specs.declared.run.Run.{Run}
 use Rattle.sspi_core.specs.declared.draw.Draw.{Draw}
 use Rattle.sspi_generator.specs.declared.network.NetFault.{NetFault}
 use Rattle.krb_server.specs.declared.request.Request.{Request}
@@ -22,10 +22,10 @@ use Rattle.krb_script.specs.declared.item.Event.{Event}
 use Rattle.sspi_core.specs.declared.cause.Cause.{Cause}
 use Rattle.krb_service.specs.Described.{with_gate}
 use Rattle.krb_service.specs.Exchanges.{answer_of}
-use Rattle.krb_service.specs.Policy.{State, Behind, AnswersCall, TakesAnswer, StepsOnward, StepsBy, Steps, Runs, RunsOn, StopsBehind, reached, ready, awaited}
+use Rattle.krb_service.specs.Policy.{State, Behind, AnswersCall, TakesAnswer, TakesTurn, TakesPart, StepsOnward, StepsBy, Steps, Runs, RunsOn, StopsBehind, reached, heard, ready, awaited, is_initiator}
 use Rattle.krb_service.specs.MessageCalls.{is_call}
 use Rattle.krb_service.proofs.CallLemmas.{call-gate}
-use Rattle.krb_service.proofs.ExchangeLemmas.{answer-gate, answer-env}
+use Rattle.krb_service.proofs.ExchangeLemmas.{answer-gate, answer-env, turn-gate, turn-env}
 use Rattle.krb_service.specs.declared.connection.Connection.{Connection}
 use Rattle.krb_service.specs.declared.reply.Reply.{Reply}
 use Rattle.krb_service.specs.declared.service.Stopped.{Stopped}
@@ -162,10 +162,33 @@ module _ {G N : Type 0} (admits : G → Ask → Verdict → G → Type 0) (log :
     steps : (more : List Entry) → StepsBy (Reads (seat state.gate)) b (with_gate state (rest_at state.gate (gained ++ more))) event reply (with_gate after (rest_at after.gate more))
 
   -- what the network brings asks no gate either
-  answer_by : (state : State G) (event : Event) (found : Result (Connection × AcceptRun) Cause) (answer : Result (List ℕ) NetFault) (reply : Reply) (after : State G) → TakesAnswer state event found answer reply after
+  answer_by : (state : State G) (event : Event) (found : Result (Connection × Run) Cause) (answer : Result (List ℕ) NetFault) (reply : Reply) (after : State G) → TakesAnswer state event found answer reply after
       → (more : List Entry) → TakesAnswer (with_gate state (rest_at state.gate more)) event found answer reply (with_gate after (rest_at after.gate more))
   answer_by state event (Ok found) answer reply after s more = record { next = s.next; goes_on = s.goes_on; connections = s.connections; env = s.env; gate = ap (λ g. rest_at g more) s.gate }
   answer_by state event (Err cause) answer reply after s more = (s.0, ap (λ (s : State G). with_gate s (rest_at s.gate more)) s.1)
+
+  -- nor does an initiator
+  turn_by : (state : State G) (event : Event) (found : Result (Connection × List ℕ) Cause) (reply : Reply) (after : State G) → TakesTurn state event found reply after
+      → (more : List Entry) → TakesTurn (with_gate state (rest_at state.gate more)) event found reply (with_gate after (rest_at after.gate more))
+  turn_by state event (Ok found) reply after s more = record { next = s.next; undertakes = s.undertakes; connections = s.connections; env = s.env; gate = ap (λ g. rest_at g more) s.gate }
+  turn_by state event (Err cause) reply after s more = (s.0, ap (λ (s : State G). with_gate s (rest_at s.gate more)) s.1)
+
+  record PartBy (initiates : Bool) (state : State G) (event : Event) (reply : Reply) (after : State G) : Type 0 where
+    gained : List Entry
+    gains : Gains state.gate after.gate gained
+    env : after.env ≡ state.env
+    steps : (more : List Entry) → TakesPart (Reads (seat state.gate)) initiates (with_gate state (rest_at state.gate (gained ++ more))) event reply (with_gate after (rest_at after.gate more))
+
+  part_by : (initiates : Bool) (state : State G) (event : Event) (reply : Reply) (after : State G) → TakesPart admits initiates state event reply after → PartBy initiates state event reply after
+  part_by true state event reply after step = record {
+    gained = [];
+    gains = gains_none state.gate after.gate (turn-gate state event (heard state.connections event) reply after step);
+    env = turn-env state event (heard state.connections event) reply after step;
+    steps = λ more. turn_by state event (heard state.connections event) reply after step more;
+  }
+  part_by false state event reply after step =
+      let b = behind_by state event (reached state.connections event) reply after step in
+      record { gained = b.gained; gains = b.gains; env = b.env; steps = b.behind }
 
   record OnwardBy (answer : Option (Result (List ℕ) NetFault)) (state : State G) (event : Event) (reply : Reply) (after : State G) : Type 0 where
     gained : List Entry
@@ -181,8 +204,8 @@ module _ {G N : Type 0} (admits : G → Ask → Verdict → G → Type 0) (log :
     steps = λ more. answer_by state event (awaited state.connections event) answer reply after step more;
   }
   onward_by None state event reply after step =
-      let b = behind_by state event (reached state.connections event) reply after step in
-      record { gained = b.gained; gains = b.gains; env = b.env; steps = b.behind }
+      let p = part_by (is_initiator event.connection state.connections) state event reply after step in
+      record { gained = p.gained; gains = p.gains; env = p.env; steps = p.steps }
 
   step_by : (b : Bool) (state : State G) (event : Event) (reply : Reply) (after : State G) → StepsBy admits b state event reply after → StepBy b state event reply after
   step_by true state event reply after call = record {
