@@ -6,7 +6,6 @@ use Rattle.krb_client.specs.declared.done.InitDone.{InitDone}
 use Rattle.krb_client.specs.declared.turn.Turn.{Turn}
 use Rattle.krb_initiation.proofs.Once as initiations
 use Rattle.krb_initiation.specs.Beginnings.{Begins as BeginsInitiation}
-use Rattle.krb_initiation.specs.declared.init_run.InitRun.{InitRun}
 use Rattle.krb_initiation.specs.declared.options.InitOptions.{InitOptions}
 use Rattle.krb_initiation.specs.declared.seeker.Initiation.{Initiation}
 use Rattle.krb_user_to_user.proofs.Once as acceptances

@@ -56,7 +56,24 @@ pub fn is_memory(error: &Error) -> bool
     )
 }
 
-/// What the end of a step leads to, or the run, where memory ran out.
+/// What the end of a run leads to, or the run, where memory ran out.
+fn ended(out: Result<InitDone, Error>, run: Run) -> Result<Step, Run>
+    ensures step { IfOk result (λ step. IsStep (Completed out) run step) }
+    ensures kept { IfErr result (λ kept. (kept ≡ run) × (out ≡ Err (error_of causes.Memory))) }
+{
+    match out {
+        Ok(done) => Ok(Step::Ends(done)),
+        Err(error) => {
+            if is_memory(&error) {
+                Err(run)
+            } else {
+                Ok(Step::Refused(error))
+            }
+        }
+    }
+}
+
+/// What a step leads to, or the run, where memory ran out.
 fn step_of(
     state: GeneratorState<NetworkRequest, Result<InitDone, Error>>,
     run: Run,
@@ -67,9 +84,7 @@ fn step_of(
 {
     match state {
         GeneratorState::Suspended(request) => Ok(Step::Asks(request, Exchange { run })),
-        GeneratorState::Completed(Ok(done)) => Ok(Step::Ends(done)),
-        GeneratorState::Completed(Err(error)) if is_memory(&error) => Err(run),
-        GeneratorState::Completed(Err(error)) => Ok(Step::Refused(error)),
+        GeneratorState::Completed(out) => ended(out, run),
     }
 }
 

@@ -5,7 +5,6 @@ use Rattle.krb_conf.specs.declared.env.Env.{Env}
 use Rattle.krb_context.specs.declared.context.Kerberos.{Kerberos}
 use Rattle.krb_context.specs.declared.state.KerberosState.{KerberosState}
 use Rattle.krb_context.specs.declared.state.KerberosState.TheVariants.{TgtExchange, Preauthentication, ApExchange, Final}
-use Rattle.krb_messages.specs.Frame.{IsFrame}
 use Rattle.krb_messages.specs.Oid.{contents_of, user_to_user_oid, IsByName}
 use Rattle.krb_messages.specs.declared.oid.Oid.{Oid}
 use Rattle.krb_messages.specs.declared.oid.Oid.TheVariants.{Krb5, MsKrb5, UserToUser, Other}
