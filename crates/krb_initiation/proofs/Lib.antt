@@ -3,3 +3,4 @@ pub mod TgtReqs
 pub mod Refusals
 pub mod Tasks
 pub mod Chains
+pub mod Once

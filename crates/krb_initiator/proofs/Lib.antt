@@ -2,3 +2,4 @@ pub mod PartLengths
 pub mod ApRepTokens
 pub mod Numbers
 pub mod ShownLengths
+pub mod Once

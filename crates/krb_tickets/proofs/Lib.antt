@@ -1,2 +1,3 @@
 mod TgsRequests
 pub mod Chains
+pub mod Once

@@ -3,34 +3,22 @@ use Rattle.std.proofs.Common.{◌≡◌, ℕ, Bool, List, Result}
 use Rattle.krb_conf.specs.declared.env.Env.{Env}
 use Rattle.krb_context.specs.declared.context.Kerberos.{Kerberos}
 use Rattle.krb_exchange.specs.declared.kdc_req.KdcReqBody.{KdcReqBody}
-use Rattle.krb_exchange.specs.declared.kdc_rep.AsRep.{AsRep}
 use Rattle.krb_exchange.specs.declared.user_to_user.TgtReq.{TgtReq}
 use Rattle.krb_sending.specs.declared.kdc.Kdc.{Kdc}
-use Rattle.sspi_core.proofs.Once.{Once, then_once, takes_once, holds_once, gives_once}
+use Rattle.sspi_core.proofs.Once.{Once, then_once, holds_once, gives_once}
 use Rattle.sspi_core.specs.declared.draw.Draw.{Draw}
 use Rattle.sspi_core.specs.declared.identity.CredentialsBuffers.{CredentialsBuffers}
 use Rattle.sspi_core.specs.declared.protocol.NetworkProtocol.{NetworkProtocol}
 use Rattle.sspi_generator.specs.declared.network.NetFault.{NetFault}
-use Rattle.krb_client.proofs.Once.{begins_once, asks_again_once, grants_as_rep_once, tells_etype_once, brings_key_once}
+use Rattle.krb_client.proofs.Once.{begins_once, asks_again_once, grants_as_rep_once}
 use Rattle.krb_client.specs.declared.asker.Asker.{Asker}
-use Rattle.krb_credentials.specs.Clients.{NamesClient}
-use Rattle.krb_credentials.specs.ReplyKeys.{TakesReplyKey}
+use Rattle.krb_credentials.proofs.Once.{names_client_once, takes_reply_key_once}
 use Rattle.krb_user_to_user.specs.declared.request.Acceptor.{Acceptor}
 use Rattle.krb_user_to_user.specs.declared.steps.AcceptPhase.{AcceptPhase}
 use Rattle.krb_user_to_user.specs.declared.steps.AcceptPhase.TheVariants.{New, AwaitsError, AwaitsAsRep, Over}
 use Rattle.krb_user_to_user.specs.TgtRequests.{RequestsTgt}
 use Rattle.krb_user_to_user.specs.AcceptSteps.{AsksFirst, AsksSecond, TakesAsRep}
 use Rattle.krb_user_to_user.specs.AcceptRuns.{Starts, Next}
-
-names_client_once : (credentials : CredentialsBuffers) (machine : List ℕ) (env : Env) → Once (NamesClient credentials machine env)
-unfolding NamesClient
-names_client_once credentials machine env =
-    then_once _ _ (takes_once _ _) (λ name. then_once _ _ (takes_once _ _) (λ realm. then_once _ _ (takes_once _ _) (λ host. gives_once _)))
-
-takes_reply_key_once : (credentials : CredentialsBuffers) (used : List ℕ) (as_rep : AsRep) → Once (TakesReplyKey credentials used as_rep)
-unfolding TakesReplyKey
-takes_reply_key_once credentials used as_rep =
-    then_once _ _ (tells_etype_once used as_rep) (λ hint. then_once _ _ (brings_key_once _ _ as_rep) (λ key. gives_once _))
 
 -- a TGT-REQ is judged to one answer
 pub requests_tgt_once : (server : Kerberos) (credentials : CredentialsBuffers) (tgt_req : TgtReq) (dce : Bool) (env : Env) → Once (RequestsTgt server credentials tgt_req dce env)
