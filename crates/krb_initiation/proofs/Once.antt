@@ -106,6 +106,7 @@ same_ticket_in token t u o p h k =
 
 -- what a framed token tells is one, wherever the octets of its mechanism lie
 same_tgt : (token : List ℕ) (x y : Option (Ticket × Oid)) → HasTicket token x → HasTicket token y → framed_tgt x ≡ framed_tgt y
+unfolding tgt_with
 same_tgt token None None h k = refl
 same_tgt token None (Some y) h k = absurd (no_value token _ _ h k.0.frame.is.is)
 same_tgt token (Some x) None h k = absurd (no_value token _ _ k h.0.frame.is.is)
@@ -203,7 +204,7 @@ asks_second_once asker kdc body reply draw = then_once _ _ (asks_again_once aske
 
 asks_first_tgs_once : (seeker : Seeker) (shown : Shown) (draw : Draw) → Once (AsksFirstTgs seeker shown draw)
 unfolding AsksFirstTgs
-asks_first_tgs_once seeker shown draw = then_once _ _ (asks_tgs_once seeker.asker seeker.wanted shown _ _ draw) (λ begun. gives_once _)
+asks_first_tgs_once seeker shown draw = then_once _ _ (asks_tgs_once seeker.asker seeker.wanted shown _ _ _ draw) (λ begun. gives_once _)
 
 takes_first_once : (seeker : Seeker) (protocol : NetworkProtocol) (salt : List ℕ) (reply : Result (List ℕ) NetFault) (draw : Draw) → Once (TakesFirst seeker protocol salt reply draw)
 unfolding TakesFirst
@@ -212,7 +213,7 @@ takes_first_once seeker protocol salt reply draw =
 
 refers_once : (seeker : Seeker) (leg : TgsLeg) (realm : List ℕ) (shown : Shown) (draw : Draw) → Once (Refers seeker leg realm shown draw)
 unfolding Refers
-refers_once seeker leg realm shown draw = then_once _ _ (follows_once seeker.asker seeker.wanted shown leg.hops leg.kdc.realm realm draw) (λ begun. gives_once _)
+refers_once seeker leg realm shown draw = then_once _ _ (follows_once seeker.asker seeker.wanted shown leg.hops leg.home leg.kdc.realm realm draw) (λ begun. gives_once _)
 
 arrives_once : (seeker : Seeker) (leg : TgsLeg) (shown : Shown) (draw : Draw) → Once (Arrives seeker leg shown draw)
 unfolding Arrives
