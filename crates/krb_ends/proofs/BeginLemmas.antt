@@ -1,0 +1,48 @@
+-- An initiator begins to fetch a ticket.
+use Rattle.std.proofs.Common.{ℕ, Bool, true, false, List, [], refl, sym, subst, lit<, lit≤, Ok}
+use Rattle.std.specs.Prelude.{None, is_some}
+use Rattle.krb_conf.specs.Names.{target_parts}
+use Rattle.krb_context.specs.declared.context.Kerberos.{Kerberos}
+use Rattle.krb_context.specs.declared.state.KerberosState.{KerberosState}
+use Rattle.krb_context.proofs.ChainLemmas.{takes_some, holds_true}
+use Rattle.sspi_core.specs.declared.cause.Cause.TheVariants.{NoTarget, Target, NoIdentity}
+use Rattle.sspi_core.specs.declared.identity.CredentialsBuffers.{CredentialsBuffers}
+use Rattle.sspi_core.proofs.Chain.{follows, gives}
+use Rattle.krb_replies.specs.Tickets.{TakesTicket}
+use Rattle.krb_credentials.specs.declared.client.Client.{Client}
+use Rattle.krb_initiator.specs.Initiators.{is_bare}
+use Rattle.krb_initiation.specs.declared.options.InitOptions.{InitOptions}
+use Rattle.krb_initiation.specs.declared.seeker.Initiation.TheVariants.{Seeks}
+use Rattle.krb_initiation.specs.Beginnings.{ChecksTarget, NamesTarget, identity_of, NamesIdentity, Identifies, SeeksTicket, BeginsNew, BeginsIn, Begins}
+use Rattle.krb_initiation.specs.Tgts.{no_tgt, TakesBareTgt, TakesFramedTgt, TakesTgt}
+use Rattle.krb_ends.specs.Fetches.{CanBegin, seeker_for, AsksMutual}
+
+-- no token tells nothing
+takes_none : (dce : Bool) → TakesTgt dce [] (Ok no_tgt)
+unfolding TakesBareTgt TakesFramedTgt TakesTicket
+takes_none true = follows _ _ tt _ (record { is = refl }) (follows _ _ None _ (record { is = refl }) (gives no_tgt))
+takes_none false = follows _ _ None _ (follows _ _ tt _ (record { is = refl }) (record { is = refl })) (gives no_tgt)
+
+module _ (context : Kerberos) (options : InitOptions) (target : List ℕ) (credentials : CredentialsBuffers) (client : Client) (can : CanBegin context options target credentials client) where
+  names : NamesTarget options.target (Ok target)
+  unfolding NamesTarget ChecksTarget
+  names = follows _ _ target _ (takes_some NoTarget options.target target can.has_target) (follows _ _ tt _ (holds_true Target (is_some (target_parts target)) can.two_parts) (gives target))
+
+  identifies : Identifies context options (Ok (identity_of context credentials options.env client))
+  unfolding Identifies NamesIdentity
+  identifies = follows _ _ credentials _ (takes_some NoIdentity options.credentials credentials can.has_credentials) (follows _ _ client _ can.named (gives _))
+
+  seeks : SeeksTicket context options (Ok (Seeks (seeker_for context options target credentials client)))
+  unfolding SeeksTicket
+  seeks =
+      follows _ _ target _ names
+      (follows _ _ no_tgt _ (subst (λ (t : List ℕ). TakesTgt (is_bare options.flags) t (Ok no_tgt)) (sym can.no_token) (takes_none (is_bare options.flags)))
+      (follows _ _ (identity_of context credentials options.env client) _ identifies (gives _)))
+
+  pub begins : Begins context options (Ok (Seeks (seeker_for context options target credentials client)))
+  begins =
+      subst (λ (s : KerberosState). BeginsIn s context options (Ok (Seeks (seeker_for context options target credentials client)))) (sym can.state)
+      (subst (λ (b : Bool). BeginsNew b context options (Ok (Seeks (seeker_for context options target credentials client)))) (sym can.alone) seeks)
+
+  pub asks_mutual : AsksMutual (seeker_for context options target credentials client)
+  asks_mutual = record { asked = can.mutual_asked; named = lit< tt; short = lit≤ tt }

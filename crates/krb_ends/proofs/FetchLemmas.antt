@@ -1,0 +1,275 @@
+-- Over honest KDCs the run of an initiator comes to its end, by induction on the referrals.
+use Rattle.std.proofs.Common.{◌≡◌, ℕ, ◌+◌, ◌<◌, ◌≤◌, not, List, [], ◌∷◌, length, Option, Some, None, refl, sym, subst, ap, arith, Ok}
+use Rattle.std.specs.Prelude.{◌==◌, nat_lt, option_map}
+use Rattle.std.proofs.lemmas.Bool.{lt-ltb, eq-eqb}
+use Rattle.krb_crypto.specs.Suite.{key_size, suite_number}
+use Rattle.krb_crypto.specs.declared.suite.CipherSuite.{CipherSuite}
+use Rattle.krb_crypto.specs.declared.suite.CipherSuite.TheVariants.{Aes128CtsHmacSha196, Aes256CtsHmacSha196}
+use Rattle.krb_messages.specs.declared.enc_ticket_part.EncTicketPart.{EncTicketPart}
+use Rattle.krb_messages.specs.declared.ticket.Ticket.{Ticket}
+use Rattle.krb_exchange.specs.declared.kdc_rep.AsRep.{AsRep}
+use Rattle.krb_exchange.specs.declared.kdc_rep.KdcRep.{KdcRep}
+use Rattle.krb_exchange.specs.declared.kdc_rep.TgsRep.{TgsRep}
+use Rattle.krb_exchange.specs.declared.kdc_req.KdcReqBody.{KdcReqBody}
+use Rattle.krb_exchange.specs.declared.result.KrbResult.TheVariants.{Ok as Reply, Err as Refusal}
+use Rattle.krb_exchange.specs.Layouts.{as_rep_layout, tgs_rep_layout, enc_as_rep_part_layout, enc_tgs_rep_part_layout}
+use Rattle.krb_der.specs.Layout.{Layout}
+use Rattle.krb_context.specs.declared.context.Kerberos.{Kerberos}
+use Rattle.krb_context.specs.declared.server.ServerProperties.{ServerProperties}
+use Rattle.krb_context.specs.Contexts.{with_key, settled}
+use Rattle.krb_context.proofs.ChainLemmas.{takes_some, holds_true}
+use Rattle.sspi_core.specs.declared.cause.Cause.TheVariants.{KeyLength, Hops, SameRealm}
+use Rattle.sspi_core.specs.declared.draw.Draw.{Draw}
+use Rattle.sspi_core.specs.declared.protocol.NetworkProtocol.{NetworkProtocol}
+use Rattle.sspi_core.proofs.Chain.{follows, gives}
+use Rattle.sspi_generator.specs.declared.network.NetworkRequest.{NetworkRequest}
+use Rattle.krb_sending.specs.declared.kdc.Kdc.{Kdc}
+use Rattle.krb_sending.specs.Kdcs.{FindsKdc}
+use Rattle.krb_sending.specs.Replies.{Replies}
+use Rattle.krb_replies.specs.Unseals.{own_key, session_key}
+use Rattle.krb_replies.specs.Keys.{BringsKey, HandsOnKey}
+use Rattle.krb_client.specs.declared.done.InitDone.{InitDone}
+use Rattle.krb_client.specs.declared.request.Again.{Again}
+use Rattle.krb_client.specs.declared.request.Begun.{Begun}
+use Rattle.krb_client.specs.declared.turn.Turn.TheVariants.{Asks, Ends}
+use Rattle.krb_client.specs.Askers.{asker_suite, default_salt, sized_key}
+use Rattle.krb_client.specs.Asked.{first_request, second_request, Begins, AsksAgain}
+use Rattle.krb_client.specs.Replied.{WantsPreAuth, Grants}
+use Rattle.krb_requests.specs.PaDatas.{suite_of as suite_numbered}
+use Rattle.krb_credentials.specs.ReplyKeys.{client_key, TakesReplyKey}
+use Rattle.krb_tickets.specs.declared.wanted.Shown.{Shown}
+use Rattle.krb_tickets.specs.TgsAsked.{is_same_realm, tgs_request, AsksTgs, Follows}
+use Rattle.krb_tickets.specs.Taken.{TakesAsRep, TakesTgsRep}
+use Rattle.krb_initiator.specs.Shown.{message, shown as shown_to, ShowsTicket}
+use Rattle.krb_initiation.specs.declared.seeker.Seeker.{Seeker}
+use Rattle.krb_initiation.specs.declared.seeker.TgsLeg.{TgsLeg}
+use Rattle.krb_initiation.specs.declared.seeker.InitPhase.TheVariants.{AwaitsError, AwaitsAsRep, AwaitsTgsRep}
+use Rattle.krb_initiation.specs.InitSteps.{body_of, AsksFirst, AsksSecond, AsksFirstTgs, TakesFirst, Refers as RefersOn, Arrives, GoesTo, TakesNext}
+use Rattle.krb_initiation.specs.Tgts.{first_tickets}
+use Rattle.krb_ends.specs.Answers.{IsDraw, Offered}
+use Rattle.krb_ends.specs.Fetches.{Leads, Fetches, AsksMutual, EndsWithOffer}
+use Rattle.krb_ends.specs.HonestKdc.{Brings, AnswersError, GrantsFirst, Known, GrantsNext, HasKdc, Refers, Serves, Step, Answers, AreHonest, AreHonestKdcs}
+use Rattle.krb_ends.specs.Offers.{Offer, octets_of, token_of}
+use Rattle.krb_ends.proofs.GrantLemmas.{IsGranted, granted_in, offer_of, honest}
+use Rattle.krb_ends.proofs.HonestLemmas.{opens_carried}
+
+-- ---- replies
+
+grants : {A : Type 0} (layout : Layout A) (protocol : NetworkProtocol) (reply : List ℕ) (value : A) → Brings layout protocol reply value → Grants protocol layout (Ok reply) (Ok value)
+unfolding Grants Replies
+grants layout protocol reply value brings =
+    follows _ _ (Reply value) _ (follows _ _ brings.message _ brings.unwraps (record { is = brings.read })) (record { is = refl })
+
+module _ (seeker : Seeker) (suite : CipherSuite) where
+  -- the error
+  wants : (protocol : NetworkProtocol) (reply salt : List ℕ) → AnswersError seeker.asker protocol reply salt
+      → WantsPreAuth protocol (default_salt seeker.asker.credentials) (Ok reply) (Ok salt)
+  unfolding WantsPreAuth Replies
+  wants protocol reply salt error =
+      follows _ _ (Refusal error.error) _ (follows _ _ error.brings.message _ error.brings.unwraps (record { is = error.brings.read }))
+      (follows _ _ error.error _ (record { is = refl })
+      (follows _ _ error.named _ error.names (record { is = ap Ok error.salt_is })))
+
+  second_of : Kdc → KdcReqBody → List ℕ → List ℕ → Draw → Again
+  second_of kdc body salt key draw = record { request = second_request (asker_suite seeker.asker) key draw kdc body; salt = salt }
+
+  asks_second : (kdc : Kdc) (body : KdcReqBody) (step : Step) (salt key : List ℕ) → AnswersError seeker.asker kdc.protocol step.reply salt → sized_key seeker.asker salt ≡ Some key
+      → AsksSecond seeker.asker kdc body (Ok step.reply) step.draw (Ok (Asks (second_request (asker_suite seeker.asker) key step.draw kdc body) (AwaitsAsRep kdc salt)))
+  unfolding AsksSecond AsksAgain
+  asks_second kdc body step salt key error has =
+      let again : Again = record { request = second_request (asker_suite seeker.asker) key step.draw kdc body; salt = salt } in
+      follows _ _ again _
+      (follows _ _ salt _ (wants kdc.protocol step.reply salt error)
+      (follows _ _ key _ (takes_some KeyLength (sized_key seeker.asker salt) key has) (gives again)))
+      (gives _)
+
+  -- the AS-REP
+  numbered : suite_numbered (suite_number suite) ≡ suite
+  numbered = go suite
+    where
+      go : (s : CipherSuite) → suite_numbered (suite_number s) ≡ s
+      go Aes128CtsHmacSha196 = refl
+      go Aes256CtsHmacSha196 = refl
+
+  brings_key : (protocol : NetworkProtocol) (used reply : List ℕ) (rep : AsRep) (key : List ℕ) (first : GrantsFirst seeker.asker suite protocol used reply rep key)
+      → BringsKey suite (client_key suite first.salt seeker.asker.credentials) rep (Ok key)
+  unfolding BringsKey
+  brings_key protocol used reply rep key first =
+      follows _ _ first.part _
+      (opens_carried enc_as_rep_part_layout own_key suite (client_key suite first.salt seeker.asker.credentials) 3 rep.0.enc_part.cipher first.part first.key_fits first.carries)
+      (record { is = ap Ok (sym first.key_is) })
+
+  takes_key : (protocol : NetworkProtocol) (used reply : List ℕ) (rep : AsRep) (key : List ℕ) → GrantsFirst seeker.asker suite protocol used reply rep key
+      → TakesReplyKey seeker.asker.credentials used rep (Ok (record { suite = suite; key = key }))
+  unfolding TakesReplyKey
+  takes_key protocol used reply rep key first =
+      let brought : BringsKey (suite_numbered (suite_number suite)) (client_key (suite_numbered (suite_number suite)) first.salt seeker.asker.credentials) rep (Ok key) =
+      subst (λ (s : CipherSuite). BringsKey s (client_key s first.salt seeker.asker.credentials) rep (Ok key)) (sym numbered) (brings_key protocol used reply rep key first) in
+      follows _ _ (suite_number suite, first.salt) _ first.tells
+      (follows _ _ key _ brought (record { is = ap (λ (s : CipherSuite). Ok (record { suite = s; key = key })) (sym numbered) }))
+
+  -- what was shown, and the leg that awaits the next reply
+  abbrev shown : List ℕ → KdcRep → Shown
+  shown key rep = record { suite = suite; key = key; rep = rep }
+
+  abbrev leg : Known → List ℕ → ℕ → TgsLeg
+  leg known home hops = record { kdc = known.kdc; suite = suite; key = known.key; home = home; hops = hops }
+
+  takes_as_rep : (protocol : NetworkProtocol) (used reply : List ℕ) (rep : AsRep) (key : List ℕ) → GrantsFirst seeker.asker suite protocol used reply rep key
+      → TakesAsRep seeker.asker.credentials protocol used (Ok reply) (Ok (shown key rep.0))
+  unfolding TakesAsRep
+  takes_as_rep protocol used reply rep key first =
+      follows _ _ rep _ (grants as_rep_layout protocol reply rep first.brings)
+      (follows _ _ (record { suite = suite; key = key }) _ (takes_key protocol used reply rep key first) (gives (shown key rep.0)))
+
+  -- a ticket-granting service is asked
+  asks_tgs : (key : List ℕ) (rep : KdcRep) (home realm : List ℕ) (kdc : Kdc) (tickets : Option (List Ticket)) (draw : Draw) → length key ≡ key_size suite
+      → HasKdc seeker.asker home realm kdc
+      → AsksTgs seeker.asker seeker.wanted (shown key rep) home realm tickets draw (Ok (record { request = tgs_request seeker.wanted (shown key rep) tickets draw kdc; kdc = kdc }))
+  unfolding AsksTgs
+  asks_tgs key rep home realm kdc tickets draw fits found =
+      follows _ _ tt _ (holds_true KeyLength (length key == key_size suite) (eq-eqb (length key) (key_size suite) fits))
+      (follows _ _ kdc _ found (gives _))
+
+  takes_first : (home : Kdc) (used : List ℕ) (step : Step) (rep : AsRep) (known : Known) → GrantsFirst seeker.asker suite home.protocol used step.reply rep known.key
+      → HasKdc seeker.asker rep.0.crealm rep.0.crealm known.kdc
+      → TakesFirst seeker home.protocol used (Ok step.reply) step.draw
+      (Ok (Asks (tgs_request seeker.wanted (shown known.key rep.0) (first_tickets seeker.tgt) step.draw known.kdc) (AwaitsTgsRep (leg known rep.0.crealm 0))))
+  unfolding TakesFirst AsksFirstTgs
+  takes_first home used step rep known first found =
+      follows _ _ (shown known.key rep.0) _ (takes_as_rep home.protocol used step.reply rep known.key first)
+      (follows _ _ (record { request = tgs_request seeker.wanted (shown known.key rep.0) (first_tickets seeker.tgt) step.draw known.kdc; kdc = known.kdc }) _
+      (asks_tgs known.key rep.0 rep.0.crealm rep.0.crealm known.kdc (first_tickets seeker.tgt) step.draw first.fits found) (gives _))
+
+  -- ---- TGS-REPs
+
+  hands_on : (known : Known) (reply : List ℕ) (rep : TgsRep) (key : List ℕ) → length known.key ≡ key_size suite → GrantsNext suite known reply rep key
+      → HandsOnKey suite known.key rep (Ok key)
+  unfolding HandsOnKey
+  hands_on known reply rep key fits next =
+      follows _ _ next.part _ (opens_carried enc_tgs_rep_part_layout session_key suite known.key 8 rep.0.enc_part.cipher next.part fits next.carries)
+      (record { is = ap Ok (sym next.key_is) })
+
+  takes_tgs_rep : (known : Known) (reply : List ℕ) (rep : TgsRep) (key : List ℕ) → length known.key ≡ key_size suite → GrantsNext suite known reply rep key
+      → TakesTgsRep known.kdc.protocol suite known.key (Ok reply) (Ok (shown key rep.0))
+  unfolding TakesTgsRep
+  takes_tgs_rep known reply rep key fits next =
+      follows _ _ rep _ (grants tgs_rep_layout known.kdc.protocol reply rep next.brings) (follows _ _ key _ (hands_on known reply rep key fits next) (gives (shown key rep.0)))
+
+  -- a referral is followed
+  refers : (known : Known) (home : List ℕ) (hops : ℕ) (step : Step) (next : Known) → length known.key ≡ key_size suite → hops < 9 → (refers_to : Refers seeker.asker home suite known step.reply next)
+      → TakesNext seeker (leg known home hops) (Ok step.reply) step.draw
+      (Ok (Asks (tgs_request seeker.wanted (shown next.key refers_to.rep.0) None step.draw next.kdc) (AwaitsTgsRep (leg next home (hops + 1)))))
+  unfolding TakesNext RefersOn Follows
+  refers known home hops step next fits few to =
+      let request : NetworkRequest = tgs_request seeker.wanted (shown next.key to.rep.0) None step.draw next.kdc in
+      let begun : Begun = record { request = request; kdc = next.kdc } in
+      follows _ _ (shown next.key to.rep.0) _ (takes_tgs_rep known step.reply to.rep next.key fits to.grants)
+      (subst (λ (r : Option (List ℕ)). GoesTo r seeker (leg known home hops) (shown next.key to.rep.0) step.draw (Ok (Asks request (AwaitsTgsRep (leg next home (hops + 1)))))) (sym to.named)
+      (follows _ _ begun _
+      (follows _ _ tt _ (holds_true Hops (nat_lt hops 9) (lt-ltb hops 9 few))
+      (follows _ _ tt _ (holds_true SameRealm (not (is_same_realm known.kdc.realm next.kdc.realm)) (ap not to.other))
+      (asks_tgs next.key to.rep.0 home next.kdc.realm next.kdc None step.draw to.grants.fits to.found)))
+      (gives _)))
+
+  -- the service's ticket is shown to the service
+  arrives : (service_key : List ℕ) (known : Known) (home : List ℕ) (hops : ℕ) (step : Step) (rep : TgsRep) (part : EncTicketPart) → length known.key ≡ key_size suite
+      → Serves seeker.wanted.target suite service_key known step.reply rep part
+      → TakesNext seeker (leg known home hops) (Ok step.reply) step.draw (Ok (Ends (shown_to seeker.errand suite part.key.key_value rep.0 home step.draw)))
+  unfolding TakesNext Arrives ShowsTicket
+  arrives service_key known home hops step rep part fits serves =
+      let key : List ℕ = part.key.key_value in
+      let done : InitDone = shown_to seeker.errand suite key rep.0 home step.draw in
+      follows _ _ (shown key rep.0) _ (takes_tgs_rep known step.reply rep key fits serves.grants)
+      (subst (λ (r : Option (List ℕ)). GoesTo r seeker (leg known home hops) (shown key rep.0) step.draw (Ok (Ends done))) (sym serves.refers_no_more)
+      (follows _ _ done _
+      (follows _ _ tt _ (holds_true KeyLength (length key == key_size suite) (eq-eqb (length key) (key_size suite) serves.grants.fits)) (gives done))
+      (gives _)))
+
+  -- any number of referrals up to nine
+  leads : (service_key : List ℕ) (known : Known) (home : List ℕ) (hops : ℕ) (steps : List Step) (last : Step) (rep : TgsRep) (part : EncTicketPart) → length known.key ≡ key_size suite
+      → hops + length steps ≤ 9 → AreHonest seeker home suite service_key known steps last rep part
+      → Leads seeker (AwaitsTgsRep (leg known home hops)) steps last (shown_to seeker.errand suite part.key.key_value rep.0 home last.draw)
+  leads service_key known home hops [] last rep part fits few serves = arrives service_key known home hops last rep part fits serves
+  leads service_key known home hops (step ∷ steps) last rep part fits few honest =
+      let next : Known = honest.0 in
+      let to = honest.1 in (
+        tgs_request seeker.wanted (shown next.key to.rep.0) None step.draw next.kdc,
+        AwaitsTgsRep (leg next home (hops + 1)),
+        refers known home hops step next fits (omega (arith, few)) to,
+        leads service_key next home (hops + 1) steps last rep part to.grants.fits (omega (arith, few)) honest.2,
+      )
+
+  -- what is served, whatever referrals are before it
+  pub served : (home service_key : List ℕ) (known : Known) (steps : List Step) (last : Step) (rep : TgsRep) (part : EncTicketPart) → AreHonest seeker home suite service_key known steps last rep part
+      → (before : Known) × Serves seeker.wanted.target suite service_key before last.reply rep part
+  served home service_key known [] last rep part serves = (known, serves)
+  served home service_key known (step ∷ steps) last rep part honest = served home service_key honest.0 steps last rep part honest.2
+
+  -- the start
+  starts : (home : Kdc) (draw : Draw) → FindsKdc seeker.asker.kdc_url seeker.asker.env seeker.asker.realm (Ok home)
+      → AsksFirst seeker.asker (body_of seeker draw) (Ok (Asks (first_request home (body_of seeker draw)) (AwaitsError home (body_of seeker draw))))
+  unfolding AsksFirst Begins
+  starts home draw found =
+      let begun : Begun = record { request = first_request home (body_of seeker draw); kdc = home } in
+      follows _ _ begun _ (follows _ _ home _ found (gives begun)) (gives _)
+
+  module _ (service_key : List ℕ) (draw : Draw) (answers : Answers) (rep : TgsRep) (part : EncTicketPart) (kdcs : AreHonestKdcs seeker suite service_key answers rep part) where
+    abbrev done : InitDone
+    done = shown_to seeker.errand suite part.key.key_value rep.0 kdcs.as_rep.0.crealm answers.last.draw
+
+    fetches : Fetches seeker draw answers done
+    fetches = record {
+      request = first_request kdcs.first_kdc (body_of seeker draw);
+      phase = AwaitsError kdcs.first_kdc (body_of seeker draw);
+      starts = starts kdcs.first_kdc draw kdcs.first_found;
+      leads = (
+        second_request (asker_suite seeker.asker) kdcs.key answers.error.draw kdcs.first_kdc (body_of seeker draw),
+        AwaitsAsRep kdcs.first_kdc kdcs.salt,
+        asks_second kdcs.first_kdc (body_of seeker draw) answers.error kdcs.salt kdcs.key kdcs.error kdcs.has_key,
+        (
+          tgs_request seeker.wanted (shown kdcs.known.key kdcs.as_rep.0) (first_tickets seeker.tgt) answers.first.draw kdcs.known.kdc,
+          AwaitsTgsRep (leg kdcs.known kdcs.as_rep.0.crealm 0),
+          takes_first kdcs.first_kdc kdcs.salt answers.first kdcs.as_rep kdcs.known kdcs.grants kdcs.found,
+          leads service_key kdcs.known kdcs.as_rep.0.crealm 0 answers.referrals answers.last rep part kdcs.grants.fits (omega (arith, kdcs.few)) kdcs.honest,
+        ),
+      );
+    }
+
+    module _ (asks : AsksMutual seeker) (is : IsDraw answers.last.draw) where
+      granted : IsGranted rep.0
+      granted =
+          let brings = (served kdcs.as_rep.0.crealm service_key kdcs.known answers.referrals answers.last rep part kdcs.honest).1.grants.brings in
+          granted_in rep brings.message brings.read brings.octets brings.short
+
+      abbrev offer : Offer
+      offer = offer_of seeker.errand suite rep.0 answers.last.draw granted is part
+
+      token_is : done.token ≡ token_of offer
+      unfolding shown_to message octets_of
+      token_is = refl
+
+      offered : (context : Kerberos) → context.server ≡ None → Offered (settled context done.change) offer
+      unfolding shown_to
+      offered context role =
+          record { role = ap (λ (s : Option ServerProperties). option_map (with_key None) s) role; state = refl; suite = refl; key = refl }
+
+      pub ends_with_offer : (context : Kerberos) → context.server ≡ None → EndsWithOffer context seeker service_key suite draw answers rep part
+      unfolding shown_to
+      ends_with_offer context role =
+          let serves = (served kdcs.as_rep.0.crealm service_key kdcs.known answers.referrals answers.last rep part kdcs.honest).1 in record {
+            done = done;
+            fetches = fetches;
+            status = refl;
+            offer = offer;
+            token = token_is;
+            suite_is = refl;
+            ticket = refl;
+            part_is = refl;
+            style = refl;
+            filler_stays = refl;
+            number_stays = refl;
+            honest =
+                honest seeker.errand suite rep.0 answers.last.draw granted is part service_key serves.ticket serves.same_realm serves.same_name asks.asked asks.named asks.short;
+            offered = offered context role;
+          }

@@ -1,0 +1,13 @@
+pub mod OrderLemmas
+pub mod ApartLemmas
+pub mod TalkLemmas
+pub mod OctetsLemmas
+pub mod HonestLemmas
+pub mod RepLemmas
+pub mod AnswerLemmas
+pub mod EstablishedLemmas
+pub mod BeginLemmas
+pub mod GrantLemmas
+pub mod FetchLemmas
+pub mod ReachLemmas
+pub mod OneEndLemmas
