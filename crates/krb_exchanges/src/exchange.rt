@@ -1,6 +1,6 @@
 //! An exchange that waits, and what a step leads to.
 
-ghost use Rattle.std.specs.Prelude.{◌≡◌, ◌≤◌, ◌↔◌, Err, IsTrue, IfOk, IfErr};
+ghost use Rattle.std.specs.Prelude.{◌≡◌, ◌≤◌, ◌↔◌, Err, IsTrue, IfOk, IfErr, OnErr};
 ghost use Rattle.sspi_core.specs.Kinds.{error_of};
 ghost use Rattle.sspi_core.specs.declared.cause.Cause.TheVariants as causes;
 ghost use Rattle.sspi_core.specs.declared.draw.TheConstants.{MAX_MOMENT};
@@ -9,6 +9,7 @@ ghost use Rattle.sspi_generator.specs.Steps.{OnSuspended};
 ghost use Rattle.krb_exchanges.specs.Runs.{IsNew, IsWaiting};
 ghost use Rattle.krb_exchanges.specs.Waiting.{waiting-prop};
 ghost use Rattle.krb_exchanges.specs.Steps.{IsStep, Begins, GoesOn};
+ghost use Rattle.krb_exchanges.specs.declared.run.Run.{Run};
 
 use crate::run::{Run, resume, start};
 use krb_client::InitDone;
@@ -56,20 +57,15 @@ pub fn is_memory(error: &Error) -> bool
     )
 }
 
-/// What the end of a run leads to, or the run, where memory ran out.
-fn ended(out: Result<InitDone, Error>, run: Run) -> Result<Step, Run>
-    ensures step { IfOk result (λ step. IsStep (Completed out) run step) }
-    ensures kept { IfErr result (λ kept. (kept ≡ run) × (out ≡ Err (error_of causes.Memory))) }
+/// What the end of a run leads to, unless memory ran out.
+fn ended(out: Result<InitDone, Error>) -> Result<Step, OutOfMemory>
+    ensures step { (run : Run) → IfOk result (λ step. IsStep (Completed out) run step) }
+    ensures memory { OnErr result (out ≡ Err (error_of causes.Memory)) }
 {
     match out {
         Ok(done) => Ok(Step::Ends(done)),
-        Err(error) => {
-            if is_memory(&error) {
-                Err(run)
-            } else {
-                Ok(Step::Refused(error))
-            }
-        }
+        Err(error) if is_memory(&error) => Err(OutOfMemory),
+        Err(error) => Ok(Step::Refused(error)),
     }
 }
 
@@ -84,7 +80,10 @@ fn step_of(
 {
     match state {
         GeneratorState::Suspended(request) => Ok(Step::Asks(request, Exchange { run })),
-        GeneratorState::Completed(out) => ended(out, run),
+        GeneratorState::Completed(out) => match ended(out) {
+            Ok(step) => Ok(step),
+            Err(OutOfMemory) => Err(run),
+        },
     }
 }
 

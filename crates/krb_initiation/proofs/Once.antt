@@ -203,7 +203,7 @@ asks_second_once asker kdc body reply draw = then_once _ _ (asks_again_once aske
 
 asks_first_tgs_once : (seeker : Seeker) (shown : Shown) (draw : Draw) → Once (AsksFirstTgs seeker shown draw)
 unfolding AsksFirstTgs
-asks_first_tgs_once seeker shown draw = then_once _ _ (asks_tgs_once seeker.asker seeker.wanted shown _ _ draw) (λ begun. gives_once _)
+asks_first_tgs_once seeker shown draw = then_once _ _ (asks_tgs_once seeker.asker seeker.wanted shown _ _ _ draw) (λ begun. gives_once _)
 
 takes_first_once : (seeker : Seeker) (protocol : NetworkProtocol) (salt : List ℕ) (reply : Result (List ℕ) NetFault) (draw : Draw) → Once (TakesFirst seeker protocol salt reply draw)
 unfolding TakesFirst
@@ -212,7 +212,7 @@ takes_first_once seeker protocol salt reply draw =
 
 refers_once : (seeker : Seeker) (leg : TgsLeg) (realm : List ℕ) (shown : Shown) (draw : Draw) → Once (Refers seeker leg realm shown draw)
 unfolding Refers
-refers_once seeker leg realm shown draw = then_once _ _ (follows_once seeker.asker seeker.wanted shown leg.hops leg.kdc.realm realm draw) (λ begun. gives_once _)
+refers_once seeker leg realm shown draw = then_once _ _ (follows_once seeker.asker seeker.wanted shown leg.hops leg.home leg.kdc.realm realm draw) (λ begun. gives_once _)
 
 arrives_once : (seeker : Seeker) (leg : TgsLeg) (shown : Shown) (draw : Draw) → Once (Arrives seeker leg shown draw)
 unfolding Arrives

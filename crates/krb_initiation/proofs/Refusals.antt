@@ -55,18 +55,18 @@ module _ (P : Type 0) where
   not_key z = let e = z.1 in absurd cc
 
   -- what is asked of ticket-granting services
-  asks_refuse : (asker : Asker) (wanted : Wanted) (shown : Shown) (realm : List ℕ) (tickets : Option (List Ticket)) (draw : Draw) → Refuses P (AsksTgs asker wanted shown realm tickets draw)
+  asks_refuse : (asker : Asker) (wanted : Wanted) (shown : Shown) (home realm : List ℕ) (tickets : Option (List Ticket)) (draw : Draw) → Refuses P (AsksTgs asker wanted shown home realm tickets draw)
   unfolding AsksTgs FindsKdc
-  asks_refuse asker wanted shown realm tickets draw =
+  asks_refuse asker wanted shown home realm tickets draw =
       then_refuses P _ _ (holds_refuses P KeyLength _ not_length) (λ _. then_refuses P _ _
       (then_refuses P _ _ (takes_refuses P NoKdc _ (λ z. let e = z.1 in absurd cc))
       (λ url. then_refuses P _ _ (finds_refuses P Scheme _ (λ z. let e = z.1 in absurd cc)) (λ protocol. gives_refuses P _))) (λ kdc. gives_refuses P _))
 
-  follows_refuse : (asker : Asker) (wanted : Wanted) (shown : Shown) (hops : ℕ) (asked realm : List ℕ) (draw : Draw) → Refuses P (Follows asker wanted shown hops asked realm draw)
+  follows_refuse : (asker : Asker) (wanted : Wanted) (shown : Shown) (hops : ℕ) (home asked realm : List ℕ) (draw : Draw) → Refuses P (Follows asker wanted shown hops home asked realm draw)
   unfolding Follows
-  follows_refuse asker wanted shown hops asked realm draw =
+  follows_refuse asker wanted shown hops home asked realm draw =
       then_refuses P _ _ (holds_refuses P Hops _ (λ z. let e = z.1 in absurd cc))
-      (λ _. then_refuses P _ _ (holds_refuses P SameRealm _ (λ z. let e = z.1 in absurd cc)) (λ _. asks_refuse asker wanted shown realm None draw))
+      (λ _. then_refuses P _ _ (holds_refuses P SameRealm _ (λ z. let e = z.1 in absurd cc)) (λ _. asks_refuse asker wanted shown home realm None draw))
 
   hands_refuse : (suite : CipherSuite) (key : List ℕ) (rep : TgsRep) → Refuses P (HandsOnKey suite key rep)
   unfolding HandsOnKey Opens Unseals
@@ -83,7 +83,7 @@ module _ (P : Type 0) where
 
   refers_refuse : (seeker : Seeker) (leg : TgsLeg) (realm : List ℕ) (shown : Shown) (draw : Draw) → Refuses P (Refers seeker leg realm shown draw)
   unfolding Refers
-  refers_refuse seeker leg realm shown draw = then_refuses P _ _ (follows_refuse _ _ shown _ _ realm draw) (λ begun. gives_refuses P _)
+  refers_refuse seeker leg realm shown draw = then_refuses P _ _ (follows_refuse _ _ shown _ _ _ realm draw) (λ begun. gives_refuses P _)
 
   goes_refuse : (referral : Option (List ℕ)) (seeker : Seeker) (leg : TgsLeg) (shown : Shown) (draw : Draw) → Refuses P (GoesTo referral seeker leg shown draw)
   goes_refuse None seeker leg shown draw = record { not = λ e h z. (shows_refuse seeker leg shown draw).not e h z }
@@ -91,7 +91,7 @@ module _ (P : Type 0) where
 
   first_tgs_refuses : (seeker : Seeker) (shown : Shown) (draw : Draw) → Refuses P (AsksFirstTgs seeker shown draw)
   unfolding AsksFirstTgs
-  first_tgs_refuses seeker shown draw = then_refuses P _ _ (asks_refuse _ _ shown _ _ draw) (λ begun. gives_refuses P _)
+  first_tgs_refuses seeker shown draw = then_refuses P _ _ (asks_refuse _ _ shown _ _ _ draw) (λ begun. gives_refuses P _)
 
   -- what the service answers
   opens_refuse : (suite : CipherSuite) (key : List ℕ) (message : ApRep) → Refuses P (OpensApRep suite key message)

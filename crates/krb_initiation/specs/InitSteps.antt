@@ -53,7 +53,7 @@ leg_of kdc shown home hops = record { kdc = kdc; suite = shown.suite; key = show
 -- the second reply brings a ticket: it is shown to the ticket-granting service of the client's own realm, with the service's own ticket
 unfoldable pub AsksFirstTgs : Seeker → Shown → Draw → Result (Turn InitPhase InitDone) Cause → Type 0
 AsksFirstTgs seeker shown draw = do
-  begun ← AsksTgs seeker.asker seeker.wanted shown shown.rep.crealm (first_tickets seeker.tgt) draw
+  begun ← AsksTgs seeker.asker seeker.wanted shown shown.rep.crealm shown.rep.crealm (first_tickets seeker.tgt) draw
   Gives (Asks begun.request (AwaitsTgsRep (leg_of begun.kdc shown shown.rep.crealm 0)))
 
 unfoldable pub TakesFirst : Seeker → NetworkProtocol → List ℕ → Result (List ℕ) NetFault → Draw → Result (Turn InitPhase InitDone) Cause → Type 0
@@ -64,7 +64,7 @@ TakesFirst seeker protocol salt reply draw = do
 -- a referral is followed
 unfoldable pub Refers : Seeker → TgsLeg → List ℕ → Shown → Draw → Result (Turn InitPhase InitDone) Cause → Type 0
 Refers seeker leg realm shown draw = do
-  begun ← Follows seeker.asker seeker.wanted shown leg.hops leg.kdc.realm realm draw
+  begun ← Follows seeker.asker seeker.wanted shown leg.hops leg.home leg.kdc.realm realm draw
   Gives (Asks begun.request (AwaitsTgsRep (leg_of begun.kdc shown leg.home (leg.hops + 1))))
 
 -- any other ticket is the service's, and is shown to the service

@@ -47,7 +47,7 @@ fn begin_tgs(alloc: Global, seeker: &Seeker, shown: &Shown, draw: &Draw) -> Resu
     requires seeker { CanSeek seeker.now }
     requires rep { IsSendable shown.now.rep }
     requires moment { draw.now.moment ≤ MAX_MOMENT }
-    ensures { Answers (AsksTgs seeker.now.asker seeker.now.wanted shown.now shown.now.rep.crealm (first_tickets seeker.now.tgt) draw.now) result }
+    ensures { Answers (AsksTgs seeker.now.asker seeker.now.wanted shown.now shown.now.rep.crealm shown.now.rep.crealm (first_tickets seeker.now.tgt) draw.now) result }
 {
     let tickets = first_tickets(alloc, &seeker.tgt)?;
     let realm = &shown.rep.crealm;
@@ -56,6 +56,7 @@ fn begin_tgs(alloc: Global, seeker: &Seeker, shown: &Shown, draw: &Draw) -> Resu
         &seeker.asker,
         &seeker.wanted,
         shown,
+        realm,
         realm,
         tickets,
         draw,
@@ -163,6 +164,7 @@ fn refer(
         &seeker.wanted,
         &shown,
         leg.hops,
+        &leg.home,
         asked,
         realm,
         draw,

@@ -21,15 +21,15 @@ use Rattle.krb_tickets.specs.declared.wanted.Shown.{Shown}
 use Rattle.krb_tickets.specs.TgsAsked.{AsksTgs, Follows}
 use Rattle.krb_tickets.specs.Taken.{TakesAsRep, TakesTgsRep}
 
-pub asks_tgs_once : (asker : Asker) (wanted : Wanted) (shown : Shown) (realm : List ℕ) (tickets : Option (List Ticket)) (draw : Draw) → Once (AsksTgs asker wanted shown realm tickets draw)
+pub asks_tgs_once : (asker : Asker) (wanted : Wanted) (shown : Shown) (home realm : List ℕ) (tickets : Option (List Ticket)) (draw : Draw) → Once (AsksTgs asker wanted shown home realm tickets draw)
 unfolding AsksTgs
-asks_tgs_once asker wanted shown realm tickets draw =
-    then_once _ _ (holds_once _ _) (λ _. then_once _ _ (finds_kdc_once asker.kdc_url asker.env realm) (λ kdc. gives_once _))
+asks_tgs_once asker wanted shown home realm tickets draw =
+    then_once _ _ (holds_once _ _) (λ _. then_once _ _ (finds_kdc_once _ asker.env realm) (λ kdc. gives_once _))
 
-pub follows_once : (asker : Asker) (wanted : Wanted) (shown : Shown) (hops : ℕ) (asked realm : List ℕ) (draw : Draw) → Once (Follows asker wanted shown hops asked realm draw)
+pub follows_once : (asker : Asker) (wanted : Wanted) (shown : Shown) (hops : ℕ) (home asked realm : List ℕ) (draw : Draw) → Once (Follows asker wanted shown hops home asked realm draw)
 unfolding Follows
-follows_once asker wanted shown hops asked realm draw =
-    then_once _ _ (holds_once _ _) (λ _. then_once _ _ (holds_once _ _) (λ _. asks_tgs_once asker wanted shown realm None draw))
+follows_once asker wanted shown hops home asked realm draw =
+    then_once _ _ (holds_once _ _) (λ _. then_once _ _ (holds_once _ _) (λ _. asks_tgs_once asker wanted shown home realm None draw))
 
 pub takes_as_rep_once : (credentials : CredentialsBuffers) (protocol : NetworkProtocol) (used : List ℕ) (reply : Result (List ℕ) NetFault) → Once (TakesAsRep credentials protocol used reply)
 unfolding TakesAsRep

@@ -1,7 +1,8 @@
 -- What a client asks of ticket-granting services, one behind the other (RFC 4120, sections 3.3 and 5.4.1; RFC 6806, section 8).
-use Rattle.std.specs.Prelude.{ℕ, ◌==◌, Bool, not, nat_lt, List, [], take, drop, length, Option, Some, None, Result, bytes_eq, unwrap_or}
+use Rattle.std.specs.Prelude.{ℕ, ◌==◌, Bool, not, nat_lt, List, [], take, drop, length, Option, Some, None, Result, bytes_eq, unwrap_or, if◌then◌else◌}
 use Rattle.std.specs.Int.{w32, from_be_bytes}
 use Rattle.std.specs.Str.{str_to_ascii_lowercase}
+use Rattle.url.specs.Parts.{Parts}
 use Rattle.krb_crypto.specs.Suite.{key_size}
 use Rattle.krb_messages.specs.declared.authenticator.Authenticator.{Authenticator}
 use Rattle.krb_messages.specs.declared.ticket.Ticket.{Ticket}
@@ -58,11 +59,15 @@ tgs_req_for wanted shown realm tickets draw =
 unfoldable pub tgs_request : Wanted → Shown → Option (List Ticket) → Draw → Kdc → NetworkRequest
 tgs_request wanted shown tickets draw kdc = request_to kdc (spelling tgs_req_layout (tgs_req_for wanted shown kdc.realm tickets draw))
 
+-- the URL that the client has is that of a KDC of its own realm, by the same octets: for any other realm one is looked for
+abbrev pub url_for : Option Parts → List ℕ → List ℕ → Option Parts
+url_for own home realm = if bytes_eq home realm then own else None
+
 -- the session key has its length, the realm has a KDC, and the request goes to it
-unfoldable pub AsksTgs : Asker → Wanted → Shown → List ℕ → Option (List Ticket) → Draw → Result Begun Cause → Type 0
-AsksTgs asker wanted shown realm tickets draw = do
+unfoldable pub AsksTgs : Asker → Wanted → Shown → List ℕ → List ℕ → Option (List Ticket) → Draw → Result Begun Cause → Type 0
+AsksTgs asker wanted shown home realm tickets draw = do
   Holds KeyLength (length shown.key == key_size shown.suite)
-  kdc ← FindsKdc asker.kdc_url asker.env realm
+  kdc ← FindsKdc (url_for asker.kdc_url home realm) asker.env realm
   Gives (record { request = tgs_request wanted shown tickets draw kdc; kdc = kdc })
 
 -- the same realm, in letters of either case
@@ -70,8 +75,8 @@ abbrev pub is_same_realm : List ℕ → List ℕ → Bool
 is_same_realm x y = bytes_eq (str_to_ascii_lowercase x) (str_to_ascii_lowercase y)
 
 -- a referral is followed, at most nine of them, and none to the realm that was asked; no additional ticket goes along
-unfoldable pub Follows : Asker → Wanted → Shown → ℕ → List ℕ → List ℕ → Draw → Result Begun Cause → Type 0
-Follows asker wanted shown hops asked realm draw = do
+unfoldable pub Follows : Asker → Wanted → Shown → ℕ → List ℕ → List ℕ → List ℕ → Draw → Result Begun Cause → Type 0
+Follows asker wanted shown hops home asked realm draw = do
   Holds Hops (nat_lt hops 9)
   Holds SameRealm (not (is_same_realm asked realm))
-  AsksTgs asker wanted shown realm None draw
+  AsksTgs asker wanted shown home realm None draw

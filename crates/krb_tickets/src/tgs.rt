@@ -11,8 +11,9 @@ ghost use Rattle.sspi_core.specs.Checks.{Answers, Gives, Holds};
 ghost use Rattle.krb_requests.specs.Pieces.{Fits};
 ghost use Rattle.krb_authenticators.specs.Bindings.{AreShortBindings};
 ghost use Rattle.krb_authenticators.specs.TgsRequests.{AreShortTickets};
+ghost use Rattle.krb_sending.specs.Kdcs.{FindsKdc};
 ghost use Rattle.krb_credentials.specs.Granted.{IsSendable};
-ghost use Rattle.krb_tickets.specs.TgsAsked.{drawn_number, drawn_nonce, drawn_confounder, tgs_authenticator, tgs_req_for, tgs_request, AsksTgs, is_same_realm, Follows};
+ghost use Rattle.krb_tickets.specs.TgsAsked.{drawn_number, drawn_nonce, drawn_confounder, tgs_authenticator, tgs_req_for, tgs_request, url_for, AsksTgs, is_same_realm, Follows};
 
 use crate::wanted::{Shown, Wanted};
 use krb_authenticators::{
@@ -205,8 +206,20 @@ fn check_key(shown: &Shown) -> Result<(), Cause>
     )
 }
 
-/// Asks the ticket-granting service of a realm for the ticket that is wanted, at the URL that is known, else at the one that is
-/// found. The draw's first octets are the number (four), the nonce (four) and the confounder (sixteen).
+/// The KDC of a realm, with `home` for the client's own.
+fn kdc_of(alloc: Global, asker: &Asker, home: &Name, realm: &Name) -> Result<Kdc, Cause>
+    ensures { Answers (FindsKdc (url_for asker.now.kdc_url home.now realm.now) asker.now.env realm.now) result }
+{
+    if home.as_str() == realm.as_str() {
+        find_kdc(alloc, &asker.kdc_url, &asker.env, realm)
+    } else {
+        find_kdc(alloc, &None, &asker.env, realm)
+    }
+}
+
+/// Asks the ticket-granting service of a realm for the ticket that is wanted. Where the realm is `home`, the client's own, its KDC
+/// is the one that the client knows, if it knows one; any other is looked for. The draw's first octets are the number (four), the
+/// nonce (four) and the confounder (sixteen).
 ///
 /// Refused as `KeyLength` where the session key has not the length of its suite's keys; then as `NoKdc` and as `Scheme`, as
 /// `find_kdc` refuses.
@@ -216,6 +229,7 @@ pub fn ask_tgs(
     asker: &Asker,
     wanted: &Wanted,
     shown: &Shown,
+    home: &Name,
     realm: &Name,
     tickets: Option<Items<Ticket>>,
     draw: &Draw,
@@ -226,10 +240,10 @@ pub fn ask_tgs(
     requires realm { length realm.now ≤ 2 ^ 24 }
     requires rep { IsSendable shown.now.rep }
     requires tickets { AreShortTickets tickets }
-    ensures step { Answers (AsksTgs asker.now wanted.now shown.now realm.now tickets draw.now) result }
+    ensures step { Answers (AsksTgs asker.now wanted.now shown.now home.now realm.now tickets draw.now) result }
 {
     check_key(shown)?;
-    let kdc = find_kdc(alloc, &asker.kdc_url, &asker.env, realm)?;
+    let kdc = kdc_of(alloc, asker, home, realm)?;
     sent_tgs_request(alloc, wanted, shown, tickets, draw, kdc)
 }
 
@@ -264,6 +278,7 @@ pub fn follow(
     wanted: &Wanted,
     shown: &Shown,
     hops: u8,
+    home: &Name,
     asked: &Name,
     realm: &Name,
     draw: &Draw,
@@ -273,10 +288,10 @@ pub fn follow(
     requires bindings { IfSome wanted.now.channel_bindings AreShortBindings }
     requires realm { length realm.now ≤ 2 ^ 24 }
     requires rep { IsSendable shown.now.rep }
-    ensures step { Answers (Follows asker.now wanted.now shown.now hops asked.now realm.now draw.now) result }
+    ensures step { Answers (Follows asker.now wanted.now shown.now hops home.now asked.now realm.now draw.now) result }
     ensures few { IfOk result (λ begun. hops < 9) }
 {
     check_hops(hops)?;
     check_realm(asked, realm)?;
-    ask_tgs(alloc, asker, wanted, shown, realm, None, draw)
+    ask_tgs(alloc, asker, wanted, shown, home, realm, None, draw)
 }

@@ -1,0 +1,75 @@
+//! A KDC, and the service beside it, that are asked and answer as rows have it.
+
+use crate::rows::{Reply, Turn};
+use krb_der::Octets;
+use sspi_generator::{NetFault, NetworkClient, NetworkRequest};
+use std::alloc::Global;
+
+/// Answers one turn after another, whatever it is asked, and remembers whether each request was the turn's. It counts a fault at
+/// each call.
+#[derive(Drop)]
+pub struct Kdc {
+    alloc: Global,
+    turns: &'static [Turn],
+    is_asked_so: bool,
+    faults: u64,
+}
+
+impl Kdc {
+    pub fn new(alloc: Global, turns: &'static [Turn]) -> Kdc {
+        Kdc {
+            alloc,
+            turns,
+            is_asked_so: true,
+            faults: 0,
+        }
+    }
+
+    /// Whether it was asked just what the turns say.
+    pub fn is_asked_so(&self) -> bool {
+        self.is_asked_so && self.turns.is_empty()
+    }
+}
+
+/// Whether the octets are those.
+fn is_hex(alloc: Global, octets: &[u8], digits: &str) -> bool {
+    match hex::decode(alloc, digits) {
+        Ok(wanted) => octets == wanted.as_slice(),
+        Err(_) => false,
+    }
+}
+
+fn is_request(alloc: Global, request: &NetworkRequest, turn: &Turn) -> bool {
+    request.url.as_str() == turn.url && is_hex(alloc, request.payload.as_slice(), turn.request)
+}
+
+fn reply_of(alloc: Global, reply: &Reply) -> Result<Octets, NetFault> {
+    match reply {
+        Reply::Fault(code) => Err(NetFault::Failed(*code)),
+        Reply::Octets(digits) => match hex::decode(alloc, digits) {
+            Ok(octets) => Ok(Octets::new(octets)),
+            Err(_) => Err(NetFault::OutOfMemory),
+        },
+    }
+}
+
+impl NetworkClient for Kdc {
+    ghost faults = { λ kdc. kdc.faults };
+
+    ghost sends = { λ old request answer new. Unit {0} };
+
+    fn send(&mut self, request: &NetworkRequest) -> Result<Octets, NetFault> {
+        self.faults = self.faults.saturating_add(1);
+        match self.turns {
+            [] => {
+                self.is_asked_so = false;
+                Err(NetFault::Failed(0))
+            }
+            [turn, rest @ ..] => {
+                self.turns = rest;
+                self.is_asked_so &= is_request(self.alloc, request, turn);
+                reply_of(self.alloc, &turn.reply)
+            }
+        }
+    }
+}
