@@ -16,13 +16,15 @@ use krb_client::InitDone;
 use krb_der::{Octets, OutOfMemory};
 use sspi_core::{Cause, Draw, Error, ErrorKind};
 use sspi_generator::{GeneratorState, NetFault, NetworkRequest};
+use std::alloc::Global;
 use std::marker::Model;
 
-/// A run that waits for what a KDC answers. Contracts see the run.
+/// A run that waits for what a KDC answers. Contracts see the run. It stands on the heap, so a connection that waits for nothing is
+/// small.
 #[derive(Drop)]
 pub struct Exchange {
-    run: Run,
-    ghost waits: { IsWaiting run } by { waiting-prop run },
+    run: Box<Run>,
+    ghost waits: { IsWaiting run.value } by { waiting-prop run.value },
 }
 
 impl Model for Exchange {
@@ -30,7 +32,7 @@ impl Model for Exchange {
 
     ghost Value = { Run };
 
-    ghost view = { λ exchange. exchange.run };
+    ghost view = { λ exchange. exchange.run.value };
 }
 
 /// What a step leads to.
@@ -72,11 +74,11 @@ fn ended(out: Result<InitDone, Error>) -> Result<Step, OutOfMemory>
 /// What a step leads to, or the run, where memory ran out.
 fn step_of(
     state: GeneratorState<NetworkRequest, Result<InitDone, Error>>,
-    run: Run,
-) -> Result<Step, Run>
-    requires waits { OnSuspended state (λ request. IsWaiting run) }
-    ensures step { IfOk result (λ step. IsStep state run step) }
-    ensures kept { IfErr result (λ kept. (kept ≡ run) × (state ≡ Completed (Err (error_of causes.Memory)))) }
+    run: Box<Run>,
+) -> Result<Step, Box<Run>>
+    requires waits { OnSuspended state (λ request. IsWaiting run.value) }
+    ensures step { IfOk result (λ step. IsStep state run.value step) }
+    ensures kept { IfErr result (λ kept. (kept.value ≡ run.value) × (state ≡ Completed (Err (error_of causes.Memory)))) }
 {
     match state {
         GeneratorState::Suspended(request) => Ok(Step::Asks(request, Exchange { run })),
@@ -88,12 +90,12 @@ fn step_of(
 }
 
 /// An exchange begins. Where memory runs out it does not.
-pub fn begin(run: Run, draw: &Draw) -> Result<Step, OutOfMemory>
+pub fn begin(alloc: Global, run: Run, draw: &Draw) -> Result<Step, OutOfMemory>
     requires new { IsNew run }
     requires moment { draw.now.moment ≤ MAX_MOMENT }
     ensures begins { IfOk result (λ step. Begins run draw.now step) }
 {
-    let mut run = run;
+    let mut run = Box::new(alloc, run)?;
     let state = start(&mut run, draw);
     match step_of(state, run) {
         Ok(step) => Ok(step),

@@ -22,9 +22,10 @@ use Rattle.sspi_core.specs.declared.cause.Cause.{Cause}
 use Rattle.sspi_core.specs.declared.cause.Cause.TheVariants as causes
 use Rattle.sspi_core.specs.declared.error.Error.{Error}
 use Rattle.sspi_core.specs.declared.error.Place.TheVariants.{Elsewhere}
+use Rattle.sspi_generator.specs.declared.network.NetFault.{NetFault}
 use Rattle.krb_service.specs.Exchanges.{awaits}
 use Rattle.krb_service.specs.Initiations.{token_heard, options_of, Undertakes}
-use Rattle.krb_service.specs.Policy.{State, ◌>>=◌, check, token_of, called, ready, reached, heard, token_reached, token_for, server_flags, draw_of, Settles, Judges, Behind, TakesToken, Initiates, TakesTurn}
+use Rattle.krb_service.specs.Policy.{State, ◌>>=◌, check, token_of, called, ready, reached, heard, awaited, token_reached, token_for, server_flags, draw_of, Settles, Judges, Behind, TakesToken, Initiates, TakesTurn, TakesAnswer}
 use Rattle.krb_service.specs.declared.connection.Connection.{Connection}
 use Rattle.krb_service.specs.declared.reply.Reply.{Reply}
 use Rattle.krb_service.specs.declared.reply.Reply.TheVariants.{Refused}
@@ -79,13 +80,16 @@ reached_there connections event connection token stands e =
     r.reaches ∙ ap (λ (c : Connection). Ok (c, token)) (some_one r.connection connection (at_id event.connection connections) there stands)
 
 -- at an initiator: what the event brings, where it is the time for it
+abbrev with_brought : Connection → Result (List ℕ) Cause → Result (Connection × List ℕ) Cause
+with_brought connection brought = brought >>= (λ t. Ok (connection, t))
+
 with_heard : (connection : Connection) (brought : Result (List ℕ) Cause) (token : List ℕ)
-    → result_map_both (λ (x : Connection × List ℕ). x.1) (λ (c : Cause). c) (brought >>= (λ t. Ok (connection, t))) ≡ Ok token → (brought >>= (λ t. Ok (connection, t))) ≡ Ok (connection, token)
+    → result_map_both (λ (x : Connection × List ℕ). x.1) (λ (c : Cause). c) (with_brought connection brought) ≡ Ok token → with_brought connection brought ≡ Ok (connection, token)
 with_heard connection (Ok t) token e = ap (λ (x : List ℕ). Ok (connection, x)) (same_ok t token e)
 with_heard connection (Err cause) token e = absurd (cc)
 
 abbrev listening : Input → Result Connection Cause → Result (Connection × List ℕ) Cause
-listening input found = found >>= (λ connection. token_heard connection.context.state input >>= (λ t. Ok (connection, t)))
+listening input found = found >>= (λ connection. with_brought connection (token_heard connection.context.state input))
 
 record Listens (found : Result Connection Cause) (input : Input) (token : List ℕ) : Type 0 where
   connection : Connection
@@ -104,11 +108,25 @@ heard_there connections event connection token stands e =
     r.hears ∙ ap (λ (c : Connection). Ok (c, token)) (some_one r.connection connection (at_id event.connection connections) there stands)
 
 -- what the network brings: the connection awaits it
-awaited_by : (found : Result Connection Cause) (c connection : Connection) (run : Run) → found ≡ Ok c → c ≡ connection → connection.exchange ≡ Some run
-    → (found >>= (λ connection. ok_or causes.Sequence connection.exchange >>= (λ run. Ok (connection, run)))) ≡ Ok (connection, run)
-awaited_by found c connection run is same waits = rw (is, same, waits) refl
+abbrev with_run : Connection → Option Run → Result (Connection × Run) Cause
+with_run connection waits = ok_or causes.Sequence waits >>= (λ run. Ok (connection, run))
+
+abbrev awaiting : Result Connection Cause → Result (Connection × Run) Cause
+awaiting found = found >>= (λ connection. with_run connection connection.exchange)
+
+awaiting_is : (found : Result Connection Cause) (connection : Connection) (waits : Option Run) → found ≡ Ok connection → connection.exchange ≡ waits → awaiting found ≡ with_run connection waits
+awaiting_is found connection waits is e = ap awaiting is ∙ ap (λ (w : Option Run). with_run connection w) e
 
 module _ {G : Type 0} where
+  -- the connection awaits nothing
+  pub answer-refused : (state after : State G) (event : Event) (found connection : Connection) (answer : Result (List ℕ) NetFault) → called state.connections event ≡ Ok found
+      → at_id event.connection state.connections ≡ Some found → at_id event.connection state.connections ≡ Some connection → connection.exchange ≡ None → after ≡ state
+      → TakesAnswer state event (awaited state.connections event) answer (Refused (error_of causes.Sequence)) after
+  answer-refused state after event found connection answer is stands there none same =
+      let T : Result (Connection × Run) Cause → Type 0 = λ f. TakesAnswer state event f answer (Refused (error_of causes.Sequence)) after in
+      let e = some_one found connection (at_id event.connection state.connections) stands there in
+      subst T (sym (awaiting_is (called state.connections event) found None is (ap (λ (c : Connection). c.exchange) e ∙ none))) (refl, same)
+
   -- what an initiator answers
   pub turn-taken : (state after : State G) (event : Event) (connection : Connection) (token : List ℕ) (next : Connection) (made : Result Reply OutOfMemory)
       → at_id event.connection state.connections ≡ Some connection → token_for state.connections event ≡ Ok token

@@ -56,14 +56,19 @@ fn lead(connection: &mut Connection, step: Step) -> Reply
 }
 
 /// An exchange begins. Where memory runs out it does not.
-pub(crate) fn open(connection: &mut Connection, run: Run, draw: &Draw) -> Result<Reply, OutOfMemory>
+pub(crate) fn open(
+    alloc: Global,
+    connection: &mut Connection,
+    run: Run,
+    draw: &Draw,
+) -> Result<Reply, OutOfMemory>
     requires new { IsNew run }
     requires moment { draw.now.moment ≤ MAX_MOMENT }
     requires free { connection.old.exchange ≡ None }
     ensures opens { IfOk result (λ reply. Opens connection.old run draw.now reply connection.new) }
     ensures err { OnErr result (connection.new ≡ connection.old) }
 {
-    match begin(run, draw) {
+    match begin(alloc, run, draw) {
         Ok(step) => Ok(lead(connection, step)),
         Err(OutOfMemory) => Err(OutOfMemory),
     }

@@ -92,7 +92,7 @@ fn begin(
     ensures err { OnErr result (connection.new ≡ connection.old) }
 {
     match initialize_security_context(alloc, &connection.context, options) {
-        Ok(run) => open(connection, Run::Initiates(run), draw),
+        Ok(run) => open(alloc, connection, Run::Initiates(run), draw),
         Err(error) => refused(error),
     }
 }

@@ -69,6 +69,7 @@ fn draw_of(event: &Event) -> Draw
 
 /// What an acceptor's answer leads to, unless memory ran out: its reply, or the beginning of an exchange with a KDC.
 fn settle(
+    alloc: Global,
     connection: &mut Connection,
     answer: Result<Accepted, Error>,
     draw: &Draw,
@@ -92,7 +93,7 @@ fn settle(
             token,
             admits,
         }),
-        Ok(Accepted::Run(run)) => open(connection, Run::Accepts(run), draw),
+        Ok(Accepted::Run(run)) => open(alloc, connection, Run::Accepts(run), draw),
         Err(error) if is_memory(&error) => Err(OutOfMemory),
         Err(error) => Ok(Reply::Refused(error)),
     }
@@ -392,7 +393,7 @@ impl<G: ReplayGate> Service<G> {
             &self.env,
             &draw,
         );
-        settle(connection, answer, &draw)
+        settle(alloc, connection, answer, &draw)
     }
 
     /// One event, and its reply behind the others. The reply's place is made first.

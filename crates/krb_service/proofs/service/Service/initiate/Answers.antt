@@ -1,5 +1,16 @@
-use Rattle.std.proofs.Common.{List, ℕ, ap, sym, refl, subst, ◌∙◌}
-use Rattle.sspi_core.specs.declared.error.Error.{Error}
-use Rattle.krb_service.proofs.StepLemmas.{mapped_err}
-use Rattle.krb_service.proofs.TakeLemmas.{turn-taken, turn-refused}
+use Rattle.std.proofs.Common.{ap, sym, ◌∙◌}
+use Rattle.std.specs.Ordering.{nat_cmp}
+use Rattle.std.specs.BTreeMap.{is_at}
+use Rattle.std.specs.Map.{set_value}
+use Rattle.std.proofs.lemmas.Result.{on_err_weaker}
+use Rattle.krb_script.proofs.ScriptLemmas.{set_same}
+use Rattle.krb_service.specs.declared.connection.Connection.{Connection}
 use Rattle.krb_service.proofs.service.Service.initiate.Goals as goal
+
+pub returns-clause-err : goal.returns-clause-err
+returns-clause-err g c =
+    rw (← c.self.view_is) (on_err_weaker c.undertake.result (λ stays.
+    ap (λ connections. record { connections = connections; env = c.self.inside.env; gate = c.self.inside.gate })
+    ((c.get_mut.follows.holds c.undertake.new.connection).0
+    ∙ ap (λ (connection : Connection). set_value (is_at (nat_cmp c.args.event.now.connection)) c.self.inside.connections.entries connection) stays
+    ∙ set_same (is_at (nat_cmp c.args.event.now.connection)) c.self.inside.connections.entries c.in-Some.connection.now (sym c.in-Some.ensures.value))) c.undertake.ensures.err)

@@ -9,6 +9,7 @@ use Rattle.krb_service.specs.declared.reply.Reply.TheVariants.{Refused}
 use Rattle.krb_script.proofs.ScriptLemmas.{set_same}
 use Rattle.krb_service.proofs.ExchangeLemmas.{stopped_leaves}
 use Rattle.krb_service.proofs.StepLemmas.{mapped_err, step-refused}
+use Rattle.krb_service.proofs.TakeLemmas.{token-taken}
 use Rattle.krb_service.specs.declared.connection.Connection.{Connection}
 use Rattle.krb_service.proofs.service.Service.take_token.Goals as goal
 
@@ -17,6 +18,17 @@ returns-in-Err-clause-step g c =
     let e = mapped_err (λ found. found.1) _ c.in-Err.cause c.in-Err.ensures.found in
     let P : Error → Type 0 = λ error. TakesToken g.G.ReplayGate.admits c.args.self.now c.args.event.now (Refused error) c.args.self.now in
     subst P (sym c.from.ensures) (step-refused g.G.ReplayGate.admits c.args.self.now c.args.event.now c.in-Err.cause e)
+
+pub returns-clause-step : goal.returns-clause-step
+returns-clause-step g c =
+    let a = c.accept_security_context-answer in
+    rw (← c.self.view_is)
+    (token-taken g.G.ReplayGate.admits (record { connections = c.self.inside.connections.entries; env = c.self.inside.env; gate = c.self.inside.gate })
+    (record { connections = (c.get_mut.follows.lender c.settle.new.connection).entries; env = c.self.inside.env; gate = a.new.gate })
+    c.args.event.now c.in-Some.connection.now c.in-Ok.token.now a.result a.new.server c.settle.new.connection c.settle.result
+    (sym c.in-Some.ensures.value) (sym (rw (← c.self.view_is) at c.in-Ok.ensures.found)) (rw (c.server_flags.ensures, c.draw_of-draw.ensures) at a.ensures.step)
+    c.settle.ensures.other (rw (c.draw_of-draw.ensures) at c.settle.ensures.settles)
+    (c.get_mut.follows.holds c.settle.new.connection).0 refl)
 
 pub returns-clause-err : goal.returns-clause-err
 returns-clause-err g c =
