@@ -7,7 +7,7 @@ use Rattle.sspi_core.specs.declared.error.Place.TheVariants.{Query, MakeMic, Els
 use Rattle.sspi_core.specs.declared.kind.ErrorKind.{ErrorKind}
 use Rattle.sspi_core.specs.declared.kind.ErrorKind.TheVariants.{InvalidToken, InvalidParameter, InvalidHandle, OutOfSequence, BufferTooSmall, DecryptFailure, EncryptFailure, MessageAltered, TimeSkew, ContextExpired, IncompleteCredentials, NoCredentials, UnknownCredentials, WrongCredentialHandle, UnsupportedPreAuth, NoAuthenticatingAuthority, KdcInvalidRequest, KdcCertRevoked, NoKerbKey, NoTgtReply, MutualAuthFailed, TooManyPrincipals, OperationNotSupported, UnsupportedFunction, InternalError, Unknown, OutOfMemory}
 use Rattle.sspi_core.specs.declared.cause.Cause.{Cause}
-use Rattle.sspi_core.specs.declared.cause.Cause.TheVariants.{Memory, Moment, Connection, Role, Sequence, Shape, NoServiceKey, Etype, KeyLength, Short, Altered, Inner, Names, Skew, NotYet, Expired, Replayed, ClientName, ApOptions, SubKey, Credentials, ServerName, KeytabUser, NotAscii, Reply, NoNumber, Number, NoSubKey, NoTarget, Target, NoIdentity, NoKdc, Scheme, Network, ReplyShort, EarlyAsRep, Kdc, EtypeEntry, Salt, Hops, SameRealm, Port, UserData, ResultCode, Buffers, TooSmall, Header, Direction, ExtraCount, Room, Old, Repeated, Sealed, NoKey, Checksum, Bindings, BadUser, Unsupported, Suspended, NotBuilt}
+use Rattle.sspi_core.specs.declared.cause.Cause.TheVariants.{Memory, Moment, Connection, Role, Sequence, Shape, NoServiceKey, Etype, KeyLength, Short, Altered, Inner, Names, Skew, NotYet, Expired, Replayed, ClientName, ApOptions, SubKey, Credentials, ServerName, KeytabUser, NotAscii, Reply, NoNumber, Number, NoSubKey, NoTarget, Target, NoIdentity, NoKdc, Scheme, Network, ReplyShort, EarlyAsRep, Kdc, EtypeEntry, Salt, Hops, SameRealm, Port, UserData, ResultCode, Buffers, TooSmall, Header, Direction, ExtraCount, Room, Old, Repeated, Sealed, NoKey, Checksum, Bindings, BadUser, Unsupported, Suspended}
 
 -- the table of codes: each kind with its codes
 abbrev pub code_table : List (ErrorKind × List ℕ)
@@ -101,7 +101,6 @@ kind_of Bindings = InvalidToken
 kind_of BadUser = InvalidParameter
 kind_of Unsupported = UnsupportedFunction
 kind_of Suspended = UnsupportedFunction
-kind_of NotBuilt = UnsupportedFunction
 
 -- no identity in a query or at a handle
 abbrev pub kind_in_query : Cause → ErrorKind

@@ -5,7 +5,7 @@ use Rattle.sspi_core.specs.declared.error.Error.{Error}
 use Rattle.sspi_core.specs.declared.kind.ErrorKind.{ErrorKind}
 use Rattle.sspi_core.specs.declared.kind.ErrorKind.TheVariants.{InvalidToken, InvalidParameter, InvalidHandle, OutOfSequence, BufferTooSmall, DecryptFailure, EncryptFailure, MessageAltered, TimeSkew, ContextExpired, IncompleteCredentials, NoCredentials, UnknownCredentials, WrongCredentialHandle, UnsupportedPreAuth, NoAuthenticatingAuthority, KdcInvalidRequest, KdcCertRevoked, NoKerbKey, NoTgtReply, MutualAuthFailed, TooManyPrincipals, OperationNotSupported, UnsupportedFunction, InternalError, Unknown, OutOfMemory}
 use Rattle.sspi_core.specs.declared.cause.Cause.{Cause}
-use Rattle.sspi_core.specs.declared.cause.Cause.TheVariants.{Memory, Moment, Connection, Role, Sequence, Shape, NoServiceKey, Etype, KeyLength, Short, Altered, Inner, Names, Skew, NotYet, Expired, Replayed, ClientName, ApOptions, SubKey, Credentials, ServerName, KeytabUser, NotAscii, Reply, NoNumber, Number, NoSubKey, NoTarget, Target, NoIdentity, NoKdc, Scheme, Network, ReplyShort, EarlyAsRep, Kdc, EtypeEntry, Salt, Hops, SameRealm, Port, UserData, ResultCode, Buffers, TooSmall, Header, Direction, ExtraCount, Room, Old, Repeated, Sealed, NoKey, Checksum, Bindings, BadUser, Unsupported, Suspended, NotBuilt}
+use Rattle.sspi_core.specs.declared.cause.Cause.TheVariants.{Memory, Moment, Connection, Role, Sequence, Shape, NoServiceKey, Etype, KeyLength, Short, Altered, Inner, Names, Skew, NotYet, Expired, Replayed, ClientName, ApOptions, SubKey, Credentials, ServerName, KeytabUser, NotAscii, Reply, NoNumber, Number, NoSubKey, NoTarget, Target, NoIdentity, NoKdc, Scheme, Network, ReplyShort, EarlyAsRep, Kdc, EtypeEntry, Salt, Hops, SameRealm, Port, UserData, ResultCode, Buffers, TooSmall, Header, Direction, ExtraCount, Room, Old, Repeated, Sealed, NoKey, Checksum, Bindings, BadUser, Unsupported, Suspended}
 
 -- the name of a kind
 abbrev pub kind_text : ErrorKind → List ℕ
@@ -98,7 +98,6 @@ cause_name Bindings = codes "Bindings"
 cause_name BadUser = codes "BadUser"
 cause_name Unsupported = codes "Unsupported"
 cause_name Suspended = codes "Suspended"
-cause_name NotBuilt = codes "NotBuilt"
 
 -- the number of a cause behind a space, where it has one
 abbrev pub cause_number : Cause → List ℕ

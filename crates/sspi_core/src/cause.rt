@@ -132,8 +132,6 @@ pub enum Cause {
     Unsupported,
     /// The task waits for a reply, and nobody sends.
     Suspended,
-    /// This form is not built yet.
-    NotBuilt,
 }
 
 impl Cause {
@@ -189,8 +187,7 @@ impl Cause {
             Cause::NoKdc | Cause::Network(_) | Cause::Hops | Cause::SameRealm =>
                 ErrorKind::NoAuthenticatingAuthority,
             Cause::TooSmall => ErrorKind::BufferTooSmall,
-            Cause::Unsupported | Cause::Suspended | Cause::NotBuilt =>
-                ErrorKind::UnsupportedFunction,
+            Cause::Unsupported | Cause::Suspended => ErrorKind::UnsupportedFunction,
             Cause::Kdc(code) => map_keb_error_code_to_sspi_error(code),
         }
     }
@@ -259,7 +256,6 @@ impl Cause {
             Cause::BadUser => "BadUser",
             Cause::Unsupported => "Unsupported",
             Cause::Suspended => "Suspended",
-            Cause::NotBuilt => "NotBuilt",
         }
     }
 }
