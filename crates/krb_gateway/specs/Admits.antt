@@ -1,5 +1,5 @@
 -- What the gateway admits, and which message it opens.
-use Rattle.std.specs.Prelude.{◌≡◌, ℕ, List, [], ◌∷◌, length, Option, Some, false, Result, Ok, Err}
+use Rattle.std.specs.Prelude.{◌≡◌, ℕ, List, [], ◌∷◌, length, Option, Some, false, Result, Ok}
 use Rattle.krb_conf.specs.declared.config.KerberosConfig.{KerberosConfig}
 use Rattle.krb_context.specs.declared.context.Kerberos.{Kerberos}
 use Rattle.krb_context.specs.declared.server.ServerProperties.{ServerProperties}
@@ -9,10 +9,7 @@ use Rattle.krb_replay.specs.Book.{Book, Follows, StandsFor}
 use Rattle.krb_server.specs.Accepts.{Accepts}
 use Rattle.krb_server.specs.declared.admission.Accepted.{Accepted}
 use Rattle.krb_server.specs.declared.admission.Accepted.TheVariants.{Done}
-use Rattle.sspi_core.specs.declared.cause.Cause.{Cause}
 use Rattle.sspi_core.specs.declared.draw.Draw.{Draw}
-use Rattle.sspi_core.specs.declared.error.Error.{Error}
-use Rattle.sspi_core.specs.Kinds.{error_of}
 use Rattle.sspi_core.specs.declared.buffer.BufferType.TheVariants as types
 use Rattle.sspi_core.specs.Buffer.{Buffer, no_flags}
 
@@ -33,15 +30,6 @@ pub record Admits (service : ServerProperties) (old : Book) (token : List ℕ) (
   pub accepted : Accepted
   pub answer_is : answer ≡ answer_in accepted
   pub accepts : Accepts (Follows StandsFor) waiting false token draw old (Ok accepted) connection new
-
--- a check of the acceptor refuses the token with this error, at a connection that waited for one
-pub record RefusesToken (service : ServerProperties) (old : Book) (token : List ℕ) (draw : Draw) (error : Error) (new : Book) : Type 0 where
-  pub waiting : Kerberos
-  pub waits : Waits service waiting
-  pub cause : Cause
-  pub error_is : error ≡ error_of cause
-  pub after : Kerberos
-  pub accepts : Accepts (Follows StandsFor) waiting false token draw old (Err cause) after new
 
 -- a message that came whole, and an empty buffer for its text
 abbrev pub whole_message : List ℕ → List Buffer

@@ -1,14 +1,12 @@
 //! What a server keeps, and the three calls that it makes of the library.
 
-ghost use Rattle.std.specs.Prelude.{◌≡◌, ◌≢◌, map, Ok, Err, None, Some, IfOk, IfErr};
-ghost use Rattle.sspi_core.specs.Kinds.{error_of};
-ghost use Rattle.sspi_core.specs.declared.cause.Cause.TheVariants as causes;
+ghost use Rattle.std.specs.Prelude.{◌≡◌, map, Ok, None, Some, IfOk, IfErr};
 ghost use Rattle.krb_replay.specs.Book.{StandsFor};
 ghost use Rattle.krb_replay.specs.History.{no_history};
 ghost use Rattle.krb_context.specs.ServiceKeys.{new_properties, IsNotAscii};
 ghost use Rattle.krb_context.specs.Queries.{name_of};
 ghost use Rattle.krb_context.specs.Unwraps.{Unwraps};
-ghost use Rattle.krb_gateway.specs.Admits.{Waits, answer_in, Admits, RefusesToken, whole_message};
+ghost use Rattle.krb_gateway.specs.Admits.{Waits, answer_in, Admits, whole_message};
 
 use krb_server::{
     Accepted, Draw, Env, Error, Flags, Items, Kerberos, KerberosConfig, Message, Octets, Part,
@@ -75,7 +73,6 @@ impl Gateway {
     pub fn admit(&mut self, alloc: Global, token: &[u8], draw: &Draw) -> Result<Guest, Error>
         ensures admits { IfOk result (λ guest. Admits self.old.service self.old.book token.now draw.now guest.answer guest.connection self.new.book) }
         ensures named { IfOk result (λ guest. name_of guest.connection ≡ Ok guest.name) }
-        ensures refused { IfErr result (λ error. error ≢ error_of causes.Memory → RefusesToken self.old.service self.old.book token.now draw.now error self.new.book) }
         ensures service { self.new.service ≡ self.old.service }
     {
         let mut connection = self.connection(alloc, draw)?;
