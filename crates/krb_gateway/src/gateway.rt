@@ -44,7 +44,7 @@ fn answer_in(accepted: Accepted) -> Octets
 
 impl Gateway {
     /// A service of these components, as `host` and `server.example.com`, and its key of 16 or 32 octets.
-    /// Refused as NotAscii exactly where a component is past ASCII.
+    /// Refused as NotAscii where a component is past ASCII.
     pub fn new(alloc: Global, components: &[&str], key: Octets) -> Result<Gateway, Error>
         ensures service { IfOk result (λ gateway. gateway.service ≡ new_properties (map (λ part. part.now) components.now) None 300 (Some key)) }
         ensures book { IfOk result (λ gateway. StandsFor gateway.book no_history) }
