@@ -36,7 +36,7 @@ pub struct Kerberos {
     pub window: NumberWindow,
     /// The derived keys of the messages that this end seals. Contracts see nothing of them; `KeptKey::new()` makes them.
     pub kept_to_seal: KeptKey,
-    /// The derived keys of the messages that this end opens.
+    /// The derived keys of what this end opens: messages, and before them an acceptor's tickets.
     pub kept_to_open: KeptKey,
 }
 

@@ -1,22 +1,27 @@
 //! What a context keeps of its keys, so that a message needs not derive them again. Contracts see nothing of it.
 
-ghost use Rattle.std.specs.Prelude.{◌≡◌, IfOk, IsTrue, length, []};
+ghost use Rattle.std.specs.Prelude.{◌≡◌, ◌≤◌, IfOk, IsTrue, length, []};
 ghost use Rattle.krb_context.specs.Origins.{origin, checksum_key_of};
 ghost use Rattle.krb_crypto.specs.Keyed.{IsHmacOf};
 ghost use Rattle.krb_crypto.specs.Suite.{key_size, key_octets, kc};
 ghost use Rattle.krb_crypto.specs.SealingPair.{sealing_pair};
+ghost use Rattle.krb_crypto.specs.Sealed.{IsSealed, IsSealedUnder};
+ghost use Rattle.sspi_core.specs.Checks.{Answers, Finds};
+ghost use Rattle.sspi_core.specs.declared.cause.Cause.TheVariants as causes;
 
 use crate::equal::is_equal;
 use crate::params::EncryptionParams;
 use crate::parties::sign_usage;
 use krb_crypto::{
-    CipherSuite, DerivedKey, HmacKey, HmacState, SealingKey, checksum_key, key_of, start_checksum,
+    CipherSuite, CryptoError, DerivedKey, HmacKey, HmacState, SealingKey, checksum_key, key_of,
+    start_checksum,
 };
-use krb_der::OutOfMemory;
+use krb_der::{Octets, OutOfMemory};
+use sspi_core::Cause;
 use std::alloc::Global;
 use std::marker::Model;
 
-/// The keys of sealed messages, and what they were made from.
+/// The keys of sealed texts, and what they were made from.
 #[derive(Drop)]
 pub(crate) struct Kept {
     suite: CipherSuite,
@@ -56,6 +61,18 @@ impl Kept {
         ensures { IsTrue result → self.now.sealing ≡ sealing_pair suite key.now usage }
     {
         self.suite == suite && self.usage == usage && is_equal(self.key.as_slice(), key)
+    }
+
+    /// The plain text that is sealed to a text of at least 28 octets.
+    fn unseal(&self, alloc: Global, text: &[u8]) -> Result<Octets, Cause>
+        requires { 28 ≤ length text.now }
+        ensures { Answers (Finds causes.Altered (IsSealedUnder self.now.sealing text.now)) result }
+    {
+        match self.sealing.open(alloc, text) {
+            Ok(plain) => Ok(plain),
+            Err(CryptoError::Altered) => Err(Cause::Altered),
+            Err(_) => Err(Cause::Memory),
+        }
     }
 }
 
@@ -107,8 +124,8 @@ impl KeptCode {
     }
 }
 
-/// The keys of one side's messages that may be kept. Contracts see one value. Key schedules are long: they stand on the heap,
-/// so a context that has sealed nothing is small.
+/// The keys of one side's sealed texts and MIC tokens that may be kept. Contracts see one value. Key schedules are long: they
+/// stand on the heap, so a context that has sealed and opened nothing is small.
 #[derive(Drop)]
 pub struct KeptKey {
     kept: Option<Box<Kept>>,
@@ -157,6 +174,26 @@ impl KeptKey {
 
     pub(crate) fn put(&mut self, kept: Box<Kept>) {
         self.kept = Some(kept);
+    }
+
+    /// The plain text that is sealed to this text, of at least 28 octets, under this suite, key and usage. What was kept is
+    /// used where it is of these, and what was used is kept for the next text.
+    pub fn unseal(
+        &mut self,
+        alloc: Global,
+        suite: CipherSuite,
+        key: &[u8],
+        usage: u32,
+        text: &[u8],
+    ) -> Result<Octets, Cause>
+        requires key { length key.now ≡ key_size suite }
+        requires long { 28 ≤ length text.now }
+        ensures { Answers (Finds causes.Altered (IsSealed suite key.now usage text.now)) result }
+    {
+        let kept = self.take(alloc, suite, key, usage)?;
+        let unsealed = kept.unseal(alloc, text);
+        self.put(kept);
+        unsealed
     }
 
     /// Keeps the key of the checksums of this suite, key and usage, where there is memory for it.

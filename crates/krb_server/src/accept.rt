@@ -40,13 +40,14 @@ fn check_state(server: &Kerberos) -> Result<(), Cause>
     hold(server.state.is_waiting(), Cause::Sequence)
 }
 
-/// The checks before the gate.
-fn begin(alloc: Global, server: &Kerberos, dce: bool, token: &[u8]) -> Result<Request, Cause>
-    ensures { Answers (Begins server.now dce token.now) result }
+/// The checks before the gate. The keys that open a ticket are kept in the context.
+fn begin(alloc: Global, server: &mut Kerberos, dce: bool, token: &[u8]) -> Result<Request, Cause>
+    ensures stays { server.new ≡ server.old }
+    ensures begins { Answers (Begins server.old dce token.now) result }
 {
     check_state(server)?;
-    let properties = properties(server)?;
-    read_request(alloc, properties, dce, token)
+    let properties = properties(&server.server)?;
+    read_request(alloc, properties, &mut server.kept_to_open, dce, token)
 }
 
 /// What the gate's verdict refuses.

@@ -9,7 +9,7 @@ ghost use Rattle.krb_server.specs.Requests.{is_same_client, OpensTicket, OpensAu
 
 use crate::open::open_data;
 use crate::token::receive;
-use krb_context::ServerProperties;
+use krb_context::{KeptKey, ServerProperties};
 use krb_crypto::CipherSuite;
 use krb_der::Octets;
 use krb_messages::constants::{AP_REQ_AUTHENTICATOR_USAGE, TICKET_USAGE};
@@ -51,20 +51,22 @@ fn service_key<'a>(server: &'a ServerProperties, name: &PrincipalName) -> Result
     }
 }
 
-/// What is sealed in the ticket.
+/// What is sealed in the ticket. The keys that open it are kept.
 fn open_ticket(
     alloc: Global,
     server: &ServerProperties,
+    kept: &mut KeptKey,
     message: &ApReq,
 ) -> Result<EncTicketPart, Cause>
     ensures { Answers (OpensTicket server.now message.now) result }
 {
     let key = service_key(server, &message.ticket.sname)?;
-    let (_, part) = open_data::<EncTicketPart>(alloc, key, TICKET_USAGE, &message.ticket.enc_part)?;
+    let sealed = &message.ticket.enc_part;
+    let (_, part) = open_data::<EncTicketPart>(alloc, kept, key, TICKET_USAGE, sealed)?;
     Ok(part)
 }
 
-/// The authenticator, of the same client.
+/// The authenticator, of the same client. Its key comes with the ticket, and nothing of it is kept.
 fn open_authenticator(
     alloc: Global,
     message: &ApReq,
@@ -74,6 +76,7 @@ fn open_authenticator(
 {
     let sealed = open_data::<Authenticator>(
         alloc,
+        &mut KeptKey::new(),
         &part.key.key_value,
         AP_REQ_AUTHENTICATOR_USAGE,
         &message.authenticator,
@@ -86,13 +89,14 @@ fn open_authenticator(
 pub(crate) fn read_request(
     alloc: Global,
     server: &ServerProperties,
+    kept: &mut KeptKey,
     dce: bool,
     token: &[u8],
 ) -> Result<Request, Cause>
     ensures { Answers (Requests server.now dce token.now) result }
 {
     let message = receive(alloc, dce, token)?;
-    let part = open_ticket(alloc, server, &message)?;
+    let part = open_ticket(alloc, server, kept, &message)?;
     let (suite, authenticator) = open_authenticator(alloc, &message, &part)?;
     Ok(Request {
         message,

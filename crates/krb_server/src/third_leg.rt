@@ -22,10 +22,11 @@ use std::alloc::Global;
 /// The filler of sealed messages in DCE style, in octets.
 const EXTRA_COUNT: u16 = 16;
 
-pub(crate) fn properties(server: &Kerberos) -> Result<&ServerProperties, Cause>
-    ensures { Takes causes.Sequence server.now.server (result_map_both (λ p. p.now) (λ e. e) result) }
+/// The service of an acceptor.
+pub(crate) fn properties(server: &Option<ServerProperties>) -> Result<&ServerProperties, Cause>
+    ensures { Takes causes.Sequence server.now (result_map_both (λ p. p.now) (λ e. e) result) }
 {
-    match &server.server {
+    match server {
         Some(properties) => Ok(properties),
         None => Err(Cause::Sequence),
     }
@@ -82,7 +83,7 @@ fn check_number(own: u32, number: &Octets) -> Result<(), Cause>
 fn check_last_word(alloc: Global, server: &Kerberos, token: &[u8]) -> Result<(), Cause>
     ensures { Answers (IsLastWord server.now token.now) result }
 {
-    properties(server)?;
+    properties(&server.server)?;
     let number = last_number(alloc, server, token)?;
     check_number(server.seq_number, &number)
 }

@@ -3,14 +3,14 @@ use Rattle.krb_server.specs.Accepts.{Begins}
 use Rattle.sspi_core.proofs.Chain.{chain}
 use Rattle.krb_server.proofs.accept.begin.Goals as goal
 
-pub returns-in_err-check_state : goal.returns-in_err-check_state
+pub returns-in_err-check_state-clause-begins : goal.returns-in_err-check_state-clause-begins
 unfolding Begins
-returns-in_err-check_state c = search (rules, chain)
+returns-in_err-check_state-clause-begins c = search (rules, chain)
 
-pub returns-in_err-properties : goal.returns-in_err-properties
+pub returns-in_err-properties-clause-begins : goal.returns-in_err-properties-clause-begins
 unfolding Begins
-returns-in_err-properties c = search (rules, chain)
+returns-in_err-properties-clause-begins c = search (rules, chain)
 
-pub returns : goal.returns
+pub returns-clause-begins : goal.returns-clause-begins
 unfolding Begins
-returns c = search (rules, chain)
+returns-clause-begins c = search (rules, chain)

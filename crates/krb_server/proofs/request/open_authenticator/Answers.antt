@@ -1,6 +1,6 @@
 use Rattle.std.proofs.Common.{rules}
 use Rattle.krb_server.specs.Requests.{OpensAuthenticator}
-use Rattle.sspi_core.proofs.Chain.{chain}
+use Rattle.sspi_core.proofs.Chain.{chain, goes, stops, answers}
 use Rattle.krb_server.proofs.request.open_authenticator.Goals as goal
 
 pub returns-in_err-sealed : goal.returns-in_err-sealed
@@ -9,7 +9,7 @@ returns-in_err-sealed c = search (rules, chain)
 
 pub returns-in_err-check_names : goal.returns-in_err-check_names
 unfolding OpensAuthenticator
-returns-in_err-check_names c = search (rules, chain)
+returns-in_err-check_names c = goes _ _ _ _ c.in_ok-sealed.ensures (stops _ _ _ _ (answers _ _ c.in_err-check_names.ensures) c.from_residual-in_err-check_names.ensures.1)
 
 pub returns : goal.returns
 unfolding OpensAuthenticator
