@@ -1,6 +1,7 @@
 //! AS exchanges over recorded replies, from a client's credentials to the session key of its ticket.
 
 mod exchanges;
+mod proxies;
 mod refusals;
 
 ghost use Rattle.std.specs.Prelude.{◌≡◌, ◌<◌, ◌≤◌, ◌^◌, IfOk, length};
@@ -23,6 +24,7 @@ use krb_crypto::CipherSuite;
 use krb_der::{Octets, OutOfMemory, Text};
 use krb_exchange::KdcReqBody;
 use krb_requests::name_of;
+use proxies::{PROXIED, PROXIED_FIRST, PROXIED_SECOND};
 use sspi_core::{
     AuthIdentityBuffers, Cause, ClientRequestFlags, CredentialsBuffers, Draw, Error,
     KeytabIdentity, Secret, Username,
@@ -386,18 +388,31 @@ fn first_replies_end_exchanges(rt: HostRuntime) {
 }
 
 #[test]
+fn exchanges_go_over_a_proxy(rt: HostRuntime) {
+    let Exchange { who, turns, end } = &proxies::WHOLE;
+    assert!(rt; ends(rt.alloc(), who, turns, Ok(end)));
+}
+
+#[test]
 fn replies_of_a_proxy_end_exchanges(rt: HostRuntime) {
-    let who = Who {
-        url: "https://p.example/k",
-        ..ALICE
-    };
-    for (reply, cause) in &refusals::PROXIED_REPLIES {
-        let turns = [Turn {
-            request: refusals::PROXIED_AS_REQ,
+    for (reply, cause) in &proxies::REPLIES {
+        let first = Turn {
             reply: *reply,
-            ..FIRST
-        }];
-        assert!(rt; ends(rt.alloc(), &who, &turns, Err(*cause)), "{cause:?}");
+            ..PROXIED_FIRST
+        };
+        assert!(rt;
+            ends(rt.alloc(), &PROXIED, &[first], Err(*cause)),
+            "{cause:?}"
+        );
+        let second = Turn {
+            reply: *reply,
+            ..PROXIED_SECOND
+        };
+        let turns = [PROXIED_FIRST, second];
+        assert!(rt;
+            ends(rt.alloc(), &PROXIED, &turns, Err(*cause)),
+            "{cause:?}"
+        );
     }
 }
 

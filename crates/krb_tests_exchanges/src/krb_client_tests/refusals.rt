@@ -24,13 +24,6 @@ pub const TGS_REP: &str =
      3990eed51896c3815c8327686623156b6c67c75455f8fbf20b6ccf544ac189552a1308d21811306a4c49e977092697390d73b1c3855f2d2070b3dd21\
      5d0312353af2d6c692387eaef46eac0805bbe8fe323ca8fc207d0be698687719a06e2f8edecb03";
 
-/// What alice asks of a proxy.
-pub const PROXIED_AS_REQ: &str =
-    "3081dda081cb0481c8000000c46a81c13081bea103020105a20302010aa31530133011a10402020080a20904073005a0030101ffa4819a308197a007\
-     03050000810010a1123010a003020101a10930071b05616c696365a20d1b0b4558414d504c452e434f4da320301ea003020102a11730151b066b7262\
-     7467741b0b4558414d504c452e434f4da511180f32303233313131373232313332305aa611180f32303233313131373232313332305aa70602040001\
-     0203a8083006020112020111a90f300d300ba003020114a10404027063a10d1b0b4558414d504c452e434f4d";
-
 /// Clients, and why they ask nothing.
 pub static BEGINNINGS: [(Who, Cause); 6] = [
     (
@@ -90,14 +83,6 @@ pub static FIRST_REPLIES: [(Reply, Cause); 7] = [
     (Reply::Message(AS_REP), Cause::EarlyAsRep),
     (Reply::Message(DATA_OF_ANOTHER_TAG), Cause::Shape),
     (Reply::Message(HALF_AN_ETYPE_INFO2), Cause::Shape),
-];
-
-/// First replies of a proxy, and the refusal of each.
-pub static PROXIED_REPLIES: [(Reply, Cause); 4] = [
-    (Reply::Fault(0), Cause::Network(0)),
-    (Reply::Octets(""), Cause::Shape),
-    (Reply::Octets("3004a0020400"), Cause::ReplyShort),
-    (Reply::Octets("3008a006040461626364"), Cause::Shape),
 ];
 
 /// Second replies, and the refusal of each.

@@ -74,8 +74,9 @@ pub static STATUSES: [(&str, Result<u16, Cause>); 3] = [
 /// What a token for user-to-user has: the contents of its mechanism's OID, and the sealed part of its ticket.
 pub type Found = Option<(&'static str, &'static str)>;
 
-/// Tokens, and what each has. The last two are a TGT-REP without a frame and a framed AP-REP.
-pub static TICKETS: [(&str, Result<Found, Cause>); 6] = [
+/// Tokens, and what each has. The token ids of the third and the fourth are 00 00 and ff ff; the last two are a TGT-REP without a
+/// frame and a framed AP-REP.
+pub static TICKETS: [(&str, Result<Found, Cause>); 8] = [
     (
         "6081a4060a2a864886f712010202030401308193a003020105a103020111a28186618183308180a003020105a10d1b0b4558414d504c452e434f4da2\
          20301ea003020102a11730151b066b72627467741b0b4558414d504c452e434f4da3483046a003020112a23f043d3d444b525960676e757c838a9198\
@@ -92,6 +93,24 @@ pub static TICKETS: [(&str, Result<Found, Cause>); 6] = [
          31383f464d545b626970777e858c939aa1a8afb6bdc4cbd2d9",
         Ok(Some((
             "2a03",
+            "3c434a51585f666d747b828990979ea5acb3bac1c8cfd6dde4ebf2f900070e151c232a31383f464d545b626970777e858c939aa1a8afb6bdc4cbd2d9",
+        ))),
+    ),
+    (
+        "608196060a2a864886f712010202030000308185a003020105a103020111a27961773075a003020105a10d1b0b4558414d504c452e434f4da2163014\
+         a003020102a10d300b1b066b72627467741b0158a3473045a003020112a23e043c3c434a51585f666d747b828990979ea5acb3bac1c8cfd6dde4ebf2\
+         f900070e151c232a31383f464d545b626970777e858c939aa1a8afb6bdc4cbd2d9",
+        Ok(Some((
+            "2a864886f71201020203",
+            "3c434a51585f666d747b828990979ea5acb3bac1c8cfd6dde4ebf2f900070e151c232a31383f464d545b626970777e858c939aa1a8afb6bdc4cbd2d9",
+        ))),
+    ),
+    (
+        "60819506092a864886f712010202ffff308185a003020105a103020111a27961773075a003020105a10d1b0b4558414d504c452e434f4da2163014a0\
+         03020102a10d300b1b066b72627467741b0158a3473045a003020112a23e043c3c434a51585f666d747b828990979ea5acb3bac1c8cfd6dde4ebf2f9\
+         00070e151c232a31383f464d545b626970777e858c939aa1a8afb6bdc4cbd2d9",
+        Ok(Some((
+            "2a864886f712010202",
             "3c434a51585f666d747b828990979ea5acb3bac1c8cfd6dde4ebf2f900070e151c232a31383f464d545b626970777e858c939aa1a8afb6bdc4cbd2d9",
         ))),
     ),
