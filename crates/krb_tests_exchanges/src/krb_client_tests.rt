@@ -388,12 +388,6 @@ fn first_replies_end_exchanges(rt: HostRuntime) {
 }
 
 #[test]
-fn exchanges_go_over_a_proxy(rt: HostRuntime) {
-    let Exchange { who, turns, end } = &proxies::WHOLE;
-    assert!(rt; ends(rt.alloc(), who, turns, Ok(end)));
-}
-
-#[test]
 fn replies_of_a_proxy_end_exchanges(rt: HostRuntime) {
     for (reply, cause) in &proxies::REPLIES {
         let first = Turn {

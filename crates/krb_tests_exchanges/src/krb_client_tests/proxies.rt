@@ -1,7 +1,7 @@
 //! Exchanges over HTTPS, each message of which is in a KDC-PROXY-MESSAGE.
 
 use super::exchanges::{ALICE, FIRST};
-use super::{Exchange, Reply, Turn, Who};
+use super::{Reply, Turn, Who};
 use sspi_core::Cause;
 
 /// Alice, whose KDC is behind a proxy.
@@ -43,13 +43,6 @@ pub const PROXIED_SECOND: Turn = Turn {
          8466ec2e7fd27f4f3406e83cd29ab5f03f28e0b7dcd858b72dc3d56eb99ae9e177",
     ),
     ..FIRST
-};
-
-/// The whole of it, from a second implementation.
-pub const WHOLE: Exchange = Exchange {
-    who: PROXIED,
-    turns: &[PROXIED_FIRST, PROXIED_SECOND],
-    end: "0909090909090909090909090909090909090909090909090909090909090909",
 };
 
 /// Replies of a proxy, and the refusal of each, whether it is the first or the second one.
