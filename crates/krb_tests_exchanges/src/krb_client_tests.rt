@@ -355,18 +355,31 @@ fn ends(alloc: Global, who: &Who, turns: &[Turn], end: Result<&str, Cause>) -> b
     network.is_same && network.turns.is_empty() && is_end(&found, &end)
 }
 
+/// Whether an exchange asks for all that was asked for then, and brings its key.
+fn brings_key(alloc: Global, exchange: &Exchange) -> bool {
+    ends(alloc, &exchange.who, exchange.turns, Ok(exchange.end))
+}
+
 #[test]
 fn exchanges_bring_keys(rt: HostRuntime) {
-    for Exchange { who, turns, end } in &exchanges::EXCHANGES {
-        assert!(rt; ends(rt.alloc(), who, turns, Ok(end)), "{end}");
-    }
+    let alloc = rt.alloc();
+    assert!(rt; brings_key(alloc, &exchanges::alices()));
+    assert!(rt; brings_key(alloc, &exchanges::no_salt()));
+    assert!(rt; brings_key(alloc, &exchanges::peppered()));
+    assert!(rt; brings_key(alloc, &exchanges::told_pepper()));
+    assert!(rt; brings_key(alloc, &exchanges::told_etype_17()));
+    assert!(rt; brings_key(alloc, &exchanges::of_a_keytab()));
+    assert!(rt; brings_key(alloc, &exchanges::through_a_proxy()));
 }
 
 #[test]
 fn exchanges_with_other_kdcs_bring_keys(rt: HostRuntime) {
-    for Exchange { who, turns, end } in &exchanges::OF_OTHER_KDCS {
-        assert!(rt; ends(rt.alloc(), who, turns, Ok(end)), "{end}");
-    }
+    let alloc = rt.alloc();
+    assert!(rt; brings_key(alloc, &exchanges::of_mit()));
+    assert!(rt; brings_key(alloc, &exchanges::of_mit_with_a_keytab()));
+    assert!(rt; brings_key(alloc, &exchanges::of_heimdal()));
+    assert!(rt; brings_key(alloc, &exchanges::of_heimdal_through_a_proxy()));
+    assert!(rt; brings_key(alloc, &exchanges::of_heimdal_by_another_name()));
 }
 
 #[test]

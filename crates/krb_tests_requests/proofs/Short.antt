@@ -1,6 +1,8 @@
 -- What a row has is short.
-use Rattle.std.proofs.Common.{ℕ, ◌+◌, ◌≤◌, ◌^◌, List, [], ◌∷◌, length, Some, arith, lit≤}
+use Rattle.std.proofs.Common.{◌≡◌, ℕ, ◌+◌, ◌≤◌, ◌^◌, List, [], ◌∷◌, length, Some, arith, lit≤, ap, sym, subst, ◌∙◌}
 use Rattle.krb_der.specs.Der.{tlv}
+use Rattle.krb_der.specs.Schema.{Spells}
+use Rattle.krb_der.specs.Layout.{items_layout}
 use Rattle.krb_der.proofs.Lengths.{tlv_le, append_le}
 use Rattle.krb_messages.specs.Layouts.{ticket_layout}
 use Rattle.krb_messages.specs.declared.ticket.Ticket.{Ticket}
@@ -30,3 +32,12 @@ alone ticket fits = record {
   complete = (fits.complete, tt);
   short = let k = tlv_le 0x30 _ (1024 + 0) (append_le _ [] 1024 0 fits.short (lit≤ tt)) in omega (arith, k);
 }
+
+-- a copy of a ticket alone, of which what was written is short
+pub only_one : (ticket copy : Ticket) (written : List ℕ) (tickets : List Ticket) → Fits ticket_layout (2 ^ 24) ticket
+    → Spells ticket_layout.kind (ticket_layout.view ticket) written → length written ≤ 1024 → copy ≡ ticket → tickets ≡ copy ∷ []
+    → Fits (items_layout ticket_layout) (2 ^ 24) tickets
+only_one ticket copy written tickets fits spells small same one =
+    let fitting : Fits ticket_layout 1024 ticket = record { complete = fits.complete; short = subst (λ (octets : List ℕ). length octets ≤ 1024) spells.is small } in
+    let e : tickets ≡ ticket ∷ [] = one ∙ ap (λ (t : Ticket). t ∷ []) same in
+    subst (λ (ts : List Ticket). Fits (items_layout ticket_layout) (2 ^ 24) ts) (sym e) (alone ticket fitting)

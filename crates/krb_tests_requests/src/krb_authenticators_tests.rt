@@ -3,7 +3,6 @@
 mod messages;
 
 ghost use Rattle.std.specs.Prelude.{◌≡◌, ◌<◌, ◌≤◌, ◌^◌, IfOk, IfSome, true, length};
-ghost use Rattle.std.specs.Option.{option_copied};
 ghost use Rattle.krb_messages.specs.Layouts.{ap_req_layout, authenticator_layout, ticket_layout};
 ghost use Rattle.krb_exchange.specs.Layouts.{tgs_req_layout};
 ghost use Rattle.sspi_core.specs.declared.draw.TheConstants.{MAX_MOMENT};
@@ -147,11 +146,37 @@ fn no_bindings(alloc: Global) -> ChannelBindings
     }
 }
 
-fn bindings_if(is_bound: bool, bindings: &ChannelBindings) -> Option<&ChannelBindings>
-    requires { AreShortBindings bindings.now }
-    ensures { IfSome (option_copied result) AreShortBindings }
+fn bindings_if(alloc: Global, is_bound: bool) -> Option<ChannelBindings>
+    ensures { IfSome result AreShortBindings }
 {
-    if is_bound { Some(bindings) } else { None }
+    if is_bound {
+        Some(no_bindings(alloc))
+    } else {
+        None
+    }
+}
+
+fn authenticator_over(
+    alloc: Global,
+    rep: &KdcRep,
+    shown: &Shown,
+    bindings: &Option<ChannelBindings>,
+) -> Result<Authenticator, Error>
+    requires rep { IsSendable rep.now }
+    requires bindings { IfSome bindings.now AreShortBindings }
+    ensures { IfOk result (λ made. Fits authenticator_layout (2 ^ 27) made) }
+{
+    let sub_key = chosen_key(alloc, shown.has_key)?;
+    let checksum = checksum(alloc, shown.sum)?;
+    let options = GenerateAuthenticatorOptions {
+        kdc_rep: rep,
+        seq_num: Some(shown.seq_num),
+        sub_key,
+        checksum,
+        channel_bindings: bindings.as_ref(),
+        extensions: Items::new(Vec::new(alloc)),
+    };
+    generate_authenticator(alloc, options, behind(shown.microseconds))
 }
 
 /// An authenticator of the client of a reply.
@@ -159,18 +184,8 @@ fn authenticator(alloc: Global, rep: &KdcRep, shown: &Shown) -> Result<Authentic
     requires { IsSendable rep.now }
     ensures { IfOk result (λ made. Fits authenticator_layout (2 ^ 27) made) }
 {
-    let sub_key = chosen_key(alloc, shown.has_key)?;
-    let checksum = checksum(alloc, shown.sum)?;
-    let bindings = no_bindings(alloc);
-    let options = GenerateAuthenticatorOptions {
-        kdc_rep: rep,
-        seq_num: Some(shown.seq_num),
-        sub_key,
-        checksum,
-        channel_bindings: bindings_if(shown.is_bound, &bindings),
-        extensions: Items::new(Vec::new(alloc)),
-    };
-    generate_authenticator(alloc, options, behind(shown.microseconds))
+    let bindings = bindings_if(alloc, shown.is_bound);
+    authenticator_over(alloc, rep, shown, &bindings)
 }
 
 /// A message of a KDC as UDP brings it here, behind four octets.
@@ -410,17 +425,17 @@ fn tgs_req_with(
     generate_tgs_req(alloc, options, behind(BEHIND), [0, 1, 2, 3], counted(0))
 }
 
-fn tgs_req_of(alloc: Global, as_rep: AsRep, wanted: &Wanted) -> Result<TgsReq, Error>
-    requires { IsSendable as_rep.0 }
+fn tgs_req_of(alloc: Global, rep: KdcRep, wanted: &Wanted) -> Result<TgsReq, Error>
+    requires { IsSendable rep }
     ensures { IfOk result (λ made. Fits tgs_req_layout (2 ^ 29) made) }
 {
-    let authenticator = authenticator(alloc, &as_rep.0, &SHOWN)?;
-    tgs_req_with(alloc, as_rep.0.ticket, authenticator, wanted)
+    let authenticator = authenticator(alloc, &rep, &SHOWN)?;
+    tgs_req_with(alloc, rep.ticket, authenticator, wanted)
 }
 
 fn is_wanted(alloc: Global, wanted: &Wanted, end: &Result<&str, Cause>) -> bool {
     match as_rep(alloc) {
-        Ok(as_rep) => ends(alloc, &tgs_req_of(alloc, as_rep, wanted), end),
+        Ok(as_rep) => ends(alloc, &tgs_req_of(alloc, as_rep.0, wanted), end),
         Err(_) => false,
     }
 }
@@ -433,8 +448,8 @@ fn tgs_reqs(rt: HostRuntime) {
 }
 
 /// The AP-REQ of a TGS-REQ, whose authenticator has the MD5 of the body.
-fn tgs_ap_req(alloc: Global, as_rep: AsRep, length: usize) -> Result<ApReq, Error>
-    requires { IsSendable as_rep.0 }
+fn tgs_ap_req(alloc: Global, rep: KdcRep, length: usize) -> Result<ApReq, Error>
+    requires { IsSendable rep }
     ensures { IfOk result (λ made. Fits ap_req_layout (2 ^ 28) made) }
 {
     let shown = Shown {
@@ -442,11 +457,11 @@ fn tgs_ap_req(alloc: Global, as_rep: AsRep, length: usize) -> Result<ApReq, Erro
         ..SHOWN
     };
     let session_key = key_of(alloc, 0x20, length)?;
-    let authenticator = authenticator(alloc, &as_rep.0, &shown)?;
+    let authenticator = authenticator(alloc, &rep, &shown)?;
     let enc_params = EncryptionParams::default_for_client();
     generate_tgs_ap_req(
         alloc,
-        as_rep.0.ticket,
+        rep.ticket,
         &session_key,
         &authenticator,
         &enc_params,
@@ -457,7 +472,7 @@ fn tgs_ap_req(alloc: Global, as_rep: AsRep, length: usize) -> Result<ApReq, Erro
 #[tactic(auto, using(crate::proofs::Fitting::from_28))]
 fn is_tgs_ap_req(alloc: Global, length: usize, end: &Result<&str, Cause>) -> bool {
     match as_rep(alloc) {
-        Ok(as_rep) => ends(alloc, &tgs_ap_req(alloc, as_rep, length), end),
+        Ok(as_rep) => ends(alloc, &tgs_ap_req(alloc, as_rep.0, length), end),
         Err(_) => false,
     }
 }
@@ -470,8 +485,8 @@ fn ap_reqs_to_ticket_granting_services(rt: HostRuntime) {
 }
 
 /// The AP-REQ to a service, under the key of the TGS-REP.
-fn ap_req(alloc: Global, tgs_rep: TgsRep, key: &str) -> Result<ApReq, Error>
-    requires { IsSendable tgs_rep.0 }
+fn ap_req(alloc: Global, rep: KdcRep, key: &str) -> Result<ApReq, Error>
+    requires { IsSendable rep }
     ensures { IfOk result (λ made. Fits ap_req_layout (2 ^ 28) made) }
 {
     let shown = Shown {
@@ -482,11 +497,11 @@ fn ap_req(alloc: Global, tgs_rep: TgsRep, key: &str) -> Result<ApReq, Error>
         is_bound: false,
     };
     let session_key = Secret::new(owned(alloc, key)?);
-    let authenticator = authenticator(alloc, &tgs_rep.0, &shown)?;
+    let authenticator = authenticator(alloc, &rep, &shown)?;
     let enc_params = EncryptionParams::default_for_client();
     generate_ap_req(
         alloc,
-        tgs_rep.0.ticket,
+        rep.ticket,
         &session_key,
         &authenticator,
         &enc_params,
@@ -498,7 +513,7 @@ fn ap_req(alloc: Global, tgs_rep: TgsRep, key: &str) -> Result<ApReq, Error>
 #[tactic(auto, using(crate::proofs::Fitting::from_28))]
 fn is_ap_req(alloc: Global, key: &str, end: &Result<&str, Cause>) -> bool {
     match tgs_rep(alloc) {
-        Ok(tgs_rep) => ends(alloc, &ap_req(alloc, tgs_rep, key), end),
+        Ok(tgs_rep) => ends(alloc, &ap_req(alloc, tgs_rep.0, key), end),
         Err(_) => false,
     }
 }
@@ -512,8 +527,8 @@ fn ap_reqs_to_services(rt: HostRuntime) {
 }
 
 /// The request for a new password, with a key that the client chose or with none.
-fn new_password(alloc: Global, as_rep: AsRep, has_key: bool) -> Result<KrbPrivMessage, Error>
-    requires { IsSendable as_rep.0 }
+fn new_password(alloc: Global, rep: KdcRep, has_key: bool) -> Result<KrbPrivMessage, Error>
+    requires { IsSendable rep }
     ensures { IfOk result FitsPriv }
 {
     let shown = Shown {
@@ -522,11 +537,11 @@ fn new_password(alloc: Global, as_rep: AsRep, has_key: bool) -> Result<KrbPrivMe
         ..SHOWN
     };
     let session_key = key_of(alloc, 0x40, 32)?;
-    let authenticator = authenticator(alloc, &as_rep.0, &shown)?;
+    let authenticator = authenticator(alloc, &rep, &shown)?;
     let enc_params = EncryptionParams::default_for_client();
     generate_krb_priv_request(
         alloc,
-        as_rep.0.ticket,
+        rep.ticket,
         &session_key,
         b"newpass",
         &authenticator,
@@ -557,7 +572,7 @@ fn is_message(
 
 fn is_new_password(alloc: Global, has_key: bool, end: &Result<&str, Cause>) -> bool {
     match as_rep(alloc) {
-        Ok(as_rep) => is_message(alloc, &new_password(alloc, as_rep, has_key), end),
+        Ok(as_rep) => is_message(alloc, &new_password(alloc, as_rep.0, has_key), end),
         Err(_) => false,
     }
 }

@@ -62,7 +62,7 @@ fn body_of(alloc: Global, asked: &Asked, service: &[&str; 2]) -> Result<KdcReqBo
         realm: asked.realm,
         username: asked.user,
         cname_type: 1,
-        snames: service.as_slice(),
+        snames: service,
         nonce: [0, 1, 2, 3],
         hostname: asked.host,
         context_requirements: ClientRequestFlags::from_bits_retain(asked.flags),
@@ -90,7 +90,7 @@ fn tgt_req_of(alloc: Global, service: &[&str; 2]) -> Result<TgtReq, Error>
     requires { IsShortPair (map (λ part. part.now) service.now) }
     ensures { IfOk result (λ made. Fits tgt_req_layout (2 ^ 25) made) }
 {
-    generate_tgt_req(alloc, service.as_slice())
+    generate_tgt_req(alloc, service)
 }
 
 #[tactic(auto, using(crate::proofs::Fitting::from_25))]
