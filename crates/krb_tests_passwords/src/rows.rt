@@ -57,7 +57,7 @@ const AS_REP: &str =
 const AS_REP_OVER_HTTPS: &str =
     "308201c1a08201bd048201b9000001b56b8201b1308201ada003020105a10302010ba30d1b0b4558414d504c452e434f4da4123010a003020101a10930071b05616c696365a58184618181307fa003020105a10d1b0b4558414d504c452e434f4da220301ea003020102a11730151b066b72627467741b0b4558414d504c452e434f4da3473045a003020112a23e043c3c434a51585f666d747b828990979ea5acb3bac1c8cfd6dde4ebf2f900070e151c232a31383f464d545b626970777e858c939aa1a8afb6bdc4cbd2d9a681f63081f3a003020112a281eb0481e88f679d9820113b1a631a2b53fe82163274663dda046fe982251b8b92954170c2426fe153b9365bda963e2aababf15689421232407cb0f955961b00b5c3126a0a262410a67041a33a9d1cccef0a0718109d1979fd28a597cd7a78d2262297ffa715212bb349bd8dcf7f30e77b2f49466cb1d5707d214e047c295fb60921b3add7b6d508f5839fed9af6e7f0c891ddd610a94f31b37abd71db1953132b706be88699105c3fe0b45b58bc89d6c2cbf8f1607c994b53734017b0d45779a07f77b35421d25de58e78a21129e4d43864a079e2bf23310538b00d3e46343870cf961e1e19da02e3524436ff";
 
-static CHANGES: [Change; 23] = [
+static CHANGES: [Change; 24] = [
     // The password is changed.
     Change {
         account: "alice",
@@ -156,6 +156,31 @@ static CHANGES: [Change; 23] = [
             },
         ],
         end: Err(Cause::ResultCode(4)),
+    },
+    // The length of the whole does not count.
+    Change {
+        account: "alice",
+        url: "tcp://kdc.example:88",
+        turns: &[
+            Turn {
+                url: "tcp://kdc.example:88",
+                request: ASKS,
+                reply: Reply::Octets(NEEDS_PREAUTHENTICATION),
+            },
+            Turn {
+                url: "tcp://kdc.example:88",
+                request: ASKS_AGAIN,
+                reply: Reply::Octets(AS_REP),
+            },
+            Turn {
+                url: "tcp://kdc.example:464",
+                request: TELLS,
+                reply: Reply::Octets(
+                    "000000aa00a9000100536f51304fa003020105a10302010fa2433041a003020112a23a0438a596337a1559a11be005c804a7e4e0eec2af253e67b34a00855eaf6caa98cd5fa1a743d85a6127ba7ad7e7ff86ebdb8c7f796f8edcef9581754f304da003020105a103020115a341303fa003020112a2380436012303694d7d83e99385564c3d7b4c1bd1bbce65d16ef847e6dd5241572c817c9e1f77c26dfb03e53fce1c5cf0223002f9b3a748c334",
+                ),
+            },
+        ],
+        end: Ok(8),
     },
     // Before anything is sent.
     Change {
@@ -368,7 +393,7 @@ static CHANGES: [Change; 23] = [
         ],
         end: Err(Cause::Shape),
     },
-    // One with another length in its front than its own.
+    // One with a length of its AP-REP that is too long by one.
     Change {
         account: "alice",
         url: "tcp://kdc.example:88",
@@ -387,7 +412,7 @@ static CHANGES: [Change; 23] = [
                 url: "tcp://kdc.example:464",
                 request: TELLS,
                 reply: Reply::Octets(
-                    "000000aa00a9000100536f51304fa003020105a10302010fa2433041a003020112a23a0438a596337a1559a11be005c804a7e4e0eec2af253e67b34a00855eaf6caa98cd5fa1a743d85a6127ba7ad7e7ff86ebdb8c7f796f8edcef9581754f304da003020105a103020115a341303fa003020112a2380436012303694d7d83e99385564c3d7b4c1bd1bbce65d16ef847e6dd5241572c817c9e1f77c26dfb03e53fce1c5cf0223002f9b3a748c334",
+                    "000000aa00aa000100546f51304fa003020105a10302010fa2433041a003020112a23a0438a596337a1559a11be005c804a7e4e0eec2af253e67b34a00855eaf6caa98cd5fa1a743d85a6127ba7ad7e7ff86ebdb8c7f796f8edcef9581754f304da003020105a103020115a341303fa003020112a2380436012303694d7d83e99385564c3d7b4c1bd1bbce65d16ef847e6dd5241572c817c9e1f77c26dfb03e53fce1c5cf0223002f9b3a748c334",
                 ),
             },
         ],
