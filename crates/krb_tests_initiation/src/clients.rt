@@ -40,19 +40,32 @@ fn user_with_password(
     }))
 }
 
+/// With a key of AES-128, whose number is 17, or else of AES-256.
+fn keytab(principal: Username, key: Secret<Octets>, number: u8) -> KeytabIdentity {
+    if number == 17 {
+        KeytabIdentity {
+            principal,
+            key,
+            key_enctype: 17,
+        }
+    } else {
+        KeytabIdentity {
+            principal,
+            key,
+            key_enctype: 18,
+        }
+    }
+}
+
 fn user_with_key(
     alloc: Global,
     principal: &str,
-    key_enctype: u8,
+    number: u8,
     digits: &str,
 ) -> Result<CredentialsBuffers, Fail> {
     let principal = Username::parse(alloc, principal)?;
-    let key = hex::decode(alloc, digits)?;
-    Ok(CredentialsBuffers::Keytab(KeytabIdentity {
-        principal,
-        key: Secret::new(Octets::new(key)),
-        key_enctype,
-    }))
+    let key = Secret::new(Octets::new(hex::decode(alloc, digits)?));
+    Ok(CredentialsBuffers::Keytab(keytab(principal, key, number)))
 }
 
 /// The credentials of the user.
