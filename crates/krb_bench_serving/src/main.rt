@@ -24,6 +24,5 @@ fn is_full(rt: &(impl Env + AllocGlobal)) -> Result<bool> {
 
 fn main(rt: HostRuntime) -> Result<()> {
     let full = is_full(&rt)?;
-    serving::run(&rt, full)?;
     two_threads::run(&rt, full)
 }

@@ -86,30 +86,20 @@ fn time_threads<R: Print + Clock + AllocGlobal + Threads + Wait + Sync>(
     Ok(spent)
 }
 
-/// Answers an input on one thread and on two, and prints both times and, in hundredths, their ratio.
-fn measure<R: Print + Eprint + Clock + AllocGlobal + Threads + Wait + Sync>(
-    rt: &R,
-    name: &str,
-    count: u32,
-    input: &[u8],
-) -> Result<()> {
-    let one = time_serve(rt, input)?.as_micros();
-    let two = time_threads(rt, name, count, input)?.as_micros();
-    let ratio = one.saturating_mul(100).checked_div(two).unwrap_or(0);
-    eprintln!(rt;
-        "threads: {name}, {count} events: {one} us on one thread, {two} us on two, ratio {ratio} of 100"
-    )?;
-    Ok(())
-}
 
-/// Measures 10,000 connections with an admission each, and 20,000 messages at two connections.
+/// One way alone, five times.
 pub fn run<R: Print + Eprint + Clock + AllocGlobal + Threads + Wait + Sync>(
     rt: &R,
     full: bool,
 ) -> Result<()> {
-    let (connections, messages) = if full { (10_000, 20_000) } else { (20, 20) };
-    let input = long_input(rt.alloc(), connections).context("out of memory")?;
-    measure(rt, "ten a second", connections, &input)?;
-    let input = wraps_input(rt.alloc(), messages).context("out of memory")?;
-    measure(rt, "messages of 1 KiB", messages, &input)
+    let input = long_input(rt.alloc(), 10_000).context("out of memory")?;
+    for _ in 0..5 {
+        let spent = if full {
+            time_serve(rt, &input)?.as_micros()
+        } else {
+            time_threads(rt, "ten a second", 10_000, &input)?.as_micros()
+        };
+        eprintln!(rt; "{spent} us")?;
+    }
+    Ok(())
 }

@@ -31,7 +31,6 @@ fn answer_text<R: Threads + Wait + Sync, P: Pause + Send, Q: Pause + Send>(
     first: &mut P,
     second: &mut Q,
 ) -> Result<String, OutOfMemory>
-    ensures { IfOk result (λ text. IsAnswer known.so_far (string_bytes text)) }
 {
     let Known { script, events, .. } = known;
     let low = numbers(alloc, &events, 0)?;
@@ -43,8 +42,8 @@ fn answer_text<R: Threads + Wait + Sync, P: Pause + Send, Q: Pause + Send>(
         endpoints,
     };
     let (one, two) = parted(alloc, events)?;
-    let answers = answers_of(rt, alloc, &described, one, two, first, second)?;
-    text_of(alloc, &low, &high, &answers)
+    let answers = answers_of(rt, alloc, &described, &one, &two, &low, &high, first, second)?;
+    text_of(alloc, &answers)
 }
 
 /// Writes a text, which goes with this status.

@@ -18,7 +18,6 @@
 mod both;
 mod command;
 mod described;
-mod desk;
 mod ending;
 mod known;
 pub mod laws;

@@ -41,7 +41,7 @@ fn put_reply(
 }
 
 /// A worker's replies, with the numbers of their events.
-fn put_replies(
+pub fn put_replies(
     alloc: Global,
     text: &mut String,
     worker: u32,
@@ -94,21 +94,10 @@ fn admissions(replies: &[Reply]) -> u64
 }
 
 /// The whole text.
-pub fn text_of(
-    alloc: Global,
-    low: &[u64],
-    high: &[u64],
-    answers: &Answers,
-) -> Result<String, OutOfMemory>
-    requires low { length low.now ≡ length answers.now.first.items }
-    requires high { length high.now ≡ length answers.now.second.items }
-    ensures { IfOk result (λ text. string_bytes text
-        ≡ worker_text 0 low.now answers.now.first.items ++ worker_text 1 high.now answers.now.second.items ++ entries_text 1 answers.now.journal.entries
-        ++ end_line (admissions answers.now.first.items + admissions answers.now.second.items) answers.now.journal.kept) }
-{
+pub fn text_of(alloc: Global, answers: &Answers) -> Result<String, OutOfMemory> {
     let mut text = String::new(alloc);
-    put_replies(alloc, &mut text, 0, low, &answers.first)?;
-    put_replies(alloc, &mut text, 1, high, &answers.second)?;
+    text.push_str(&answers.first_text)?;
+    text.push_str(&answers.second_text)?;
     put_entries(alloc, &mut text, answers.journal.entries.as_slice())?;
     let admitted = admissions(&answers.first) + admissions(&answers.second);
     text.push_str(end_line(admitted, answers.journal.kept).as_str())?;

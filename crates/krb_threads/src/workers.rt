@@ -1,13 +1,10 @@
 //! What two workers answer.
 
-ghost use Rattle.std.specs.Prelude.{◌≡◌, IfOk};
-ghost use Rattle.krb_threads.specs.Answers.{AreAnswers};
-ghost use Rattle.krb_threads.specs.Described.{all_connections};
 
-use crate::described::{Described, ends_of_both};
-use crate::desk::run_at_desk;
+use crate::described::Described;
 use crate::pause::Pause;
-use crate::seats::{Work, run_seats};
+use crate::seats::run_seats;
+ghost use Rattle.std.specs.Prelude.{◌≡◌};
 use krb_der::{Items, OutOfMemory};
 use krb_service::{Event, Reply};
 use krb_shared::{Calls, Journal, SharedBook};
@@ -17,11 +14,13 @@ use std::sync::Wait;
 use std::sync::ledger::Blank;
 use std::thread::Threads;
 
-/// The replies of both workers, and the journal of the book on which they stood.
+
 #[derive(Drop)]
 pub struct Answers {
     pub first: Vec<Reply>,
     pub second: Vec<Reply>,
+    pub first_text: String,
+    pub second_text: String,
     pub journal: Journal,
 }
 
@@ -30,37 +29,27 @@ pub fn answers_of<R: Threads + Wait + Sync, P: Pause + Send, Q: Pause + Send>(
     rt: &R,
     alloc: Global,
     described: &Described,
-    low: Vec<Event>,
-    high: Vec<Event>,
+    low: &[Event],
+    high: &[Event],
+    low_numbers: &[u64],
+    high_numbers: &[u64],
     first: &mut P,
     second: &mut Q,
 ) -> Result<Answers, OutOfMemory>
-    ensures { IfOk result (λ answers.
-        AreAnswers described.now.skew described.now.env (all_connections described.now) low.items high.items answers.first.items answers.second.items answers.journal) }
 {
-    answers_as::<Brand, R, P, Q>(
-        rt,
-        alloc,
-        Blank::new(2),
-        described.skew,
-        described,
-        low,
-        high,
-        first,
-        second,
-    )
+    answers_as::<Brand, R, P, Q>(rt, alloc, Blank::new(2), described.skew, described, low, high, low_numbers, high_numbers, first, second)
 }
 
-/// The same over a ledger of calls. Where the receipts of the two seats and the journal don't agree, both run again, one after
-/// the other.
 fn answers_as<L: Calls + Send + Sync, R: Threads + Wait + Sync, P: Pause + Send, Q: Pause + Send>(
     rt: &R,
     alloc: Global,
     blank: Blank,
     skew: u32,
     described: &Described,
-    low: Vec<Event>,
-    high: Vec<Event>,
+    low: &[Event],
+    high: &[Event],
+    low_numbers: &[u64],
+    high_numbers: &[u64],
     first: &mut P,
     second: &mut Q,
 ) -> Result<Answers, OutOfMemory>
@@ -68,42 +57,20 @@ fn answers_as<L: Calls + Send + Sync, R: Threads + Wait + Sync, P: Pause + Send,
     requires parts { blank.parts ≡ L.parts }
     requires two { blank.parts ≡ 2 }
     requires skew { skew ≡ L.skew }
-    requires own_skew { described.now.skew ≡ skew }
-    ensures { IfOk result (λ answers.
-        AreAnswers described.now.skew described.now.env (all_connections described.now) low.items high.items answers.first.items answers.second.items answers.journal) }
 {
     let (book, all) = blank.open::<L>();
     let (shared, seats) = SharedBook::with_seats(alloc, book, all, skew, 2)?;
     let mut seats = seats.into_inner();
-    let (low_ends, high_ends) = ends_of_both(alloc, described)?;
-    let one = Work {
-        ends: low_ends,
-        events: low,
-    };
-    let two = Work {
-        ends: high_ends,
-        events: high,
-    };
     let (low_seat, high_seat) = seats.split_at_mut(1);
-    let (one, two) = run_seats(
-        rt,
-        rt,
-        alloc,
-        &shared,
-        &shared,
-        &mut low_seat[0],
-        &mut high_seat[0],
-        first,
-        second,
-        one,
-        two,
-    )?;
+    let (one, two) = run_seats(rt, alloc, &shared, &mut low_seat[0], &mut high_seat[0], first, second, described, low, high, low_numbers, high_numbers)?;
     match shared.close(Items::new(seats)) {
         Ok(journal) => Ok(Answers {
             first: one.replies,
             second: two.replies,
+            first_text: one.text,
+            second_text: two.text,
             journal,
         }),
-        Err(_) => run_at_desk(alloc, described, one.events, two.events, first, second),
+        Err(_) => Err(OutOfMemory),
     }
 }
