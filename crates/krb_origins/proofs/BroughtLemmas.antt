@@ -1,39 +1,71 @@
--- What events brought, more events bring too.
-use Rattle.std.proofs.Common.{◌≡◌, ℕ, inl, inr, List, [], ◌∷◌, ◌++◌, Option, Result, Ok, sym}
-use Rattle.std.proofs.lemmas.List.{map-append}
+-- What events bring, one event more.
+use Rattle.std.proofs.Common.{◌≡◌, ℕ, List, [], ◌∷◌, ◌++◌, Option, Result, Ok, refl, sym, ap, ◌∙◌, append_assoc}
+use Rattle.std.proofs.lemmas.List.{append-nil, map-append}
 use Rattle.sspi_core.specs.declared.identity.CredentialsBuffers.{CredentialsBuffers}
 use Rattle.sspi_generator.specs.declared.network.NetFault.{NetFault}
 use Rattle.krb_script.specs.declared.item.Event.{Event}
-use Rattle.krb_origins.specs.Origins.{IsReply, AreBrought, handed, HasOrigin}
+use Rattle.krb_origins.specs.Origins.{answer_to, answers_to, handed, AreBrought, HasOrigin}
 
-module _ (id : ℕ) (more : List Event) where
-  pub brought_before : (replies : List (List ℕ)) (events : List Event) → AreBrought id replies events → AreBrought id replies (events ++ more)
-  brought_before [] events h = tt
-  brought_before (reply ∷ replies) [] h = absurd h
-  brought_before (reply ∷ replies) (event ∷ events) (inl h) = inl (h.0, brought_before replies events h.1)
-  brought_before (reply ∷ replies) (event ∷ events) (inr h) = inr (brought_before (reply ∷ replies) events h)
-
-  -- and so does what has its origin in them
-  pub origin_before : (identity : Option CredentialsBuffers) (events : List Event) (key : List ℕ) → HasOrigin identity id events key → HasOrigin identity id (events ++ more) key
-  origin_before identity events key h = record {
-    credentials = h.credentials;
-    has = h.has;
-    replies = h.replies;
-    brought = brought_before h.replies events h.brought;
-    lead = h.lead;
+-- what is brought stays brought
+module _ (id : ℕ) (events more : List Event) where
+  brought_before : (replies : List (List ℕ)) → AreBrought id replies events → AreBrought id replies (events ++ more)
+  brought_before replies h = record {
+    earlier = h.earlier;
+    during = h.during;
+    later = h.later ++ more;
+    are = ap (λ (e : List Event). e ++ more) h.are ∙ append_assoc (h.earlier ++ h.during) h.later more;
+    brought = h.brought;
   }
 
--- one reply more, by the last event
-module _ (id : ℕ) (octets : List ℕ) (last : Event) (is : IsReply id octets last) where
-  brought_by : (events : List Event) → AreBrought id (octets ∷ []) (events ++ last ∷ [])
-  brought_by [] = inl (is, tt)
-  brought_by (event ∷ events) = inr (brought_by events)
+  pub origin_before : (identity : Option CredentialsBuffers) (key : List ℕ) → HasOrigin identity id events key → HasOrigin identity id (events ++ more) key
+  origin_before identity key h = record { credentials = h.credentials; has = h.has; replies = h.replies; brought = brought_before h.replies h.brought; lead = h.lead }
 
-  pub brought_next : (replies : List (List ℕ)) (events : List Event) → AreBrought id replies events → AreBrought id (replies ++ octets ∷ []) (events ++ last ∷ [])
-  brought_next [] events h = brought_by events
-  brought_next (reply ∷ replies) [] h = absurd h
-  brought_next (reply ∷ replies) (event ∷ events) (inl h) = inl (h.0, brought_next replies events h.1)
-  brought_next (reply ∷ replies) (event ∷ events) (inr h) = inr (brought_next (reply ∷ replies) events h)
+-- the stretch goes on to the last event
+pub record AreComing (id : ℕ) (replies : List (List ℕ)) (events : List Event) : Type 0 where
+  pub earlier : List Event
+  pub during : List Event
+  pub are : events ≡ earlier ++ during
+  pub brought : answers_to id during ≡ handed replies
+
+module _ (id : ℕ) where
+  -- it begins behind all events
+  pub none_coming : (events : List Event) → AreComing id [] events
+  none_coming events = record { earlier = events; during = []; are = sym (append-nil events); brought = refl }
+
+  answers_more : (events : List Event) (event : Event) → answers_to id (events ++ event ∷ []) ≡ answers_to id events ++ answer_to id event
+  answers_more [] event = append-nil (answer_to id event)
+  answers_more (first ∷ events) event =
+      ap (λ (a : List (Result (List ℕ) NetFault)). answer_to id first ++ a) (answers_more events event) ∙ sym (append_assoc (answer_to id first) (answers_to id events) (answer_to id event))
+
+  module _ (replies : List (List ℕ)) (events : List Event) (event : Event) (coming : AreComing id replies events) where
+    more_are : events ++ event ∷ [] ≡ coming.earlier ++ (coming.during ++ event ∷ [])
+    more_are = ap (λ (e : List Event). e ++ event ∷ []) coming.are ∙ append_assoc coming.earlier coming.during (event ∷ [])
+
+    more_brought : answers_to id (coming.during ++ event ∷ []) ≡ handed replies ++ answer_to id event
+    more_brought = answers_more coming.during event ∙ ap (λ (a : List (Result (List ℕ) NetFault)). a ++ answer_to id event) coming.brought
+
+    -- an event that brings nothing
+    pub coming_still : answer_to id event ≡ [] → AreComing id replies (events ++ event ∷ [])
+    coming_still quiet = record {
+      earlier = coming.earlier;
+      during = coming.during ++ event ∷ [];
+      are = more_are;
+      brought = more_brought ∙ ap (λ (a : List (Result (List ℕ) NetFault)). handed replies ++ a) quiet ∙ append-nil (handed replies);
+    }
+
+    -- one that brings one reply more
+    pub coming_next : (octets : List ℕ) → answer_to id event ≡ Ok octets ∷ [] → AreComing id (replies ++ octets ∷ []) (events ++ event ∷ [])
+    coming_next octets is = record {
+      earlier = coming.earlier;
+      during = coming.during ++ event ∷ [];
+      are = more_are;
+      brought = more_brought ∙ ap (λ (a : List (Result (List ℕ) NetFault)). handed replies ++ a) is ∙ sym (map-append (λ octets. Ok octets) replies (octets ∷ []));
+    }
+
+  -- it may end there
+  pub coming_brought : (replies : List (List ℕ)) (events : List Event) → AreComing id replies events → AreBrought id replies events
+  coming_brought replies events h =
+      record { earlier = h.earlier; during = h.during; later = []; are = h.are ∙ sym (append-nil (h.earlier ++ h.during)); brought = h.brought }
 
 -- as the network hands them
 pub handed_next : (replies : List (List ℕ)) (octets : List ℕ) → handed replies ++ (Ok octets ∷ []) ≡ handed (replies ++ (octets ∷ []))

@@ -1,5 +1,5 @@
 -- A call at an initiator keeps what is known of it: no call touches its role, its identity and its session key.
-use Rattle.std.proofs.Common.{◌≡◌, ℕ, List, Option, Result, Ok, Err, refl, ap, ◌∙◌}
+use Rattle.std.proofs.Common.{◌≡◌, ℕ, List, Option, None, Result, Ok, Err, refl, ap, ◌∙◌}
 use Rattle.krb_context.specs.declared.context.Kerberos.{Kerberos}
 use Rattle.krb_script.specs.declared.input.Input.{Input}
 use Rattle.krb_script.specs.declared.input.Input.TheVariants.{Token, Start, KdcReply, KdcFault, Wrap, Unwrap, MakeMic, VerifyMic}
@@ -10,7 +10,7 @@ use Rattle.sspi_core.specs.declared.identity.CredentialsBuffers.{CredentialsBuff
 use Rattle.krb_service.specs.MessageCalls.{IsSealedBy, IsOpenedBy, IsSignedBy, Calls}
 use Rattle.krb_service.specs.declared.connection.Connection.{Connection}
 use Rattle.krb_service.specs.declared.reply.Reply.{Reply}
-use Rattle.krb_origins.proofs.Known.{Stands, stands_beside}
+use Rattle.krb_origins.proofs.Known.{Speaks, Stands, stands_beside}
 
 record Keeps (before after : Kerberos) : Type 0 where
   role : after.server ≡ before.server
@@ -48,7 +48,7 @@ calls_keep (MakeMic payload) context random reply after h = signed_keeps context
 calls_keep (VerifyMic token payload) context random reply after h = keeps_by context after context h.stays (record { role = refl; identity = refl; key = refl })
 
 pub called_stands : (identity : Option CredentialsBuffers) (id : ℕ) (events : List Event) (connection : Connection) (input : Input) (random : List ℕ) (reply : Reply) (context : Kerberos)
-    → Stands identity id events connection → Calls input connection.context random reply context → Stands identity id events (record connection { context = context })
-called_stands identity id events connection input random reply context stands calls =
+    → Speaks identity id events connection → connection.exchange ≡ None → Calls input connection.context random reply context → Stands identity id events (record connection { context = context })
+called_stands identity id events connection input random reply context speaks free calls =
     let keeps = calls_keep input connection.context random reply context calls in
-    stands_beside identity id events connection stands context keeps.role keeps.identity keeps.key
+    stands_beside identity id events connection speaks context free keeps.role keeps.identity keeps.key

@@ -104,7 +104,7 @@ module _ (seeker : Seeker) (reply : Result (List ℕ) NetFault) (draw : Draw) (r
 
   next_few : (leg : TgsLeg) → TakesNext seeker leg reply draw (Ok (Asks request next)) → IsFew next
   unfolding TakesNext
-  next_few leg h = let shown = passed _ _ _ h in goes_few _ leg shown.found shown.rest_held
+  next_few leg h = let shown = passed _ _ _ h in goes_few (referral_realm shown.found.rep.ticket.sname) leg shown.found shown.rest_held
 
   few_on : (phase : InitPhase) → Continues seeker phase reply draw (Ok (Asks request next)) → IsFew next
   few_on New h = absurd h

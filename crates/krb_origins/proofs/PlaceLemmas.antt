@@ -1,6 +1,6 @@
 -- What stands at a number behind an event, and what the first checks of an event found.
-use Rattle.std.proofs.Common.{◌≡◌, ℕ, Bool, true, false, cond, List, [], ◌∷◌, Option, Some, None, Result, Ok, Err, refl, sym, ap, ◌∙◌, subst}
-use Rattle.std.specs.Prelude.{◌==◌, not, nat_le, is_some}
+use Rattle.std.proofs.Common.{◌≡◌, ℕ, inl, inr, Bool, true, false, cond, List, [], ◌∷◌, Option, Some, None, Result, Ok, Err, refl, sym, ap, ◌∙◌, subst}
+use Rattle.std.specs.Prelude.{◌==◌, ◌⊎◌, not, nat_le, is_some}
 use Rattle.std.specs.Ordering.{nat_cmp}
 use Rattle.std.specs.BTreeMap.{is_at}
 use Rattle.std.specs.Cmp.{unsigned_tied}
@@ -21,30 +21,33 @@ use Rattle.krb_service.specs.declared.connection.Connection.{Connection}
 
 -- ---- places
 
-set_there : {A : Type 0} (test : ℕ → Bool) (entries : List (ℕ × A)) (old new : A) → lookup test entries ≡ Some old → lookup test (set_value test entries new) ≡ Some new
-set_there test [] old new e = absurd cc
-set_there test (entry ∷ entries) old new e = first (test entry.0) refl e
-  where
-    first : (b : Bool) → test entry.0 ≡ b → cond b (Some entry.1) (lookup test entries) ≡ Some old → lookup test (cond b ((entry.0, new) ∷ entries) (entry ∷ set_value test entries new)) ≡ Some new
-    first true is e = rw is refl
-    first false is e = rw is (set_there test entries old new e)
+module _ {A : Type 0} (test : ℕ → Bool) where
+  there_first : (entry : ℕ × A) (entries put : List (ℕ × A)) (old new : A) (b : Bool) → test entry.0 ≡ b → (lookup test entries ≡ Some old → lookup test put ≡ Some new)
+      → cond b (Some entry.1) (lookup test entries) ≡ Some old → lookup test (cond b ((entry.0, new) ∷ entries) (entry ∷ put)) ≡ Some new
+  there_first entry entries put old new true is rest e = rw is refl
+  there_first entry entries put old new false is rest e = rw is (rest e)
 
-set_apart : {A : Type 0} (test other : ℕ → Bool) (apart : (k : ℕ) → test k ≡ true → other k ≡ false) (entries : List (ℕ × A)) (new : A) → lookup other (set_value test entries new) ≡ lookup other entries
-set_apart test other apart [] new = refl
-set_apart test other apart (entry ∷ entries) new = first (test entry.0) refl
-  where
-    first : (b : Bool) → test entry.0 ≡ b → lookup other (cond b ((entry.0, new) ∷ entries) (entry ∷ set_value test entries new)) ≡ cond (other entry.0) (Some entry.1) (lookup other entries)
-    first true is = rw (apart entry.0 is) refl
-    first false is = ap (λ o. cond (other entry.0) (Some entry.1) o) (set_apart test other apart entries new)
+  set_there : (entries : List (ℕ × A)) (old new : A) → lookup test entries ≡ Some old → lookup test (set_value test entries new) ≡ Some new
+  set_there [] old new e = absurd cc
+  set_there (entry ∷ entries) old new e = there_first entry entries (set_value test entries new) old new (test entry.0) refl (λ e. set_there entries old new e) e
+
+  module _ (other : ℕ → Bool) (apart : (k : ℕ) → test k ≡ true → other k ≡ false) where
+    apart_first : (entry : ℕ × A) (entries put : List (ℕ × A)) (new : A) (b : Bool) → test entry.0 ≡ b → lookup other put ≡ lookup other entries
+        → lookup other (cond b ((entry.0, new) ∷ entries) (entry ∷ put)) ≡ cond (other entry.0) (Some entry.1) (lookup other entries)
+    apart_first entry entries put new true is rest = rw (apart entry.0 is) refl
+    apart_first entry entries put new false is rest = ap (λ (o : Option A). cond (other entry.0) (Some entry.1) o) rest
+
+    set_apart : (entries : List (ℕ × A)) (new : A) → lookup other (set_value test entries new) ≡ lookup other entries
+    set_apart [] new = refl
+    set_apart (entry ∷ entries) new = apart_first entry entries (set_value test entries new) new (test entry.0) refl (set_apart entries new)
+
+other_apart : (at id k : ℕ) (b : Bool) → (at == id) ≡ false → at ≡ k → (id == k) ≡ b → b ≡ false
+other_apart at id k true differs here e = absurd (true≢false (sym (eq-eqb at id (here ∙ sym (eqb-true id k e))) ∙ differs))
+other_apart at id k false differs here e = refl
 
 tests_apart : (at id : ℕ) → (at == id) ≡ false → (k : ℕ) → is_at (nat_cmp at) k ≡ true → is_at (nat_cmp id) k ≡ false
-tests_apart at id no k is =
-    let here : at ≡ k = eqb-true at k (sym (unsigned_tied at k) ∙ is) in
-    unsigned_tied id k ∙ other (id == k) refl here
-  where
-    other : (b : Bool) → (id == k) ≡ b → at ≡ k → (id == k) ≡ false
-    other true e here = absurd (true≢false (sym (eq-eqb at id (here ∙ sym (eqb-true id k e))) ∙ no))
-    other false e here = e
+tests_apart at id differs k is =
+    unsigned_tied id k ∙ other_apart at id k (id == k) differs (eqb-true at k (sym (unsigned_tied at k) ∙ is)) refl
 
 -- the number whose connection is set has the new one, and every other number has what it had
 pub placed : (connections : List (ℕ × Connection)) (id : ℕ) (old next : Connection) → at_id id connections ≡ Some old → at_id id (set_value (is_at (nat_cmp id)) connections next) ≡ Some next
@@ -52,9 +55,12 @@ placed connections id old next e = set_there (is_at (nat_cmp id)) connections ol
 
 pub placed_apart : (connections : List (ℕ × Connection)) (at id : ℕ) (next : Connection) → (at == id) ≡ false
     → at_id id (set_value (is_at (nat_cmp at)) connections next) ≡ at_id id connections
-placed_apart connections at id next no = set_apart (is_at (nat_cmp at)) (is_at (nat_cmp id)) (tests_apart at id no) connections next
+placed_apart connections at id next differs = set_apart (is_at (nat_cmp at)) (is_at (nat_cmp id)) (tests_apart at id differs) connections next
 
 -- ---- what checks found
+
+some_same : (x y : Connection) → Some x ≡ Some y → x ≡ y
+some_same x y e = cc
 
 same_ok : {A : Type 0} (x y : A) → ◌≡◌ {A = Result A Cause} (Ok x) (Ok y) → x ≡ y
 same_ok x y e = cc
@@ -133,13 +139,22 @@ reached_there connections event found e =
     subst (λ (c : Connection). IsJudging connections event c) is
     (record { there = (ready_there connections event here is_ready.first_is).there; judging = allowed causes.Sequence (is_acceptor here.context) judging.found judging.first_is })
 
--- or which awaits what the network brings
+-- or which awaits what the network brings, at a moment in range
 pub record IsAwaiting (connections : List (ℕ × Connection)) (event : Event) (connection : Connection) (run : Run) : Type 0 where
   pub there : at_id event.connection connections ≡ Some connection
+  pub in_range : nat_le event.moment last_moment ≡ true
   pub run_is : connection.exchange ≡ Some run
 
+abbrev waits_for : Connection → Option Run → Result (Connection × Run) Cause
+waits_for connection exchange = ok_or causes.Sequence exchange >>= (λ run. Ok (connection, run))
+
 abbrev waits : Connection → Result (Connection × Run) Cause
-waits connection = ok_or causes.Sequence connection.exchange >>= (λ run. Ok (connection, run))
+waits connection = waits_for connection connection.exchange
+
+called_in_range : (connections : List (ℕ × Connection)) (event : Event) (connection : Connection) → called connections event ≡ Ok connection → nat_le event.moment last_moment ≡ true
+called_in_range connections event connection e =
+    let in_range = bound (check causes.Moment (nat_le event.moment last_moment)) (λ u. ok_or causes.Connection (at_id event.connection connections)) connection e in
+    allowed causes.Moment (nat_le event.moment last_moment) in_range.found in_range.first_is
 
 pub awaited_there : (connections : List (ℕ × Connection)) (event : Event) (found : Connection × Run) → awaited connections event ≡ Ok found → IsAwaiting connections event found.0 found.1
 awaited_there connections event found e =
@@ -148,6 +163,24 @@ awaited_there connections event found e =
     let is : (calls.found, running.found) ≡ found = same_ok (calls.found, running.found) found running.next_is in
     let here : IsAwaiting connections event calls.found running.found = record {
       there = called_there connections event calls.found calls.first_is;
+      in_range = called_in_range connections event calls.found calls.first_is;
       run_is = taken causes.Sequence calls.found.exchange running.found running.first_is;
     } in
     subst (λ (f : Connection × Run). IsAwaiting connections event f.0 f.1) is here
+
+-- where they refuse what the network brings, the connection awaits nothing, or the moment is out of range
+not_waiting : (connection : Connection) (exchange : Option Run) (cause : Cause) → waits_for connection exchange ≡ Err cause → exchange ≡ None
+not_waiting connection None cause e = refl
+not_waiting connection (Some run) cause e = absurd cc
+
+refused_by : (in_range : Bool) (found : Option Connection) (connection : Connection) (cause : Cause) → found ≡ Some connection
+    → (check causes.Moment in_range >>= (λ u. ok_or causes.Connection found) >>= waits) ≡ Err cause → (connection.exchange ≡ None) ⊎ (in_range ≡ false)
+refused_by false found connection cause is e = inr refl
+refused_by true None connection cause is e = absurd cc
+refused_by true (Some found) connection cause is e =
+    let same : found ≡ connection = some_same found connection is in
+    inl (subst (λ (c : Connection). c.exchange ≡ None) same (not_waiting found found.exchange cause e))
+
+pub awaited_refused : (connections : List (ℕ × Connection)) (event : Event) (connection : Connection) (cause : Cause) → at_id event.connection connections ≡ Some connection → awaited connections event ≡ Err cause
+    → (connection.exchange ≡ None) ⊎ (nat_le event.moment last_moment ≡ false)
+awaited_refused connections event connection cause is e = refused_by (nat_le event.moment last_moment) (at_id event.connection connections) connection cause is e

@@ -30,7 +30,8 @@ use Rattle.krb_service.specs.Initiations.{SetsOut, Undertakes}
 use Rattle.krb_service.specs.declared.connection.Connection.{Connection}
 use Rattle.krb_service.specs.declared.reply.Reply.{Reply}
 use Rattle.krb_origins.proofs.BegunLemmas.{IsFor, begins_for}
-use Rattle.krb_origins.proofs.Known.{IsFetching, Stands, stands_free, stands_waiting, stands_kept}
+use Rattle.krb_origins.proofs.BroughtLemmas.{none_coming}
+use Rattle.krb_origins.proofs.Known.{IsFetching, Speaks, Stands, stands_still, stands_free, stands_waiting, stands_kept}
 use Rattle.krb_origins.proofs.PhaseLemmas.{Led, led_first, starts_not_ended}
 use Rattle.krb_origins.proofs.TurnLemmas.{Answer, Turned, begun, Lands, lands}
 
@@ -78,7 +79,7 @@ hears_ends initiator token draw turn h = let made = passed _ _ _ h in (made.foun
 
 -- ---- the start
 
-module _ (identity : Option CredentialsBuffers) (id : ℕ) (events : List Event) (connection : Connection) (stands : Stands identity id events connection) where
+module _ (identity : Option CredentialsBuffers) (id : ℕ) (events : List Event) (connection : Connection) (speaks : Speaks identity id events connection) (free : connection.exchange ≡ None) where
   abbrev Holds : Connection → Type 0
   Holds c = Stands identity id events c
 
@@ -90,30 +91,30 @@ module _ (identity : Option CredentialsBuffers) (id : ℕ) (events : List Event)
       → HearsAnswer initiator token draw answer → Lands connection later answer next → Holds next
   hears_lands initiator token draw later (Ok (Asks request phase)) next same h l = let e = (hears_ends initiator token draw (Asks request phase) h).1 in absurd cc
   hears_lands initiator token draw later (Ok (Ends done)) next same h l =
-      subst Holds (sym l) (stands_kept identity id events connection stands done.change (hears_same initiator token draw done h ∙ ap (λ p. p.session_key) same))
-  hears_lands initiator token draw later (Err cause) next same h l = subst Holds (sym l) (stands_free identity id events connection stands)
+      subst Holds (sym l) (stands_kept identity id events connection speaks done.change (hears_same initiator token draw done h ∙ ap (λ p. p.session_key) same))
+  hears_lands initiator token draw later (Err cause) next same h l = subst Holds (sym l) (stands_free identity id events connection speaks)
 
   -- it asks the service for its own ticket
   requests_lands : (initiator : Initiator) (token : List ℕ) (later : InitRun) (answer : Answer) (next : Connection) → initiator.params ≡ connection.context.encryption_params
       → answer ≡ Ok (Ends (requested initiator token)) → Lands connection later answer next → Holds next
   requests_lands initiator token later answer next same is l =
-      subst Holds (sym (subst (Gone later next) is l)) (stands_kept identity id events connection stands (requested initiator token).change (ap (λ p. p.session_key) same))
+      subst Holds (sym (subst (Gone later next) is l)) (stands_kept identity id events connection speaks (requested initiator token).change (ap (λ p. p.session_key) same))
 
   -- it fetches a ticket
   seeks_lands : (seeker : Seeker) (draw : Draw) (later : InitRun) (answer : Answer) (next : Connection) → identity ≡ Some seeker.asker.credentials → later.initiation ≡ Seeks seeker
       → StartsNew (Seeks seeker) draw answer → Lands connection later answer next → Holds next
-  seeks_lands seeker draw later (Ok (Asks request phase)) next speaks seeks h l =
+  seeks_lands seeker draw later (Ok (Asks request phase)) next for_it seeks h l =
       let led : Led seeker [] later.phase = subst (λ (p : InitPhase). Led seeker [] p) (sym l.0) (led_first seeker draw request phase h) in
-      let fetching : IsFetching identity id events later = record { seeker = seeker; seeks = seeks; speaks = speaks; replies = []; brought = tt; led = led } in
-      subst Holds (sym l.1) (stands_waiting identity id events connection stands later fetching)
-  seeks_lands seeker draw later (Ok (Ends done)) next speaks seeks h l = absurd (starts_not_ended seeker draw done h)
-  seeks_lands seeker draw later (Err cause) next speaks seeks h l = subst Holds (sym l) (stands_free identity id events connection stands)
+      let fetching : IsFetching identity id events later = record { seeker = seeker; seeks = seeks; speaks = for_it; replies = []; coming = none_coming id events; led = led } in
+      subst Holds (sym l.1) (stands_waiting identity id events connection speaks later fetching)
+  seeks_lands seeker draw later (Ok (Ends done)) next for_it seeks h l = absurd (starts_not_ended seeker draw done h)
+  seeks_lands seeker draw later (Err cause) next for_it seeks h l = subst Holds (sym l) (stands_free identity id events connection speaks)
 
   starts_lands : (options : InitOptions) (initiation : Initiation) (draw : Draw) (later : InitRun) (answer : Answer) (next : Connection) → options.credentials ≡ connection.context.auth_identity
       → IsFor connection.context options initiation → later.initiation ≡ initiation → StartsNew initiation draw answer → Lands connection later answer next → Holds next
   starts_lands options (Requests initiator token) draw later answer next own is seeks h l = requests_lands initiator token later answer next is h.is l
   starts_lands options (Seeks seeker) draw later answer next own is seeks h l =
-      seeks_lands seeker draw later answer next (sym stands.speaks ∙ sym own ∙ is) seeks h l
+      seeks_lands seeker draw later answer next (sym speaks.identity_is ∙ sym own ∙ is) seeks h l
   starts_lands options (Hears initiator token) draw later answer next own is seeks h l = hears_lands initiator token draw later answer next is h l
 
   opens_stands : (options : InitOptions) (initiation : Initiation) (run : InitRun) (draw : Draw) (reply : Reply) (next : Connection) → options.credentials ≡ connection.context.auth_identity
@@ -127,7 +128,7 @@ module _ (identity : Option CredentialsBuffers) (id : ℕ) (events : List Event)
   sets_out : (options : InitOptions) (draw : Draw) (answer : Result Initiation Cause) (reply : Reply) (next : Connection) → options.credentials ≡ connection.context.auth_identity
       → ((initiation : Initiation) → answer ≡ Ok initiation → IsFor connection.context options initiation) → SetsOut connection draw answer reply next → Holds next
   sets_out options draw (Ok initiation) reply next own is h = opens_stands options initiation h.0 draw reply next own (is initiation refl) h.1 h.2 h.3
-  sets_out options draw (Err cause) reply next own is h = subst Holds (sym h.1) stands
+  sets_out options draw (Err cause) reply next own is h = subst Holds (sym h.1) (stands_still identity id events connection speaks free)
 
   pub undertakes_stands : (options : InitOptions) (draw : Draw) (reply : Reply) (next : Connection) → options.credentials ≡ connection.context.auth_identity → Undertakes connection options draw reply next → Holds next
   undertakes_stands options draw reply next own h =

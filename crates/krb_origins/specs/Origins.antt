@@ -1,7 +1,8 @@
 -- Where the session key of an initiator comes from: replies of KDCs lead to it from its credentials (RFC 4120, sections 3.1.5 and
 -- 3.3.4), and events brought them.
-use Rattle.std.specs.Prelude.{◌≡◌, ℕ, ◌≤◌, ◌⊎◌, true, false, List, [], ◌∷◌, ◌++◌, length, map, Option, Some, None, Result, Ok}
+use Rattle.std.specs.Prelude.{◌≡◌, ℕ, ◌≤◌, ◌==◌, nat_le, Bool, true, false, ◌&&◌, if◌then◌else◌, List, [], ◌∷◌, ◌++◌, length, map, Option, Some, None, Result, Ok}
 use Rattle.std.specs.List.{list_all}
+use Rattle.std.specs.Option.{option_to_list}
 use Rattle.krb_crypto.specs.declared.suite.CipherSuite.{CipherSuite}
 use Rattle.krb_exchange.specs.declared.kdc_rep.AsRep.{AsRep}
 use Rattle.krb_exchange.specs.declared.kdc_rep.TgsRep.{TgsRep}
@@ -13,23 +14,33 @@ use Rattle.krb_client.specs.Replied.{WantsPreAuth}
 use Rattle.krb_tickets.specs.Chain.{IsChain}
 use Rattle.krb_initiation.specs.Came.{AreGranted, GrantsFirst, is_referral}
 use Rattle.krb_script.specs.declared.item.Event.{Event}
-use Rattle.krb_script.specs.declared.input.Input.TheVariants.{KdcReply}
+use Rattle.krb_service.specs.Exchanges.{answer_of}
+use Rattle.krb_service.specs.Policy.{last_moment}
 use Rattle.krb_service.specs.declared.connection.Connection.{Connection}
 
--- the event brings the connection with this number a KDC's reply, these octets
-pub record IsReply (id : ℕ) (octets : List ℕ) (event : Event) : Type 0 where
-  pub connection : event.connection ≡ id
-  pub input : event.input ≡ KdcReply octets
+-- the event is for the connection with this number, and its moment is in range
+abbrev pub is_heard : ℕ → Event → Bool
+is_heard id event = (event.connection == id) && nat_le event.moment last_moment
 
--- these replies, in their order, are brought by events of the list: the first event brings the first of them, or is passed over
-abbrev pub AreBrought : ℕ → List (List ℕ) → List Event → Type 0
-AreBrought id [] events = Unit {0}
-AreBrought id (reply ∷ replies) [] = ⊥
-AreBrought id (reply ∷ replies) (event ∷ events) = (IsReply id reply event × AreBrought id replies events) ⊎ AreBrought id (reply ∷ replies) events
+-- what the network brings it by an event: a KDC's reply, or that there is none; and by events, in their order
+abbrev pub answer_to : ℕ → Event → List (Result (List ℕ) NetFault)
+answer_to id event = if is_heard id event then option_to_list (answer_of event.input) else []
 
--- the same, as the network hands them to an exchange
+abbrev pub answers_to : ℕ → List Event → List (Result (List ℕ) NetFault)
+answers_to id [] = []
+answers_to id (event ∷ events) = answer_to id event ++ answers_to id events
+
+-- replies as the network brings them
 abbrev pub handed : List (List ℕ) → List (Result (List ℕ) NetFault)
 handed replies = map (λ octets. Ok octets) replies
+
+-- in some stretch of the events the network brings it these replies, in their order, and nothing else
+pub record AreBrought (id : ℕ) (replies : List (List ℕ)) (events : List Event) : Type 0 where
+  pub earlier : List Event
+  pub during : List Event
+  pub later : List Event
+  pub are : events ≡ earlier ++ during ++ later
+  pub brought : answers_to id during ≡ handed replies
 
 -- the first reply is an error; it names the salt of the credentials' key, or leaves their own, the domain and then the user
 pub record LeavesSalt (credentials : CredentialsBuffers) (error salt : List ℕ) : Type 0 where
@@ -57,7 +68,7 @@ pub record LeadTo (credentials : CredentialsBuffers) (replies : List (List ℕ))
   pub suite : CipherSuite
   pub chain : IsChain credentials salt as_rep suite (referrals ++ last ∷ []) key
 
--- who has this identity has credentials from which replies that these events brought lead to the key
+-- who has this identity has credentials, and from them replies that these events brought lead to the key
 pub record HasOrigin (identity : Option CredentialsBuffers) (id : ℕ) (events : List Event) (key : List ℕ) : Type 0 where
   pub credentials : CredentialsBuffers
   pub has : identity ≡ Some credentials
