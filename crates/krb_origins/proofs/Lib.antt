@@ -9,3 +9,4 @@ pub mod StartLemmas
 pub mod ReplyLemmas
 pub mod CallLemmas
 pub mod EventLemmas
+pub mod DeclaredLemmas
