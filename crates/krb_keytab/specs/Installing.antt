@@ -24,7 +24,8 @@ names_of realm entries = fold (λ names entry. names_with realm names entry) [] 
 -- the key of the greatest version of this type with so many octets
 abbrev pub sized_key : List KeytabEntry → List ℕ → List (List ℕ) → ℕ → ℕ → Option (List ℕ)
 sized_key entries realm components key_type size =
-    option_map (λ entry. entry.key) (greatest (is_wanted (record { realm = realm; components = components; key_type = key_type; version = None; size = Some size })) entries)
+    option_map (λ entry. entry.key) (greatest
+    (is_wanted (record { realm = realm; components = components; key_type = key_type; version = None; size = Some size })) entries)
 
 -- the key of a name: one of AES-256 (type 18), else one of AES-128 (type 17; RFC 3962, section 7)
 abbrev pub key_for : List KeytabEntry → List ℕ → List (List ℕ) → Option (List ℕ)

@@ -76,7 +76,8 @@ Ends false server token outcome answer server' = Makes server outcome answer ser
 
 -- a token at an acceptor, over any gate. Where the last word is awaited no AP-REQ may come: the checks of one end at the
 -- first of them, so that the gate is not asked
-pub record Accepts {G : Type 0} (admits : G → Ask → Verdict → G → Type 0) (server : Kerberos) (dce : Bool) (token : List ℕ) (draw : Draw) (old : G) (answer : Result Accepted Cause) (server' : Kerberos) (new : G) : Type 0 where
+pub record Accepts {G : Type 0} (admits : G → Ask → Verdict → G → Type 0) (server : Kerberos) (dce : Bool) (token : List ℕ) (draw : Draw)
+    (old : G) (answer : Result Accepted Cause) (server' : Kerberos) (new : G) : Type 0 where
   pub verdict : Verdict
   pub request : Result Request Cause
   pub begun : Begins server dce token request
