@@ -62,7 +62,13 @@ fn told_key(
 ) -> Result<Secret<Octets>, Cause>
     ensures { Answers (BringsKey (suite_of_etype hint.now.0) (client_key (suite_of_etype hint.now.0) hint.now.1 credentials.now) as_rep.now) result }
 {
-    session_key(alloc, credentials, CipherSuite::of_etype(hint.0), &hint.1, as_rep)
+    session_key(
+        alloc,
+        credentials,
+        CipherSuite::of_etype(hint.0),
+        &hint.1,
+        as_rep,
+    )
 }
 
 fn with_suite(etype: u8, key: Secret<Octets>) -> Result<ReplyKey, Cause>
