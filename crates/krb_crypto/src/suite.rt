@@ -2,7 +2,7 @@
 
 ghost use Rattle.std.specs.Prelude.{◌≡◌, ◌+◌, ◌≤◌, ◌++◌, ℕ, List, length};
 ghost use Rattle.krb_aes.specs.Aes.{IsScheduleOf};
-ghost use Rattle.krb_crypto.specs.Suite.{suite_number, key_size, suite_of_size, HasNumber, key_octets, constant_block, dk, usage_constant, ke, ki, kc};
+ghost use Rattle.krb_crypto.specs.Suite.{suite_number, suite_of_etype, key_size, suite_of_size, HasNumber, key_octets, constant_block, dk, usage_constant, ke, ki, kc};
 
 use crate::error::CryptoError;
 use crate::fold::n_fold;
@@ -58,6 +58,17 @@ impl From<AesSize> for CipherSuite {
 }
 
 impl CipherSuite {
+    /// The suite of an etype that is known to be 17 or 18.
+    pub fn of_etype(etype: u8) -> CipherSuite
+        ensures { result ≡ suite_of_etype etype }
+    {
+        if etype == 17 {
+            CipherSuite::Aes128CtsHmacSha196
+        } else {
+            CipherSuite::Aes256CtsHmacSha196
+        }
+    }
+
     /// The etype.
     pub fn number(&self) -> u8
         ensures { result ≡ suite_number self.now }
