@@ -62,6 +62,7 @@ fn run_at<'a, P: Pause>(
                 pause: _pause,
                 gate: at_desk,
             },
+            alloc: _alloc,
         },
         events: _events,
         replies,
