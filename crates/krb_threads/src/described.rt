@@ -11,7 +11,7 @@ use krb_conf::Env;
 use krb_der::{OutOfMemory, TryCopy};
 use krb_replay::ReplayGate;
 use krb_script::Endpoint;
-use krb_service::{Connection, Service, connection_of};
+use krb_service::{HeldConnection, Service, connection_of};
 use std::alloc::Global;
 use std::collections::BTreeMap;
 
@@ -36,9 +36,9 @@ fn copied_env(alloc: Global, described: &Described) -> Result<Env, OutOfMemory>
 
 /// Puts a connection where its number stands, in the place of one that has it.
 fn put(
-    made: &mut BTreeMap<u32, Connection>,
+    made: &mut BTreeMap<u32, HeldConnection>,
     id: u32,
-    connection: Connection,
+    connection: HeldConnection,
 ) -> Result<(), OutOfMemory>
     ensures { OnOk result (made.new.entries ≡ insert_entry nat_cmp made.old.entries id connection) }
 {
@@ -51,18 +51,15 @@ fn connections(
     alloc: Global,
     described: &Described,
     worker: u32,
-) -> Result<BTreeMap<u32, Connection>, OutOfMemory>
+) -> Result<BTreeMap<u32, HeldConnection>, OutOfMemory>
     ensures { IfOk result (λ made.
         made.entries ≡ connections_of worker (connections_with described.now.skew described.now.endpoints.entries)) }
 {
     let mut made = BTreeMap::new(alloc);
     for (id, endpoint) in described.endpoints.iter() {
         if *id % 2 == worker {
-            put(
-                &mut made,
-                *id,
-                connection_of(alloc, described.skew, endpoint)?,
-            )?;
+            let connection = connection_of(alloc, described.skew, endpoint)?;
+            put(&mut made, *id, HeldConnection::new(alloc, connection)?)?;
         }
     }
     Ok(made)
@@ -72,7 +69,7 @@ fn connections(
 #[derive(Drop)]
 pub struct Ends {
     pub env: Env,
-    pub connections: BTreeMap<u32, Connection>,
+    pub connections: BTreeMap<u32, HeldConnection>,
 }
 
 /// What one worker has of what the lines declare.

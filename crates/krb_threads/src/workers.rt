@@ -36,7 +36,8 @@ pub fn answers_of<R: Threads + Wait + Sync, P: Pause + Send, Q: Pause + Send>(
     second: &mut Q,
 ) -> Result<Answers, OutOfMemory>
     ensures { IfOk result (λ answers.
-        AreAnswers described.now.skew described.now.env (all_connections described.now) low.items high.items answers.first.items answers.second.items answers.journal) }
+        AreAnswers described.now.skew described.now.env (all_connections described.now)
+        low.items high.items answers.first.items answers.second.items answers.journal) }
 {
     answers_as::<Brand, R, P, Q>(
         rt,
@@ -70,7 +71,8 @@ fn answers_as<L: Calls + Send + Sync, R: Threads + Wait + Sync, P: Pause + Send,
     requires skew { skew ≡ L.skew }
     requires own_skew { described.now.skew ≡ skew }
     ensures { IfOk result (λ answers.
-        AreAnswers described.now.skew described.now.env (all_connections described.now) low.items high.items answers.first.items answers.second.items answers.journal) }
+        AreAnswers described.now.skew described.now.env (all_connections described.now)
+        low.items high.items answers.first.items answers.second.items answers.journal) }
 {
     let (book, all) = blank.open::<L>();
     let (shared, seats) = SharedBook::with_seats(alloc, book, all, skew, 2)?;
