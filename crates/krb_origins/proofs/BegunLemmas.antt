@@ -1,10 +1,9 @@
 -- What an initiator begins is for its own context and credentials.
-use Rattle.std.proofs.Common.{◌≡◌, Bool, true, false, List, Option, Some, None, Result, Ok, Err, refl, sym, ap, ◌∙◌, subst}
+use Rattle.std.proofs.Common.{◌≡◌, Bool, true, false, Some, Ok, refl, sym, ap, ◌∙◌, subst}
 use Rattle.krb_context.proofs.ChainLemmas.{passed, gave, took}
 use Rattle.krb_context.specs.declared.context.Kerberos.{Kerberos}
 use Rattle.krb_context.specs.declared.state.KerberosState.{KerberosState}
 use Rattle.krb_context.specs.declared.state.KerberosState.TheVariants.{TgtExchange, Preauthentication, ApExchange, Final}
-use Rattle.sspi_core.specs.declared.cause.Cause.{Cause}
 use Rattle.krb_initiation.specs.declared.begin.Identity.{Identity}
 use Rattle.krb_initiation.specs.declared.options.InitOptions.{InitOptions}
 use Rattle.krb_initiation.specs.declared.seeker.Initiation.{Initiation}

@@ -6,6 +6,10 @@ use Rattle.sspi_generator.specs.declared.network.NetFault.{NetFault}
 use Rattle.krb_script.specs.declared.item.Event.{Event}
 use Rattle.krb_origins.specs.Origins.{answer_to, answers_to, handed, AreBrought, HasOrigin}
 
+-- one reply more, as the network hands them
+pub handed_next : (replies : List (List ℕ)) (octets : List ℕ) → handed replies ++ (Ok octets ∷ []) ≡ handed (replies ++ (octets ∷ []))
+handed_next replies octets = sym (map-append (λ octets. Ok octets) replies (octets ∷ []))
+
 -- what is brought stays brought
 module _ (id : ℕ) (events more : List Event) where
   brought_before : (replies : List (List ℕ)) → AreBrought id replies events → AreBrought id replies (events ++ more)
@@ -59,14 +63,10 @@ module _ (id : ℕ) where
       earlier = coming.earlier;
       during = coming.during ++ event ∷ [];
       are = more_are;
-      brought = more_brought ∙ ap (λ (a : List (Result (List ℕ) NetFault)). handed replies ++ a) is ∙ sym (map-append (λ octets. Ok octets) replies (octets ∷ []));
+      brought = more_brought ∙ ap (λ (a : List (Result (List ℕ) NetFault)). handed replies ++ a) is ∙ handed_next replies octets;
     }
 
   -- it may end there
   pub coming_brought : (replies : List (List ℕ)) (events : List Event) → AreComing id replies events → AreBrought id replies events
   coming_brought replies events h =
       record { earlier = h.earlier; during = h.during; later = []; are = h.are ∙ sym (append-nil (h.earlier ++ h.during)); brought = h.brought }
-
--- as the network hands them
-pub handed_next : (replies : List (List ℕ)) (octets : List ℕ) → handed replies ++ (Ok octets ∷ []) ≡ handed (replies ++ (octets ∷ []))
-handed_next replies octets = sym (map-append (λ octets. Ok octets) replies (octets ∷ []))

@@ -106,7 +106,7 @@ module _ (identity : Option CredentialsBuffers) (id : ℕ) (events : List Event)
       → Known identity id events state.connections → Known identity id now state.connections
   same_by state true e quiet known =
       let there : at_id event.connection state.connections ≡ Some known.connection =
-          subst (λ (n : ℕ). at_id n state.connections ≡ Some known.connection) (sym (eqb-true event.connection id e)) known.there in
+      subst (λ (n : ℕ). at_id n state.connections ≡ Some known.connection) (sym (eqb-true event.connection id e)) known.there in
       record { connection = known.connection; there = known.there; stands = stands_before identity id events event known.connection (quiet known.connection e there) known.stands }
   same_by state false e quiet known =
       record { connection = known.connection; there = known.there; stands = stands_before identity id events event known.connection (inr (unheard e)) known.stands }

@@ -1,11 +1,9 @@
 -- The key that an initiation ends with has its origin in the replies that led to it.
-use Rattle.std.proofs.Common.{◌≡◌, ℕ, ◌+◌, ◌≤◌, List, [], ◌∷◌, ◌++◌, length, Some, Result, Ok, refl, sym, ap, ◌∙◌, subst, arith, length-append}
+use Rattle.std.proofs.Common.{◌≡◌, ℕ, ◌+◌, List, [], ◌∷◌, ◌++◌, length, Some, Result, Ok, refl, ap, ◌∙◌, subst, arith, length-append}
 use Rattle.std.proofs.lemmas.List.{length-map}
-use Rattle.krb_exchange.specs.declared.kdc_rep.AsRep.{AsRep}
-use Rattle.krb_exchange.specs.declared.kdc_rep.TgsRep.{TgsRep}
 use Rattle.sspi_generator.specs.declared.network.NetFault.{NetFault}
 use Rattle.krb_client.specs.declared.done.InitDone.{InitDone}
-use Rattle.krb_initiation.specs.Came.{AreGranted, GrantsFirst, NamesFirst, IsSession}
+use Rattle.krb_initiation.specs.Came.{AreGranted, GrantsFirst, NamesFirst}
 use Rattle.krb_initiation.specs.declared.seeker.Seeker.{Seeker}
 use Rattle.krb_origins.specs.Origins.{handed, LeavesSalt, LeadTo}
 use Rattle.krb_origins.proofs.PhaseLemmas.{LedToEnd, granted_length}

@@ -1,5 +1,5 @@
 -- What is known of an initiation behind its replies: how far they led it, by no more than nine referrals, and to which key at its end.
-use Rattle.std.proofs.Common.{◌≡◌, ℕ, ◌+◌, ◌<◌, ◌≤◌, suc, Bool, true, false, List, [], ◌∷◌, ◌++◌, length, Option, Some, None, Result, Ok, Err, refl, sym, ap, ◌∙◌, subst, arith, lit≤, length-append}
+use Rattle.std.proofs.Common.{◌≡◌, ℕ, ◌+◌, ◌<◌, ◌≤◌, suc, Bool, true, false, List, [], ◌∷◌, ◌++◌, length, Option, Some, None, Result, Ok, Err, refl, sym, ap, subst, arith, lit≤, length-append}
 use Rattle.std.specs.Prelude.{nat_lt}
 use Rattle.std.proofs.lemmas.Bool.{ltb-true}
 use Rattle.std.proofs.lemmas.List.{length-map}
@@ -15,7 +15,7 @@ use Rattle.krb_client.specs.declared.turn.Turn.{Turn}
 use Rattle.krb_client.specs.declared.turn.Turn.TheVariants.{Asks, Ends}
 use Rattle.krb_initiation.proofs.Chains.{begins, goes_on, ends}
 use Rattle.krb_initiation.specs.Came.{Came, CameWithKey, IsSession, AreGranted}
-use Rattle.krb_initiation.specs.InitRuns.{Starts, StartsNew, Continues, Next}
+use Rattle.krb_initiation.specs.InitRuns.{StartsNew, Continues, Next}
 use Rattle.krb_initiation.specs.InitSteps.{body_of, AsksFirst, AsksSecond, AsksFirstTgs, TakesFirst, Refers, Arrives, GoesTo, TakesNext}
 use Rattle.krb_initiation.specs.declared.seeker.InitPhase.{InitPhase}
 use Rattle.krb_initiation.specs.declared.seeker.InitPhase.TheVariants.{New, AwaitsError, AwaitsAsRep, AwaitsTgsRep, Over}

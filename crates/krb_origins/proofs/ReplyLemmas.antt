@@ -1,5 +1,5 @@
 -- An event that brings an initiator what a KDC answers keeps what is known of it.
-use Rattle.std.proofs.Common.{◌≡◌, ℕ, true, List, [], ◌∷◌, ◌++◌, Option, Some, None, Result, Ok, Err, refl, sym, ap, ◌∙◌, subst}
+use Rattle.std.proofs.Common.{◌≡◌, ℕ, true, List, [], ◌∷◌, ◌++◌, Option, Some, Result, Ok, Err, refl, sym, ◌∙◌, subst}
 use Rattle.std.specs.Prelude.{IfSome, nat_le}
 use Rattle.std.proofs.lemmas.Bool.{eq-eqb}
 use Rattle.krb_client.specs.declared.turn.Turn.TheVariants.{Asks, Ends}
@@ -51,7 +51,7 @@ module _ (identity : Option CredentialsBuffers) (id : ℕ) (events : List Event)
     waits_again later next octets phase stays coming led at is =
         let so_far : Led fetching.seeker (replies_with octets) later.phase = subst (λ (p : InitPhase). Led fetching.seeker (replies_with octets) p) (sym at) led in
         let goes_on : IsFetching identity id now later =
-            record { seeker = fetching.seeker; seeks = stays ∙ fetching.seeks; speaks = fetching.speaks; replies = replies_with octets; coming = coming; led = so_far } in
+        record { seeker = fetching.seeker; seeks = stays ∙ fetching.seeks; speaks = fetching.speaks; replies = replies_with octets; coming = coming; led = so_far } in
         subst Holds (sym is) (stands_waiting identity id now connection after later goes_on)
 
     has_key : (octets : List ℕ) (change_key : Option (List ℕ)) (key : List ℕ) → change_key ≡ Some key → HasOrigin identity id now key → IfSome change_key (λ key. HasOrigin identity id now key)
@@ -64,7 +64,7 @@ module _ (identity : Option CredentialsBuffers) (id : ℕ) (events : List Event)
     answers (Ok octets) draw later (Ok (Ends done)) next is stays h l =
         let end : EndsWith fetching.seeker (replies_with octets) done = ends_with fetching.seeker (replies_with octets) done (led_to_end fetching.seeker fetching.replies old.phase octets draw done fetching.led h) in
         let origin : HasOrigin identity id now end.key =
-            record { credentials = fetching.seeker.asker.credentials; has = fetching.speaks; replies = replies_with octets; brought = coming_brought id (replies_with octets) now (coming_with octets is); lead = end.lead } in
+        record { credentials = fetching.seeker.asker.credentials; has = fetching.speaks; replies = replies_with octets; brought = coming_brought id (replies_with octets) now (coming_with octets is); lead = end.lead } in
         subst Holds (sym l) (stands_settled identity id now connection after done.change (has_key octets done.change.encryption_params.session_key end.key end.key_is origin))
     answers (Err fault) draw later (Ok turn) next is stays h l = absurd (faults_lead_nowhere fault fetching.seeker draw turn old.phase h)
     answers (Ok octets) draw later (Err cause) next is stays h l = subst Holds (sym l) (stands_free identity id now connection after)

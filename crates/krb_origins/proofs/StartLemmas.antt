@@ -1,7 +1,6 @@
 -- An event at which an initiator begins, or hears its peer, keeps what is known of it.
 use Rattle.std.proofs.Common.{◌≡◌, ℕ, Bool, true, false, List, [], Option, Some, None, Result, Ok, Err, refl, sym, ap, ◌∙◌, subst}
 use Rattle.krb_context.proofs.ChainLemmas.{passed, gave}
-use Rattle.krb_context.specs.declared.context.Kerberos.{Kerberos}
 use Rattle.krb_client.specs.declared.done.InitDone.{InitDone}
 use Rattle.krb_client.specs.declared.turn.Turn.{Turn}
 use Rattle.krb_client.specs.declared.turn.Turn.TheVariants.{Asks, Ends}
@@ -33,7 +32,7 @@ use Rattle.krb_origins.proofs.BegunLemmas.{IsFor, begins_for}
 use Rattle.krb_origins.proofs.BroughtLemmas.{none_coming}
 use Rattle.krb_origins.proofs.Known.{IsFetching, Speaks, Stands, stands_still, stands_free, stands_waiting, stands_kept}
 use Rattle.krb_origins.proofs.PhaseLemmas.{Led, led_first, starts_not_ended}
-use Rattle.krb_origins.proofs.TurnLemmas.{Answer, Turned, begun, Lands, lands}
+use Rattle.krb_origins.proofs.TurnLemmas.{Answer, begun, Lands, lands}
 
 -- ---- the service's answer keeps the session key
 
@@ -122,7 +121,7 @@ module _ (identity : Option CredentialsBuffers) (id : ℕ) (events : List Event)
   opens_stands options initiation run draw reply next own is initiation_is new h =
       let t = begun run draw h.step h.begins in
       let held : StartsNew initiation draw t.answer =
-          subst (λ (i : Initiation). Starts i New draw t.answer) initiation_is (subst (λ (p : InitPhase). Starts run.initiation p draw t.answer) new t.held) in
+      subst (λ (i : Initiation). Starts i New draw t.answer) initiation_is (subst (λ (p : InitPhase). Starts run.initiation p draw t.answer) new t.held) in
       starts_lands options initiation draw t.later t.answer next own is (t.stays ∙ initiation_is) held (lands connection t.later t.answer h.step reply next t.phase t.leads h.leads)
 
   sets_out : (options : InitOptions) (draw : Draw) (answer : Result Initiation Cause) (reply : Reply) (next : Connection) → options.credentials ≡ connection.context.auth_identity

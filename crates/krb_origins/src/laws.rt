@@ -17,7 +17,8 @@ use krb_replay::ReplayGate;
 /// only where a chain of replies that its own events brought leads to it from its credentials. And it is still there, an initiator
 /// that speaks for the same.
 pub fn session_keys_come_from_credentials<G: ReplayGate>()
-    ensures origin { (before after : State G) (events : List Event) (replies : List Reply) (id : ℕ) (first last : Connection) (key : List ℕ)
+    ensures origin { (before after : State G) (events : List Event) (replies : List Reply) (id : ℕ) (first last : Connection)
+        (key : List ℕ)
         → Runs G.admits before events replies after → at_id id before.connections ≡ Some first → IsKeyless first
         → at_id id after.connections ≡ Some last → last.context.encryption_params.session_key ≡ Some key
         → HasOrigin first.context.auth_identity id events key }
@@ -31,7 +32,8 @@ pub fn session_keys_come_from_credentials<G: ReplayGate>()
 pub fn declared_initiators_have_keys_by_their_replies()
     ensures keyless { (setup : Setup) (id : ℕ) (first : Connection) → at_id id (connections_of setup) ≡ Some first
         → first.context.server ≡ None → IsKeyless first }
-    ensures origin { (so_far : Declared) (text : List ℕ) (replies : List Reply) (after : State History) (id : ℕ) (first last : Connection) (key : List ℕ)
+    ensures origin { (so_far : Declared) (text : List ℕ) (replies : List Reply) (after : State History) (id : ℕ)
+        (first last : Connection) (key : List ℕ)
         → Answered so_far text replies after → at_id id (connections_of so_far.setup) ≡ Some first → first.context.server ≡ None
         → at_id id after.connections ≡ Some last → last.context.encryption_params.session_key ≡ Some key
         → HasOrigin first.context.auth_identity id so_far.events key }
