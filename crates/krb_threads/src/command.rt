@@ -44,7 +44,7 @@ fn answer_text<R: Threads + Wait + Sync, P: Pause + Send, Q: Pause + Send>(
     };
     let (one, two) = parted(alloc, events)?;
     let answers = answers_of(rt, alloc, &described, one, two, first, second)?;
-    text_of(alloc, &low, &high, &answers)
+    text_of(rt, alloc, &low, &high, &answers)
 }
 
 /// Writes a text, which goes with this status.

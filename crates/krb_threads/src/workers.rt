@@ -4,10 +4,10 @@ ghost use Rattle.std.specs.Prelude.{◌≡◌, IfOk};
 ghost use Rattle.krb_threads.specs.Answers.{AreAnswers};
 ghost use Rattle.krb_threads.specs.Described.{all_connections};
 
-use crate::described::{Described, ends_of_both};
+use crate::described::{Described, ends_in_threads};
 use crate::desk::run_at_desk;
 use crate::pause::Pause;
-use crate::seats::{Work, run_seats};
+use crate::seats::{Work, let_go, run_seats};
 use krb_der::{Items, OutOfMemory};
 use krb_service::{Event, Reply};
 use krb_shared::{Calls, Journal, SharedBook};
@@ -75,7 +75,7 @@ fn answers_as<L: Calls + Send + Sync, R: Threads + Wait + Sync, P: Pause + Send,
     let (book, all) = blank.open::<L>();
     let (shared, seats) = SharedBook::with_seats(alloc, book, all, skew, 2)?;
     let mut seats = seats.into_inner();
-    let (low_ends, high_ends) = ends_of_both(alloc, described)?;
+    let (low_ends, high_ends) = ends_in_threads(rt, alloc, described)?;
     let one = Work {
         ends: low_ends,
         events: low,
@@ -99,11 +99,21 @@ fn answers_as<L: Calls + Send + Sync, R: Threads + Wait + Sync, P: Pause + Send,
         two,
     )?;
     match shared.close(Items::new(seats)) {
-        Ok(journal) => Ok(Answers {
-            first: one.replies,
-            second: two.replies,
-            journal,
-        }),
-        Err(_) => run_at_desk(alloc, described, one.events, two.events, first, second),
+        Ok(journal) => {
+            let_go(rt, one.left, two.left);
+            Ok(Answers {
+                first: one.replies,
+                second: two.replies,
+                journal,
+            })
+        }
+        Err(_) => run_at_desk(
+            alloc,
+            described,
+            one.left.events,
+            two.left.events,
+            first,
+            second,
+        ),
     }
 }
