@@ -96,10 +96,10 @@ pub fn ends_in_threads<R: Threads>(
     let (low, high) = join(
         rt,
         || -> Result<Ends, OutOfMemory>
-            ensures { IfOk result (AreEnds described.now 0) }
+            ensures { IfOk result (AreEnds described.entry.now 0) }
         { ends_of(alloc, described, 0) },
         || -> Result<Ends, OutOfMemory>
-            ensures { IfOk result (AreEnds described.now 1) }
+            ensures { IfOk result (AreEnds described.entry.now 1) }
         { ends_of(alloc, described, 1) },
     );
     let low = low?;

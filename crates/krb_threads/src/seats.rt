@@ -13,7 +13,7 @@ use krb_service::{Event, Reply, Service, Stopped};
 use krb_shared::{Calls, Seat, SeatGate, SharedBook};
 use std::alloc::Global;
 use std::sync::Wait;
-use std::thread::{Threads, join};
+use std::thread::Threads;
 
 /// What one worker is to do, and what is left of it.
 #[derive(Drop)]
@@ -22,24 +22,12 @@ pub struct Work {
     pub events: Vec<Event>,
 }
 
-/// The replies of one worker, and what is left of its work.
+/// The replies of one worker, its events, and its connections as the run left them.
 #[derive(Drop)]
 pub struct Done {
     pub replies: Vec<Reply>,
-    pub left: Work,
-}
-
-/// Lets go of what is left of both, each in a thread of its own.
-pub fn let_go<R: Threads>(rt: &R, one: Work, two: Work) {
-    join(
-        rt,
-        move || {
-            let _one = one;
-        },
-        move || {
-            let _two = two;
-        },
-    );
+    pub events: Vec<Event>,
+    pub ends: Ends,
 }
 
 /// Runs both parts, each behind its pause and at its seat.
@@ -93,8 +81,8 @@ pub fn run_seats<
 ) -> Result<(Done, Done), OutOfMemory>
     ensures first { IfOk result (λ done. WorksAt low.old one.ends.env one.ends.connections.entries one.events.items done.0.replies.items low.new) }
     ensures second { IfOk result (λ done. WorksAt high.old two.ends.env two.ends.connections.entries two.events.items done.1.replies.items high.new) }
-    ensures first_events { IfOk result (λ done. done.0.left.events ≡ one.events) }
-    ensures second_events { IfOk result (λ done. done.1.left.events ≡ two.events) }
+    ensures first_events { IfOk result (λ done. done.0.events ≡ one.events) }
+    ensures second_events { IfOk result (λ done. done.1.events ≡ two.events) }
 {
     let low_gate = PausedGate {
         pause: first,
@@ -148,22 +136,18 @@ pub fn run_seats<
     Ok((
         Done {
             replies: low_replies,
-            left: Work {
-                ends: Ends {
-                    env: low_env,
-                    connections: low_connections,
-                },
-                events: low_events,
+            events: low_events,
+            ends: Ends {
+                env: low_env,
+                connections: low_connections,
             },
         },
         Done {
             replies: high_replies,
-            left: Work {
-                ends: Ends {
-                    env: high_env,
-                    connections: high_connections,
-                },
-                events: high_events,
+            events: high_events,
+            ends: Ends {
+                env: high_env,
+                connections: high_connections,
             },
         },
     ))

@@ -11,7 +11,6 @@ use krb_replay::Verdict;
 use krb_service::{Reply, end_line};
 use krb_shared::Entry;
 use std::alloc::Global;
-use std::thread::{Threads, join};
 
 fn verdict_name(verdict: Verdict) -> &'static str
     ensures { result.now ≡ verdict_name verdict }
@@ -94,73 +93,8 @@ fn admissions(replies: &[Reply]) -> u64
     count
 }
 
-/// The lines of one worker, and how many of its replies admit their peer.
-#[derive(Drop)]
-struct Lines {
-    text: String,
-    admitted: u64,
-}
-
-/// The lines of one worker's replies.
-fn lines_of(
-    alloc: Global,
-    worker: u32,
-    numbers: &[u64],
-    replies: &[Reply],
-) -> Result<Lines, OutOfMemory>
-    requires { length numbers.now ≡ length replies.now }
-    ensures text { IfOk result (λ lines. string_bytes lines.text ≡ worker_text worker numbers.now replies.now) }
-    ensures admitted { IfOk result (λ lines. lines.admitted ≡ admissions replies.now) }
-    ensures few { IfOk result (λ lines. lines.admitted ≤ length replies.now) }
-{
-    let mut text = String::new(alloc);
-    put_replies(alloc, &mut text, worker, numbers, replies)?;
-    Ok(Lines {
-        text,
-        admitted: admissions(replies),
-    })
-}
-
-/// The lines of both workers' replies, each worker's made in a thread of its own.
-fn lines_of_both<R: Threads>(
-    rt: &R,
-    alloc: Global,
-    low: &[u64],
-    high: &[u64],
-    first: &[Reply],
-    second: &[Reply],
-) -> Result<(Lines, Lines), OutOfMemory>
-    requires low { length low.now ≡ length first.now }
-    requires high { length high.now ≡ length second.now }
-    ensures first { IfOk result (λ lines. string_bytes lines.0.text ≡ worker_text 0 low.now first.now) }
-    ensures second { IfOk result (λ lines. string_bytes lines.1.text ≡ worker_text 1 high.now second.now) }
-    ensures first_admitted { IfOk result (λ lines. lines.0.admitted ≡ admissions first.now) }
-    ensures second_admitted { IfOk result (λ lines. lines.1.admitted ≡ admissions second.now) }
-    ensures first_few { IfOk result (λ lines. lines.0.admitted ≤ length first.now) }
-    ensures second_few { IfOk result (λ lines. lines.1.admitted ≤ length second.now) }
-{
-    let (one, two) = join(
-        rt,
-        || -> Result<Lines, OutOfMemory>
-            requires { length low.now ≡ length first.now }
-            ensures text { IfOk result (λ lines. string_bytes lines.text ≡ worker_text 0 low.now first.now) }
-            ensures admitted { IfOk result (λ lines. lines.admitted ≡ admissions first.now) }
-            ensures few { IfOk result (λ lines. lines.admitted ≤ length first.now) }
-        { lines_of(alloc, 0, low, first) },
-        || -> Result<Lines, OutOfMemory>
-            requires { length high.now ≡ length second.now }
-            ensures text { IfOk result (λ lines. string_bytes lines.text ≡ worker_text 1 high.now second.now) }
-            ensures admitted { IfOk result (λ lines. lines.admitted ≡ admissions second.now) }
-            ensures few { IfOk result (λ lines. lines.admitted ≤ length second.now) }
-        { lines_of(alloc, 1, high, second) },
-    );
-    let one = one?;
-    Ok((one, two?))
-}
-
 /// The whole text.
-pub fn text_of<R: Threads>(
-    rt: &R,
+pub fn text_of(
     alloc: Global,
     low: &[u64],
     high: &[u64],
@@ -172,12 +106,11 @@ pub fn text_of<R: Threads>(
         ≡ worker_text 0 low.now answers.now.first.items ++ worker_text 1 high.now answers.now.second.items ++ entries_text 1 answers.now.journal.entries
         ++ end_line (admissions answers.now.first.items + admissions answers.now.second.items) answers.now.journal.kept) }
 {
-    let (one, two) = lines_of_both(rt, alloc, low, high, &answers.first, &answers.second)?;
     let mut text = String::new(alloc);
-    text.push_str(&one.text)?;
-    text.push_str(&two.text)?;
+    put_replies(alloc, &mut text, 0, low, &answers.first)?;
+    put_replies(alloc, &mut text, 1, high, &answers.second)?;
     put_entries(alloc, &mut text, answers.journal.entries.as_slice())?;
-    let admitted = one.admitted + two.admitted;
+    let admitted = admissions(&answers.first) + admissions(&answers.second);
     text.push_str(end_line(admitted, answers.journal.kept).as_str())?;
     Ok(text)
 }

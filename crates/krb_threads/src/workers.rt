@@ -6,8 +6,9 @@ ghost use Rattle.krb_threads.specs.Described.{all_connections};
 
 use crate::described::{Described, ends_in_threads};
 use crate::desk::run_at_desk;
+use crate::going::Going;
 use crate::pause::Pause;
-use crate::seats::{Work, let_go, run_seats};
+use crate::seats::{Work, run_seats};
 use krb_der::{Items, OutOfMemory};
 use krb_service::{Event, Reply};
 use krb_shared::{Calls, Journal, SharedBook};
@@ -25,6 +26,13 @@ pub struct Answers {
     pub journal: Journal,
 }
 
+/// What is left of the events of both workers.
+#[derive(Drop)]
+pub struct Left {
+    pub low: Vec<Event>,
+    pub high: Vec<Event>,
+}
+
 /// Runs both workers.
 pub fn answers_of<R: Threads + Wait + Sync, P: Pause + Send, Q: Pause + Send>(
     rt: &R,
@@ -34,9 +42,9 @@ pub fn answers_of<R: Threads + Wait + Sync, P: Pause + Send, Q: Pause + Send>(
     high: Vec<Event>,
     first: &mut P,
     second: &mut Q,
-) -> Result<Answers, OutOfMemory>
-    ensures { IfOk result (λ answers.
-        AreAnswers described.now.skew described.now.env (all_connections described.now) low.items high.items answers.first.items answers.second.items answers.journal) }
+) -> Result<(Answers, Left), OutOfMemory>
+    ensures { IfOk result (λ both.
+        AreAnswers described.now.skew described.now.env (all_connections described.now) low.items high.items both.0.first.items both.0.second.items both.0.journal) }
 {
     answers_as::<Brand, R, P, Q>(
         rt,
@@ -63,14 +71,14 @@ fn answers_as<L: Calls + Send + Sync, R: Threads + Wait + Sync, P: Pause + Send,
     high: Vec<Event>,
     first: &mut P,
     second: &mut Q,
-) -> Result<Answers, OutOfMemory>
+) -> Result<(Answers, Left), OutOfMemory>
     requires name { blank.name ≡ L.name }
     requires parts { blank.parts ≡ L.parts }
     requires two { blank.parts ≡ 2 }
     requires skew { skew ≡ L.skew }
     requires own_skew { described.now.skew ≡ skew }
-    ensures { IfOk result (λ answers.
-        AreAnswers described.now.skew described.now.env (all_connections described.now) low.items high.items answers.first.items answers.second.items answers.journal) }
+    ensures { IfOk result (λ both.
+        AreAnswers described.now.skew described.now.env (all_connections described.now) low.items high.items both.0.first.items both.0.second.items both.0.journal) }
 {
     let (book, all) = blank.open::<L>();
     let (shared, seats) = SharedBook::with_seats(alloc, book, all, skew, 2)?;
@@ -98,22 +106,29 @@ fn answers_as<L: Calls + Send + Sync, R: Threads + Wait + Sync, P: Pause + Send,
         one,
         two,
     )?;
+    let going = Going::start(rt, (one.ends, two.ends));
     match shared.close(Items::new(seats)) {
         Ok(journal) => {
-            let_go(rt, one.left, two.left);
-            Ok(Answers {
+            going.wait(rt);
+            let answers = Answers {
                 first: one.replies,
                 second: two.replies,
                 journal,
-            })
+            };
+            let left = Left {
+                low: one.events,
+                high: two.events,
+            };
+            Ok((answers, left))
         }
-        Err(_) => run_at_desk(
-            alloc,
-            described,
-            one.left.events,
-            two.left.events,
-            first,
-            second,
-        ),
+        Err(_) => {
+            going.wait(rt);
+            let answers = run_at_desk(alloc, described, one.events, two.events, first, second)?;
+            let left = Left {
+                low: Vec::new(alloc),
+                high: Vec::new(alloc),
+            };
+            Ok((answers, left))
+        }
     }
 }
