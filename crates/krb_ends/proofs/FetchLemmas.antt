@@ -35,7 +35,6 @@ use Rattle.krb_client.specs.declared.turn.Turn.TheVariants.{Asks, Ends}
 use Rattle.krb_client.specs.Askers.{asker_suite, default_salt, sized_key}
 use Rattle.krb_client.specs.Asked.{first_request, second_request, Begins, AsksAgain}
 use Rattle.krb_client.specs.Replied.{WantsPreAuth, Grants}
-use Rattle.krb_requests.specs.PaDatas.{suite_of as suite_numbered}
 use Rattle.krb_credentials.specs.ReplyKeys.{client_key, TakesReplyKey}
 use Rattle.krb_tickets.specs.declared.wanted.Shown.{Shown}
 use Rattle.krb_tickets.specs.TgsAsked.{is_same_realm, tgs_request, AsksTgs, Follows}
@@ -84,10 +83,10 @@ module _ (seeker : Seeker) (suite : CipherSuite) where
       (gives _)
 
   -- the AS-REP
-  numbered : suite_numbered (suite_number suite) ≡ suite
+  numbered : suite_of_etype (suite_number suite) ≡ suite
   numbered = go suite
     where
-      go : (s : CipherSuite) → suite_numbered (suite_number s) ≡ s
+      go : (s : CipherSuite) → suite_of_etype (suite_number s) ≡ s
       go Aes128CtsHmacSha196 = refl
       go Aes256CtsHmacSha196 = refl
 
@@ -103,7 +102,7 @@ module _ (seeker : Seeker) (suite : CipherSuite) where
       → TakesReplyKey seeker.asker.credentials used rep (Ok (record { suite = suite; key = key }))
   unfolding TakesReplyKey
   takes_key protocol used reply rep key first =
-      let brought : BringsKey (suite_numbered (suite_number suite)) (client_key (suite_numbered (suite_number suite)) first.salt seeker.asker.credentials) rep (Ok key) =
+      let brought : BringsKey (suite_of_etype (suite_number suite)) (client_key (suite_of_etype (suite_number suite)) first.salt seeker.asker.credentials) rep (Ok key) =
       subst (λ (s : CipherSuite). BringsKey s (client_key s first.salt seeker.asker.credentials) rep (Ok key)) (sym numbered) (brings_key protocol used reply rep key first) in
       follows _ _ (suite_number suite, first.salt) _ first.tells
       (follows _ _ key _ brought (record { is = ap (λ (s : CipherSuite). Ok (record { suite = s; key = key })) (sym numbered) }))

@@ -44,7 +44,8 @@ pub fn answers_of<R: Threads + Wait + Sync, P: Pause + Send, Q: Pause + Send>(
     second: &mut Q,
 ) -> Result<(Answers, Left), OutOfMemory>
     ensures { IfOk result (λ both.
-        AreAnswers described.now.skew described.now.env (all_connections described.now) low.items high.items both.0.first.items both.0.second.items both.0.journal) }
+        AreAnswers described.now.skew described.now.env (all_connections described.now)
+        low.items high.items both.0.first.items both.0.second.items both.0.journal) }
 {
     answers_as::<Brand, R, P, Q>(
         rt,
@@ -78,7 +79,8 @@ fn answers_as<L: Calls + Send + Sync, R: Threads + Wait + Sync, P: Pause + Send,
     requires skew { skew ≡ L.skew }
     requires own_skew { described.now.skew ≡ skew }
     ensures { IfOk result (λ both.
-        AreAnswers described.now.skew described.now.env (all_connections described.now) low.items high.items both.0.first.items both.0.second.items both.0.journal) }
+        AreAnswers described.now.skew described.now.env (all_connections described.now)
+        low.items high.items both.0.first.items both.0.second.items both.0.journal) }
 {
     let (book, all) = blank.open::<L>();
     let (shared, seats) = SharedBook::with_seats(alloc, book, all, skew, 2)?;
