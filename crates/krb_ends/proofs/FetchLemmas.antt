@@ -69,9 +69,6 @@ module _ (seeker : Seeker) (suite : CipherSuite) where
       (follows _ _ error.error _ (record { is = refl })
       (follows _ _ error.named _ error.names (record { is = ap Ok error.salt_is })))
 
-  second_of : Kdc → KdcReqBody → List ℕ → List ℕ → Draw → Again
-  second_of kdc body salt key draw = record { request = second_request (asker_suite seeker.asker) key draw kdc body; salt = salt }
-
   asks_second : (kdc : Kdc) (body : KdcReqBody) (step : Step) (salt key : List ℕ) → AnswersError seeker.asker kdc.protocol step.reply salt → sized_key seeker.asker salt ≡ Some key
       → AsksSecond seeker.asker kdc body (Ok step.reply) step.draw (Ok (Asks (second_request (asker_suite seeker.asker) key step.draw kdc body) (AwaitsAsRep kdc salt)))
   unfolding AsksSecond AsksAgain
