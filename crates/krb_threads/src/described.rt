@@ -14,6 +14,7 @@ use krb_script::Endpoint;
 use krb_service::{HeldConnection, Service, connection_of};
 use std::alloc::Global;
 use std::collections::BTreeMap;
+use std::thread::{Threads, join};
 
 /// The ends that the lines declare, the environment, and the skew in seconds.
 #[derive(Drop)]
@@ -83,7 +84,29 @@ pub fn ends_of(alloc: Global, described: &Described, worker: u32) -> Result<Ends
     })
 }
 
-/// What both have.
+/// What both have, each made in a thread of its own.
+pub fn ends_in_threads<R: Threads>(
+    rt: &R,
+    alloc: Global,
+    described: &Described,
+) -> Result<(Ends, Ends), OutOfMemory>
+    ensures first { IfOk result (λ both. AreEnds described.now 0 both.0) }
+    ensures second { IfOk result (λ both. AreEnds described.now 1 both.1) }
+{
+    let (low, high) = join(
+        rt,
+        || -> Result<Ends, OutOfMemory>
+            ensures { IfOk result (AreEnds described.entry.now 0) }
+        { ends_of(alloc, described, 0) },
+        || -> Result<Ends, OutOfMemory>
+            ensures { IfOk result (AreEnds described.entry.now 1) }
+        { ends_of(alloc, described, 1) },
+    );
+    let low = low?;
+    Ok((low, high?))
+}
+
+/// What both have, made in this thread.
 pub fn ends_of_both(alloc: Global, described: &Described) -> Result<(Ends, Ends), OutOfMemory>
     ensures first { IfOk result (λ both. AreEnds described.now 0 both.0) }
     ensures second { IfOk result (λ both. AreEnds described.now 1 both.1) }

@@ -22,11 +22,12 @@ pub struct Work {
     pub events: Vec<Event>,
 }
 
-/// The replies of one worker, and its events.
+/// The replies of one worker, its events, and its connections as the run left them.
 #[derive(Drop)]
 pub struct Done {
     pub replies: Vec<Reply>,
     pub events: Vec<Event>,
+    pub ends: Ends,
 }
 
 /// Runs both parts, each behind its pause and at its seat.
@@ -106,8 +107,8 @@ pub fn run_seats<
     };
     let Part {
         service: Service {
-            connections: _connections,
-            env: _env,
+            connections: low_connections,
+            env: low_env,
             gate: PausedGate {
                 pause: _pause,
                 gate: low_gate,
@@ -119,8 +120,8 @@ pub fn run_seats<
     } = one;
     let Part {
         service: Service {
-            connections: _other_connections,
-            env: _other_env,
+            connections: high_connections,
+            env: high_env,
             gate: PausedGate {
                 pause: _other_pause,
                 gate: high_gate,
@@ -136,10 +137,18 @@ pub fn run_seats<
         Done {
             replies: low_replies,
             events: low_events,
+            ends: Ends {
+                env: low_env,
+                connections: low_connections,
+            },
         },
         Done {
             replies: high_replies,
             events: high_events,
+            ends: Ends {
+                env: high_env,
+                connections: high_connections,
+            },
         },
     ))
 }
