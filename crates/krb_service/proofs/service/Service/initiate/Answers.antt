@@ -9,8 +9,8 @@ use Rattle.krb_service.proofs.service.Service.initiate.Goals as goal
 
 pub returns-clause-err : goal.returns-clause-err
 returns-clause-err g c =
-    let now : Connection = c.deref_mut.result.now in
-    let stands = sym c.in-Some.ensures.value ∙ ap Some (sym (c.deref_mut.ensures.value ∙ c.held.view_is)) in
+    let now : Connection = c.deref_mut-connection.result.now in
+    let stands = sym c.in-Some.ensures.value ∙ ap Some (sym (c.deref_mut-connection.ensures.value ∙ c.held.view_is)) in
     rw (← c.self.view_is) (on_err_weaker c.undertake.result (λ stays.
     ap (λ connections. record { connections = connections; env = c.self.inside.env; gate = c.self.inside.gate })
     ((c.get_mut.follows.holds c.undertake.new.connection).0

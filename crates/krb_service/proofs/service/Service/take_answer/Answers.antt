@@ -11,8 +11,8 @@ use Rattle.krb_service.proofs.service.Service.take_answer.Goals as goal
 
 pub returns-in_default-take-clause-step : goal.returns-in_default-take-clause-step
 returns-in_default-take-clause-step g c =
-    let now : Connection = c.deref_mut.result.now in
-    let stands = sym c.in-Some.ensures.value ∙ ap Some (sym (c.deref_mut.ensures.value ∙ c.held.view_is)) in
+    let now : Connection = c.deref_mut-connection.result.now in
+    let stands = sym c.in-Some.ensures.value ∙ ap Some (sym (c.deref_mut-connection.ensures.value ∙ c.held.view_is)) in
     let at = is_at (nat_cmp c.args.event.now.connection) in
     let old = now in
     let with : Option Run → Connection = λ exchange. record { context = old.context; target = old.target; exchange = exchange } in
@@ -26,8 +26,8 @@ returns-in_default-take-clause-step g c =
 
 pub returns-clause-err : goal.returns-clause-err
 returns-clause-err g c =
-    let now : Connection = c.deref_mut.result.now in
-    let stands = sym c.in-Some.ensures.value ∙ ap Some (sym (c.deref_mut.ensures.value ∙ c.held.view_is)) in
+    let now : Connection = c.deref_mut-connection.result.now in
+    let stands = sym c.in-Some.ensures.value ∙ ap Some (sym (c.deref_mut-connection.ensures.value ∙ c.held.view_is)) in
     let at = is_at (nat_cmp c.args.event.now.connection) in
     let old = now in
     let with : Option Run → Connection = λ exchange. record { context = old.context; target = old.target; exchange = exchange } in

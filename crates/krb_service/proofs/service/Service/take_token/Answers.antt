@@ -21,8 +21,8 @@ returns-in-Err-clause-step g c =
 
 pub returns-clause-step : goal.returns-clause-step
 returns-clause-step g c =
-    let now : Connection = c.deref_mut.result.now in
-    let stands = sym c.in-Some.ensures.value ∙ ap Some (sym (c.deref_mut.ensures.value ∙ c.held.view_is)) in
+    let now : Connection = c.deref_mut-connection.result.now in
+    let stands = sym c.in-Some.ensures.value ∙ ap Some (sym (c.deref_mut-connection.ensures.value ∙ c.held.view_is)) in
     let a = c.accept_security_context-answer in
     rw (← c.self.view_is)
     (token-taken g.G.ReplayGate.admits (record { connections = c.self.inside.connections.entries; env = c.self.inside.env; gate = c.self.inside.gate })
@@ -34,8 +34,8 @@ returns-clause-step g c =
 
 pub returns-clause-err : goal.returns-clause-err
 returns-clause-err g c =
-    let now : Connection = c.deref_mut.result.now in
-    let stands = sym c.in-Some.ensures.value ∙ ap Some (sym (c.deref_mut.ensures.value ∙ c.held.view_is)) in
+    let now : Connection = c.deref_mut-connection.result.now in
+    let stands = sym c.in-Some.ensures.value ∙ ap Some (sym (c.deref_mut-connection.ensures.value ∙ c.held.view_is)) in
     rw (← c.self.view_is) (on_err_weaker c.settle.result (λ stops.
     let a = c.accept_security_context-answer in
     let m = stopped_leaves g.G.ReplayGate.admits g.G.ReplayGate.is_same g.met.G.ReplayGate.same _ _ _ _ _ _ a.new.server a.new.gate a.result stops.1 a.ensures.step a.ensures.memory in
