@@ -24,7 +24,7 @@ enum Asked {
     Threads(u32),
 }
 
-fn asked(rt: &(impl Env + AllocGlobal)) -> Result<Asked> {
+fn read_words(rt: &(impl Env + AllocGlobal)) -> Result<Asked> {
     let mut words = env::args(rt)?;
     let _program = words.next();
     let Some(word) = words.next() else {
@@ -44,7 +44,7 @@ fn asked(rt: &(impl Env + AllocGlobal)) -> Result<Asked> {
 }
 
 fn main(rt: HostRuntime) -> Result<()> {
-    match asked(&rt)? {
+    match read_words(&rt)? {
         Asked::Trial => {
             serving::run(&rt, false)?;
             two_threads::run(&rt, two_threads::TRIAL)
