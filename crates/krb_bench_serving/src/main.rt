@@ -5,7 +5,9 @@
 //! long enough to measure, and with the word `threads` those of two threads alone do.
 #![tactic(auto)]
 
+mod messages;
 mod serving;
+mod starts;
 mod two_threads;
 
 use anyhow::Result;
@@ -29,5 +31,7 @@ fn main(rt: HostRuntime) -> Result<()> {
     }
     let full = word.as_str() == "full";
     serving::run(&rt, full)?;
+    messages::run(&rt, full)?;
+    starts::run(&rt, full)?;
     two_threads::run(&rt, full)
 }
