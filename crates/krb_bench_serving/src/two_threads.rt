@@ -32,27 +32,41 @@ fn time_threads<R: Clock + AllocGlobal + Threads + Wait + Sync>(
     Ok(start.elapsed(rt)?)
 }
 
-/// What is measured: a name, how many events the input has, and how often it is answered in each way.
-struct Task {
-    name: &'static str,
-    count: u32,
+/// How much is measured: connections with an admission each, messages at two connections, and how often each is answered in
+/// either way.
+#[derive(Clone, Copy)]
+pub(crate) struct Amount {
+    connections: u32,
+    messages: u32,
     rounds: u32,
 }
 
-/// Answers an input on one thread and on two, in turn. Prints the last line that two threads write, and the least time of each
-/// way, with their ratio in hundredths.
+/// Enough to try the measurement.
+pub(crate) const TRIAL: Amount = Amount {
+    connections: 20,
+    messages: 20,
+    rounds: 1,
+};
+
+/// Enough to measure.
+pub(crate) fn full(rounds: u32) -> Amount {
+    Amount {
+        connections: 10_000,
+        messages: 20_000,
+        rounds,
+    }
+}
+
+/// Answers an input of so many events on one thread and on two, in turn. Prints the last line that two threads write, and the
+/// least time of each way, with their ratio in hundredths.
 fn measure<R: Print + Eprint + Clock + AllocGlobal + Threads + Wait + Sync>(
     rt: &R,
-    task: &Task,
+    (name, count): (&str, u32),
+    rounds: u32,
     input: &[u8],
 ) -> Result<()> {
-    let Task {
-        name,
-        count,
-        rounds,
-    } = task;
     let (mut one, mut two) = (u128::MAX, u128::MAX);
-    for round in 0..*rounds {
+    for round in 0..rounds {
         let mut sink = MemSink::new(rt.alloc(), Calls::sound(rt.alloc()));
         let (_written, spent) = served(rt, input)?;
         one = one.min(spent.as_micros());
@@ -69,25 +83,18 @@ fn measure<R: Print + Eprint + Clock + AllocGlobal + Threads + Wait + Sync>(
     Ok(())
 }
 
-/// Measures 10,000 connections with an admission each, and 20,000 messages at two connections.
-pub fn run<R: Print + Eprint + Clock + AllocGlobal + Threads + Wait + Sync>(
+/// Measures connections with an admission each, and messages at two connections.
+pub(crate) fn run<R: Print + Eprint + Clock + AllocGlobal + Threads + Wait + Sync>(
     rt: &R,
-    full: bool,
+    amount: Amount,
 ) -> Result<()> {
-    let (connections, messages) = if full { (10_000, 20_000) } else { (20, 20) };
-    let rounds = if full { 20 } else { 1 };
+    let Amount {
+        connections,
+        messages,
+        rounds,
+    } = amount;
     let input = admissions(rt.alloc(), connections, true).context("out of memory")?;
-    let ten_a_second = Task {
-        name: "ten a second",
-        count: connections,
-        rounds,
-    };
-    measure(rt, &ten_a_second, &input)?;
+    measure(rt, ("ten a second", connections), rounds, &input)?;
     let input = wraps(rt.alloc(), 2, messages).context("out of memory")?;
-    let sealed = Task {
-        name: "messages of 1 KiB",
-        count: messages,
-        rounds,
-    };
-    measure(rt, &sealed, &input)
+    measure(rt, ("messages of 1 KiB", messages), rounds, &input)
 }

@@ -2,7 +2,7 @@
 use Rattle.std.proofs.Common.{◌≡◌, ℕ, ◌+◌, ◌<◌, ◌≤◌, not, List, [], ◌∷◌, length, Option, Some, None, refl, sym, subst, ap, arith, Ok}
 use Rattle.std.specs.Prelude.{◌==◌, nat_lt, option_map}
 use Rattle.std.proofs.lemmas.Bool.{lt-ltb, eq-eqb}
-use Rattle.krb_crypto.specs.Suite.{key_size, suite_number}
+use Rattle.krb_crypto.specs.Suite.{key_size, suite_number, suite_of_etype}
 use Rattle.krb_crypto.specs.declared.suite.CipherSuite.{CipherSuite}
 use Rattle.krb_crypto.specs.declared.suite.CipherSuite.TheVariants.{Aes128CtsHmacSha196, Aes256CtsHmacSha196}
 use Rattle.krb_messages.specs.declared.enc_ticket_part.EncTicketPart.{EncTicketPart}
