@@ -4,7 +4,7 @@ ghost use Rattle.std.specs.Prelude.{◌<◌, IfOk};
 ghost use Rattle.krb_client.specs.AsExchanges.{IsNew, turns_left};
 ghost use Rattle.krb_credentials.specs.Clients.{IsShort};
 
-use crate::alice::{DRAW, context, network, sum};
+use crate::alice::{DRAW, context, sum};
 use krb_client::{AsDone, AsExchange, Asker};
 use krb_conf::Env;
 use krb_context::Kerberos;
@@ -15,16 +15,6 @@ use krb_der::{OutOfMemory, Text, TryCopy};
 use sspi_core::{Cause, ClientRequestFlags, CredentialsBuffers};
 use sspi_generator::{Generator, MemClient};
 use std::alloc::Global;
-
-/// Who asks, and what is answered.
-#[derive(Drop)]
-pub struct Exchanges {
-    context: Kerberos,
-    client: Client,
-    asker: Asker,
-    network: MemClient,
-    ghost short: { IsShort client },
-}
 
 fn client(alloc: Global, credentials: &CredentialsBuffers) -> Result<Client, Cause>
     ensures { IfOk result (λ client. IsShort client) }
@@ -67,39 +57,71 @@ fn finish(exchange: AsExchange, network: &mut MemClient) -> Result<AsDone, Cause
     }
 }
 
-impl Exchanges {
-    /// So many exchanges of alice, with these credentials.
-    pub fn new(
-        alloc: Global,
-        credentials: &CredentialsBuffers,
-        count: u32,
-    ) -> Result<Exchanges, Cause> {
-        let context = context(alloc)?;
-        let client = client(alloc, credentials)?;
-        let asker = asker_of(alloc, &context, credentials, &Env::new(alloc), &client)?;
-        let network = network(alloc, false, count)?;
-        Ok(Exchanges {
-            context,
-            client,
-            asker,
-            network,
-        })
-    }
+/// One exchange: the sum of the octets of the key that it brings.
+fn key_of_one(
+    alloc: Global,
+    context: &Kerberos,
+    asker: &Asker,
+    client: &Client,
+    network: &mut MemClient,
+) -> Result<u64, Cause>
+    requires { IsShort client.now }
+{
+    let exchange = begun(alloc, context, &asker.credentials, client)?;
+    let done = finish(exchange, network)?;
+    let key = reply_key(alloc, asker, &done.salt, &done.as_rep)?;
+    Ok(sum(key.key.as_ref().as_slice()))
+}
 
-    /// One exchange: the sum of the octets of the key that it brings.
-    fn bring_one(&mut self, alloc: Global) -> Result<u64, Cause> {
-        let exchange = begun(alloc, &self.context, &self.asker.credentials, &self.client)?;
-        let done = finish(exchange, &mut self.network)?;
-        let key = reply_key(alloc, &self.asker, &done.salt, &done.as_rep)?;
-        Ok(sum(key.key.as_ref().as_slice()))
+fn keys_of_asker(
+    alloc: Global,
+    context: &Kerberos,
+    asker: &Asker,
+    client: &Client,
+    network: &mut MemClient,
+    count: u32,
+) -> Result<u64, Cause>
+    requires { IsShort client.now }
+{
+    let mut sum: u64 = 0;
+    for _ in 0..count {
+        sum = sum.wrapping_add(key_of_one(alloc, context, asker, client, network)?);
     }
+    Ok(sum)
+}
 
-    /// So many exchanges: the sum of the octets of their keys.
-    pub fn bring(&mut self, alloc: Global, count: u32) -> Result<u64, Cause> {
-        let mut sum: u64 = 0;
-        for _ in 0..count {
-            sum = sum.wrapping_add(self.bring_one(alloc)?);
-        }
-        Ok(sum)
-    }
+fn keys_of_client(
+    alloc: Global,
+    context: &Kerberos,
+    credentials: &CredentialsBuffers,
+    client: &Client,
+    network: &mut MemClient,
+    count: u32,
+) -> Result<u64, Cause>
+    requires { IsShort client.now }
+{
+    let asker = asker_of(alloc, context, credentials, &Env::new(alloc), client)?;
+    keys_of_asker(alloc, context, &asker, client, network, count)
+}
+
+fn keys_in(
+    alloc: Global,
+    context: &Kerberos,
+    credentials: &CredentialsBuffers,
+    network: &mut MemClient,
+    count: u32,
+) -> Result<u64, Cause> {
+    let client = client(alloc, credentials)?;
+    keys_of_client(alloc, context, credentials, &client, network, count)
+}
+
+/// So many exchanges of alice, with these credentials: the sum of the octets of their keys.
+pub fn exchange(
+    alloc: Global,
+    credentials: &CredentialsBuffers,
+    network: &mut MemClient,
+    count: u32,
+) -> Result<u64, Cause> {
+    let context = context(alloc)?;
+    keys_in(alloc, &context, credentials, network, count)
 }

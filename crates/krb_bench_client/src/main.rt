@@ -10,10 +10,10 @@ mod exchanges;
 mod initializations;
 mod replies;
 
-use alice::{with_key, with_password};
+use alice::{network, with_key, with_password};
 use anyhow::{Context, Result};
-use exchanges::Exchanges;
-use initializations::Initializations;
+use exchanges::exchange;
+use initializations::initialize;
 use sspi_core::CredentialsBuffers;
 use std::env;
 use std::env::Env;
@@ -51,11 +51,10 @@ fn measure_exchanges(
     credentials: &CredentialsBuffers,
     count: u32,
 ) -> Result<()> {
-    let alloc = rt.alloc();
-    let made = Exchanges::new(alloc, credentials, count);
-    let mut exchanges = made.ok().context("out of memory")?;
+    let made = network(rt.alloc(), false, count);
+    let mut network = made.ok().context("out of memory")?;
     let start = Instant::now(rt)?;
-    let sum = exchanges.bring(alloc, count);
+    let sum = exchange(rt.alloc(), credentials, &mut network, count);
     let spent = start.elapsed(rt)?;
     let sum = sum.ok().context("an exchange failed")?;
     tell(rt, name, count, sum, spent)
@@ -66,11 +65,10 @@ fn measure_initializations(
     name: &str,
     count: u32,
 ) -> Result<()> {
-    let alloc = rt.alloc();
-    let made = Initializations::new(alloc, count);
-    let mut initializations = made.ok().context("out of memory")?;
+    let made = network(rt.alloc(), true, count);
+    let mut network = made.ok().context("out of memory")?;
     let start = Instant::now(rt)?;
-    let sum = initializations.agree(alloc, count);
+    let sum = initialize(rt.alloc(), &mut network, count);
     let spent = start.elapsed(rt)?;
     let sum = sum.ok().context("an initialization failed")?;
     tell(rt, name, count, sum, spent)
