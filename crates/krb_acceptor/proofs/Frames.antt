@@ -1,14 +1,13 @@
 -- A token is a frame of one TGT-REQ.
-use Rattle.std.proofs.Common.{◌≡◌, ℕ, Bool, true, false, List, [], ◌∷◌, Option, Some, None, Result, Ok, Err, subst}
+use Rattle.std.proofs.Common.{ℕ, true, false, List, [], ◌∷◌, Option, Some, None, Result, Ok, Err, subst}
 use Rattle.std.specs.Prelude.{IfOk}
 use Rattle.krb_der.specs.declared.memory.OutOfMemory.{OutOfMemory}
 use Rattle.krb_messages.specs.Frame.{IsFrame}
 use Rattle.krb_exchange.specs.Layouts.{tgt_req_layout}
 use Rattle.krb_exchange.specs.declared.user_to_user.TgtReq.{TgtReq}
-use Rattle.krb_context.specs.declared.state.KerberosState.{KerberosState}
 use Rattle.krb_replies.specs.Unseals.{IsRead}
 use Rattle.krb_server.proofs.Frames.{same_message}
-use Rattle.krb_acceptor.specs.TgtReqs.{Found, IsTgtReq, may_begin, Begins}
+use Rattle.krb_acceptor.specs.TgtReqs.{Found, IsTgtReq}
 
 in_frame : (oid octets token : List ℕ) → IsFrame oid (4 ∷ 0 ∷ []) octets token → (found : Option TgtReq) → Found (IsTgtReq true octets) found → Found (IsTgtReq false token) found
 in_frame oid octets token frame (Some tgt_req) h = record { oid = oid; octets = octets; frame = frame; read = h }
@@ -19,12 +18,3 @@ pub framed_found : (oid octets token : List ℕ) → IsFrame oid (4 ∷ 0 ∷ []
     → IfOk found (λ o. Found (IsTgtReq true octets) o) → IfOk found (λ o. Found (IsTgtReq false token) o)
 framed_found oid octets token frame (Ok found) h = in_frame oid octets token frame found h
 framed_found oid octets token frame (Err e) h = tt
-
-begun_by : (dce : Bool) (state : KerberosState) (token : List ℕ) → may_begin state token ≡ true → (found : Option TgtReq) → Found (IsTgtReq dce token) found → Found (Begins dce state token) found
-begun_by dce state token may (Some tgt_req) h = record { may = may; is = h }
-begun_by dce state token may None none = λ tgt_req h. none tgt_req h.is
-
-pub begun_found : (dce : Bool) (state : KerberosState) (token : List ℕ) → may_begin state token ≡ true → (found : Result (Option TgtReq) OutOfMemory)
-    → IfOk found (λ o. Found (IsTgtReq dce token) o) → IfOk found (λ o. Found (Begins dce state token) o)
-begun_found dce state token may (Ok found) h = begun_by dce state token may found h
-begun_found dce state token may (Err e) h = tt

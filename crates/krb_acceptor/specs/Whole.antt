@@ -52,18 +52,21 @@ answered_as (Ok judged) = Ok (accepted_as judged)
 answered_as (Err cause) = Err cause
 
 -- a token that is no TGT-REQ, judged by the checks of an AP-REQ and of the last word
-pub record JudgesOther {G : Type 0} (admits : G → Ask → Verdict → G → Type 0) (server : Kerberos) (dce : Bool) (token : List ℕ) (draw : Draw) (old : G) (answer : Result Accepted Cause) (server' : Kerberos) (new : G) : Type 0 where
+pub record JudgesOther {G : Type 0} (admits : G → Ask → Verdict → G → Type 0) (server : Kerberos) (dce : Bool) (token : List ℕ)
+    (draw : Draw) (old : G) (answer : Result Accepted Cause) (server' : Kerberos) (new : G) : Type 0 where
   pub judged : Result Judged Cause
   pub accepts : Accepts admits server dce token draw old judged server' new
   pub answer_is : answer ≡ answered_as judged
 
 -- which of the two a token is decides
-abbrev pub Makes : {G : Type 0} → (G → Ask → Verdict → G → Type 0) → Kerberos → Bool → List ℕ → Env → Draw → G → Option TgtReq → Result Accepted Cause → Kerberos → G → Type 0
+abbrev pub Makes : {G : Type 0} → (G → Ask → Verdict → G → Type 0) → Kerberos → Bool → List ℕ → Env → Draw → G → Option TgtReq
+    → Result Accepted Cause → Kerberos → G → Type 0
 Makes admits server dce token env draw old (Some tgt_req) answer server' new = TakesTgtReq server tgt_req dce env answer × (server' ≡ server) × (new ≡ old)
 Makes admits server dce token env draw old None answer server' new = JudgesOther admits server dce token draw old answer server' new
 
 -- a token at an acceptor, over any gate
-pub record AcceptsWhole {G : Type 0} (admits : G → Ask → Verdict → G → Type 0) (server : Kerberos) (dce : Bool) (token : List ℕ) (env : Env) (draw : Draw) (old : G) (answer : Result Accepted Cause) (server' : Kerberos) (new : G) : Type 0 where
+pub record AcceptsWhole {G : Type 0} (admits : G → Ask → Verdict → G → Type 0) (server : Kerberos) (dce : Bool) (token : List ℕ)
+    (env : Env) (draw : Draw) (old : G) (answer : Result Accepted Cause) (server' : Kerberos) (new : G) : Type 0 where
   pub tgt_req : Option TgtReq
   pub found : Found (Begins dce server.state token) tgt_req
   pub made : Makes admits server dce token env draw old tgt_req answer server' new

@@ -15,7 +15,8 @@ counted octets = four (length octets) ++ octets
 -- what is hashed
 abbrev pub bindings_octets : ChannelBindings → List ℕ
 bindings_octets bindings =
-    four bindings.initiator_addr_type ++ (counted bindings.initiator ++ (four bindings.acceptor_addr_type ++ (counted bindings.acceptor ++ counted bindings.application_data)))
+    four bindings.initiator_addr_type ++ (counted bindings.initiator
+    ++ (four bindings.acceptor_addr_type ++ (counted bindings.acceptor ++ counted bindings.application_data)))
 
 unfoldable pub bindings_hash : ChannelBindings → List ℕ
 bindings_hash bindings = md5 (bindings_octets bindings)

@@ -229,7 +229,8 @@ pub fn generate_authenticator(
 ) -> Result<Authenticator, Error>
     requires moment { now ≤ MAX_MOMENT }
     requires short { AreShort options.kdc_rep.now options.sub_key options.checksum (option_copied options.channel_bindings) }
-    ensures made { IfOk result (λ made. made ≡ authenticator options.entry.kdc_rep.now options.entry.seq_num options.entry.sub_key options.entry.checksum (option_copied options.entry.channel_bindings) now) }
+    ensures made { IfOk result (λ made. made ≡ authenticator options.entry.kdc_rep.now options.entry.seq_num options.entry.sub_key
+        options.entry.checksum (option_copied options.entry.channel_bindings) now) }
     ensures checksum { (result ≡ Err (error_of causes.Checksum)) ↔ (lacks_room (option_copied options.entry.channel_bindings) options.entry.checksum ≡ true) }
     ensures errors { IfErr result (λ e. (e ≡ error_of causes.Checksum) ⊎ (e ≡ error_of causes.Memory)) }
     ensures within { IfOk result (λ made. Fits authenticator_layout (2 ^ 27) made) }

@@ -144,8 +144,10 @@ pub fn generate_krb_priv_request(
     requires authenticator { Fits authenticator_layout (2 ^ 27) authenticator.now }
     requires password { length new_password.now ≤ 2 ^ 24 }
     requires address { length address.now ≤ 2 ^ 24 }
-    ensures made { IfOk result (λ made. made ≡ priv_request (suite_of enc_params.now) session_key.now (get_or confounders 0 []) (get_or confounders 1 []) ticket authenticator.now (priv_part new_password.now seq_num address.now)) }
-    ensures key_length { (result ≡ Err (error_of causes.KeyLength)) ↔ (are_sized (suite_of enc_params.now) session_key.now (chosen_key authenticator.now.subkey) ≡ false) }
+    ensures made { IfOk result (λ made. made ≡ priv_request (suite_of enc_params.now) session_key.now
+        (get_or confounders 0 []) (get_or confounders 1 []) ticket authenticator.now (priv_part new_password.now seq_num address.now)) }
+    ensures key_length { (result ≡ Err (error_of causes.KeyLength))
+        ↔ (are_sized (suite_of enc_params.now) session_key.now (chosen_key authenticator.now.subkey) ≡ false) }
     ensures errors { IfErr result (λ e. (e ≡ error_of causes.KeyLength) ⊎ (e ≡ error_of causes.Memory)) }
     ensures within { IfOk result FitsPriv }
 {

@@ -341,10 +341,15 @@ pub fn generate_tgs_req(
     requires ticket { Fits ticket_layout (2 ^ 24) options.ticket }
     requires authenticator { Fits authenticator_layout (2 ^ 27) options.authenticator }
     requires tickets { AreShortTickets options.additional_tickets }
-    ensures made { IfOk result (IsTgsReq (suite_of options.entry.enc_params.now) options.entry.session_key.now confounder options.entry.ticket options.entry.authenticator
-        (λ service host. tgs_body options.entry.realm.now service host options.entry.additional_tickets options.entry.context_requirements.0 now nonce) (target_parts options.entry.service_principal.now)) }
-    ensures refused { IfSome (tgs_refusal options.entry.realm.now (target_parts options.entry.service_principal.now) (suite_of options.entry.enc_params.now) options.entry.session_key.now) (λ cause. result ≡ Err (error_of cause)) }
-    ensures errors { IfNone (tgs_refusal options.entry.realm.now (target_parts options.entry.service_principal.now) (suite_of options.entry.enc_params.now) options.entry.session_key.now) (IfErr result (λ e. e ≡ error_of causes.Memory)) }
+    ensures made { IfOk result (IsTgsReq (suite_of options.entry.enc_params.now) options.entry.session_key.now confounder
+        options.entry.ticket options.entry.authenticator
+        (λ service host. tgs_body options.entry.realm.now service host options.entry.additional_tickets
+        options.entry.context_requirements.0 now nonce)
+        (target_parts options.entry.service_principal.now)) }
+    ensures refused { IfSome (tgs_refusal options.entry.realm.now (target_parts options.entry.service_principal.now)
+        (suite_of options.entry.enc_params.now) options.entry.session_key.now) (λ cause. result ≡ Err (error_of cause)) }
+    ensures errors { IfNone (tgs_refusal options.entry.realm.now (target_parts options.entry.service_principal.now)
+        (suite_of options.entry.enc_params.now) options.entry.session_key.now) (IfErr result (λ e. e ≡ error_of causes.Memory)) }
     ensures within { IfOk result (λ made. Fits tgs_req_layout (2 ^ 29) made) }
 {
     let Some((service, host)) = target_of(options.service_principal) else {

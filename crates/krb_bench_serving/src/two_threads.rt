@@ -59,57 +59,90 @@ fn time_serve(rt: &(impl Clock + AllocGlobal), input: &[u8]) -> Result<Duration>
     Ok(start.elapsed(rt)?)
 }
 
-/// How long two threads answer it. The last line that they write is printed.
-fn time_threads<R: Print + Clock + AllocGlobal + Threads + Wait + Sync>(
+/// How long two threads answer it, and what they write.
+fn time_threads<R: Clock + AllocGlobal + Threads + Wait + Sync>(
     rt: &R,
-    name: &str,
-    count: u32,
     input: &[u8],
+    sink: &mut MemSink,
 ) -> Result<Duration> {
     let alloc = rt.alloc();
     let words = command(alloc, "threads").context("out of memory")?;
     let mut source = MemSource::new(input, Calls::sound(alloc));
-    let mut sink = MemSink::new(alloc, Calls::sound(alloc));
     let start = Instant::now(rt)?;
     let _status = threads(
         rt,
         alloc,
         &words,
         &mut source,
-        &mut sink,
+        sink,
         &mut NoPause,
         &mut NoPause,
     );
-    let spent = start.elapsed(rt)?;
-    let end = last_line(sink.bytes());
-    println!(rt; "threads: {name}, {count} events: {end}")?;
-    Ok(spent)
+    Ok(start.elapsed(rt)?)
 }
 
-/// Answers an input on one thread and on two, and prints both times and, in hundredths, their ratio.
+/// How much is measured: connections with an admission each, messages at two connections, and how often each is answered in
+/// either way.
+#[derive(Clone, Copy)]
+pub(crate) struct Amount {
+    connections: u32,
+    messages: u32,
+    rounds: u32,
+}
+
+/// Enough to try the measurement.
+pub(crate) const TRIAL: Amount = Amount {
+    connections: 20,
+    messages: 20,
+    rounds: 1,
+};
+
+/// Enough to measure.
+pub(crate) fn full(rounds: u32) -> Amount {
+    Amount {
+        connections: 10_000,
+        messages: 20_000,
+        rounds,
+    }
+}
+
+/// Answers an input of so many events on one thread and on two, in turn. Prints the last line that two threads write, and the
+/// least time of each way, with their ratio in hundredths.
 fn measure<R: Print + Eprint + Clock + AllocGlobal + Threads + Wait + Sync>(
     rt: &R,
-    name: &str,
-    count: u32,
+    (name, count): (&str, u32),
+    rounds: u32,
     input: &[u8],
 ) -> Result<()> {
-    let one = time_serve(rt, input)?.as_micros();
-    let two = time_threads(rt, name, count, input)?.as_micros();
+    let (mut one, mut two) = (u128::MAX, u128::MAX);
+    for round in 0..rounds {
+        let mut sink = MemSink::new(rt.alloc(), Calls::sound(rt.alloc()));
+        one = one.min(time_serve(rt, input)?.as_micros());
+        two = two.min(time_threads(rt, input, &mut sink)?.as_micros());
+        if round == 0 {
+            let end = last_line(sink.bytes());
+            println!(rt; "threads: {name}, {count} events: {end}")?;
+        }
+    }
     let ratio = one.saturating_mul(100).checked_div(two).unwrap_or(0);
     eprintln!(rt;
-        "threads: {name}, {count} events: {one} us on one thread, {two} us on two, ratio {ratio} of 100"
+        "threads: {name}, {count} events, the least of {rounds}: {one} us on one thread, {two} us on two, ratio {ratio} of 100"
     )?;
     Ok(())
 }
 
-/// Measures 10,000 connections with an admission each, and 20,000 messages at two connections.
-pub fn run<R: Print + Eprint + Clock + AllocGlobal + Threads + Wait + Sync>(
+/// Measures connections with an admission each, and messages at two connections.
+pub(crate) fn run<R: Print + Eprint + Clock + AllocGlobal + Threads + Wait + Sync>(
     rt: &R,
-    full: bool,
+    amount: Amount,
 ) -> Result<()> {
-    let (connections, messages) = if full { (10_000, 20_000) } else { (20, 20) };
+    let Amount {
+        connections,
+        messages,
+        rounds,
+    } = amount;
     let input = long_input(rt.alloc(), connections).context("out of memory")?;
-    measure(rt, "ten a second", connections, &input)?;
+    measure(rt, ("ten a second", connections), rounds, &input)?;
     let input = wraps_input(rt.alloc(), messages).context("out of memory")?;
-    measure(rt, "messages of 1 KiB", messages, &input)
+    measure(rt, ("messages of 1 KiB", messages), rounds, &input)
 }

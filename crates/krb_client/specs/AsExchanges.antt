@@ -59,7 +59,8 @@ pub record StartsAt (old : AsExchange) (draw : Draw) (state : GeneratorState Net
   pub turn : Turns Over (Starts old.asker old.phase) state new.phase
   pub stays : new.asker ≡ old.asker
 
-pub record ResumesAt (old : AsExchange) (reply : Result (List ℕ) NetFault) (draw : Draw) (state : GeneratorState NetworkRequest (Result AsDone Error)) (new : AsExchange) : Type 0 where
+pub record ResumesAt (old : AsExchange) (reply : Result (List ℕ) NetFault) (draw : Draw)
+    (state : GeneratorState NetworkRequest (Result AsDone Error)) (new : AsExchange) : Type 0 where
   pub turn : Turns Over (Next old.asker old.phase reply draw) state new.phase
   pub stays : new.asker ≡ old.asker
 

@@ -1,9 +1,8 @@
 -- Who asks a KDC, and with which key (RFC 4120, section 3.1.1; RFC 3962, section 4).
 use Rattle.std.specs.Prelude.{ℕ, ◌==◌, List, [], ◌++◌, length, Option, Some, None, if◌then◌else◌}
-use Rattle.krb_crypto.specs.Suite.{key_size}
+use Rattle.krb_crypto.specs.Suite.{key_size, suite_of_etype}
 use Rattle.krb_crypto.specs.Password.{password_key}
 use Rattle.krb_crypto.specs.declared.suite.CipherSuite.{CipherSuite}
-use Rattle.krb_crypto.specs.declared.suite.CipherSuite.TheVariants.{Aes128CtsHmacSha196, Aes256CtsHmacSha196}
 use Rattle.krb_conf.specs.declared.env.Env.{Env}
 use Rattle.krb_context.specs.Params.{suite_of}
 use Rattle.krb_context.specs.declared.context.Kerberos.{Kerberos}
@@ -24,7 +23,7 @@ asker_of client credentials realm env = record {
 -- the suite of the client's key: the context's for a password, the key's own for a keytab
 abbrev pub suite_for : CipherSuite → CredentialsBuffers → CipherSuite
 suite_for suite (Password identity) = suite
-suite_for suite (Key identity) = if identity.key_enctype == 17 then Aes128CtsHmacSha196 else Aes256CtsHmacSha196
+suite_for suite (Key identity) = suite_of_etype identity.key_enctype
 
 abbrev pub asker_suite : Asker → CipherSuite
 asker_suite asker = suite_for asker.suite asker.credentials

@@ -24,8 +24,10 @@ phase_of over (Ok (Ends value)) = over
 phase_of over (Err cause) = over
 
 -- a step of a task is what the checks answer, unless memory runs out
-pub record Turns {P O : Type 0} (over : P) (checks : Result (Turn P O) Cause → Type 0) (state : GeneratorState NetworkRequest (Result O Error)) (phase : P) : Type 0 where
-  pub so : (state ≡ Completed (Err (error_of Memory)) → ⊥) → (answer : Result (Turn P O) Cause) × checks answer × (state ≡ state_of answer) × (phase ≡ phase_of over answer)
+pub record Turns {P O : Type 0} (over : P) (checks : Result (Turn P O) Cause → Type 0)
+    (state : GeneratorState NetworkRequest (Result O Error)) (phase : P) : Type 0 where
+  pub so : (state ≡ Completed (Err (error_of Memory)) → ⊥) → (answer : Result (Turn P O) Cause) × checks answer × (state ≡ state_of answer)
+      × (phase ≡ phase_of over answer)
 
 -- an end for want of memory
 abbrev pub IsWant : {O : Type 0} → Result O Error → Type 0

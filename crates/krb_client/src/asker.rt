@@ -65,13 +65,7 @@ fn suite_for(suite: CipherSuite, credentials: &CredentialsBuffers) -> CipherSuit
 {
     match credentials {
         CredentialsBuffers::AuthIdentity(_) => suite,
-        CredentialsBuffers::Keytab(identity) => {
-            if identity.key_enctype == 17 {
-                CipherSuite::Aes128CtsHmacSha196
-            } else {
-                CipherSuite::Aes256CtsHmacSha196
-            }
-        }
+        CredentialsBuffers::Keytab(identity) => CipherSuite::of_etype(identity.key_enctype),
     }
 }
 

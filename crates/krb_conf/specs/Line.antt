@@ -1,4 +1,5 @@
--- What one line of a krb5.conf says by itself, after the section "Structure" of MIT's documentation of krb5.conf. The line's white space at both ends is cut off.
+-- What one line of a krb5.conf says by itself, after the section "Structure" of MIT's documentation of krb5.conf. The line's white
+-- space at both ends is cut off.
 use Rattle.std.specs.Prelude.{ℕ, ◌-◌, Bool, ◌&&◌, ◌||◌, ◌==◌, List, length, take, drop, slice_index, Option, Some, None, if◌then◌else◌}
 use Rattle.std.specs.List.{list_any, before_first, after_first}
 use Rattle.std.specs.Str.{trim}

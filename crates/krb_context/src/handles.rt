@@ -36,7 +36,8 @@ impl Kerberos {
         credential_use: CredentialUse,
         auth: Option<&Credentials>,
     ) -> Result<Option<CredentialsBuffers>, Error>
-        ensures acquired { IfOk result (λ identity. (handle_of credential_use (option_copied auth.entry) ≡ Ok identity) × (self.new ≡ record self.old { auth_identity = identity })) }
+        ensures acquired { IfOk result (λ identity. (handle_of credential_use (option_copied auth.entry) ≡ Ok identity)
+            × (self.new ≡ record self.old { auth_identity = identity })) }
         ensures refused { IfErr result (λ error. Refuses places.Query (λ answer. answer ≡ handle_of credential_use (option_copied auth.entry)) error) }
         ensures stays { OnErr result (self.new ≡ self.old) }
     {

@@ -151,7 +151,8 @@ impl Kerberos {
     ///
     /// The refusals, in their order: `NoSubKey`, of the kind InternalError; `KeyLength`. A refusal leaves the context.
     pub fn generate_mic_token(&mut self, alloc: Global, payload: &[u8]) -> Result<Octets, Error>
-        ensures made { IfOk result (λ token. MakesMic self.old payload.now (Ok token) × (self.new ≡ record self.old { seq_number = next_number self.old.seq_number })) }
+        ensures made { IfOk result (λ token. MakesMic self.old payload.now (Ok token)
+            × (self.new ≡ record self.old { seq_number = next_number self.old.seq_number })) }
         ensures refused { IfErr result (λ error. Refuses places.MakeMic (MakesMic self.old payload.now) error) }
         ensures stays { OnErr result (self.new ≡ self.old) }
     {

@@ -135,7 +135,9 @@ impl ServerProperties {
         sname: &[&str],
         key: Secret<Octets>,
     ) -> Result<(), Error>
-        ensures added { OnOk result (self.new ≡ record self.old { additional_service_keys = self.old.additional_service_keys ++ (service_named (map (λ part. part.now) sname.now), key) ∷ [] }) }
+        ensures added { OnOk result (self.new ≡ record self.old {
+          additional_service_keys = self.old.additional_service_keys ++ (service_named (map (λ part. part.now) sname.now), key) ∷ [];
+        }) }
         ensures not_ascii { all_ascii (map (λ part. part.now) sname.now) ≡ false → result ≡ Err (error_of causes.NotAscii) }
         ensures refused { IfErr result (IsNotAscii (map (λ part. part.now) sname.now)) }
         ensures stays { OnErr result (self.new ≡ self.old) }

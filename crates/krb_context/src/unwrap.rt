@@ -153,7 +153,8 @@ impl Kerberos {
         ensures opened { OnOk result ((p : List ℕ) × Unwraps self.old message.old (Ok p) × (message.new ≡ unwrapped p message.old)
             × (self.new ≡ record self.old { window = noted self.old.window (message_number message.old) })) }
         ensures numbers { OnOk result ((numbers : List ℤ) → StandsFor self.old.window numbers
-            → (verdict_of numbers (message_number message.old) ≡ NumberVerdict.Fresh) × StandsFor self.new.window (opened numbers (message_number message.old))) }
+            → (verdict_of numbers (message_number message.old) ≡ NumberVerdict.Fresh)
+            × StandsFor self.new.window (opened numbers (message_number message.old))) }
         ensures refused { IfErr result (λ error. Refuses places.Elsewhere (Unwraps self.old message.old) error) }
         ensures stays { OnErr result ((message.new ≡ message.old) × (self.new ≡ self.old)) }
     {

@@ -1,6 +1,7 @@
 -- The key that an AS-REP brings (RFC 4120, section 3.1.5).
 use Rattle.std.specs.Prelude.{ℕ, List, Result}
 use Rattle.krb_crypto.specs.Password.{password_key}
+use Rattle.krb_crypto.specs.Suite.{suite_of_etype}
 use Rattle.krb_crypto.specs.declared.suite.CipherSuite.{CipherSuite}
 use Rattle.krb_exchange.specs.declared.kdc_rep.AsRep.{AsRep}
 use Rattle.sspi_core.specs.declared.identity.CredentialsBuffers.{CredentialsBuffers}
@@ -9,7 +10,6 @@ use Rattle.sspi_core.specs.declared.cause.Cause.{Cause}
 use Rattle.sspi_core.specs.Checks.{Gives, ◌>>=◌}
 use Rattle.krb_replies.specs.Salts.{TellsEtype}
 use Rattle.krb_replies.specs.Keys.{BringsKey}
-use Rattle.krb_requests.specs.PaDatas.{suite_of}
 use Rattle.krb_credentials.specs.declared.key.ReplyKey.{ReplyKey}
 
 -- the key of credentials in a suite, with a salt: that of the password, or the keytab's own
@@ -21,5 +21,5 @@ client_key suite salt (Key identity) = identity.key
 unfoldable pub TakesReplyKey : CredentialsBuffers → List ℕ → AsRep → Result ReplyKey Cause → Type 0
 TakesReplyKey credentials used as_rep = do
   hint ← TellsEtype used as_rep
-  key ← BringsKey (suite_of hint.0) (client_key (suite_of hint.0) hint.1 credentials) as_rep
-  Gives (record { suite = suite_of hint.0; key = key })
+  key ← BringsKey (suite_of_etype hint.0) (client_key (suite_of_etype hint.0) hint.1 credentials) as_rep
+  Gives (record { suite = suite_of_etype hint.0; key = key })

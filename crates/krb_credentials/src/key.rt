@@ -1,10 +1,10 @@
 //! The key that an AS-REP brings.
 
 ghost use Rattle.std.specs.Prelude.{◌≡◌, IfOk};
+ghost use Rattle.krb_crypto.specs.Suite.{suite_of_etype};
 ghost use Rattle.sspi_core.specs.Checks.{Answers, Gives};
 ghost use Rattle.krb_replies.specs.Salts.{TellsEtype};
 ghost use Rattle.krb_replies.specs.Keys.{BringsKey};
-ghost use Rattle.krb_requests.specs.PaDatas.{suite_of};
 ghost use Rattle.krb_credentials.specs.ReplyKeys.{client_key, TakesReplyKey};
 
 use krb_client::Asker;
@@ -22,17 +22,6 @@ pub struct ReplyKey {
     pub suite: CipherSuite,
     /// The session key of the ticket.
     pub key: Secret<Octets>,
-}
-
-/// The suite with this number, 17 or 18 (RFC 3962, section 7).
-fn suite_of(etype: u8) -> CipherSuite
-    ensures { result ≡ suite_of etype }
-{
-    if etype == 17 {
-        CipherSuite::Aes128CtsHmacSha196
-    } else {
-        CipherSuite::Aes256CtsHmacSha196
-    }
 }
 
 /// The session key that is sealed under the key of the credentials.
@@ -71,16 +60,22 @@ fn told_key(
     hint: &(u8, Text),
     as_rep: &AsRep,
 ) -> Result<Secret<Octets>, Cause>
-    ensures { Answers (BringsKey (suite_of hint.now.0) (client_key (suite_of hint.now.0) hint.now.1 credentials.now) as_rep.now) result }
+    ensures { Answers (BringsKey (suite_of_etype hint.now.0) (client_key (suite_of_etype hint.now.0) hint.now.1 credentials.now) as_rep.now) result }
 {
-    session_key(alloc, credentials, suite_of(hint.0), &hint.1, as_rep)
+    session_key(
+        alloc,
+        credentials,
+        CipherSuite::of_etype(hint.0),
+        &hint.1,
+        as_rep,
+    )
 }
 
 fn with_suite(etype: u8, key: Secret<Octets>) -> Result<ReplyKey, Cause>
-    ensures { Gives (record { suite = suite_of etype; key = key }) result }
+    ensures { Gives (record { suite = suite_of_etype etype; key = key }) result }
 {
     Ok(ReplyKey {
-        suite: suite_of(etype),
+        suite: CipherSuite::of_etype(etype),
         key,
     })
 }

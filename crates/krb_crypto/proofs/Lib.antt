@@ -8,3 +8,4 @@ pub mod SuiteLemmas
 pub mod ListLemmas
 pub mod PasswordLemmas
 pub mod OctetFold
+pub mod FoldedLemmas

@@ -1,5 +1,6 @@
 -- The cipher suites and their derived keys (RFC 3961, section 5.1; RFC 3962, section 6).
-use Rattle.std.specs.Prelude.{◌≡◌, ◌≢◌, ℕ, zero, suc, ◌/◌, ◌==◌, ℤ, pos, List, [], ◌∷◌, ◌++◌, length, if◌then◌else◌, Result, MatchResult}
+use Rattle.std.specs.Prelude.{◌≡◌, ◌≢◌, ℕ, zero, suc, ◌/◌, ◌==◌, ℤ, pos, List, [], ◌∷◌, ◌++◌, length, Option, Some, None, if◌then◌else◌, Result, MatchResult}
+use Rattle.std.specs.Ordering.{int_eq}
 use Rattle.std.specs.Int.{w32, to_be_bytes}
 use Rattle.krb_aes.specs.Aes.{aes}
 use Rattle.krb_crypto.specs.Fold.{n_fold}
@@ -19,7 +20,19 @@ suite_number Aes256CtsHmacSha196 = 18
 
 -- the suite has this number, or no suite has it
 abbrev pub HasNumber : ℤ → Result CipherSuite CryptoError → Type 0
-HasNumber value answer = MatchResult answer (λ suite. value ≡ pos (suite_number suite)) (λ e. (e ≡ Etype) × (value ≢ pos 17) × (value ≢ pos 18))
+HasNumber value answer = MatchResult answer (λ suite. value ≡ pos (suite_number suite))
+    (λ e. (e ≡ Etype) × (value ≢ pos (suite_number Aes128CtsHmacSha196)) × (value ≢ pos (suite_number Aes256CtsHmacSha196)))
+
+-- the suite that has this number, if there is one
+abbrev pub suite_numbered : ℤ → Option CipherSuite
+suite_numbered n =
+    if int_eq n (pos (suite_number Aes128CtsHmacSha196)) then Some Aes128CtsHmacSha196
+    else if int_eq n (pos (suite_number Aes256CtsHmacSha196)) then Some Aes256CtsHmacSha196
+    else None
+
+-- the suite of a number that one of the two has
+abbrev pub suite_of_etype : ℕ → CipherSuite
+suite_of_etype etype = if etype == suite_number Aes128CtsHmacSha196 then Aes128CtsHmacSha196 else Aes256CtsHmacSha196
 
 -- the suite of the keys of this size
 abbrev pub suite_of_size : AesSize → CipherSuite

@@ -16,6 +16,7 @@ mod checksum;
 mod cts;
 mod error;
 mod fold;
+mod folded;
 mod hmac;
 pub mod laws;
 mod octets;

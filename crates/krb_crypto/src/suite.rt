@@ -1,21 +1,13 @@
 //! The cipher suites and their derived keys (RFC 3961, section 5.1; RFC 3962, sections 4 and 7).
 
 ghost use Rattle.std.specs.Prelude.{◌≡◌, ◌+◌, ◌≤◌, ◌++◌, ℕ, List, length};
-ghost use Rattle.krb_aes.specs.Aes.{IsScheduleOf};
-ghost use Rattle.krb_crypto.specs.Suite.{suite_number, key_size, suite_of_size, HasNumber, key_octets, constant_block, dk, usage_constant, ke, ki, kc};
+ghost use Rattle.krb_aes.specs.Aes.{AreWordsOf};
+ghost use Rattle.krb_crypto.specs.Suite.{suite_number, suite_of_etype, key_size, suite_of_size, HasNumber, key_octets, constant_block, dk, ke, ki, kc};
 
 use crate::error::CryptoError;
 use crate::fold::n_fold;
-use krb_aes::KeySchedule;
-
-/// The octet behind a usage in the constant of the key of encryption (RFC 3961, section 5.3).
-const ENCRYPTION: u8 = 0xaa;
-
-/// The octet behind a usage in the constant of the key of the checksum of a sealed text.
-const INTEGRITY: u8 = 0x55;
-
-/// The octet behind a usage in the constant of the key of a checksum alone.
-const CHECKSUM: u8 = 0x99;
+use crate::folded::{checksum_block, encryption_block, integrity_block};
+use krb_aes::EncryptionSchedule;
 
 /// An encryption type: AES with ciphertext stealing, and HMAC-SHA1 cut to 96 bits (RFC 3962).
 #[derive(Clone, Copy, Debug, PartialEq, Eq)]
@@ -58,6 +50,17 @@ impl From<AesSize> for CipherSuite {
 }
 
 impl CipherSuite {
+    /// The suite of an etype that is known to be 17 or 18.
+    pub fn of_etype(etype: u8) -> CipherSuite
+        ensures { result ≡ suite_of_etype etype }
+    {
+        if etype == 17 {
+            CipherSuite::Aes128CtsHmacSha196
+        } else {
+            CipherSuite::Aes256CtsHmacSha196
+        }
+    }
+
     /// The etype.
     pub fn number(&self) -> u8
         ensures { result ≡ suite_number self.now }
@@ -141,13 +144,11 @@ fn joined(first: &[u8; 16], second: &[u8; 16]) -> [u8; 32]
     out
 }
 
-/// The key derived from the key whose schedule this is.
-fn derive(suite: CipherSuite, schedule: &KeySchedule, constant: &[u8]) -> DerivedKey
-    requires some { 1 ≤ length constant.now }
-    requires small { length constant.now ≤ 1024 }
-    ensures { (key : List ℕ) → IsScheduleOf key schedule.now → key_octets result ≡ dk suite key constant.now }
+/// The key derived from the key whose schedule this is, and from a constant as one block.
+fn derive(suite: CipherSuite, schedule: &EncryptionSchedule, block: [u8; 16]) -> DerivedKey
+    ensures { (key constant : List ℕ) → AreWordsOf key schedule.now → block ≡ constant_block constant → key_octets result ≡ dk suite key constant }
 {
-    let first = schedule.encrypt_block(constant_block(constant));
+    let first = schedule.encrypt_block(block);
     match suite {
         CipherSuite::Aes128CtsHmacSha196 => DerivedKey::Short(first),
         CipherSuite::Aes256CtsHmacSha196 => {
@@ -164,15 +165,11 @@ pub fn derive_key(suite: CipherSuite, key: &[u8], constant: &[u8]) -> DerivedKey
     requires small { length constant.now ≤ 1024 }
     ensures { key_octets result ≡ dk suite key.now constant.now }
 {
-    derive(suite, &KeySchedule::new(key), constant)
-}
-
-/// The constant of a usage: the usage in big-endian order, and an octet.
-fn usage_constant(usage: u32, octet: u8) -> [u8; 5]
-    ensures { result ≡ usage_constant usage octet }
-{
-    let [a, b, c, d] = usage.to_be_bytes();
-    [a, b, c, d, octet]
+    derive(
+        suite,
+        &EncryptionSchedule::new(key),
+        constant_block(constant),
+    )
 }
 
 /// The keys of encryption and of the checksum of sealed texts of a usage.
@@ -181,10 +178,10 @@ pub(crate) fn sealing_keys(suite: CipherSuite, key: &[u8], usage: u32) -> (Deriv
     ensures encryption { key_octets result.0 ≡ ke suite key.now usage }
     ensures integrity { key_octets result.1 ≡ ki suite key.now usage }
 {
-    let schedule = KeySchedule::new(key);
+    let schedule = EncryptionSchedule::new(key);
     (
-        derive(suite, &schedule, &usage_constant(usage, ENCRYPTION)),
-        derive(suite, &schedule, &usage_constant(usage, INTEGRITY)),
+        derive(suite, &schedule, encryption_block(usage)),
+        derive(suite, &schedule, integrity_block(usage)),
     )
 }
 
@@ -193,7 +190,7 @@ pub(crate) fn derived_integrity_key(suite: CipherSuite, key: &[u8], usage: u32) 
     requires { length key.now ≡ key_size suite }
     ensures { key_octets result ≡ ki suite key.now usage }
 {
-    derive_key(suite, key, &usage_constant(usage, INTEGRITY))
+    derive(suite, &EncryptionSchedule::new(key), integrity_block(usage))
 }
 
 /// The key of checksums alone of a usage.
@@ -201,5 +198,5 @@ pub(crate) fn derived_checksum_key(suite: CipherSuite, key: &[u8], usage: u32) -
     requires { length key.now ≡ key_size suite }
     ensures { key_octets result ≡ kc suite key.now usage }
 {
-    derive_key(suite, key, &usage_constant(usage, CHECKSUM))
+    derive(suite, &EncryptionSchedule::new(key), checksum_block(usage))
 }

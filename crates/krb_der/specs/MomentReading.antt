@@ -22,7 +22,8 @@ four_in octets = do
 -- the day number of a date, if the calendar has it
 unfoldable pub day_in : ℕ → ℕ → ℕ → Option ℤ
 day_in year month day =
-    if nat_le 1 month && (nat_le month 12 && (nat_le 1 day && nat_le day (days_in_month (pos year) month))) then Some (days_from_civil (pos year) month day) else None
+    if nat_le 1 month && (nat_le month 12 && (nat_le 1 day && nat_le day (days_in_month (pos year) month)))
+    then Some (days_from_civil (pos year) month day) else None
 
 -- the day number of the date
 unfoldable pub date_in : List ℕ → Option (ℤ × List ℕ)

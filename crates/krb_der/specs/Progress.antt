@@ -39,7 +39,8 @@ pub record Next {A : Type 0} (layout : Layout A) (n : ℕ) (x : A) (old new : Li
 
 pub record NextOptional {A : Type 0} (layout : Layout A) (n : ℕ) (x : Option A) (old new : List ℕ × Option Fault) : Type 0 where
   pub known : IsKnown new.1 → IsKnown old.1
-  pub row : IsKnown new.1 → (fields : Fields) → row_left (optional n layout.kind fields) old ≡ option_map (λ row. (option_map layout.view x, row)) (row_left fields new)
+  pub row : IsKnown new.1 → (fields : Fields)
+      → row_left (optional n layout.kind fields) old ≡ option_map (λ row. (option_map layout.view x, row)) (row_left fields new)
   pub found : new.1 ≡ None → (old.1 ≡ None) × OptionalNext n layout.kind (option_map layout.view x) old.0 new.0
   pub none : old.1 ≡ None → new.1 ≡ Some Shape → NoOptionalNext n layout.kind old.0
 
@@ -53,12 +54,14 @@ Finishes x (Err OutOfMemory) at = Unit {0}
 pub record Writes {A : Type 0} (layout : Layout A) (n : ℕ) (x : A) (old new : List ℕ × Bool) : Type 0 where
   pub known : new.1 ≡ true → old.1 ≡ true
   pub sound : new.1 ≡ true → IsSound layout.kind (layout.view x)
-  pub octets : new.1 ≡ true → (fields : Fields) (row : Row fields) → old.0 ++ row_octets (required n layout.kind fields) (layout.view x, row) ≡ new.0 ++ row_octets fields row
+  pub octets : new.1 ≡ true → (fields : Fields) (row : Row fields)
+      → old.0 ++ row_octets (required n layout.kind fields) (layout.view x, row) ≡ new.0 ++ row_octets fields row
 
 pub record WritesOptional {A : Type 0} (layout : Layout A) (n : ℕ) (x : Option A) (old new : List ℕ × Bool) : Type 0 where
   pub known : new.1 ≡ true → old.1 ≡ true
   pub sound : new.1 ≡ true → IfSome (option_map layout.view x) (IsSound layout.kind)
-  pub octets : new.1 ≡ true → (fields : Fields) (row : Row fields) → old.0 ++ row_octets (optional n layout.kind fields) (option_map layout.view x, row) ≡ new.0 ++ row_octets fields row
+  pub octets : new.1 ≡ true → (fields : Fields) (row : Row fields)
+      → old.0 ++ row_octets (optional n layout.kind fields) (option_map layout.view x, row) ≡ new.0 ++ row_octets fields row
 
 -- the octets that were written, once no field follows
 abbrev pub written : List ℕ × Bool → List ℕ

@@ -81,7 +81,8 @@ abbrev mutual
   pub row_octets : (fields : Fields) → Row fields → List ℕ
   row_octets nothing row = []
   row_octets (required n kind fields) row = tlv (0xa0 + n) (tlv (tag_of kind) (contents kind row.0)) ++ row_octets fields row.1
-  row_octets (optional n kind fields) row = option_map_or (λ value. tlv (0xa0 + n) (tlv (tag_of kind) (contents kind value))) row.0 [] ++ row_octets fields row.1
+  row_octets (optional n kind fields) row = option_map_or (λ value. tlv (0xa0 + n) (tlv (tag_of kind) (contents kind value))) row.0 []
+      ++ row_octets fields row.1
 
 abbrev mutual
   -- what has a spelling
@@ -137,7 +138,8 @@ abbrev mutual
   ascend (required n kind fields) low = nat_le low n && (is_table kind && ascend fields (n + 1))
   ascend (optional n kind fields) low = nat_le low n && (is_table kind && ascend fields (n + 1))
 
--- What T::write asks of a value besides its length: an octet in each integer and at most 7 unused bits. (That a text is ASCII, a moment in the calendar and an error code in its range are invariants of Name, Time and ErrorCode.)
+-- What T::write asks of a value besides its length: an octet in each integer and at most 7 unused bits. (That a text is ASCII, a
+-- moment in the calendar and an error code in its range are invariants of Name, Time and ErrorCode.)
 abbrev mutual
   pub IsComplete : (kind : Kind) → Of kind → Type 0
   IsComplete integer octets = 0 < length octets
@@ -173,4 +175,6 @@ abbrev mutual
   pub IsWritableRow : (fields : Fields) → Row fields → Type 0
   IsWritableRow nothing row = Unit {0}
   IsWritableRow (required n kind fields) row = (length (tlv (tag_of kind) (contents kind row.0)) < 2 ^ 31) × IsWritable kind row.0 × IsWritableRow fields row.1
-  IsWritableRow (optional n kind fields) row = IfSome row.0 (λ value. (length (tlv (tag_of kind) (contents kind value)) < 2 ^ 31) × IsWritable kind value) × IsWritableRow fields row.1
+  IsWritableRow (optional n kind fields) row =
+      IfSome row.0 (λ value. (length (tlv (tag_of kind) (contents kind value)) < 2 ^ 31) × IsWritable kind value)
+      × IsWritableRow fields row.1

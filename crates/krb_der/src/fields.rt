@@ -38,7 +38,8 @@ fn optional_value<T: Asn1>(
     requires { n < 32 }
     ensures found { IfOk result (λ x. OptionalNext n T.layout.kind (option_map T.layout.view x) fields.old fields.new) }
     ensures shape { result ≡ Err Fault.Shape → NoOptionalNext n T.layout.kind fields.old }
-    ensures exact { Reads (λ x. (option_map T.layout.view x, fields.new)) result (explicit_option (0xa0 + n) (tag_of T.layout.kind) (value_in T.layout.kind) fields.old) }
+    ensures exact { Reads (λ x. (option_map T.layout.view x, fields.new)) result
+        (explicit_option (0xa0 + n) (tag_of T.layout.kind) (value_in T.layout.kind) fields.old) }
 {
     if !fields.begins_with(0xa0 + n) {
         return Ok(None);
@@ -99,7 +100,8 @@ impl Writer {
     pub fn required_field<T: Asn1>(&mut self, n: u8, value: &T) -> Result<(), OutOfMemory>
         requires tag { n < 32 }
         requires writable { FieldIsWritable T.layout.kind (T.layout.view value.now) }
-        ensures ok { OnOk result (IsSound T.layout.kind (T.layout.view value.now) × (self.new ≡ self.old ++ field_octets n T.layout.kind (T.layout.view value.now))) }
+        ensures ok { OnOk result (IsSound T.layout.kind (T.layout.view value.now)
+            × (self.new ≡ self.old ++ field_octets n T.layout.kind (T.layout.view value.now))) }
         ensures err { OnErr result (self.new ≡ self.old) }
     {
         let contents = value.to_contents(self.alloc())?;
@@ -114,7 +116,8 @@ impl Writer {
     pub fn optional_field<T: Asn1>(&mut self, n: u8, value: &Option<T>) -> Result<(), OutOfMemory>
         requires tag { n < 32 }
         requires writable { IfSome value.now (λ x. FieldIsWritable T.layout.kind (T.layout.view x)) }
-        ensures ok { OnOk result (IfSome value.now (λ x. IsSound T.layout.kind (T.layout.view x)) × (self.new ≡ self.old ++ option_map_or (λ x. field_octets n T.layout.kind (T.layout.view x)) value.now [])) }
+        ensures ok { OnOk result (IfSome value.now (λ x. IsSound T.layout.kind (T.layout.view x))
+            × (self.new ≡ self.old ++ option_map_or (λ x. field_octets n T.layout.kind (T.layout.view x)) value.now [])) }
         ensures err { OnErr result (self.new ≡ self.old) }
     {
         match value {

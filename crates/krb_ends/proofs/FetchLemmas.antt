@@ -2,7 +2,7 @@
 use Rattle.std.proofs.Common.{◌≡◌, ℕ, ◌+◌, ◌<◌, ◌≤◌, not, List, [], ◌∷◌, length, Option, Some, None, refl, sym, subst, ap, arith, Ok}
 use Rattle.std.specs.Prelude.{◌==◌, nat_lt, option_map}
 use Rattle.std.proofs.lemmas.Bool.{lt-ltb, eq-eqb}
-use Rattle.krb_crypto.specs.Suite.{key_size, suite_number}
+use Rattle.krb_crypto.specs.Suite.{key_size, suite_number, suite_of_etype}
 use Rattle.krb_crypto.specs.declared.suite.CipherSuite.{CipherSuite}
 use Rattle.krb_crypto.specs.declared.suite.CipherSuite.TheVariants.{Aes128CtsHmacSha196, Aes256CtsHmacSha196}
 use Rattle.krb_messages.specs.declared.enc_ticket_part.EncTicketPart.{EncTicketPart}
@@ -35,7 +35,6 @@ use Rattle.krb_client.specs.declared.turn.Turn.TheVariants.{Asks, Ends}
 use Rattle.krb_client.specs.Askers.{asker_suite, default_salt, sized_key}
 use Rattle.krb_client.specs.Asked.{first_request, second_request, Begins, AsksAgain}
 use Rattle.krb_client.specs.Replied.{WantsPreAuth, Grants}
-use Rattle.krb_requests.specs.PaDatas.{suite_of as suite_numbered}
 use Rattle.krb_credentials.specs.ReplyKeys.{client_key, TakesReplyKey}
 use Rattle.krb_tickets.specs.declared.wanted.Shown.{Shown}
 use Rattle.krb_tickets.specs.TgsAsked.{is_same_realm, tgs_request, AsksTgs, Follows}
@@ -70,9 +69,6 @@ module _ (seeker : Seeker) (suite : CipherSuite) where
       (follows _ _ error.error _ (record { is = refl })
       (follows _ _ error.named _ error.names (record { is = ap Ok error.salt_is })))
 
-  second_of : Kdc → KdcReqBody → List ℕ → List ℕ → Draw → Again
-  second_of kdc body salt key draw = record { request = second_request (asker_suite seeker.asker) key draw kdc body; salt = salt }
-
   asks_second : (kdc : Kdc) (body : KdcReqBody) (step : Step) (salt key : List ℕ) → AnswersError seeker.asker kdc.protocol step.reply salt → sized_key seeker.asker salt ≡ Some key
       → AsksSecond seeker.asker kdc body (Ok step.reply) step.draw (Ok (Asks (second_request (asker_suite seeker.asker) key step.draw kdc body) (AwaitsAsRep kdc salt)))
   unfolding AsksSecond AsksAgain
@@ -84,10 +80,10 @@ module _ (seeker : Seeker) (suite : CipherSuite) where
       (gives _)
 
   -- the AS-REP
-  numbered : suite_numbered (suite_number suite) ≡ suite
+  numbered : suite_of_etype (suite_number suite) ≡ suite
   numbered = go suite
     where
-      go : (s : CipherSuite) → suite_numbered (suite_number s) ≡ s
+      go : (s : CipherSuite) → suite_of_etype (suite_number s) ≡ s
       go Aes128CtsHmacSha196 = refl
       go Aes256CtsHmacSha196 = refl
 
@@ -103,7 +99,7 @@ module _ (seeker : Seeker) (suite : CipherSuite) where
       → TakesReplyKey seeker.asker.credentials used rep (Ok (record { suite = suite; key = key }))
   unfolding TakesReplyKey
   takes_key protocol used reply rep key first =
-      let brought : BringsKey (suite_numbered (suite_number suite)) (client_key (suite_numbered (suite_number suite)) first.salt seeker.asker.credentials) rep (Ok key) =
+      let brought : BringsKey (suite_of_etype (suite_number suite)) (client_key (suite_of_etype (suite_number suite)) first.salt seeker.asker.credentials) rep (Ok key) =
       subst (λ (s : CipherSuite). BringsKey s (client_key s first.salt seeker.asker.credentials) rep (Ok key)) (sym numbered) (brings_key protocol used reply rep key first) in
       follows _ _ (suite_number suite, first.salt) _ first.tells
       (follows _ _ key _ brought (record { is = ap (λ (s : CipherSuite). Ok (record { suite = s; key = key })) (sym numbered) }))

@@ -37,7 +37,8 @@ abbrev pub admission_for : Kerberos → Draw → UserName → Offer → Admissio
 admission_for server draw client offer = mutual_admission offer.dce server.krb5_user_to_user server.seq_number draw (request_of offer) client
 
 -- a gate is asked, and where it admits, the AP-REP is the answer and the context is settled
-pub record IsAnswered {G : Type 0} (admits : G → Ask → Verdict → G → Type 0) (server : Kerberos) (draw : Draw) (client : UserName) (offer : Offer) (old : G) (answer : Result Accepted Cause) (server' : Kerberos) (new : G) : Type 0 where
+pub record IsAnswered {G : Type 0} (admits : G → Ask → Verdict → G → Type 0) (server : Kerberos) (draw : Draw) (client : UserName)
+    (offer : Offer) (old : G) (answer : Result Accepted Cause) (server' : Kerberos) (new : G) : Type 0 where
   pub verdict : Verdict
   pub asked : admits old (ask_of (request_of offer) draw.moment) verdict new
   pub answered : verdict ≡ Admitted → answer ≡ Ok (accepted_as (accepted_of (admission_for server draw client offer)))
@@ -67,7 +68,8 @@ pub record Hears (context : Kerberos) (options : InitOptions) (token : List ℕ)
   pub ends : Starts initiation New draw (Ok (Ends done))
 
 -- an acceptor's answer is a token with this status, and the initiator that is called with it is done
-pub record IsTaken (initiator : Kerberos) (options : InitOptions) (draw : Draw) (status : SecurityStatus) (answer : Result Accepted Cause) (done : InitDone) : Type 0 where
+pub record IsTaken (initiator : Kerberos) (options : InitOptions) (draw : Draw) (status : SecurityStatus) (answer : Result Accepted Cause)
+    (done : InitDone) : Type 0 where
   pub token : List ℕ
   pub answered : answer ≡ Ok (Done status token true)
   pub hears : Hears initiator options token draw done
@@ -110,19 +112,23 @@ pub record EndsWell (initiator acceptor : Kerberos) (options : InitOptions) (own
   pub established : AreEstablishedBy offer draw acceptor.encryption_params.ec (with_change initiator done.change) acceptor
 
 -- the last word of an initiator is taken, whatever its acceptor draws and whatever its gate has seen: the gate is not asked
-pub record IsTakenToo {G : Type 0} (initiator : Kerberos) (draw : Draw) (offer : Offer) (old new : G) (answer : Result Accepted Cause) (acceptor : Kerberos) : Type 0 where
+pub record IsTakenToo {G : Type 0} (initiator : Kerberos) (draw : Draw) (offer : Offer) (old new : G) (answer : Result Accepted Cause)
+    (acceptor : Kerberos) : Type 0 where
   pub answered : answer ≡ Ok (Done Complete [] false)
   pub stays : new ≡ old
   pub established : AreEstablishedBy offer draw 16 initiator acceptor
 
 -- the same in DCE style: the initiator takes the acceptor's answer, its last word is taken in turn, and both ends are established
-pub record EndsWellInTurn {G : Type 0} (admits : G → Ask → Verdict → G → Type 0) (initiator acceptor : Kerberos) (options : InitOptions) (own draw : Draw) (offer : Offer) (answer : Result Accepted Cause) : Type 0 where
+pub record EndsWellInTurn {G : Type 0} (admits : G → Ask → Verdict → G → Type 0) (initiator acceptor : Kerberos) (options : InitOptions)
+    (own draw : Draw) (offer : Offer) (answer : Result Accepted Cause) : Type 0 where
   pub done : InitDone
   pub taken : IsTaken initiator options own ContinueNeeded answer done
   pub last : (env : Env) (other : Draw) (old new : G) (last_answer : Result Accepted Cause) (after : Kerberos)
-      → AcceptsWhole admits acceptor true done.token env other old last_answer after new → IsTakenToo (with_change initiator done.change) draw offer old new last_answer after
+      → AcceptsWhole admits acceptor true done.token env other old last_answer after new
+      → IsTakenToo (with_change initiator done.change) draw offer old new last_answer after
 
 -- in the one style or the other
-abbrev pub EndsWellIn : {G : Type 0} → Bool → (G → Ask → Verdict → G → Type 0) → Kerberos → Kerberos → InitOptions → Draw → Draw → Offer → Result Accepted Cause → Type 0
+abbrev pub EndsWellIn : {G : Type 0} → Bool → (G → Ask → Verdict → G → Type 0) → Kerberos → Kerberos → InitOptions → Draw → Draw → Offer
+    → Result Accepted Cause → Type 0
 EndsWellIn true admits initiator acceptor options own draw offer answer = EndsWellInTurn admits initiator acceptor options own draw offer answer
 EndsWellIn false admits initiator acceptor options own draw offer answer = EndsWell initiator acceptor options own draw offer answer

@@ -53,7 +53,8 @@ seeker_for context options target credentials client = seeker_of context options
 abbrev pub Leads : Seeker → InitPhase → List Step → Step → InitDone → Type 0
 Leads seeker phase [] last done = Next (Seeks seeker) phase (Ok last.reply) last.draw (Ok (Ends done))
 Leads seeker phase (step ∷ steps) last done =
-    (request : NetworkRequest) × (next : InitPhase) × Next (Seeks seeker) phase (Ok step.reply) step.draw (Ok (Asks request next)) × Leads seeker next steps last done
+    (request : NetworkRequest) × (next : InitPhase) × Next (Seeks seeker) phase (Ok step.reply) step.draw (Ok (Asks request next))
+    × Leads seeker next steps last done
 
 -- a run asks at its start, and the replies lead it to its end
 pub record Fetches (seeker : Seeker) (draw : Draw) (answers : Answers) (done : InitDone) : Type 0 where
@@ -69,7 +70,8 @@ pub record AsksMutual (seeker : Seeker) : Type 0 where
   pub short : length seeker.errand.mechanism ≤ 2 ^ 10
 
 -- the run ends with a token, the AP-REQ of an honest offer with this ticket, and the context awaits the answer
-pub record EndsWithOffer (context : Kerberos) (seeker : Seeker) (service_key : List ℕ) (suite : CipherSuite) (draw : Draw) (answers : Answers) (rep : TgsRep) (part : EncTicketPart) : Type 0 where
+pub record EndsWithOffer (context : Kerberos) (seeker : Seeker) (service_key : List ℕ) (suite : CipherSuite) (draw : Draw)
+    (answers : Answers) (rep : TgsRep) (part : EncTicketPart) : Type 0 where
   pub done : InitDone
   pub fetches : Fetches seeker draw answers done
   pub status : done.status ≡ ContinueNeeded

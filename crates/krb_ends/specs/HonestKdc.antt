@@ -86,7 +86,8 @@ abbrev pub service_of : List ℕ → List (List ℕ)
 service_of target = (parts_of (target_parts target)).0 ∷ (parts_of (target_parts target)).1 ∷ []
 
 -- the service's ticket, sealed under the service's key, for the client of the reply and with the reply's key
-pub record Serves (target : List ℕ) (suite : CipherSuite) (service_key : List ℕ) (known : Known) (reply : List ℕ) (rep : TgsRep) (part : EncTicketPart) : Type 0 where
+pub record Serves (target : List ℕ) (suite : CipherSuite) (service_key : List ℕ) (known : Known) (reply : List ℕ) (rep : TgsRep)
+    (part : EncTicketPart) : Type 0 where
   pub grants : GrantsNext suite known reply rep part.key.key_value
   pub named : rep.0.ticket.sname.name_string ≡ service_of target
   pub refers_no_more : referral_realm rep.0.ticket.sname ≡ None

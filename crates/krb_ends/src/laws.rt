@@ -127,7 +127,8 @@ pub fn directions_go_on()
         → IsInTime before place → IsSent (numbered number place sender) message → FlowsOn sender receiver number sent before place message }
     ensures numbers { (sender receiver : Kerberos) (number sent : ℕ) (before : List ℕ) → Flows sender receiver number sent before
         → Flows (wrapped_one sender) receiver number (suc sent) before }
-    ensures wraps { (sender receiver : Kerberos) (number sent : ℕ) (before : List ℕ) (message : Message) → Flows sender receiver number sent before → IsSent sender message
+    ensures wraps { (sender receiver : Kerberos) (number sent : ℕ) (before : List ℕ) (message : Message)
+        → Flows sender receiver number sent before → IsSent sender message
         → IsSent (numbered number sent (wrapped_one sender)) message }
     ensures beside { (sender receiver : Kerberos) (number sent : ℕ) (before : List ℕ) (other : ℕ) → Flows sender receiver number sent before
         → Flows (opened_one other sender) receiver number sent before × Flows sender (wrapped_one receiver) number sent before }

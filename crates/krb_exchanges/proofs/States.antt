@@ -1,22 +1,17 @@
 -- What is known of a run where its step stopped.
-use Rattle.std.proofs.Common.{◌≡◌, Result, Ok, Err}
+use Rattle.std.proofs.Common.{◌≡◌, Result, Err}
 use Rattle.krb_client.specs.declared.done.InitDone.{InitDone}
 use Rattle.krb_client.specs.Turns.{IsWant}
 use Rattle.sspi_core.specs.Kinds.{error_of}
 use Rattle.sspi_core.specs.declared.cause.Cause.TheVariants.{Memory}
 use Rattle.sspi_core.specs.declared.error.Error.{Error}
-use Rattle.sspi_generator.specs.Steps.{OnSuspended, OnCompleted}
+use Rattle.sspi_generator.specs.Steps.{OnCompleted}
 use Rattle.sspi_generator.specs.declared.network.NetworkRequest.{NetworkRequest}
 use Rattle.sspi_generator.specs.declared.task.GeneratorState.{GeneratorState}
 use Rattle.sspi_generator.specs.declared.task.GeneratorState.TheVariants.{Suspended, Completed}
 
 abbrev State : Type 0
 State = GeneratorState NetworkRequest (Result InitDone Error)
-
--- it waits, if the step stopped at a request
-pub waits_of : (W T : Type 0) (state : State) → OnSuspended state (λ request. W × T) → OnSuspended state (λ request. W)
-waits_of W T (Suspended request) h = h.0
-waits_of W T (Completed out) h = tt
 
 -- it is as before, if memory ran out
 same_out : (a b : Result InitDone Error) → ◌≡◌ {A = State} (Completed a) (Completed b) → a ≡ b

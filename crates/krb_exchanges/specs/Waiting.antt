@@ -87,7 +87,8 @@ bindings-prop bindings x y =
 
 go-prop : (errand : Errand) → IsProp (CanGo errand)
 go-prop errand x y =
-    ap (λ bindings. record { bindings = bindings; named = x.named; mechanism = x.mechanism }) (some-prop AreShortBindings bindings-prop errand.bindings x.bindings y.bindings)
+    ap (λ bindings. record { bindings = bindings; named = x.named; mechanism = x.mechanism })
+    (some-prop AreShortBindings bindings-prop errand.bindings x.bindings y.bindings)
     ∙ ap (λ named. record { bindings = y.bindings; named = named; mechanism = x.mechanism }) (le_prop x.named y.named)
     ∙ ap (λ mechanism. record { bindings = y.bindings; named = y.named; mechanism = mechanism }) (le_prop x.mechanism y.mechanism)
 
@@ -96,7 +97,8 @@ seek-prop seeker x y =
     ap (λ client. record x { client = client }) (client-prop seeker.client x.client y.client)
     ∙ ap (λ realm. record x { client = y.client; realm = realm }) (le_prop x.realm y.realm)
     ∙ ap (λ target. record y { target = target; bindings = x.bindings; tickets = x.tickets; errand = x.errand }) (le_prop x.target y.target)
-    ∙ ap (λ bindings. record y { bindings = bindings; tickets = x.tickets; errand = x.errand }) (some-prop AreShortBindings bindings-prop seeker.wanted.channel_bindings x.bindings y.bindings)
+    ∙ ap (λ bindings. record y { bindings = bindings; tickets = x.tickets; errand = x.errand })
+    (some-prop AreShortBindings bindings-prop seeker.wanted.channel_bindings x.bindings y.bindings)
     ∙ ap (λ tickets. record y { tickets = tickets; errand = x.errand }) (some-prop _ (λ tickets. fits-prop _ _ tickets) _ x.tickets y.tickets)
     ∙ ap (λ errand. record y { errand = errand }) (go-prop seeker.errand x.errand y.errand)
 

@@ -45,14 +45,6 @@ down_turn : (n : ℕ) (turn : Turn InitPhase InitDone) → GoesDown 0 turn → G
 down_turn n (Asks request phase) down = let h = down.1 in absurd (omega (arith, h))
 down_turn n (Ends value) down = tt
 
-ends_turn : (initiation : Initiation) (turn : Turn InitPhase InitDone) → GoesDown 0 turn → MayAsk initiation turn
-ends_turn initiation (Asks request phase) down = let h = down.1 in absurd (omega (arith, h))
-ends_turn initiation (Ends value) down = tt
-
 pub fewer : (n : ℕ) (answer : Result (Turn InitPhase InitDone) Cause) → IfOk answer (λ turn. GoesDown 0 turn) → IfOk answer (λ turn. GoesDown n turn)
 fewer n (Ok turn) down = down_turn n turn down
 fewer n (Err cause) down = tt
-
-pub asks_none : (initiation : Initiation) (answer : Result (Turn InitPhase InitDone) Cause) → IfOk answer (λ turn. GoesDown 0 turn) → IfOk answer (λ turn. MayAsk initiation turn)
-asks_none initiation (Ok turn) down = ends_turn initiation turn down
-asks_none initiation (Err cause) down = tt

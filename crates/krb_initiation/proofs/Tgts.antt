@@ -1,5 +1,5 @@
 -- What a token tells of the service's own ticket: how it is found, and how long it is.
-use Rattle.std.proofs.Common.{◌≡◌, ℕ, ◌+◌, ◌<◌, ◌≤◌, ◌^◌, Bool, true, false, List, [], ◌∷◌, ◌++◌, length, Option, Some, None, Result, Ok, Err, refl, sym, ap, ◌∙◌, subst, arith, lit≤, lit<, length-append}
+use Rattle.std.proofs.Common.{◌≡◌, ℕ, ◌+◌, ◌<◌, ◌≤◌, ◌^◌, List, [], ◌∷◌, ◌++◌, length, Option, Some, None, Result, Ok, Err, refl, sym, ap, subst, arith, lit≤, lit<, length-append}
 use Rattle.std.specs.Prelude.{nat_le, IfOk}
 use Rattle.std.proofs.lemmas.Bool.{leb-true}
 use Rattle.krb_der.specs.Der.{tlv}
@@ -17,7 +17,7 @@ use Rattle.sspi_core.specs.declared.cause.Cause.TheVariants.{Shape, Memory}
 use Rattle.sspi_core.specs.declared.error.Error.{Error}
 use Rattle.sspi_core.specs.declared.error.Place.TheVariants.{Elsewhere}
 use Rattle.sspi_core.specs.Kinds.{error_of}
-use Rattle.sspi_core.specs.Checks.{Answers, Finds, Gives, Holds, told}
+use Rattle.sspi_core.specs.Checks.{Answers, Gives, Holds, told}
 use Rattle.sspi_core.proofs.Chain.{goes, answers, held, same_err}
 use Rattle.krb_context.proofs.ChainLemmas.{passed, gave}
 use Rattle.krb_replies.specs.Told.{Tells}
@@ -32,11 +32,6 @@ use Rattle.krb_initiation.specs.Tgts.{bare_tgt, framed_tgt, HasTgtRep, TakesBare
 none_found : (token : List ℕ) → (token ≡ [] → ⊥) → ((reply : TgtRep) → IsRead tgt_rep_layout token reply → ⊥) → (x : Option TgtRep) → HasTgtRep token x → ⊥
 none_found token some none None h = some h
 none_found token some none (Some reply) h = none reply h
-
-pub refuses_rep : (token : List ℕ) (e : Cause) → (token ≡ [] → ⊥) → Answers (Finds Shape (IsRead tgt_rep_layout token)) (Err e) → Answers (Finds Shape (HasTgtRep token)) (Err e)
-refuses_rep token e some h = record {
-  so = λ ne. let f = h.so (λ z. ne (ap Err (same_err {A = TgtRep} e Memory z))) in record { is = (f.is.0, none_found token some f.is.1) };
-}
 
 -- what a public call tells of its checks
 behind_found : {A : Type 0} (checks : Result A Cause → Type 0) (x : A) (answer : Result A Cause) → checks answer → ◌≡◌ {A = Result A Error} (Ok x) (told Elsewhere answer) → checks (Ok x)

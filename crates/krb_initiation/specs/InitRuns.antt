@@ -54,7 +54,8 @@ pub record StartsAt (old : InitRun) (draw : Draw) (state : GeneratorState Networ
   pub turn : Turns Over (Starts old.initiation old.phase draw) state new.phase
   pub stays : new.initiation ≡ old.initiation
 
-pub record ResumesAt (old : InitRun) (reply : Result (List ℕ) NetFault) (draw : Draw) (state : GeneratorState NetworkRequest (Result InitDone Error)) (new : InitRun) : Type 0 where
+pub record ResumesAt (old : InitRun) (reply : Result (List ℕ) NetFault) (draw : Draw)
+    (state : GeneratorState NetworkRequest (Result InitDone Error)) (new : InitRun) : Type 0 where
   pub turn : Turns Over (Next old.initiation old.phase reply draw) state new.phase
   pub stays : new.initiation ≡ old.initiation
 

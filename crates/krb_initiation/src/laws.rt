@@ -38,10 +38,12 @@ pub fn the_keys_of_the_replies_are_a_chain()
 /// back as; and each step of that run has at most one outcome, determined by what is to be done, how far the run has come, the reply
 /// and the draw.
 pub fn one_outcome()
-    ensures begins { (context : Kerberos) (options : InitOptions) (r s : Result Initiation Cause) → Begins context options r → Begins context options s → r ≡ s }
+    ensures begins { (context : Kerberos) (options : InitOptions) (r s : Result Initiation Cause) → Begins context options r
+        → Begins context options s → r ≡ s }
     ensures runs { (answer : Result Initiation Cause) (r s : Result InitRun Error) → BeginsSo answer r → BeginsSo answer s → r ≡ s }
     ensures starts { (initiation : Initiation) (phase : InitPhase) (draw : Draw) (r s : Result (Turn InitPhase InitDone) Cause)
         → Starts initiation phase draw r → Starts initiation phase draw s → r ≡ s }
-    ensures resumes { (initiation : Initiation) (phase : InitPhase) (reply : Result (List ℕ) NetFault) (draw : Draw) (r s : Result (Turn InitPhase InitDone) Cause)
+    ensures resumes { (initiation : Initiation) (phase : InitPhase) (reply : Result (List ℕ) NetFault) (draw : Draw)
+        (r s : Result (Turn InitPhase InitDone) Cause)
         → Next initiation phase reply draw r → Next initiation phase reply draw s → r ≡ s }
 {}

@@ -47,7 +47,8 @@ fn begin_tgs(alloc: Global, seeker: &Seeker, shown: &Shown, draw: &Draw) -> Resu
     requires seeker { CanSeek seeker.now }
     requires rep { IsSendable shown.now.rep }
     requires moment { draw.now.moment ≤ MAX_MOMENT }
-    ensures { Answers (AsksTgs seeker.now.asker seeker.now.wanted shown.now shown.now.rep.crealm shown.now.rep.crealm (first_tickets seeker.now.tgt) draw.now) result }
+    ensures { Answers (AsksTgs seeker.now.asker seeker.now.wanted shown.now shown.now.rep.crealm shown.now.rep.crealm
+        (first_tickets seeker.now.tgt) draw.now) result }
 {
     let tickets = first_tickets(alloc, &seeker.tgt)?;
     let realm = &shown.rep.crealm;

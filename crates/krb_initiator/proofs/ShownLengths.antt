@@ -1,5 +1,5 @@
 -- The AP-REQ to a service: what its authenticator is made of, and how long it and its token can be.
-use Rattle.std.proofs.Common.{◌≡◌, ℕ, ◌+◌, ◌<◌, ◌≤◌, ◌^◌, List, [], ◌∷◌, ◌++◌, length, Option, Some, Result, Ok, Err, IfOk, arith, lit≤, lit<, refl, sym, ◌∙◌, subst}
+use Rattle.std.proofs.Common.{◌≡◌, ℕ, ◌+◌, ◌<◌, ◌≤◌, ◌^◌, List, [], ◌∷◌, ◌++◌, length, Option, Some, Result, Ok, Err, IfOk, arith, lit≤, refl, sym, ◌∙◌, subst}
 use Rattle.std.proofs.lemmas.List.{length-take}
 use Rattle.krb_der.specs.Der.{tlv}
 use Rattle.krb_der.specs.Schema.{Spells}
@@ -16,8 +16,8 @@ use Rattle.sspi_core.specs.declared.bindings.ChannelBindings.{ChannelBindings}
 use Rattle.sspi_core.specs.declared.draw.Draw.{Draw}
 use Rattle.krb_requests.specs.Pieces.{Fits}
 use Rattle.krb_authenticators.specs.declared.options.ChecksumOptions.{ChecksumOptions}
-use Rattle.krb_authenticators.specs.Authenticators.{IsShortChecksum, authenticator}
-use Rattle.krb_initiator.specs.Shown.{drawn_key, gss_checksum}
+use Rattle.krb_authenticators.specs.Authenticators.{authenticator}
+use Rattle.krb_initiator.specs.Shown.{drawn_key}
 
 -- what is framed, behind the mechanism's name
 pub framed_short : (mechanism oid message : List ℕ) → oid ≡ mechanism → length mechanism ≤ 2 ^ 24 → length message ≤ 2 ^ 28 → length (tlv 0x06 oid ++ ((1 ∷ 0 ∷ []) ++ message)) < 2 ^ 31
@@ -35,10 +35,6 @@ drawn_short suite draw = omega (arith, key_size_small suite, length-take (key_si
 
 pub key_short : (suite : CipherSuite) (draw : Draw) (key : List ℕ) → key ≡ drawn_key suite draw → length key ≤ 2 ^ 24
 key_short suite draw key e = subst (λ (o : List ℕ). length o ≤ 2 ^ 24) (sym e) (drawn_short suite draw)
-
--- the checksum of flags
-pub checksum_short : (flags : ℕ) (made : ChecksumOptions) → made ≡ gss_checksum flags → IsShortChecksum made
-checksum_short flags made e = subst IsShortChecksum (sym e) (record { some = lit< tt; type = lit≤ tt; value = lit≤ tt })
 
 -- the octets of an AP-REQ
 pub written_short : (request : ApReq) (written : Result (List ℕ) OutOfMemory) → Fits ap_req_layout (2 ^ 28) request

@@ -1,12 +1,12 @@
 -- What an initiator's caller asks for.
-use Rattle.std.specs.Prelude.{ℕ, ◌==◌, bit_and, bit_or, Bool, if◌then◌else◌}
-use Rattle.sspi_core.specs.Flags.{use_session_key}
+use Rattle.std.specs.Prelude.{ℕ, bit_or, Bool, if◌then◌else◌}
+use Rattle.sspi_core.specs.Flags.{has_flag, use_session_key, use_dce_style}
 use Rattle.sspi_core.specs.declared.flags.ClientRequestFlags.{ClientRequestFlags}
 use Rattle.krb_initiator.specs.declared.initiator.Initiator.{Initiator}
 
 -- tokens are bare: DCE style (MS-KILE, section 3.4.5.1)
 abbrev pub is_bare : ClientRequestFlags → Bool
-is_bare flags = bit_and flags.0 0x200 == 0x200
+is_bare flags = has_flag flags.0 use_dce_style
 
 -- in user-to-user the ticket is sealed under a session key, whether the caller asks for it or not (RFC 4120, section 3.7)
 abbrev pub exchange_flags : Initiator → ℕ

@@ -1,5 +1,5 @@
 -- Files as their items one behind another.
-use Rattle.std.proofs.Common.{◌≡◌, ℕ, zero, suc, ◌+◌, ◌%◌, ◌-◌, ◌^◌, ◌<◌, ◌≤◌, ◌≢◌, true, false, ltb, eqb, List, [], ◌∷◌, ◌++◌, length, All, Option, Some, Err, refl, sym, ap, subst, ◌∙◌, append_assoc, arith, inl, inr}
+use Rattle.std.proofs.Common.{◌≡◌, ℕ, zero, suc, ◌+◌, ◌%◌, ◌-◌, ◌^◌, ◌<◌, ◌≢◌, true, false, ltb, eqb, List, [], ◌∷◌, ◌++◌, length, All, Option, Some, Err, refl, sym, ap, subst, ◌∙◌, append_assoc, arith, inl, inr}
 use Rattle.std.specs.Option.{option_to_list}
 use Rattle.std.specs.List.{flat_map, AllByRecursion}
 use Rattle.std.specs.Int.{w16, w32, from_be_bytes, to_be_bytes}
@@ -27,9 +27,6 @@ pub record SoFar (body rest : List ℕ) (entries : List KeytabEntry) : Type 0 wh
   pub parts : body ≡ flat_map item_octets items ++ rest
   pub among : entries ≡ entries_among items
   pub bytes : IsBytes rest
-
-pub nothing_so_far : (body : List ℕ) → IsBytes body → SoFar body body []
-nothing_so_far body bytes = record { items = []; each = tt; parts = refl; among = refl; bytes = bytes }
 
 all_more : (items : List Item) (item : Item) → AllByRecursion IsItem items → IsItem item → AllByRecursion IsItem (items ++ item ∷ [])
 all_more [] item each is = (is, tt)
@@ -70,9 +67,6 @@ broken_there body rest entries place s broken is = record {
   parts = ap (λ (x : List ℕ). 5 ∷ 2 ∷ x) s.parts;
   stands = omega (arith, is, ap length s.parts, length-append (flat_map item_octets s.items) rest);
 }
-
-pub no_longer : (body rest : List ℕ) (entries : List KeytabEntry) → SoFar body rest entries → length rest ≤ length body
-no_longer body rest entries s = omega (arith, ap length s.parts, length-append (flat_map item_octets s.items) rest)
 
 pub took_item : (body rest behind : List ℕ) (entries after : List KeytabEntry) → SoFar body rest entries → (entry : Option KeytabEntry) → next_of rest ≡ brought entry behind → after ≡ entries ++ option_to_list entry → SoFar body behind after × (length behind < length rest)
 took_item body rest behind entries after s entry e is =

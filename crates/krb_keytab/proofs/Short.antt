@@ -4,8 +4,7 @@ use Rattle.std.specs.Prelude.{◌&&◌}
 use Rattle.std.specs.List.{list_all}
 use Rattle.std.proofs.lemmas.Bool.{ltb-true}
 use Rattle.std.proofs.lemmas.List.{take_more}
-use Rattle.krb_keytab.specs.declared.entry.KeytabEntry.{KeytabEntry}
-use Rattle.krb_keytab.specs.Format.{is_short, sizes, has_short_parts, can_be_written}
+use Rattle.krb_keytab.specs.Format.{is_short, sizes}
 
 pub and_parts : (a b : Bool) → (a && b) ≡ true → (a ≡ true) × (b ≡ true)
 and_parts true b e = (refl, e)
@@ -26,19 +25,3 @@ sizes_append (first ∷ front) part = omega (arith, sizes_append front part)
 pub sizes_more : (parts : List (List ℕ)) (i : ℕ) (part : List ℕ) → i < length parts → part ≡ get_or parts i part → sizes (take (i + 1) parts) ≡ sizes (take i parts) + (2 + length part)
 sizes_more parts i part lt is =
     ap sizes (take_more parts i part lt ∙ ap (λ (p : List ℕ). take i parts ++ p ∷ []) (sym is)) ∙ sizes_append (take i parts) part
-
-pub record ShortParts (entry : KeytabEntry) : Type 0 where
-  pub realm : length entry.realm < 2 ^ 16
-  pub key : length entry.key < 2 ^ 16
-  pub count : length entry.components < 2 ^ 16
-  pub components : list_all is_short entry.components ≡ true
-
-pub short_parts : (entry : KeytabEntry) → has_short_parts entry ≡ true → ShortParts entry
-short_parts entry has =
-    let a = and_parts _ _ has in
-    let b = and_parts _ _ a.1 in
-    let c = and_parts _ _ b.1 in
-    record { realm = ltb-true _ _ a.0; key = ltb-true _ _ b.0; count = ltb-true _ _ c.0; components = c.1 }
-
-pub written_parts : (entry : KeytabEntry) → can_be_written entry ≡ true → has_short_parts entry ≡ true
-written_parts entry can = (and_parts _ _ can).0

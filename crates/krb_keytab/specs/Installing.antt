@@ -2,12 +2,15 @@
 use Rattle.std.specs.Prelude.{ℕ, Bool, not, ◌&&◌, List, [], ◌∷◌, ◌++◌, fold, Option, Some, None, option_map, if◌then◌else◌}
 use Rattle.std.specs.List.{list_any, flat_map}
 use Rattle.std.specs.Option.{option_to_list}
+use Rattle.krb_crypto.specs.Suite.{suite_number, key_size}
+use Rattle.krb_crypto.specs.declared.suite.CipherSuite.{CipherSuite}
+use Rattle.krb_crypto.specs.declared.suite.CipherSuite.TheVariants.{Aes128CtsHmacSha196, Aes256CtsHmacSha196}
 use Rattle.krb_messages.specs.declared.principal_name.PrincipalName.{PrincipalName}
 use Rattle.krb_context.specs.declared.server.ServerProperties.{ServerProperties}
 use Rattle.krb_context.specs.Params.{or_else}
 use Rattle.krb_context.specs.ServiceKeys.{service_named}
 use Rattle.krb_keytab.specs.declared.entry.KeytabEntry.{KeytabEntry}
-use Rattle.krb_keytab.specs.Finding.{same_octets, same_names, is_wanted, greatest}
+use Rattle.krb_keytab.specs.Finding.{Wanted, same_octets, same_names, is_wanted, greatest}
 
 -- whether an entry is of the realm and its name is not among these
 abbrev pub is_new : List ℕ → List (List (List ℕ)) → KeytabEntry → Bool
@@ -24,11 +27,16 @@ names_of realm entries = fold (λ names entry. names_with realm names entry) [] 
 -- the key of the greatest version of this type with so many octets
 abbrev pub sized_key : List KeytabEntry → List ℕ → List (List ℕ) → ℕ → ℕ → Option (List ℕ)
 sized_key entries realm components key_type size =
-    option_map (λ entry. entry.key) (greatest (is_wanted (record { realm = realm; components = components; key_type = key_type; version = None; size = Some size })) entries)
+    let wanted : Wanted = record { realm = realm; components = components; key_type = key_type; version = None; size = Some size } in
+    option_map (λ entry. entry.key) (greatest (is_wanted wanted) entries)
 
--- the key of a name: one of AES-256 (type 18), else one of AES-128 (type 17; RFC 3962, section 7)
+-- the key of a suite: of its type, and of its size
+abbrev pub suite_key : List KeytabEntry → List ℕ → List (List ℕ) → CipherSuite → Option (List ℕ)
+suite_key entries realm components suite = sized_key entries realm components (suite_number suite) (key_size suite)
+
+-- the key of a name: one of AES-256, else one of AES-128
 abbrev pub key_for : List KeytabEntry → List ℕ → List (List ℕ) → Option (List ℕ)
-key_for entries realm components = or_else (sized_key entries realm components 18 32) (sized_key entries realm components 17 16)
+key_for entries realm components = or_else (suite_key entries realm components Aes256CtsHmacSha196) (suite_key entries realm components Aes128CtsHmacSha196)
 
 -- a name of two and more components is one of a service, type 2
 abbrev pub service_key_of : List KeytabEntry → List ℕ → List (List ℕ) → Option (PrincipalName × List ℕ)

@@ -54,7 +54,15 @@ entry_in octets = do
   realm ← part_at count.1
   components ← parts_at count.0 realm.1
   tail ← tail_in components.1
-  Some (record { realm = realm.0; components = components.0; name_type = tail.name_type; time = tail.time; version = tail.version; key_type = tail.key_type; key = tail.key })
+  Some (record {
+    realm = realm.0;
+    components = components.0;
+    name_type = tail.name_type;
+    time = tail.time;
+    version = tail.version;
+    key_type = tail.key_type;
+    key = tail.key;
+  })
 
 -- What stands at the front of a file: its end, or an item, which may bring an entry, and what follows it.
 pub data Next : Type 0 where

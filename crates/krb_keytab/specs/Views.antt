@@ -22,10 +22,17 @@ next_view (nexts.Item entry rest) = Item entry rest.now
 -- What taking an item from the front of octets answers, and the entries before and afterwards.
 abbrev pub TakesItem : List ℕ → ℕ → List KeytabEntry → Result (Option (Bor (List ℕ))) KeytabError → List KeytabEntry → Type 0
 TakesItem octets place old (Ok None) new = (next_of octets ≡ Some End) × (new ≡ old)
-TakesItem octets place old (Ok (Some rest)) new = (entry : Option KeytabEntry) × (next_of octets ≡ Some (Item entry rest.now)) × (new ≡ old ++ option_to_list entry)
+TakesItem octets place old (Ok (Some rest)) new = (entry : Option KeytabEntry) × (next_of octets ≡ Some (Item entry rest.now))
+    × (new ≡ old ++ option_to_list entry)
 TakesItem octets place old (Err errors.Version) new = ⊥
 TakesItem octets place old (Err (errors.Entry at)) new = (at ≡ place) × (next_of octets ≡ None)
 TakesItem octets place old (Err errors.OutOfMemory) new = Unit {0}
 
 abbrev pub wanted_view : ReadWanted → Wanted
-wanted_view wanted = record { realm = wanted.realm.now; components = wanted.components.now; key_type = wanted.key_type; version = wanted.version; size = wanted.size }
+wanted_view wanted = record {
+  realm = wanted.realm.now;
+  components = wanted.components.now;
+  key_type = wanted.key_type;
+  version = wanted.version;
+  size = wanted.size;
+}

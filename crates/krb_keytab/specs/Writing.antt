@@ -10,4 +10,5 @@ names_octets entry = to_be_bytes w16 (length entry.components) ++ (counted entry
 
 unfoldable pub tail_octets : KeytabEntry → List ℕ
 tail_octets entry =
-    to_be_bytes w32 entry.name_type ++ (to_be_bytes w32 entry.time ++ ((entry.version % 256 ∷ []) ++ (to_be_bytes w16 entry.key_type ++ (counted entry.key ++ to_be_bytes w32 entry.version))))
+    to_be_bytes w32 entry.name_type ++ (to_be_bytes w32 entry.time
+    ++ ((entry.version % 256 ∷ []) ++ (to_be_bytes w16 entry.key_type ++ (counted entry.key ++ to_be_bytes w32 entry.version))))

@@ -5,11 +5,12 @@ ghost use Rattle.std.specs.List.{list_any, flat_map};
 ghost use Rattle.std.specs.Option.{option_to_list};
 ghost use Rattle.krb_context.specs.ServiceKeys.{service_named};
 ghost use Rattle.krb_keytab.specs.Finding.{same_octets, same_names};
-ghost use Rattle.krb_keytab.specs.Installing.{is_new, names_with, names_of, sized_key, key_for, service_key_of, keys_of, with_keys};
+ghost use Rattle.krb_keytab.specs.Installing.{is_new, names_with, names_of, sized_key, suite_key, key_for, service_key_of, keys_of, with_keys};
 
 use crate::entry::KeytabEntry;
 use crate::find::{Wanted, greatest};
 use krb_context::ServerProperties;
+use krb_crypto::CipherSuite;
 use krb_der::{IntegerAsn1, Items, Name, Octets, OutOfMemory, TryCopy};
 use krb_messages::PrincipalName;
 use sspi_core::Secret;
@@ -80,6 +81,19 @@ fn sized_key<'a>(
     Some(&entry.key)
 }
 
+/// The key of a suite: of its type, and of its size.
+fn suite_key<'a>(
+    entries: &'a [KeytabEntry],
+    realm: &Name,
+    components: &Items<Name>,
+    suite: CipherSuite,
+) -> Option<&'a Secret<Octets>>
+    ensures { option_copied result ≡ suite_key entries.now realm.now components.now suite }
+{
+    let key_type = u16::from(suite.number());
+    sized_key(entries, realm, components, key_type, suite.key_size())
+}
+
 /// The key of AES-256, else the one of AES-128.
 fn key_for<'a>(
     entries: &'a [KeytabEntry],
@@ -88,9 +102,9 @@ fn key_for<'a>(
 ) -> Option<&'a Secret<Octets>>
     ensures { option_copied result ≡ key_for entries.now realm.now components.now }
 {
-    match sized_key(entries, realm, components, 18, 32) {
+    match suite_key(entries, realm, components, CipherSuite::Aes256CtsHmacSha196) {
         Some(key) => Some(key),
-        None => sized_key(entries, realm, components, 17, 16),
+        None => suite_key(entries, realm, components, CipherSuite::Aes128CtsHmacSha196),
     }
 }
 

@@ -67,7 +67,13 @@ impl Keytab {
         key_type: u16,
         version: Option<u32>,
     ) -> Option<&KeytabEntry>
-        ensures { option_copied result ≡ greatest (is_wanted (record { realm = realm.now; components = components.now; key_type = key_type; version = version; size = None })) self.now.entries }
+        ensures { option_copied result ≡ greatest (is_wanted (record {
+          realm = realm.now;
+          components = components.now;
+          key_type = key_type;
+          version = version;
+          size = None;
+        })) self.now.entries }
     {
         greatest(
             self.entries.as_slice(),

@@ -12,7 +12,8 @@ ghost use Rattle.krb_keytab.specs.Format.{Spells, IsBrokenAt, Fits, can_all_be_w
 /// Octets are a file in one way at the most: it has one list of entries, or one first fault, and not both.
 pub fn files_are_read_one_way()
     ensures one { (one other : List KeytabEntry) (octets : List ℕ) → Spells one octets → Spells other octets → one ≡ other }
-    ensures sound { (entries : List KeytabEntry) (octets : List ℕ) (place : ℕ) → All (λ octet. octet < 256) octets → Spells entries octets → IsBrokenAt place octets → ⊥ }
+    ensures sound { (entries : List KeytabEntry) (octets : List ℕ) (place : ℕ) → All (λ octet. octet < 256) octets → Spells entries octets
+        → IsBrokenAt place octets → ⊥ }
     ensures place { (octets : List ℕ) (one other : ℕ) → All (λ octet. octet < 256) octets → IsBrokenAt one octets → IsBrokenAt other octets → one ≡ other }
 {}
 

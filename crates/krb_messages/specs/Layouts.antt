@@ -35,7 +35,13 @@ unfolding principal_name
 principal_name_ascends = refl
 
 abbrev pub principal_name_layout : Layout PrincipalName
-principal_name_layout = record { kind = principal_name; view = principal_name_row; of = principal_name_of; back = principal_name_back; ascends = principal_name_ascends }
+principal_name_layout = record {
+  kind = principal_name;
+  view = principal_name_row;
+  of = principal_name_of;
+  back = principal_name_back;
+  ascends = principal_name_ascends;
+}
 
 -- HostAddress
 unfoldable pub host_address_row : HostAddress → Of host_address
@@ -75,7 +81,13 @@ unfolding authorization_data_element
 authorization_data_element_ascends = refl
 
 abbrev pub authorization_data_element_layout : Layout AuthorizationDataElement
-authorization_data_element_layout = record { kind = authorization_data_element; view = authorization_data_element_row; of = authorization_data_element_of; back = authorization_data_element_back; ascends = authorization_data_element_ascends }
+authorization_data_element_layout = record {
+  kind = authorization_data_element;
+  view = authorization_data_element_row;
+  of = authorization_data_element_of;
+  back = authorization_data_element_back;
+  ascends = authorization_data_element_ascends;
+}
 
 -- EncryptedData
 unfoldable pub encrypted_data_row : EncryptedData → Of encrypted_data
@@ -95,7 +107,13 @@ unfolding encrypted_data
 encrypted_data_ascends = refl
 
 abbrev pub encrypted_data_layout : Layout EncryptedData
-encrypted_data_layout = record { kind = encrypted_data; view = encrypted_data_row; of = encrypted_data_of; back = encrypted_data_back; ascends = encrypted_data_ascends }
+encrypted_data_layout = record {
+  kind = encrypted_data;
+  view = encrypted_data_row;
+  of = encrypted_data_of;
+  back = encrypted_data_back;
+  ascends = encrypted_data_ascends;
+}
 
 -- EncryptionKey
 unfoldable pub encryption_key_row : EncryptionKey → Of encryption_key
@@ -115,7 +133,13 @@ unfolding encryption_key
 encryption_key_ascends = refl
 
 abbrev pub encryption_key_layout : Layout EncryptionKey
-encryption_key_layout = record { kind = encryption_key; view = encryption_key_row; of = encryption_key_of; back = encryption_key_back; ascends = encryption_key_ascends }
+encryption_key_layout = record {
+  kind = encryption_key;
+  view = encryption_key_row;
+  of = encryption_key_of;
+  back = encryption_key_back;
+  ascends = encryption_key_ascends;
+}
 
 -- Checksum
 unfoldable pub checksum_row : Checksum → Of checksum
@@ -175,7 +199,13 @@ unfolding transited_encoding
 transited_encoding_ascends = refl
 
 abbrev pub transited_encoding_layout : Layout TransitedEncoding
-transited_encoding_layout = record { kind = transited_encoding; view = transited_encoding_row; of = transited_encoding_of; back = transited_encoding_back; ascends = transited_encoding_ascends }
+transited_encoding_layout = record {
+  kind = transited_encoding;
+  view = transited_encoding_row;
+  of = transited_encoding_of;
+  back = transited_encoding_back;
+  ascends = transited_encoding_ascends;
+}
 
 -- EncTicketPart
 unfoldable pub enc_ticket_part_row : EncTicketPart → Of enc_ticket_part
@@ -184,18 +214,42 @@ enc_ticket_part_row x = (bits_layout.view x.flags, (encryption_key_row x.key, (x
 
 unfoldable pub enc_ticket_part_of : Of enc_ticket_part → EncTicketPart
 unfolding enc_ticket_part
-enc_ticket_part_of row = record { flags = bits_layout.of row.0; key = encryption_key_of row.1.0; crealm = row.1.1.0; cname = principal_name_of row.1.1.1.0; transited = transited_encoding_of row.1.1.1.1.0; authtime = row.1.1.1.1.1.0; starttime = row.1.1.1.1.1.1.0; endtime = row.1.1.1.1.1.1.1.0; renew_till = row.1.1.1.1.1.1.1.1.0; caddr = option_map (map host_address_of) row.1.1.1.1.1.1.1.1.1.0; authorization_data = option_map (map authorization_data_element_of) row.1.1.1.1.1.1.1.1.1.1.0 }
+enc_ticket_part_of row = record {
+  flags = bits_layout.of row.0;
+  key = encryption_key_of row.1.0;
+  crealm = row.1.1.0;
+  cname = principal_name_of row.1.1.1.0;
+  transited = transited_encoding_of row.1.1.1.1.0;
+  authtime = row.1.1.1.1.1.0;
+  starttime = row.1.1.1.1.1.1.0;
+  endtime = row.1.1.1.1.1.1.1.0;
+  renew_till = row.1.1.1.1.1.1.1.1.0;
+  caddr = option_map (map host_address_of) row.1.1.1.1.1.1.1.1.1.0;
+  authorization_data = option_map (map authorization_data_element_of) row.1.1.1.1.1.1.1.1.1.1.0;
+}
 
 pub enc_ticket_part_back : (x : EncTicketPart) → enc_ticket_part_of (enc_ticket_part_row x) ≡ x
 unfolding enc_ticket_part enc_ticket_part_row enc_ticket_part_of
-enc_ticket_part_back x = rw (encryption_key_back x.key, principal_name_back x.cname, transited_encoding_back x.transited, option_back (items_layout host_address_layout) x.caddr, option_back (items_layout authorization_data_element_layout) x.authorization_data) refl
+enc_ticket_part_back x = rw (
+  encryption_key_back x.key,
+  principal_name_back x.cname,
+  transited_encoding_back x.transited,
+  option_back (items_layout host_address_layout) x.caddr,
+  option_back (items_layout authorization_data_element_layout) x.authorization_data,
+) refl
 
 pub enc_ticket_part_ascends : is_table enc_ticket_part ≡ true
 unfolding enc_ticket_part encryption_key principal_name transited_encoding host_address authorization_data_element
 enc_ticket_part_ascends = refl
 
 abbrev pub enc_ticket_part_layout : Layout EncTicketPart
-enc_ticket_part_layout = record { kind = enc_ticket_part; view = enc_ticket_part_row; of = enc_ticket_part_of; back = enc_ticket_part_back; ascends = enc_ticket_part_ascends }
+enc_ticket_part_layout = record {
+  kind = enc_ticket_part;
+  view = enc_ticket_part_row;
+  of = enc_ticket_part_of;
+  back = enc_ticket_part_back;
+  ascends = enc_ticket_part_ascends;
+}
 
 -- ApReq
 unfoldable pub ap_req_row : ApReq → Of ap_req
@@ -204,7 +258,13 @@ ap_req_row x = (x.pvno, (x.msg_type, (bits_layout.view x.ap_options, (ticket_row
 
 unfoldable pub ap_req_of : Of ap_req → ApReq
 unfolding ap_req
-ap_req_of row = record { pvno = row.0; msg_type = row.1.0; ap_options = bits_layout.of row.1.1.0; ticket = ticket_of row.1.1.1.0; authenticator = encrypted_data_of row.1.1.1.1.0 }
+ap_req_of row = record {
+  pvno = row.0;
+  msg_type = row.1.0;
+  ap_options = bits_layout.of row.1.1.0;
+  ticket = ticket_of row.1.1.1.0;
+  authenticator = encrypted_data_of row.1.1.1.1.0;
+}
 
 pub ap_req_back : (x : ApReq) → ap_req_of (ap_req_row x) ≡ x
 unfolding ap_req ap_req_row ap_req_of
@@ -224,18 +284,39 @@ authenticator_row x = (x.authenticator_vno, (x.crealm, (principal_name_row x.cna
 
 unfoldable pub authenticator_of : Of authenticator → Authenticator
 unfolding authenticator
-authenticator_of row = record { authenticator_vno = row.0; crealm = row.1.0; cname = principal_name_of row.1.1.0; cksum = option_map checksum_of row.1.1.1.0; cusec = row.1.1.1.1.0; ctime = row.1.1.1.1.1.0; subkey = option_map encryption_key_of row.1.1.1.1.1.1.0; seq_number = row.1.1.1.1.1.1.1.0; authorization_data = option_map (map authorization_data_element_of) row.1.1.1.1.1.1.1.1.0 }
+authenticator_of row = record {
+  authenticator_vno = row.0;
+  crealm = row.1.0;
+  cname = principal_name_of row.1.1.0;
+  cksum = option_map checksum_of row.1.1.1.0;
+  cusec = row.1.1.1.1.0;
+  ctime = row.1.1.1.1.1.0;
+  subkey = option_map encryption_key_of row.1.1.1.1.1.1.0;
+  seq_number = row.1.1.1.1.1.1.1.0;
+  authorization_data = option_map (map authorization_data_element_of) row.1.1.1.1.1.1.1.1.0;
+}
 
 pub authenticator_back : (x : Authenticator) → authenticator_of (authenticator_row x) ≡ x
 unfolding authenticator authenticator_row authenticator_of
-authenticator_back x = rw (principal_name_back x.cname, option_back checksum_layout x.cksum, option_back encryption_key_layout x.subkey, option_back (items_layout authorization_data_element_layout) x.authorization_data) refl
+authenticator_back x = rw (
+  principal_name_back x.cname,
+  option_back checksum_layout x.cksum,
+  option_back encryption_key_layout x.subkey,
+  option_back (items_layout authorization_data_element_layout) x.authorization_data,
+) refl
 
 pub authenticator_ascends : is_table authenticator ≡ true
 unfolding authenticator principal_name checksum encryption_key authorization_data_element
 authenticator_ascends = refl
 
 abbrev pub authenticator_layout : Layout Authenticator
-authenticator_layout = record { kind = authenticator; view = authenticator_row; of = authenticator_of; back = authenticator_back; ascends = authenticator_ascends }
+authenticator_layout = record {
+  kind = authenticator;
+  view = authenticator_row;
+  of = authenticator_of;
+  back = authenticator_back;
+  ascends = authenticator_ascends;
+}
 
 -- ApRep
 unfoldable pub ap_rep_row : ApRep → Of ap_rep
@@ -275,4 +356,10 @@ unfolding enc_ap_rep_part encryption_key
 enc_ap_rep_part_ascends = refl
 
 abbrev pub enc_ap_rep_part_layout : Layout EncApRepPart
-enc_ap_rep_part_layout = record { kind = enc_ap_rep_part; view = enc_ap_rep_part_row; of = enc_ap_rep_part_of; back = enc_ap_rep_part_back; ascends = enc_ap_rep_part_ascends }
+enc_ap_rep_part_layout = record {
+  kind = enc_ap_rep_part;
+  view = enc_ap_rep_part_row;
+  of = enc_ap_rep_part_of;
+  back = enc_ap_rep_part_back;
+  ascends = enc_ap_rep_part_ascends;
+}

@@ -30,7 +30,8 @@ pub fn one_spelling()
 
 /// Octets are the frame of one message under one object identifier, for one token id.
 pub fn one_frame()
-    ensures { (oid other token_id message another octets : List ℕ) → IsFrame oid token_id message octets → IsFrame other token_id another octets → (oid ≡ other) × (message ≡ another) }
+    ensures { (oid other token_id message another octets : List ℕ) → IsFrame oid token_id message octets
+        → IsFrame other token_id another octets → (oid ≡ other) × (message ≡ another) }
 {}
 
 /// The code's numbers and names are those of the standards, each as its document assigns it (`constants` names them).

@@ -1,20 +1,17 @@
 -- The octets of a request for a new password, and how many there are.
-use Rattle.std.proofs.Common.{◌≡◌, ℕ, ◌+◌, ◌<◌, ◌≤◌, ◌^◌, List, [], ◌∷◌, ◌++◌, length, take, Result, Ok, Err, IfOk, arith, lit≤, sym, subst, ap, ◌∙◌, refl}
+use Rattle.std.proofs.Common.{◌≡◌, ℕ, ◌+◌, ◌<◌, ◌≤◌, ◌^◌, List, [], ◌∷◌, ◌++◌, length, Result, Ok, Err, IfOk, arith, lit≤, sym, subst, ap, ◌∙◌, refl}
 use Rattle.std.proofs.lemmas.List.{length-take}
 use Rattle.krb_der.specs.declared.memory.OutOfMemory.{OutOfMemory}
 use Rattle.krb_der.proofs.Lengths.{append_le}
 use Rattle.krb_crypto.specs.Suite.{key_size}
 use Rattle.krb_crypto.specs.declared.suite.CipherSuite.{CipherSuite}
 use Rattle.krb_crypto.specs.declared.suite.CipherSuite.TheVariants.{Aes128CtsHmacSha196, Aes256CtsHmacSha196}
-use Rattle.krb_messages.specs.Layouts.{ap_req_layout}
-use Rattle.krb_exchange.specs.Layouts.{krb_priv_layout}
-use Rattle.krb_exchange.specs.PrivMessages.{SpellsAp, IsWritten, IsWritable, IsWritableAp, two_octets, message_octets}
-use Rattle.krb_exchange.specs.declared.krb_priv.KrbPriv.{KrbPriv}
+use Rattle.krb_exchange.specs.PrivMessages.{SpellsAp, IsWritten, two_octets, message_octets}
 use Rattle.krb_exchange.specs.declared.priv_message.KrbPrivMessage.{KrbPrivMessage}
 use Rattle.krb_exchange.specs.declared.priv_message.ApMessage.{ApMessage}
 use Rattle.krb_exchange.specs.declared.priv_message.ApMessage.TheVariants.{ApReq, ApRep}
 use Rattle.sspi_core.specs.declared.draw.Draw.{Draw}
-use Rattle.krb_requests.specs.Pieces.{Fits, spelling}
+use Rattle.krb_requests.specs.Pieces.{spelling}
 use Rattle.krb_authenticators.specs.Passwords.{FitsRequest, FitsPriv}
 use Rattle.krb_password_change.specs.Requested.{drawn_key, ap_spelling, written}
 
@@ -28,14 +25,6 @@ drawn_short suite draw = omega (arith, key_size_small suite, length-take (key_si
 pub key_short : (suite : CipherSuite) (draw : Draw) (key : List ℕ) → key ≡ drawn_key suite draw → length key ≤ 2 ^ 24
 key_short suite draw key e = subst (λ (o : List ℕ). length o ≤ 2 ^ 24) (sym e) (drawn_short suite draw)
 
--- what fits can be written
-pub ap_writable : (message : ApMessage) → FitsRequest message → IsWritableAp message
-ap_writable (ApReq request) h = let k = h.short in record { complete = h.complete; short = omega (arith, k) }
-ap_writable (ApRep reply) h = absurd h
-
-pub priv_writable : (sealed : KrbPriv) → Fits krb_priv_layout (2 ^ 28) sealed → IsWritable krb_priv_layout sealed
-priv_writable sealed h = let k = h.short in record { complete = h.complete; short = omega (arith, k) }
-
 -- what is written is the spelling
 ap_spelled : (message : ApMessage) (octets : List ℕ) → SpellsAp message octets → octets ≡ ap_spelling message
 ap_spelled (ApReq request) octets h = h.is
@@ -43,10 +32,6 @@ ap_spelled (ApRep reply) octets h = h.is
 
 is_written : (message : KrbPrivMessage) (octets : List ℕ) → IsWritten message octets → octets ≡ written message
 is_written message octets h = h.is ∙ rw (ap_spelled message.ap_message h.ap h.ap_message, h.krb_priv.is) refl
-
-pub written_so : (message : KrbPrivMessage) (answer : Result (List ℕ) OutOfMemory) → IfOk answer (IsWritten message) → IfOk answer (λ octets. octets ≡ written message)
-written_so message (Ok octets) h = is_written message octets h
-written_so message (Err z) h = tt
 
 ap_short : (message : ApMessage) → FitsRequest message → length (ap_spelling message) ≤ 2 ^ 28
 ap_short (ApReq request) h = h.short

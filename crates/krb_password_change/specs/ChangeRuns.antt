@@ -36,11 +36,13 @@ Next changer (AwaitsAnswer leg) reply draw answer = TakesAnswer changer leg repl
 Next changer Over reply draw answer = ⊥
 
 -- the two steps of the task: who changes the password stays, and the phase goes on
-pub record StartsAt (old : ChangePasswordRun) (draw : Draw) (state : GeneratorState NetworkRequest (Result ContextChange Error)) (new : ChangePasswordRun) : Type 0 where
+pub record StartsAt (old : ChangePasswordRun) (draw : Draw) (state : GeneratorState NetworkRequest (Result ContextChange Error))
+    (new : ChangePasswordRun) : Type 0 where
   pub turn : Turns Over (Starts old.changer old.phase draw) state new.phase
   pub stays : new.changer ≡ old.changer
 
-pub record ResumesAt (old : ChangePasswordRun) (reply : Result (List ℕ) NetFault) (draw : Draw) (state : GeneratorState NetworkRequest (Result ContextChange Error)) (new : ChangePasswordRun) : Type 0 where
+pub record ResumesAt (old : ChangePasswordRun) (reply : Result (List ℕ) NetFault) (draw : Draw)
+    (state : GeneratorState NetworkRequest (Result ContextChange Error)) (new : ChangePasswordRun) : Type 0 where
   pub turn : Turns Over (Next old.changer old.phase reply draw) state new.phase
   pub stays : new.changer ≡ old.changer
 

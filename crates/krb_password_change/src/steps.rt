@@ -161,7 +161,8 @@ fn sent_change(
     requires rep { IsSendable rep }
     requires realm { length service.now.realm ≤ 2 ^ 24 }
     requires moment { draw.now.moment ≤ MAX_MOMENT }
-    ensures step { Answers (Gives (turns.Asks (change_request changer.now key.now.suite key.now.key rep service.now draw.now) (phases.AwaitsAnswer (answer_leg rep key.now service.now draw.now)))) result }
+    ensures step { Answers (Gives (turns.Asks (change_request changer.now key.now.suite key.now.key rep service.now draw.now)
+        (phases.AwaitsAnswer (answer_leg rep key.now service.now draw.now)))) result }
     ensures down { IfOk result (λ turn. GoesDown 1 turn) }
 {
     let request = change_request(alloc, changer, key.suite, &key.key, &rep, service, draw)?;

@@ -29,7 +29,8 @@ pub record AdmitsByCache (old : CacheGate) (ask : Ask) (answer : Verdict) (new :
   pub skew : new.skew ≡ old.skew
   pub moment : new.moment ≡ ask.moment
   pub verdict : answer ≡ judged old.skew ask.moment (has_cached old.cache.keys (cache_record_of ask)) ask
-  pub cache : (r : AuthenticatorCacheRecord) → has_cached new.cache.keys r ≡ (has_cached old.cache.keys r || (is_admitted answer && cache_eq (cache_record_of ask) r))
+  pub cache : (r : AuthenticatorCacheRecord)
+      → has_cached new.cache.keys r ≡ (has_cached old.cache.keys r || (is_admitted answer && cache_eq (cache_record_of ask) r))
 
 pub record IsSameCache (old new : CacheGate) : Type 0 where
   pub skew : new.skew ≡ old.skew
@@ -43,9 +44,12 @@ pub cache_goes_on : (a b c : CacheGate) (ask : Ask) (verdict : Verdict) → IsSa
 cache_goes_on a b c ask verdict same step = record {
   skew = step.skew ∙ same.skew;
   moment = step.moment;
-  verdict = step.verdict ∙ ap (λ (k : ℕ). judged k ask.moment (has_cached b.cache.keys (cache_record_of ask)) ask) same.skew ∙ ap (λ (l : List AuthenticatorCacheRecord). judged a.skew ask.moment (has_cached l (cache_record_of ask)) ask) same.cache;
-  cache = λ r. step.cache r ∙ ap (λ (l : List AuthenticatorCacheRecord). has_cached l r || (is_admitted verdict && cache_eq (cache_record_of ask) r)) same.cache;
+  verdict = step.verdict ∙ ap (λ (k : ℕ). judged k ask.moment (has_cached b.cache.keys (cache_record_of ask)) ask) same.skew
+      ∙ ap (λ (l : List AuthenticatorCacheRecord). judged a.skew ask.moment (has_cached l (cache_record_of ask)) ask) same.cache;
+  cache = λ r. step.cache r
+      ∙ ap (λ (l : List AuthenticatorCacheRecord). has_cached l r || (is_admitted verdict && cache_eq (cache_record_of ask) r)) same.cache;
 }
 
 pub cache_judges : (old new : CacheGate) (ask : Ask) (verdict : Verdict) → AdmitsByCache old ask verdict new → IsJudged old.skew new.moment ask verdict
-cache_judges old new ask verdict step = subst (λ (m : ℕ). IsJudged old.skew m ask verdict) (sym step.moment) (is_judged old.skew ask.moment _ ask verdict (omega arith) step.verdict)
+cache_judges old new ask verdict step = subst (λ (m : ℕ). IsJudged old.skew m ask verdict) (sym step.moment)
+    (is_judged old.skew ask.moment _ ask verdict (omega arith) step.verdict)

@@ -19,12 +19,14 @@ pub record IsJudged (skew moment : ℕ) (ask : Ask) (verdict : Verdict) : Type 0
   pub reached : ask.moment ≤ moment
   pub first : MatchOption (clock_refusal skew moment ask) (IsOpen verdict) (λ refusal. verdict ≡ refusal)
 
-first_of : (refusal : Option Verdict) (seen : Bool) (verdict : Verdict) → verdict ≡ unwrap_or refusal (if seen then Replayed else Admitted) → MatchOption refusal (IsOpen verdict) (λ v. verdict ≡ v)
+first_of : (refusal : Option Verdict) (seen : Bool) (verdict : Verdict) → verdict ≡ unwrap_or refusal (if seen then Replayed else Admitted)
+    → MatchOption refusal (IsOpen verdict) (λ v. verdict ≡ v)
 first_of (Some v) seen verdict e = e
 first_of None true verdict e = subst IsOpen (sym e) tt
 first_of None false verdict e = subst IsOpen (sym e) tt
 
-pub is_judged : (skew moment : ℕ) (seen : Bool) (ask : Ask) (verdict : Verdict) → ask.moment ≤ moment → verdict ≡ judged skew moment seen ask → IsJudged skew moment ask verdict
+pub is_judged : (skew moment : ℕ) (seen : Bool) (ask : Ask) (verdict : Verdict) → ask.moment ≤ moment
+    → verdict ≡ judged skew moment seen ask → IsJudged skew moment ask verdict
 is_judged skew moment seen ask verdict reached e = record { reached = reached; first = first_of (clock_refusal skew moment ask) seen verdict e }
 
 -- from `old` these asks may be answered by these verdicts, one call after another, which leave `new`

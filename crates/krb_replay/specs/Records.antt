@@ -35,4 +35,5 @@ principal_cmp a b = ordering_then (slice_cmp nat_cmp a.name_type b.name_type) (s
 
 -- by the time, its microseconds, the realm, and the name
 abbrev pub record_cmp : Record → Record → Ordering
-record_cmp a b = ordering_then (int_cmp a.ctime b.ctime) (ordering_then (slice_cmp nat_cmp a.cusec b.cusec) (ordering_then (slice_cmp nat_cmp a.realm b.realm) (principal_cmp a.name b.name)))
+record_cmp a b = ordering_then (int_cmp a.ctime b.ctime) (ordering_then (slice_cmp nat_cmp a.cusec b.cusec)
+    (ordering_then (slice_cmp nat_cmp a.realm b.realm) (principal_cmp a.name b.name)))

@@ -1,22 +1,16 @@
 -- What is sealed to a key, and the record in it (RFC 4120, sections 3.1.5, 3.2.5 and 3.3.4). Nothing here decrypts: a text is
 -- opened as the one that is sealed to it.
-use Rattle.std.specs.Prelude.{ℕ, nat_le, ◌==◌, pos, ℤ, List, length, Option, Some, None, Result, if◌then◌else◌}
-use Rattle.std.specs.Ordering.{int_eq}
+use Rattle.std.specs.Prelude.{ℕ, nat_le, ◌==◌, List, length, Option, Result}
 use Rattle.krb_der.specs.Integer.{integer_value}
 use Rattle.krb_der.specs.Schema.{Spells}
 use Rattle.krb_der.specs.Layout.{Layout}
-use Rattle.krb_crypto.specs.Suite.{key_size}
+use Rattle.krb_crypto.specs.Suite.{key_size, suite_numbered}
 use Rattle.krb_crypto.specs.Sealed.{IsSealed}
 use Rattle.krb_crypto.specs.declared.suite.CipherSuite.{CipherSuite}
-use Rattle.krb_crypto.specs.declared.suite.CipherSuite.TheVariants.{Aes128CtsHmacSha196, Aes256CtsHmacSha196}
 use Rattle.sspi_core.specs.declared.cause.Cause.{Cause}
 use Rattle.sspi_core.specs.declared.cause.Cause.TheVariants.{KeyLength, Short, Altered, Reply, Inner}
 use Rattle.sspi_core.specs.Checks.{Finds, Holds, ◌>>=◌, ◌>>◌}
 use Rattle.krb_replies.specs.declared.unseal.Refusals.{Refusals}
-
--- the suite of a number (RFC 3962, section 7)
-abbrev pub suite_numbered : ℤ → Option CipherSuite
-suite_numbered n = if int_eq n (pos 17) then Some Aes128CtsHmacSha196 else if int_eq n (pos 18) then Some Aes256CtsHmacSha196 else None
 
 -- the suite of an encryption type, by the value of the integer and not by its spelling
 unfoldable pub suite_of : List ℕ → Option CipherSuite

@@ -173,10 +173,6 @@ pub cut_le : (text : List ℕ) → length (component_octets (user_components tex
 cut_le [] = append_le (tlv 0x1b []) [] 6 0 (tlv_le 0x1b [] 0 (lit≤ tt)) (lit≤ tt)
 cut_le (x ∷ text) = omega (arith, cut_or_go (x == 0x2f) x (user_components text) (7 * length text + 6) (cut_le text))
 
--- the body
-bits_le : (octets : List ℕ) → length octets ≤ 4 → length (0 ∷ octets) ≤ 5
-bits_le octets h = omega (arith, h)
-
 module _ (options : GenerateAsReqOptions) (moment : ℕ) (four : length options.nonce ≡ 4) (short : AreShort options) where
   abbrev cname : PrincipalName
   cname = principal options.cname_type (user_components options.username.now)

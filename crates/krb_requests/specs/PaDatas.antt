@@ -3,7 +3,6 @@ use Rattle.std.specs.Prelude.{ℕ, ◌/◌, ◌%◌, ◌==◌, not, ◌||◌, Bo
 use Rattle.std.specs.Int.{w32, to_be_bytes}
 use Rattle.krb_crypto.specs.Suite.{key_size}
 use Rattle.krb_crypto.specs.declared.suite.CipherSuite.{CipherSuite}
-use Rattle.krb_crypto.specs.declared.suite.CipherSuite.TheVariants.{Aes128CtsHmacSha196, Aes256CtsHmacSha196}
 use Rattle.krb_messages.specs.Layouts.{encrypted_data_layout}
 use Rattle.krb_exchange.specs.declared.pa_data.PaData.{PaData}
 use Rattle.krb_exchange.specs.declared.pa_data.PaEncTsEnc.{PaEncTsEnc}
@@ -43,7 +42,3 @@ unfoldable pub MakesPaDatas : Bool → CipherSuite → List ℕ → ℕ → List
 MakesPaDatas with_pre_auth suite key moment confounder = do
   Holds KeyLength (not with_pre_auth || length key == key_size suite)
   Gives (pa_datas with_pre_auth suite key moment confounder)
-
--- the suite of an encryption type, 17 or 18
-abbrev pub suite_of : ℕ → CipherSuite
-suite_of etype = if etype == 17 then Aes128CtsHmacSha196 else Aes256CtsHmacSha196

@@ -6,6 +6,7 @@ use Rattle.krb_der.specs.Layout.{Layout}
 use Rattle.krb_crypto.specs.Suite.{suite_number}
 use Rattle.krb_crypto.specs.Sealed.{sealed}
 use Rattle.krb_crypto.specs.declared.suite.CipherSuite.{CipherSuite}
+use Rattle.krb_crypto.specs.declared.suite.CipherSuite.TheVariants.{Aes128CtsHmacSha196, Aes256CtsHmacSha196}
 use Rattle.krb_messages.specs.declared.encryption.EncryptedData.{EncryptedData}
 use Rattle.krb_messages.specs.declared.encryption.EncryptionKey.{EncryptionKey}
 use Rattle.krb_context.specs.ServiceKeys.{all_ascii}
@@ -49,7 +50,7 @@ three_days_after moment = pos (moment / 1000000 + 259200)
 
 -- the encryption types of RFC 3962, the stronger one first
 abbrev pub etypes : List (List ℕ)
-etypes = (18 ∷ []) ∷ (17 ∷ []) ∷ []
+etypes = (suite_number Aes256CtsHmacSha196 ∷ []) ∷ (suite_number Aes128CtsHmacSha196 ∷ []) ∷ []
 
 -- the record can be written, in at most so many octets
 pub record Fits {A : Type 0} (layout : Layout A) (limit : ℕ) (value : A) : Type 0 where

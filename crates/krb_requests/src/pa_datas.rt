@@ -2,7 +2,7 @@
 
 ghost use Rattle.std.specs.Prelude.{◌≡◌, ◌≤◌, ◌^◌, ◌==◌, ◌||◌, ◌∷◌, [], not, length, IfOk, IsTrue};
 ghost use Rattle.krb_der.specs.Layout.{items_layout};
-ghost use Rattle.krb_crypto.specs.Suite.{key_size};
+ghost use Rattle.krb_crypto.specs.Suite.{key_size, suite_of_etype};
 ghost use Rattle.krb_crypto.specs.Password.{password_key};
 ghost use Rattle.krb_exchange.specs.Layouts.{pa_data_layout};
 ghost use Rattle.sspi_core.specs.declared.cause.Cause.TheVariants as causes;
@@ -11,7 +11,7 @@ ghost use Rattle.sspi_core.specs.Checks.{Answers, Gives, Holds};
 ghost use Rattle.krb_context.specs.Params.{suite_of as context_suite};
 ghost use Rattle.krb_replies.specs.Told.{Tells};
 ghost use Rattle.krb_requests.specs.Pieces.{Fits};
-ghost use Rattle.krb_requests.specs.PaDatas.{pac_request, timestamp, enc_timestamp, plain_pa_datas, timed_pa_datas, pa_datas, MakesPaDatas, suite_of};
+ghost use Rattle.krb_requests.specs.PaDatas.{pac_request, timestamp, enc_timestamp, plain_pa_datas, timed_pa_datas, pa_datas, MakesPaDatas};
 
 use crate::maker::Maker;
 use crate::options::{GenerateAsPaDataOptions, GenerateKeytabPaDataOptions};
@@ -222,16 +222,6 @@ pub fn generate_pa_datas_for_as_req(
     ))
 }
 
-fn suite_of(etype: u8) -> CipherSuite
-    ensures { result ≡ suite_of etype }
-{
-    if etype == 17 {
-        CipherSuite::Aes128CtsHmacSha196
-    } else {
-        CipherSuite::Aes256CtsHmacSha196
-    }
-}
-
 /// The same under a key of the caller's. Refused as InvalidParameter KeyLength exactly where the time is to be sealed and the
 /// key has not the length of its suite's keys.
 #[tactic(auto, using(krb_replies::proofs::Telling::tells))]
@@ -243,14 +233,14 @@ pub fn generate_pa_datas_for_as_req_with_key(
 ) -> Result<Items<PaData>, Error>
     requires known { IsTrue (options.now.key_enctype == 17 || options.now.key_enctype == 18) }
     requires moment { moment ≤ MAX_MOMENT }
-    ensures made { let suite = suite_of options.now.key_enctype in
+    ensures made { let suite = suite_of_etype options.now.key_enctype in
         Tells (MakesPaDatas options.now.with_pre_auth suite options.now.key moment confounder) result }
     ensures within { IfOk result (λ made. Fits (items_layout pa_data_layout) (2 ^ 12) made) }
 {
     tell(keyed_pa_datas(
         alloc,
         options.with_pre_auth,
-        suite_of(options.key_enctype),
+        CipherSuite::of_etype(options.key_enctype),
         options.key.as_ref().as_slice(),
         moment,
         confounder,

@@ -1,5 +1,5 @@
 -- Steps of ordered checks.
-use Rattle.std.proofs.Common.{◌≡◌, Bool, true, false, Result, Ok, Err, refl, sym, subst, ap, ◌∙◌}
+use Rattle.std.proofs.Common.{◌≡◌, Bool, true, false, Result, Ok, Err, refl, ap, ◌∙◌}
 use Rattle.std.specs.Prelude.{Option, Some, None}
 use Rattle.std.specs.Result.{IsErrAnd, IfErr, OnOk, result_map_both}
 use Rattle.krb_sasl.specs.declared.error.SaslError.{SaslError}
@@ -66,13 +66,6 @@ pub hands_on : {A B T : Type 0} (first : Result A SaslError → Type 0) (next : 
     → IsErrAnd answer (λ d. d ≡ e) → IfErr answer (λ refusal. Refuses (λ (r : Result B SaslError). Then first next r) refusal)
 hands_on first next e (Ok x) h is = absurd is
 hands_on {A} first next e (Err d) h is = record { so = λ ne. halts first next e (Err d) (h.so (λ z. ne (is ∙ same_err {A = A} e OutOfMemory z))) is }
-
--- and so by the same checks
-pub refuses_same : {A T : Type 0} (checks : Result A SaslError → Type 0) (e : SaslError) (answer : Result T SaslError) → Answers checks (Err e)
-    → IsErrAnd answer (λ d. d ≡ e) → IfErr answer (λ refusal. Refuses checks refusal)
-refuses_same checks e (Ok x) h is = absurd is
-refuses_same {A} checks e (Err d) h is =
-    record { so = λ ne. subst (λ (x : SaslError). checks (Err x)) (sym is) (h.so (λ z. ne (is ∙ same_err {A = A} e OutOfMemory z))) }
 
 -- what is known behind checks that were passed
 pub record Passed {A B E : Type 0} (first : Result A E → Type 0) (next : A → Result B E → Type 0) (b : B) : Type 0 where

@@ -2,3 +2,4 @@ pub mod FieldLemmas
 pub mod BufferLemmas
 pub mod KeytabLemmas
 pub mod ScriptLemmas
+mod DigitLemmas

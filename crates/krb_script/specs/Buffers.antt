@@ -8,6 +8,7 @@ use Rattle.sspi_core.specs.Buffer.{Buffer, no_flags}
 use Rattle.sspi_core.specs.Messages.{is_message}
 use Rattle.sspi_core.specs.declared.buffer.BufferType.{BufferType}
 use Rattle.sspi_core.specs.declared.buffer.BufferType.TheVariants.{Token, Data, Stream}
+use Rattle.sspi_core.specs.Flags.{readonly_with_checksum}
 use Rattle.sspi_core.specs.declared.flags.SecurityBufferFlags.{SecurityBufferFlags}
 use Rattle.krb_text.specs.Decimals.{decimal_up_to}
 use Rattle.krb_script.specs.Options.{◌>>=◌, if_so}
@@ -22,7 +23,7 @@ hex_of text = result_ok (decode_of text)
 
 -- SECBUFFER_READONLY_WITH_CHECKSUM: data that the checksum covers and that are not sealed
 abbrev pub read_only : SecurityBufferFlags
-read_only = record { 0 = 0x10000000 }
+read_only = record { 0 = readonly_with_checksum }
 
 -- a buffer by its letter: T the token, D the data that are sealed, R data that the checksum covers, S the stream
 abbrev pub lettered : List ℕ → List ℕ → ℕ → Option Buffer

@@ -7,6 +7,7 @@ use Rattle.std.specs.Result.{result_ok}
 use Rattle.std.specs.Int.RustNames.{bit_or}
 use Rattle.hex.specs.Hex.{decode_of, decode_sized}
 use Rattle.krb_script.specs.Options.{◌>>=◌, if_so}
+use Rattle.sspi_core.specs.Flags as bits
 use Rattle.sspi_core.specs.declared.flags.ClientRequestFlags.{ClientRequestFlags}
 
 -- the octets that hex digits of either case stand for
@@ -56,8 +57,9 @@ random_of text = result_ok (decode_sized text 64)
 -- K use session key, E DCE style, I integrity, N no integrity
 abbrev pub flag_bit : ℕ → ℕ
 flag_bit b =
-    if b == 68 then 0x1 else if b == 77 then 0x2 else if b == 82 then 0x4 else if b == 83 then 0x8 else if b == 67 then 0x10
-    else if b == 75 then 0x20 else if b == 69 then 0x200 else if b == 73 then 0x10000 else if b == 78 then 0x800000 else 0
+    if b == 68 then bits.delegate else if b == 77 then bits.mutual_auth else if b == 82 then bits.replay_detect
+    else if b == 83 then bits.sequence_detect else if b == 67 then bits.confidentiality else if b == 75 then bits.use_session_key
+    else if b == 69 then bits.use_dce_style else if b == 73 then bits.integrity else if b == 78 then bits.no_integrity else 0
 
 abbrev pub is_flag : ℕ → Bool
 is_flag b = not (flag_bit b == 0)

@@ -7,3 +7,4 @@ pub mod Endpoints
 pub mod Declarations
 pub mod Items
 pub mod Script
+pub mod Digits

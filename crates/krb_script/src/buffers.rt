@@ -1,11 +1,11 @@
 //! The buffers of a message, as a line tells them.
 
 ghost use Rattle.std.specs.Prelude.{◌≡◌, ◌≤◌, map, length, IfOk};
-ghost use Rattle.krb_script.specs.Buffers.{parts, hex_of, lettered, buffer_in, buffer_of, buffers_of, message_of};
+ghost use Rattle.krb_script.specs.Buffers.{parts, lettered, buffer_in, buffer_of, buffers_of, message_of};
 ghost use Rattle.krb_script.specs.Gives.{Gives};
 
+use crate::digits::decode;
 use crate::fields::{FieldError, number};
-use hex::FromHexError;
 use krb_der::{Items, Octets};
 use sspi_core::{Message, SecurityBufferFlags, SecurityBufferRef};
 use std::alloc::{AllocError, Global};
@@ -20,17 +20,6 @@ fn split_parts<'a>(alloc: Global, field: &'a [u8]) -> Result<Vec<&'a [u8]>, Allo
     ensures { IfOk result (λ found. map (λ x. x.now) found.items ≡ parts field.now) }
 {
     field.split(|b| *b == b':').collect(alloc)
-}
-
-/// The octets that hex digits of either case stand for, of which there may be none.
-fn hex_octets(alloc: Global, text: &[u8]) -> Result<Octets, FieldError>
-    ensures { Gives (hex_of text.now) result }
-{
-    match hex::decode(alloc, text) {
-        Ok(bytes) => Ok(Octets::new(bytes)),
-        Err(FromHexError::OutOfMemory) => Err(FieldError::OutOfMemory),
-        Err(_) => Err(FieldError::Bad),
-    }
 }
 
 /// A buffer by its letter.
@@ -58,7 +47,7 @@ fn parse_parts(alloc: Global, parts: &[&[u8]]) -> Result<SecurityBufferRef, Fiel
     let [letter, digits, limit] = parts else {
         return Err(FieldError::Bad);
     };
-    let octets = hex_octets(alloc, digits)?;
+    let octets = decode(alloc, digits)?;
     let limit = number(MAX_LIMIT, limit)? as usize;
     if octets.as_slice().len() > limit {
         return Err(FieldError::Bad);

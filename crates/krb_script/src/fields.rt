@@ -9,8 +9,9 @@ ghost use Rattle.krb_script.specs.Gives.{Gives};
 ghost use Rattle.krb_script.specs.Options.{if_so};
 ghost use Rattle.krb_script.specs.declared.fields.FieldError.TheVariants.{OutOfMemory as NoMemory};
 
+use crate::digits::decode;
 use bitflags::Flags;
-use hex::{FromHex, FromHexError};
+use hex::FromHex;
 use krb_der::{Name, Octets, OutOfMemory, Text};
 use krb_text::decimal_up_to;
 use sspi_core::ClientRequestFlags;
@@ -71,11 +72,7 @@ pub fn octets(alloc: Global, text: &[u8]) -> Result<Octets, FieldError>
     if text.is_empty() {
         return Err(FieldError::Bad);
     }
-    match hex::decode(alloc, text) {
-        Ok(bytes) => Ok(Octets::new(bytes)),
-        Err(FromHexError::OutOfMemory) => Err(FieldError::OutOfMemory),
-        Err(_) => Err(FieldError::Bad),
-    }
+    decode(alloc, text)
 }
 
 /// The same, where `-` stands for no octets.

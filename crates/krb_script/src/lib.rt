@@ -6,6 +6,7 @@
 
 mod buffers;
 mod declaration;
+mod digits;
 mod endpoint;
 mod fields;
 mod input;

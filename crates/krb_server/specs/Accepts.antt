@@ -1,5 +1,5 @@
 -- The acceptor's step: the ordered checks with the gate among them, and what they leave; and the initiator's last word.
-use Rattle.std.specs.Prelude.{◌≡◌, ℕ, Bool, true, false, bit_and, ◌==◌, List, Option, Some, None, Result, Ok, Err}
+use Rattle.std.specs.Prelude.{◌≡◌, ℕ, Bool, true, false, List, Option, Some, None, Result, Ok, Err}
 use Rattle.krb_replay.specs.declared.ask.Ask.{Ask}
 use Rattle.krb_replay.specs.declared.ask.Verdict.{Verdict}
 use Rattle.krb_replay.specs.declared.ask.Verdict.TheVariants as verdicts
@@ -8,6 +8,7 @@ use Rattle.krb_context.specs.declared.state.KerberosState.{KerberosState}
 use Rattle.krb_context.specs.declared.state.KerberosState.TheVariants.{TgtExchange, Preauthentication, ApExchange, Final}
 use Rattle.krb_context.specs.States.{is_waiting}
 use Rattle.sspi_core.specs.declared.draw.Draw.{Draw}
+use Rattle.sspi_core.specs.Flags.{has_flag, use_dce_style}
 use Rattle.sspi_core.specs.declared.flags.ServerRequestFlags.{ServerRequestFlags}
 use Rattle.sspi_core.specs.declared.cause.Cause.{Cause}
 use Rattle.sspi_core.specs.declared.cause.Cause.TheVariants.{Sequence, Skew, NotYet, Expired, Replayed}
@@ -22,7 +23,7 @@ use Rattle.krb_server.specs.ThirdLeg.{Concludes}
 
 -- the caller asks for bare tokens, of which the initiator sends the last: DCE style (MS-KILE, section 3.4.5.1)
 abbrev pub asks_dce_style : ServerRequestFlags → Bool
-asks_dce_style flags = bit_and flags.0 0x200 == 0x200
+asks_dce_style flags = has_flag flags.0 use_dce_style
 
 -- where an acceptor waits for the initiator's last word
 abbrev pub awaits_last_word : Bool → KerberosState → Bool
@@ -76,7 +77,8 @@ Ends false server token outcome answer server' = Makes server outcome answer ser
 
 -- a token at an acceptor, over any gate. Where the last word is awaited no AP-REQ may come: the checks of one end at the
 -- first of them, so that the gate is not asked
-pub record Accepts {G : Type 0} (admits : G → Ask → Verdict → G → Type 0) (server : Kerberos) (dce : Bool) (token : List ℕ) (draw : Draw) (old : G) (answer : Result Accepted Cause) (server' : Kerberos) (new : G) : Type 0 where
+pub record Accepts {G : Type 0} (admits : G → Ask → Verdict → G → Type 0) (server : Kerberos) (dce : Bool) (token : List ℕ) (draw : Draw)
+    (old : G) (answer : Result Accepted Cause) (server' : Kerberos) (new : G) : Type 0 where
   pub verdict : Verdict
   pub request : Result Request Cause
   pub begun : Begins server dce token request

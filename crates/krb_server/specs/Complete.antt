@@ -1,8 +1,9 @@
 -- The checks whose refusal is answered behind the gate's: the client's name, the options, the subkey.
-use Rattle.std.specs.Prelude.{ℕ, ◌==◌, bit_and, Bool, true, false, not, ◌&&◌, List, [], ◌∷◌, length, Option, Some, None, Result, if◌then◌else◌}
+use Rattle.std.specs.Prelude.{ℕ, ◌+◌, ◌-◌, ◌/◌, ◌^◌, ◌==◌, bit_and, Bool, true, false, not, ◌&&◌, List, [], ◌∷◌, length, Option, Some, None, Result, if◌then◌else◌}
 use Rattle.krb_der.specs.declared.bits.Bits.{Bits}
 use Rattle.krb_crypto.specs.Suite.{key_size}
 use Rattle.krb_crypto.specs.declared.suite.CipherSuite.{CipherSuite}
+use Rattle.krb_options.specs.Options.{use_session_key, mutual_required}
 use Rattle.krb_messages.specs.declared.encryption.EncryptionKey.{EncryptionKey}
 use Rattle.krb_server.specs.declared.request.Request.{Request}
 use Rattle.krb_replies.specs.Unseals.{suite_of}
@@ -12,9 +13,13 @@ use Rattle.sspi_core.specs.declared.cause.Cause.{Cause}
 use Rattle.sspi_core.specs.declared.cause.Cause.TheVariants.{ClientName, ApOptions, SubKey}
 use Rattle.sspi_core.specs.Checks.{Holds, Takes, Gives, ◌>>=◌, ◌>>◌}
 
--- APOptions (RFC 4120, section 5.5.1): 32 bits, of which use-session-key (1) and mutual-required (2) are known
+-- the first of the four octets of options
+abbrev pub first_octet : ℕ → ℕ
+first_octet options = options / 2 ^ 24
+
+-- APOptions (RFC 4120, section 5.5.1): 32 bits, of which use-session-key and mutual-required are known, both in the first octet
 abbrev pub are_known : List ℕ → Bool
-are_known (a ∷ b ∷ c ∷ d ∷ []) = b == 0 && (c == 0 && (d == 0 && bit_and a 0x9f == 0))
+are_known (a ∷ b ∷ c ∷ d ∷ []) = b == 0 && (c == 0 && (d == 0 && bit_and a (0xff - first_octet (use_session_key + mutual_required)) == 0))
 are_known _ = false
 
 abbrev pub is_known_options : Bits → Bool
@@ -22,7 +27,7 @@ is_known_options options = are_known options.octets
 
 abbrev pub asks_mutual : List ℕ → Bool
 asks_mutual [] = false
-asks_mutual (a ∷ rest) = not (bit_and a 0x20 == 0)
+asks_mutual (a ∷ rest) = not (bit_and a (first_octet mutual_required) == 0)
 
 -- mutual-required is set
 abbrev pub is_mutual : Bits → Bool

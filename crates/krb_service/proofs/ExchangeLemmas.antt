@@ -31,7 +31,7 @@ use Rattle.sspi_core.specs.declared.draw.Draw.{Draw}
 use Rattle.sspi_core.specs.declared.error.Error.{Error}
 use Rattle.sspi_core.specs.declared.error.Place.TheVariants.{Elsewhere}
 use Rattle.sspi_generator.specs.declared.network.NetFault.{NetFault}
-use Rattle.krb_service.specs.Exchanges.{LeadsTo, Opens, GoesOn, StopsAt, IsFree}
+use Rattle.krb_service.specs.Exchanges.{LeadsTo, Opens, GoesOn, StopsAt}
 use Rattle.krb_service.specs.Initiations.{options_of, SetsOut, Undertakes}
 use Rattle.krb_service.specs.Policy.{State, Settles, TakesAnswer, TakesTurn, draw_of, reply_of}
 use Rattle.krb_service.specs.Reply.{admits_peer}
@@ -106,11 +106,6 @@ pub settles_once : (draw : Draw) (connection : Connection) (answer : Result Take
 settles_once draw connection (Ok (taken.Done status token admits)) r s a b h k = (h.0 ∙ sym k.0, h.1 ∙ sym k.1)
 settles_once draw connection (Ok (taken.Run run)) r s a b h k = opens_once connection (Accepts run) draw r s a b h k
 settles_once draw connection (Err error) r s a b h k = (h.0 ∙ sym k.0, h.1 ∙ sym k.1)
-
--- a connection that is found is the one that stands there
-pub free_there : (found : Option Connection) (connection : Connection) → found ≡ Some connection → IsFree found → connection.exchange ≡ None
-free_there None connection is free = absurd free
-free_there (Some x) connection is free = let P : Option Connection → Type 0 = λ o. IsFree o in subst P is free
 
 no_run_judged : (judged : Result Accepted Cause) (run : AcceptRun) → ◌≡◌ {A = Result Taken Cause} (Ok (taken.Run run)) (answered_as judged) → ⊥
 no_run_judged (Ok (Answered a b c)) run e = absurd (cc)

@@ -1,5 +1,5 @@
 -- A token that reached its connection, at an acceptor or an initiator, and what is answered to it.
-use Rattle.std.proofs.Common.{◌≡◌, ℕ, Bool, true, false, not, List, Option, None, Some, Result, Ok, Err, IfOk, refl, sym, ap, ◌∙◌, subst}
+use Rattle.std.proofs.Common.{◌≡◌, ℕ, not, List, Option, None, Some, Result, Ok, Err, IfOk, refl, sym, ap, ◌∙◌, subst}
 use Rattle.std.specs.Result.{result_map_both}
 use Rattle.std.specs.Ordering.{nat_cmp}
 use Rattle.std.specs.BTreeMap.{is_at}
@@ -24,8 +24,8 @@ use Rattle.sspi_core.specs.declared.error.Error.{Error}
 use Rattle.sspi_core.specs.declared.error.Place.TheVariants.{Elsewhere}
 use Rattle.sspi_generator.specs.declared.network.NetFault.{NetFault}
 use Rattle.krb_service.specs.Exchanges.{awaits}
-use Rattle.krb_service.specs.Initiations.{token_heard, options_of, Undertakes}
-use Rattle.krb_service.specs.Policy.{State, ◌>>=◌, check, token_of, called, ready, reached, heard, awaited, token_reached, token_for, server_flags, draw_of, Settles, Judges, Behind, TakesToken, Initiates, TakesTurn, TakesAnswer}
+use Rattle.krb_service.specs.Initiations.{token_heard}
+use Rattle.krb_service.specs.Policy.{State, ◌>>=◌, check, token_of, called, ready, reached, awaited, token_reached, server_flags, draw_of, Settles, Judges, Behind, TakesToken, TakesAnswer}
 use Rattle.krb_service.specs.declared.connection.Connection.{Connection}
 use Rattle.krb_service.specs.declared.reply.Reply.{Reply}
 use Rattle.krb_service.specs.declared.reply.Reply.TheVariants.{Refused}
@@ -83,11 +83,6 @@ reached_there connections event connection token stands e =
 abbrev with_brought : Connection → Result (List ℕ) Cause → Result (Connection × List ℕ) Cause
 with_brought connection brought = brought >>= (λ t. Ok (connection, t))
 
-with_heard : (connection : Connection) (brought : Result (List ℕ) Cause) (token : List ℕ)
-    → result_map_both (λ (x : Connection × List ℕ). x.1) (λ (c : Cause). c) (with_brought connection brought) ≡ Ok token → with_brought connection brought ≡ Ok (connection, token)
-with_heard connection (Ok t) token e = ap (λ (x : List ℕ). Ok (connection, x)) (same_ok t token e)
-with_heard connection (Err cause) token e = absurd (cc)
-
 abbrev listening : Input → Result Connection Cause → Result (Connection × List ℕ) Cause
 listening input found = found >>= (λ connection. with_brought connection (token_heard connection.context.state input))
 
@@ -95,17 +90,6 @@ record Listens (found : Result Connection Cause) (input : Input) (token : List �
   connection : Connection
   found_is : found ≡ Ok connection
   hears : listening input found ≡ Ok (connection, token)
-
-heard_by : (found : Result Connection Cause) (input : Input) (token : List ℕ) → result_map_both (λ (x : Connection × List ℕ). x.1) (λ (c : Cause). c) (listening input found) ≡ Ok token → Listens found input token
-heard_by (Ok connection) input token e = record { connection = connection; found_is = refl; hears = with_heard connection (token_heard connection.context.state input) token e }
-heard_by (Err cause) input token e = absurd (cc)
-
-heard_there : (connections : List (ℕ × Connection)) (event : Event) (connection : Connection) (token : List ℕ) → at_id event.connection connections ≡ Some connection → token_for connections event ≡ Ok token
-    → heard connections event ≡ Ok (connection, token)
-heard_there connections event connection token stands e =
-    let r = heard_by (ready connections event) event.input token e in
-    let there = stands_by (check causes.Moment _) (at_id event.connection connections) r.connection r.found_is in
-    r.hears ∙ ap (λ (c : Connection). Ok (c, token)) (some_one r.connection connection (at_id event.connection connections) there stands)
 
 -- what the network brings: the connection awaits it
 abbrev with_run : Connection → Option Run → Result (Connection × Run) Cause
@@ -126,23 +110,6 @@ module _ {G : Type 0} where
       let T : Result (Connection × Run) Cause → Type 0 = λ f. TakesAnswer state event f answer (Refused (error_of causes.Sequence)) after in
       let e = some_one found connection (at_id event.connection state.connections) stands there in
       subst T (sym (awaiting_is (called state.connections event) found None is (ap (λ (c : Connection). c.exchange) e ∙ none))) (refl, same)
-
-  -- what an initiator answers
-  pub turn-taken : (state after : State G) (event : Event) (connection : Connection) (token : List ℕ) (next : Connection) (made : Result Reply OutOfMemory)
-      → at_id event.connection state.connections ≡ Some connection → token_for state.connections event ≡ Ok token
-      → IfOk made (λ reply. Undertakes connection (options_of connection state.env event.flags token) (draw_of event) reply next)
-      → after.connections ≡ set_value (is_at (nat_cmp event.connection)) state.connections next → after.env ≡ state.env → after.gate ≡ state.gate
-      → IfOk made (λ reply. TakesTurn state event (heard state.connections event) reply after)
-  turn-taken state after event connection token next (Ok reply) stands e undertakes put env gate =
-      let T : Result (Connection × List ℕ) Cause → Type 0 = λ f. TakesTurn state event f reply after in
-      let initiates : Initiates state event connection token reply after = record { next = next; undertakes = undertakes; connections = put; env = env; gate = gate } in
-      subst T (sym (heard_there state.connections event connection token stands e)) initiates
-  turn-taken state after event connection token next (Err memory) stands e undertakes put env gate = tt
-
-  -- the first checks refuse
-  pub turn-refused : (state : State G) (event : Event) (cause : Cause) → heard state.connections event ≡ Err cause → TakesTurn state event (heard state.connections event) (Refused (error_of cause)) state
-  turn-refused state event cause e =
-      let T : Result (Connection × List ℕ) Cause → Type 0 = λ f. TakesTurn state event f (Refused (error_of cause)) state in subst T (sym e) (refl, refl)
 
 module _ {G : Type 0} (admits : G → Ask → Verdict → G → Type 0) where
   -- what a token is answered

@@ -28,7 +28,8 @@ left_by (Err cause) verdict moment = []
 
 module _ {G : Type 0} (admits : G → Ask → Verdict → G → Type 0) where
   -- a TGT-REQ asks no gate
-  abbrev pub left_made : (server : Kerberos) (dce : Bool) (token : List ℕ) (env : Env) (draw : Draw) (old : G) (found : Option TgtReq) (answer : Result Accepted Cause) (server' : Kerberos) (new : G)
+  abbrev pub left_made : (server : Kerberos) (dce : Bool) (token : List ℕ) (env : Env) (draw : Draw) (old : G) (found : Option TgtReq)
+      (answer : Result Accepted Cause) (server' : Kerberos) (new : G)
       → Makes admits server dce token env draw old found answer server' new → List Record
   left_made server dce token env draw old (Some tgt_req) answer server' new made = []
   left_made server dce token env draw old None answer server' new made = left_by made.accepts.request made.accepts.verdict draw.moment
@@ -51,7 +52,8 @@ module _ {G : Type 0} (admits : G → Ask → Verdict → G → Type 0) where
   left_onward None state event reply after step = left_by_part (is_initiator event.connection state.connections) state event reply after step
 
   -- what one event leaves: one record, or none
-  abbrev pub left_by_kind : (is_call : Bool) (state : State G) (event : Event) (reply : Reply) (after : State G) → StepsBy admits is_call state event reply after → List Record
+  abbrev pub left_by_kind : (is_call : Bool) (state : State G) (event : Event) (reply : Reply) (after : State G)
+      → StepsBy admits is_call state event reply after → List Record
   left_by_kind true state event reply after step = []
   left_by_kind false state event reply after step = left_onward (answer_of event.input) state event reply after step
 
@@ -59,7 +61,8 @@ module _ {G : Type 0} (admits : G → Ask → Verdict → G → Type 0) where
   record_left state event reply after step = left_by_kind (is_call event.input) state event reply after step
 
   -- what the events of a run leave
-  abbrev pub records_left : (state : State G) (events : List Event) (replies : List Reply) (after : State G) → Runs admits state events replies after → List Record
+  abbrev pub records_left : (state : State G) (events : List Event) (replies : List Reply) (after : State G)
+      → Runs admits state events replies after → List Record
   records_left state [] replies after runs = []
   records_left state (event ∷ events) [] after runs = []
   records_left state (event ∷ events) (reply ∷ replies) after runs =

@@ -188,7 +188,8 @@ AnswersCall state event (Ok connection) reply after = CallsAt state event connec
 AnswersCall state event (Err cause) reply after = (reply ≡ Refused (error_of cause)) × (after ≡ state)
 
 -- the exchange of a connection takes what the network brought, and all else stays
-pub record Resumes {G : Type 0} (state : State G) (event : Event) (found : Connection × Run) (answer : Result (List ℕ) NetFault) (reply : Reply) (after : State G) : Type 0 where
+pub record Resumes {G : Type 0} (state : State G) (event : Event) (found : Connection × Run) (answer : Result (List ℕ) NetFault)
+    (reply : Reply) (after : State G) : Type 0 where
   pub next : Connection
   pub goes_on : GoesOn found.0 found.1 answer (draw_of event) reply next
   pub connections : after.connections ≡ set_value (is_at (nat_cmp event.connection)) state.connections next
@@ -218,7 +219,8 @@ module _ {G : Type 0} (admits : G → Ask → Verdict → G → Type 0) where
   pub record Judges (state : State G) (event : Event) (connection : Connection) (token : List ℕ) (reply : Reply) (after : State G) : Type 0 where
     pub answer : Result Taken Cause
     pub server : Kerberos
-    pub accepts : AcceptsWhole admits connection.context (asks_dce_style (server_flags event.flags)) token state.env (draw_of event) state.gate answer server after.gate
+    pub accepts : AcceptsWhole admits connection.context (asks_dce_style (server_flags event.flags)) token state.env
+        (draw_of event) state.gate answer server after.gate
     pub next : Connection
     pub settles : Settles (draw_of event) (record connection { context = server }) (told Elsewhere answer) reply next
     pub connections : after.connections ≡ set_value (is_at (nat_cmp event.connection)) state.connections next

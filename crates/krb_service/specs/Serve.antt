@@ -40,7 +40,8 @@ abbrev pub Written : List ℕ → List ℕ → Status → List ℕ → Type 0
 Written input taken Done written = (end_of input ≡ Done) × IsText input written × (taken ≡ input)
 Written input taken BadLine written = (end_of input ≡ BadLine) × IsText input written
 Written input taken TooLong written = (end_of input ≡ TooLong) × IsText input written
-Written input taken ReadFault written = IsSound taken × ((replies : List Reply) × (after : State History) × Answered (whole_reading taken).so_far written replies after)
+Written input taken ReadFault written = IsSound taken
+    × ((replies : List Reply) × (after : State History) × Answered (whole_reading taken).so_far written replies after)
 Written input taken WriteFault written = IsCutShort input written
 Written input taken OutOfMemory written = IsStopped input written
 Written input taken BadWords written = (taken ≡ []) × (written ≡ [])

@@ -28,7 +28,7 @@ mod session;
 
 pub use closing::{ROOM, end_line, numbered_line};
 pub use command::serve;
-pub use connection::Connection;
+pub use connection::{Connection, HeldConnection};
 pub use demonstration::demo;
 pub use described::connection_of;
 pub use krb_exchanges::Exchange;

@@ -7,7 +7,7 @@ ghost use Rattle.krb_acceptor.specs.Whole.{CanStart};
 ghost use Rattle.krb_service.specs.Exchanges.{StopsAt};
 ghost use Rattle.krb_service.specs.Policy.{server_flags, draw_of, Settles};
 
-use crate::connection::Connection;
+use crate::connection::{Connection, HeldConnection};
 use crate::exchange::{answer_of, go_on, open};
 use crate::initiation::{token_heard, undertake};
 use crate::message_calls::{call, is_call};
@@ -31,9 +31,11 @@ use std::marker::Model;
 /// back by a pattern.
 #[derive(Drop)]
 pub struct Service<G> {
-    pub connections: BTreeMap<u32, Connection>,
+    pub connections: BTreeMap<u32, HeldConnection>,
     pub env: Env,
     pub gate: G,
+    /// Where connections that are added stand.
+    pub alloc: Global,
 }
 
 impl<G> Model for Service<G> {
@@ -120,6 +122,7 @@ impl<G: ReplayGate> Service<G> {
                 files: Items::new(Vec::new(alloc)),
             },
             gate,
+            alloc,
         }
     }
 
@@ -128,7 +131,7 @@ impl<G: ReplayGate> Service<G> {
         ensures { option_map (λ context. context.now) result ≡ option_map (λ connection. connection.context) (at_id id self.now.connections) }
     {
         match self.connections.get(&id) {
-            Some(connection) => Some(&connection.context),
+            Some(held) => Some(&held.connection.context),
             None => None,
         }
     }
@@ -152,7 +155,8 @@ impl<G: ReplayGate> Service<G> {
         ensures put { OnOk result (self.new ≡ with_connection self.old id connection) }
         ensures err { OnErr result (self.new ≡ self.old) }
     {
-        self.connections.insert(id, connection)?;
+        let held = HeldConnection::new(self.alloc, connection)?;
+        self.connections.insert(id, held)?;
         Ok(())
     }
 
@@ -221,7 +225,7 @@ impl<G: ReplayGate> Service<G> {
             return Err(Cause::Moment);
         }
         match self.connections.get(&event.connection) {
-            Some(connection) => Ok(connection),
+            Some(held) => Ok(&held.connection),
             None => Err(Cause::Connection),
         }
     }
@@ -265,10 +269,11 @@ impl<G: ReplayGate> Service<G> {
         if let Err(cause) = self.ready(event) {
             return Ok(Reply::Refused(Error::from(cause)));
         }
-        let Some(connection) = self.connections.get_mut(&event.connection) else {
+        let Some(held) = self.connections.get_mut(&event.connection) else {
             return Ok(Reply::Refused(Error::from(Cause::Connection)));
         };
-        call(alloc, &mut connection.context, &event.random, &event.input)
+        let context = &mut held.connection.context;
+        call(alloc, context, &event.random, &event.input)
     }
 
     /// What the network brings to a connection. Out of memory, the service stays.
@@ -283,9 +288,10 @@ impl<G: ReplayGate> Service<G> {
         if let Err(cause) = self.called(event) {
             return Ok(Reply::Refused(Error::from(cause)));
         }
-        let Some(connection) = self.connections.get_mut(&event.connection) else {
+        let Some(held) = self.connections.get_mut(&event.connection) else {
             return Ok(Reply::Refused(Error::from(Cause::Connection)));
         };
+        let connection: &mut Connection = &mut held.connection;
         let Some(exchange) = connection.exchange.take() else {
             return Ok(Reply::Refused(Error::from(Cause::Sequence)));
         };
@@ -321,7 +327,7 @@ impl<G: ReplayGate> Service<G> {
         ensures { result ≡ is_initiator id self.now.connections }
     {
         match self.connections.get(&id) {
-            Some(connection) => connection.context.is_client(),
+            Some(held) => held.connection.context.is_client(),
             None => false,
         }
     }
@@ -345,9 +351,10 @@ impl<G: ReplayGate> Service<G> {
             Ok(token) => token,
             Err(cause) => return Ok(Reply::Refused(Error::from(cause))),
         };
-        let Some(connection) = self.connections.get_mut(&event.connection) else {
+        let Some(held) = self.connections.get_mut(&event.connection) else {
             return Ok(Reply::Refused(Error::from(Cause::Connection)));
         };
+        let connection: &mut Connection = &mut held.connection;
         undertake(
             alloc,
             connection,
@@ -380,9 +387,10 @@ impl<G: ReplayGate> Service<G> {
             Ok(token) => token,
             Err(cause) => return Ok(Reply::Refused(Error::from(cause))),
         };
-        let Some(connection) = self.connections.get_mut(&event.connection) else {
+        let Some(held) = self.connections.get_mut(&event.connection) else {
             return Ok(Reply::Refused(Error::from(Cause::Connection)));
         };
+        let connection: &mut Connection = &mut held.connection;
         let draw = draw_of(event);
         let answer = accept_security_context(
             alloc,

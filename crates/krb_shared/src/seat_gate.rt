@@ -58,7 +58,7 @@ impl<'a, L: Calls, R: Wait> ReplayGate for SeatGate<'a, L, R> {
     ghost goes_on = { λ a b c ask verdict same step. (adds_after L.skew a.seat.now b.seat.now c.seat.now ask verdict same.0 step.0, step.1 ∙ same.1) };
 
     fn admit(&mut self, ask: Ask) -> Result<Verdict, OutOfMemory> {
-        self.book.admit(self.rt, self.seat, &ask)
+        self.book.admit_given(self.rt, self.seat, ask)
     }
 
     fn last_moment(&self) -> u64 {

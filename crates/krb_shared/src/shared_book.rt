@@ -98,11 +98,24 @@ impl<L: Calls> SharedBook<L> {
         ensures receipt { IfOk result (λ verdict. AddsReceipt L.skew seat.old ask.now verdict seat.new) }
         ensures err { OnErr result (seat.new ≡ seat.old) }
     {
+        let given = ask.copy(seat.alloc)?;
+        self.admit_given(rt, seat, given)
+    }
+
+    /// The same with an ask that is given away: the receipt keeps it.
+    pub(crate) fn admit_given<R: Wait>(
+        &self,
+        rt: &R,
+        seat: &mut Seat<L>,
+        ask: Ask,
+    ) -> Result<Verdict, OutOfMemory>
+        ensures receipt { IfOk result (λ verdict. AddsReceipt L.skew seat.old ask verdict seat.new) }
+        ensures err { OnErr result (seat.new ≡ seat.old) }
+    {
         // What can be copied before the lock is taken is.
         seat.receipts.reserve(1)?;
         let asked = ask.copy(seat.alloc)?;
         let entered = ask.copy(seat.alloc)?;
-        let received = ask.copy(seat.alloc)?;
         let number = seat.number;
         let call = seat.receipts.len() as u64 + 1;
         let (verdict, place, moment) = self
@@ -114,7 +127,7 @@ impl<L: Calls> SharedBook<L> {
             entry: Entry {
                 seat: number,
                 call,
-                ask: received,
+                ask,
                 verdict,
             },
             place,

@@ -1,9 +1,8 @@
 -- What is written when the reading has ended.
-use Rattle.std.proofs.Common.{◌≡◌, ◌≢◌, ℕ, ◌+◌, ◌⊎◌, inl, inr, true, false, List, [], ◌++◌, Option, Some, None, IfSome, is_some, refl, ap, sym, ◌∙◌, subst}
-use Rattle.std.specs.Prelude.{if◌then◌else◌}
+use Rattle.std.proofs.Common.{◌≡◌, ◌≢◌, ℕ, ◌+◌, ◌⊎◌, inl, inr, true, false, List, [], Option, Some, None, IfSome, is_some, refl, ap, sym, ◌∙◌, subst}
 use Rattle.std.specs.Io.KnownBytes.{Appends}
 use Rattle.std.proofs.lemmas.List.{append-nil}
-use Rattle.krb_text.specs.Output.{IsFront, AppendsFront}
+use Rattle.krb_text.specs.Output.{AppendsFront}
 use Rattle.krb_script.specs.Script.{Declared, Reading, reading_of}
 use Rattle.krb_script.specs.declared.stop.Stop.TheVariants.{Whole as WholeStop, Bad as BadStop, Long as LongStop}
 use Rattle.krb_text.specs.declared.status.Status.{Status}
@@ -11,8 +10,7 @@ use Rattle.krb_text.specs.declared.status.Status.TheVariants.{Done, BadWords, Ba
 use Rattle.krb_service.specs.Serve.{IsTaken, status_of, end_of}
 use Rattle.krb_service.specs.Text.{bad_line, long_line, stopped_line}
 use Rattle.krb_threads.specs.Known.{Known, Ends}
-use Rattle.krb_threads.specs.declared.ending.Ending.{Ending}
-use Rattle.krb_threads.specs.declared.ending.Ending.TheVariants.{Whole, Bad, Long, Fault, OutOfMemory as NoMemory}
+use Rattle.krb_threads.specs.declared.ending.Ending.TheVariants.{Whole, Bad, Long, OutOfMemory as NoMemory}
 use Rattle.krb_threads.specs.Answers.{IsAnswer}
 use Rattle.krb_threads.specs.Threads.{IsText, IsTextAt, Written, Runs, Answers}
 
@@ -87,12 +85,6 @@ closed-memory left b before after known status line is ends whole cut =
     by-write (λ s. Runs left b before after s) (Appends before after line) (AppendsFront before after line) status OutOfMemory whole cut
     (λ a. map_some _ _ left (λ input k. (k.0, line, k.1, a, is)) ends)
     (λ f. map_some _ _ left (λ input k. (k.0, f.0, k.1, f.2, (line, f.1, inr is))) ends)
-
--- a read failed
-pub closed-fault : (left b before after : Option (List ℕ)) (known : Known) → after ≡ before → Ends left b known Fault → Runs left b before after ReadFault
-closed-fault left b before after known same ends =
-    let P : Option (List ℕ) → Type 0 = λ a. Appends before a [] in
-    map_some _ _ left (λ input k. (k.0, [], k.1, subst P (sym same) (Appends-nothing before), (k.2, refl))) ends
 
 -- the input was read to its end
 record IsWhole (b : Option (List ℕ)) (so_far : Declared) (input : List ℕ) : Type 0 where

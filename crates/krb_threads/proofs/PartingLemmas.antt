@@ -1,10 +1,9 @@
 -- Events and their numbers, one more at a time.
-use Rattle.std.proofs.Common.{◌≡◌, ℕ, ◌+◌, ◌%◌, ◌==◌, Bool, true, false, cond, List, [], ◌∷◌, ◌++◌, length, refl, sym, ap, ◌∙◌, arith}
+use Rattle.std.proofs.Common.{◌≡◌, ℕ, ◌+◌, Bool, true, false, cond, List, [], ◌∷◌, ◌++◌, length, refl, ap, ◌∙◌, arith}
 use Rattle.std.specs.Prelude.{if◌then◌else◌}
 use Rattle.std.specs.List.{filter}
 use Rattle.std.proofs.lemmas.List.{append-nil}
 use Rattle.std.proofs.lemmas.List.Elements.{filter-append}
-use Rattle.std.proofs.lemmas.Bool.Decides.{nat_tests}
 use Rattle.krb_script.specs.declared.item.Event.{Event}
 use Rattle.krb_threads.specs.Journaled.{is_of, events_of, numbers_from}
 
@@ -15,14 +14,6 @@ filter-in p xs x is = filter-append p xs (x ∷ []) ∙ ap (λ b. filter p xs ++
 -- and one that it doesn't
 pub filter-out : {X : Type 0} (p : X → Bool) (xs : List X) (x : X) → p x ≡ false → filter p (xs ++ x ∷ []) ≡ filter p xs
 filter-out p xs x is = filter-append p xs (x ∷ []) ∙ ap (λ b. filter p xs ++ cond b (x ∷ []) []) is ∙ append-nil (filter p xs)
-
--- an even number is worker 0's alone
-pub even-low : (n : ℕ) → is_of 0 n ≡ true → is_of 1 n ≡ false
-even-low n is = grind (arith, nat_tests)
-
--- and each other one worker 1's
-pub odd-high : (n : ℕ) → is_of 0 n ≡ false → is_of 1 n ≡ true
-odd-high n is = grind (arith, nat_tests)
 
 onto : (b : Bool) (n : ℕ) (xs ys : List ℕ) → (if b then n ∷ (xs ++ ys) else (xs ++ ys)) ≡ (if b then n ∷ xs else xs) ++ ys
 onto true n xs ys = refl

@@ -1,10 +1,7 @@
 -- Texts, one line more at a time.
-use Rattle.std.proofs.Common.{◌≡◌, ℕ, zero, suc, ◌+◌, List, [], ◌∷◌, ◌++◌, length, refl, sym, ap, ◌∙◌, arith, append_assoc}
+use Rattle.std.proofs.Common.{◌≡◌, ℕ, ◌+◌, List, [], ◌∷◌, ◌++◌, length, sym, ap, ◌∙◌, arith, append_assoc}
 use Rattle.std.proofs.lemmas.List.{append-nil}
-use Rattle.std.proofs.lemmas.List.Sums.{sum_by_push}
 use Rattle.krb_shared.specs.declared.entry.Entry.{Entry}
-use Rattle.krb_service.specs.Progress.{one_if_admits}
-use Rattle.krb_service.specs.Reply.{admissions}
 use Rattle.krb_service.specs.declared.reply.Reply.{Reply}
 use Rattle.krb_threads.specs.Answers.{worker_line, worker_text, entry_line, entries_text}
 
@@ -23,6 +20,3 @@ entries-push place (first ∷ entries) entry =
     ap (λ l. entry_line place first ++ l) (entries-push (place + 1) entries entry)
     ∙ sym (append_assoc (entry_line place first) (entries_text (place + 1) entries) (entry_line (place + 1 + length entries) entry))
     ∙ ap (λ n. (entry_line place first ++ entries_text (place + 1) entries) ++ entry_line n entry) (omega arith)
-
-pub admissions-push : (replies : List Reply) (reply : Reply) → admissions (replies ++ reply ∷ []) ≡ admissions replies + one_if_admits reply
-admissions-push replies reply = sum_by_push (λ reply. one_if_admits reply) replies reply

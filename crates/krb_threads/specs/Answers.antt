@@ -18,7 +18,8 @@ use Rattle.krb_threads.specs.Journaled.{events_of, numbers_of, connections_of, e
 
 -- the journal is that of one book, asked one call after another, and has the calls of the two workers alone; each worker has
 -- run its events over its connections by its own entries
-pub record AreAnswers (skew : ℕ) (env : Env) (connections : List (ℕ × Connection)) (low high : List Event) (first second : List Reply) (journal : Journal) : Type 0 where
+pub record AreAnswers (skew : ℕ) (env : Env) (connections : List (ℕ × Connection)) (low high : List Event) (first second : List Reply)
+    (journal : Journal) : Type 0 where
   pub legal : IsJournal skew journal
   pub whole : length journal.entries ≡ length (entries_of 0 journal.entries) + length (entries_of 1 journal.entries)
   pub low_runs : RunsBy 1 0 env (connections_of 0 connections) low (entries_of 0 journal.entries) first
@@ -62,5 +63,6 @@ pub record IsAnswer (so_far : Declared) (text : List ℕ) : Type 0 where
   pub first : List Reply
   pub second : List Reply
   pub journal : Journal
-  pub answers : AreAnswers (skew_of so_far.setup) so_far.setup.env (all_connections so_far.setup) (events_of 0 so_far.events) (events_of 1 so_far.events) first second journal
+  pub answers : AreAnswers (skew_of so_far.setup) so_far.setup.env (all_connections so_far.setup) (events_of 0 so_far.events)
+      (events_of 1 so_far.events) first second journal
   pub is : text ≡ answers_text so_far.events first second journal

@@ -48,7 +48,8 @@ pub record Reads (seat : ℕ) (old : Rest) (ask : Ask) (verdict : Verdict) (new 
 
 -- a run of a service with this environment and these connections over these events, from this call on: the k-th event that reaches the gate is given
 -- the verdict of the k-th entry, which has its ask, and no entry is left
-pub record RunsBy (call seat : ℕ) (env : Env) (connections : List (ℕ × Connection)) (events : List Event) (entries : List Entry) (replies : List Reply) : Type 0 where
+pub record RunsBy (call seat : ℕ) (env : Env) (connections : List (ℕ × Connection)) (events : List Event) (entries : List Entry)
+    (replies : List Reply) : Type 0 where
   pub after : State Rest
   pub runs : Runs (Reads seat) (record { connections = connections; env = env; gate = record { call = call; entries = entries } }) events replies after
   pub used : after.gate.entries ≡ []

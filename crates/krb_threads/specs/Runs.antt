@@ -8,7 +8,8 @@ use Rattle.krb_service.specs.declared.reply.Reply.{Reply}
 use Rattle.krb_service.specs.declared.service.Stopped.{Stopped}
 
 -- over all events, or behind so many of them where memory ran out
-abbrev pub EndsAs : {G : Type 0} → (G → Ask → Verdict → G → Type 0) → (G → G → Type 0) → State G → List Event → List Reply → Result (Unit {0}) Stopped → List Reply → State G → Type 0
+abbrev pub EndsAs : {G : Type 0} → (G → Ask → Verdict → G → Type 0) → (G → G → Type 0) → State G → List Event → List Reply
+    → Result (Unit {0}) Stopped → List Reply → State G → Type 0
 EndsAs admits is_same service events old (Ok done) new after = RunsOn admits service events old new after
 EndsAs admits is_same service events old (Err stopped) new after =
     (stopped.taken < length events) × StopsBehind admits is_same service (take stopped.taken events) old new after

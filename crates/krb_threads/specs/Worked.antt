@@ -28,7 +28,8 @@ AreOf seat [] = Unit {0}
 AreOf seat (entry ∷ entries) = (entry.seat ≡ seat) × AreOf seat entries
 
 -- a desk's journal has gained the entries of a run, which are all of this seat
-pub record WorksThere (old : Desk) (call seat : ℕ) (env : Env) (connections : List (ℕ × Connection)) (events : List Event) (replies : List Reply) (new : Desk) : Type 0 where
+pub record WorksThere (old : Desk) (call seat : ℕ) (env : Env) (connections : List (ℕ × Connection)) (events : List Event)
+    (replies : List Reply) (new : Desk) : Type 0 where
   pub skew : new.skew ≡ old.skew
   pub gained : List Entry
   pub journal : new.journal ≡ old.journal ++ gained

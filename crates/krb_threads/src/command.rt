@@ -10,6 +10,7 @@ ghost use Rattle.krb_threads.specs.Threads.{Answers, Runs};
 
 use crate::described::Described;
 use crate::ending::Ending;
+use crate::going::Going;
 use crate::known::Known;
 use crate::parting::{numbers, parted};
 use crate::pause::Pause;
@@ -43,8 +44,11 @@ fn answer_text<R: Threads + Wait + Sync, P: Pause + Send, Q: Pause + Send>(
         endpoints,
     };
     let (one, two) = parted(alloc, events)?;
-    let answers = answers_of(rt, alloc, &described, one, two, first, second)?;
-    text_of(alloc, &low, &high, &answers)
+    let (answers, left) = answers_of(rt, alloc, &described, one, two, first, second)?;
+    let going = Going::start(rt, (described, left));
+    let text = text_of(alloc, &low, &high, &answers);
+    going.wait(rt);
+    text
 }
 
 /// Writes a text, which goes with this status.

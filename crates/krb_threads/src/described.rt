@@ -11,9 +11,10 @@ use krb_conf::Env;
 use krb_der::{OutOfMemory, TryCopy};
 use krb_replay::ReplayGate;
 use krb_script::Endpoint;
-use krb_service::{Connection, Service, connection_of};
+use krb_service::{HeldConnection, Service, connection_of};
 use std::alloc::Global;
 use std::collections::BTreeMap;
+use std::thread::{Threads, join};
 
 /// The ends that the lines declare, the environment, and the skew in seconds.
 #[derive(Drop)]
@@ -36,9 +37,9 @@ fn copied_env(alloc: Global, described: &Described) -> Result<Env, OutOfMemory>
 
 /// Puts a connection where its number stands, in the place of one that has it.
 fn put(
-    made: &mut BTreeMap<u32, Connection>,
+    made: &mut BTreeMap<u32, HeldConnection>,
     id: u32,
-    connection: Connection,
+    connection: HeldConnection,
 ) -> Result<(), OutOfMemory>
     ensures { OnOk result (made.new.entries ≡ insert_entry nat_cmp made.old.entries id connection) }
 {
@@ -51,18 +52,15 @@ fn connections(
     alloc: Global,
     described: &Described,
     worker: u32,
-) -> Result<BTreeMap<u32, Connection>, OutOfMemory>
+) -> Result<BTreeMap<u32, HeldConnection>, OutOfMemory>
     ensures { IfOk result (λ made.
         made.entries ≡ connections_of worker (connections_with described.now.skew described.now.endpoints.entries)) }
 {
     let mut made = BTreeMap::new(alloc);
     for (id, endpoint) in described.endpoints.iter() {
         if *id % 2 == worker {
-            put(
-                &mut made,
-                *id,
-                connection_of(alloc, described.skew, endpoint)?,
-            )?;
+            let connection = connection_of(alloc, described.skew, endpoint)?;
+            put(&mut made, *id, HeldConnection::new(alloc, connection)?)?;
         }
     }
     Ok(made)
@@ -72,7 +70,7 @@ fn connections(
 #[derive(Drop)]
 pub struct Ends {
     pub env: Env,
-    pub connections: BTreeMap<u32, Connection>,
+    pub connections: BTreeMap<u32, HeldConnection>,
 }
 
 /// What one worker has of what the lines declare.
@@ -86,7 +84,29 @@ pub fn ends_of(alloc: Global, described: &Described, worker: u32) -> Result<Ends
     })
 }
 
-/// What both have.
+/// What both have, each made in a thread of its own.
+pub fn ends_in_threads<R: Threads>(
+    rt: &R,
+    alloc: Global,
+    described: &Described,
+) -> Result<(Ends, Ends), OutOfMemory>
+    ensures first { IfOk result (λ both. AreEnds described.now 0 both.0) }
+    ensures second { IfOk result (λ both. AreEnds described.now 1 both.1) }
+{
+    let (low, high) = join(
+        rt,
+        || -> Result<Ends, OutOfMemory>
+            ensures { IfOk result (AreEnds described.entry.now 0) }
+        { ends_of(alloc, described, 0) },
+        || -> Result<Ends, OutOfMemory>
+            ensures { IfOk result (AreEnds described.entry.now 1) }
+        { ends_of(alloc, described, 1) },
+    );
+    let low = low?;
+    Ok((low, high?))
+}
+
+/// What both have, made in this thread.
 pub fn ends_of_both(alloc: Global, described: &Described) -> Result<(Ends, Ends), OutOfMemory>
     ensures first { IfOk result (λ both. AreEnds described.now 0 both.0) }
     ensures second { IfOk result (λ both. AreEnds described.now 1 both.1) }

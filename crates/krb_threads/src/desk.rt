@@ -62,6 +62,7 @@ fn run_at<'a, P: Pause>(
                 pause: _pause,
                 gate: at_desk,
             },
+            alloc: _alloc,
         },
         events: _events,
         replies,
@@ -80,7 +81,8 @@ pub fn run_at_desk<P: Pause, Q: Pause>(
     second: &mut Q,
 ) -> Result<Answers, OutOfMemory>
     ensures { IfOk result (λ answers.
-        AreAnswers described.now.skew described.now.env (all_connections described.now) low.items high.items answers.first.items answers.second.items answers.journal) }
+        AreAnswers described.now.skew described.now.env (all_connections described.now)
+        low.items high.items answers.first.items answers.second.items answers.journal) }
 {
     let mut desk = Desk::new(alloc, described.skew)?;
     let (low_ends, high_ends) = ends_of_both(alloc, described)?;

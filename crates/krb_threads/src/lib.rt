@@ -20,6 +20,7 @@ mod command;
 mod described;
 mod desk;
 mod ending;
+mod going;
 mod known;
 pub mod laws;
 mod part;

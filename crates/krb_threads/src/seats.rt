@@ -22,11 +22,12 @@ pub struct Work {
     pub events: Vec<Event>,
 }
 
-/// The replies of one worker, and its events.
+/// The replies of one worker, its events, and its connections as the run left them.
 #[derive(Drop)]
 pub struct Done {
     pub replies: Vec<Reply>,
     pub events: Vec<Event>,
+    pub ends: Ends,
 }
 
 /// Runs both parts, each behind its pause and at its seat.
@@ -106,24 +107,26 @@ pub fn run_seats<
     };
     let Part {
         service: Service {
-            connections: _connections,
-            env: _env,
+            connections: low_connections,
+            env: low_env,
             gate: PausedGate {
                 pause: _pause,
                 gate: low_gate,
             },
+            alloc: _alloc,
         },
         events: low_events,
         replies: low_replies,
     } = one;
     let Part {
         service: Service {
-            connections: _other_connections,
-            env: _other_env,
+            connections: high_connections,
+            env: high_env,
             gate: PausedGate {
                 pause: _other_pause,
                 gate: high_gate,
             },
+            alloc: _other_alloc,
         },
         events: high_events,
         replies: high_replies,
@@ -134,10 +137,18 @@ pub fn run_seats<
         Done {
             replies: low_replies,
             events: low_events,
+            ends: Ends {
+                env: low_env,
+                connections: low_connections,
+            },
         },
         Done {
             replies: high_replies,
             events: high_events,
+            ends: Ends {
+                env: high_env,
+                connections: high_connections,
+            },
         },
     ))
 }

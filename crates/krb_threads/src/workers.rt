@@ -4,8 +4,9 @@ ghost use Rattle.std.specs.Prelude.{◌≡◌, IfOk};
 ghost use Rattle.krb_threads.specs.Answers.{AreAnswers};
 ghost use Rattle.krb_threads.specs.Described.{all_connections};
 
-use crate::described::{Described, ends_of_both};
+use crate::described::{Described, ends_in_threads};
 use crate::desk::run_at_desk;
+use crate::going::Going;
 use crate::pause::Pause;
 use crate::seats::{Work, run_seats};
 use krb_der::{Items, OutOfMemory};
@@ -25,6 +26,13 @@ pub struct Answers {
     pub journal: Journal,
 }
 
+/// What is left of the events of both workers.
+#[derive(Drop)]
+pub struct Left {
+    pub low: Vec<Event>,
+    pub high: Vec<Event>,
+}
+
 /// Runs both workers.
 pub fn answers_of<R: Threads + Wait + Sync, P: Pause + Send, Q: Pause + Send>(
     rt: &R,
@@ -34,9 +42,10 @@ pub fn answers_of<R: Threads + Wait + Sync, P: Pause + Send, Q: Pause + Send>(
     high: Vec<Event>,
     first: &mut P,
     second: &mut Q,
-) -> Result<Answers, OutOfMemory>
-    ensures { IfOk result (λ answers.
-        AreAnswers described.now.skew described.now.env (all_connections described.now) low.items high.items answers.first.items answers.second.items answers.journal) }
+) -> Result<(Answers, Left), OutOfMemory>
+    ensures { IfOk result (λ both.
+        AreAnswers described.now.skew described.now.env (all_connections described.now)
+        low.items high.items both.0.first.items both.0.second.items both.0.journal) }
 {
     answers_as::<Brand, R, P, Q>(
         rt,
@@ -63,19 +72,20 @@ fn answers_as<L: Calls + Send + Sync, R: Threads + Wait + Sync, P: Pause + Send,
     high: Vec<Event>,
     first: &mut P,
     second: &mut Q,
-) -> Result<Answers, OutOfMemory>
+) -> Result<(Answers, Left), OutOfMemory>
     requires name { blank.name ≡ L.name }
     requires parts { blank.parts ≡ L.parts }
     requires two { blank.parts ≡ 2 }
     requires skew { skew ≡ L.skew }
     requires own_skew { described.now.skew ≡ skew }
-    ensures { IfOk result (λ answers.
-        AreAnswers described.now.skew described.now.env (all_connections described.now) low.items high.items answers.first.items answers.second.items answers.journal) }
+    ensures { IfOk result (λ both.
+        AreAnswers described.now.skew described.now.env (all_connections described.now)
+        low.items high.items both.0.first.items both.0.second.items both.0.journal) }
 {
     let (book, all) = blank.open::<L>();
     let (shared, seats) = SharedBook::with_seats(alloc, book, all, skew, 2)?;
     let mut seats = seats.into_inner();
-    let (low_ends, high_ends) = ends_of_both(alloc, described)?;
+    let (low_ends, high_ends) = ends_in_threads(rt, alloc, described)?;
     let one = Work {
         ends: low_ends,
         events: low,
@@ -98,12 +108,29 @@ fn answers_as<L: Calls + Send + Sync, R: Threads + Wait + Sync, P: Pause + Send,
         one,
         two,
     )?;
+    let going = Going::start(rt, (one.ends, two.ends));
     match shared.close(Items::new(seats)) {
-        Ok(journal) => Ok(Answers {
-            first: one.replies,
-            second: two.replies,
-            journal,
-        }),
-        Err(_) => run_at_desk(alloc, described, one.events, two.events, first, second),
+        Ok(journal) => {
+            going.wait(rt);
+            let answers = Answers {
+                first: one.replies,
+                second: two.replies,
+                journal,
+            };
+            let left = Left {
+                low: one.events,
+                high: two.events,
+            };
+            Ok((answers, left))
+        }
+        Err(_) => {
+            going.wait(rt);
+            let answers = run_at_desk(alloc, described, one.events, two.events, first, second)?;
+            let left = Left {
+                low: Vec::new(alloc),
+                high: Vec::new(alloc),
+            };
+            Ok((answers, left))
+        }
     }
 }

@@ -13,7 +13,8 @@ HandsOn suite key [] last = key ≡ last
 HandsOn suite key (reply ∷ replies) last = (next : List ℕ) × HandsOnKey suite key reply (Ok next) × HandsOn suite next replies last
 
 -- a key that began with the credentials: the AS-REP is sealed under theirs, and the TGS-REPs lead from its key to this one
-pub record IsChain (credentials : CredentialsBuffers) (used : List ℕ) (as_rep : AsRep) (suite : CipherSuite) (replies : List TgsRep) (last : List ℕ) : Type 0 where
+pub record IsChain (credentials : CredentialsBuffers) (used : List ℕ) (as_rep : AsRep) (suite : CipherSuite) (replies : List TgsRep)
+    (last : List ℕ) : Type 0 where
   pub start : List ℕ
   pub begins : TakesReplyKey credentials used as_rep (Ok (record { suite = suite; key = start }))
   pub hands_on : HandsOn suite start replies last

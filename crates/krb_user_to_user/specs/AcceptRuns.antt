@@ -39,7 +39,8 @@ pub record StartsAt (old : AcceptRun) (draw : Draw) (state : GeneratorState Netw
   pub turn : Turns Over (Starts old.acceptor old.phase draw) state new.phase
   pub stays : new.acceptor ≡ old.acceptor
 
-pub record ResumesAt (old : AcceptRun) (reply : Result (List ℕ) NetFault) (draw : Draw) (state : GeneratorState NetworkRequest (Result InitDone Error)) (new : AcceptRun) : Type 0 where
+pub record ResumesAt (old : AcceptRun) (reply : Result (List ℕ) NetFault) (draw : Draw)
+    (state : GeneratorState NetworkRequest (Result InitDone Error)) (new : AcceptRun) : Type 0 where
   pub turn : Turns Over (Next old.acceptor old.phase reply draw) state new.phase
   pub stays : new.acceptor ≡ old.acceptor
 

@@ -1,11 +1,12 @@
 -- A TGT-REQ at a service (draft-swift-win2k-krb-user2user, section 3), up to the request to the KDC.
-use Rattle.std.specs.Prelude.{◌≤◌, ◌^◌, ◌==◌, ◌&&◌, bit_and, Bool, true, false, length, Option, Some, None, Result}
+use Rattle.std.specs.Prelude.{◌≤◌, ◌^◌, ◌==◌, ◌&&◌, Bool, true, false, length, Option, Some, None, Result}
 use Rattle.std.specs.Cmp.Lexicographic.{pointwise}
 use Rattle.krb_conf.specs.declared.env.Env.{Env}
 use Rattle.krb_messages.specs.declared.principal_name.PrincipalName.{PrincipalName}
 use Rattle.krb_exchange.specs.declared.user_to_user.TgtReq.{TgtReq}
 use Rattle.krb_context.specs.declared.context.Kerberos.{Kerberos}
 use Rattle.krb_context.specs.declared.server.ServerProperties.{ServerProperties}
+use Rattle.sspi_core.specs.Flags.{has_flag, use_dce_style}
 use Rattle.sspi_core.specs.declared.flags.ServerRequestFlags.{ServerRequestFlags}
 use Rattle.sspi_core.specs.declared.identity.CredentialsBuffers.{CredentialsBuffers}
 use Rattle.sspi_core.specs.declared.identity.CredentialsBuffers.TheVariants.{AuthIdentity as Password, Keytab as Key}
@@ -20,7 +21,7 @@ use Rattle.krb_user_to_user.specs.declared.request.Beginning.{Beginning}
 
 -- tokens are bare: DCE style (MS-KILE, section 3.4.5.1)
 abbrev pub is_bare : ServerRequestFlags → Bool
-is_bare flags = bit_and flags.0 0x200 == 0x200
+is_bare flags = has_flag flags.0 use_dce_style
 
 -- the name is the service's own: its type and its components are
 abbrev pub is_own : PrincipalName → Option ServerProperties → Bool

@@ -23,6 +23,7 @@ pub fn one_outcome()
         → RequestsTgt server credentials tgt_req dce env r → RequestsTgt server credentials tgt_req dce env s → r ≡ s }
     ensures starts { (acceptor : Acceptor) (phase : AcceptPhase) (draw : Draw) (r s : Result (Turn AcceptPhase InitDone) Cause)
         → Starts acceptor phase draw r → Starts acceptor phase draw s → r ≡ s }
-    ensures resumes { (acceptor : Acceptor) (phase : AcceptPhase) (reply : Result (List ℕ) NetFault) (draw : Draw) (r s : Result (Turn AcceptPhase InitDone) Cause)
+    ensures resumes { (acceptor : Acceptor) (phase : AcceptPhase) (reply : Result (List ℕ) NetFault) (draw : Draw)
+        (r s : Result (Turn AcceptPhase InitDone) Cause)
         → Next acceptor phase reply draw r → Next acceptor phase reply draw s → r ≡ s }
 {}

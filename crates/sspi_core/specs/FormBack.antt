@@ -8,7 +8,8 @@ use Rattle.sspi_core.specs.UsernameForms.{name_of, form_of, IsWhole}
 
 pub inside_of : (text : List ℕ) (place : ℕ) → text ≡ upn_text (take place text) (drop (place + 1) text) → place < length text
 inside_of text place e =
-    let sizes : length text ≡ length (take place text) + suc (length (drop (place + 1) text)) = ap length e ∙ length-append (take place text) (at_sign ∷ drop (place + 1) text) in
+    let sizes : length text ≡ length (take place text) + suc (length (drop (place + 1) text)) =
+    ap length e ∙ length-append (take place text) (at_sign ∷ drop (place + 1) text) in
     omega (arith, length-take place text, length-drop (place + 1) text)
 
 pub form_back : (form : Form) → IsWhole form → form_of (name_of form) ≡ form

@@ -10,7 +10,8 @@ name_of (Parts account domain) = DownLevel account domain
 
 -- the `@` stands at its place, and the parts are a name
 abbrev pub IsWhole : Form → Type 0
-IsWhole (WholeText text place) = (text ≡ upn_text (take place text) (drop (place + 1) text)) × IsTrue (is_user_name (UserPrincipal (take place text) (drop (place + 1) text)))
+IsWhole (WholeText text place) = (text ≡ upn_text (take place text) (drop (place + 1) text))
+    × IsTrue (is_user_name (UserPrincipal (take place text) (drop (place + 1) text)))
 IsWhole (Parts account domain) = IsTrue (is_user_name (DownLevel account domain))
 
 -- the form of a name

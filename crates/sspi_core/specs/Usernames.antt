@@ -41,7 +41,8 @@ parsed text =
     if has backslash text then
     (if has at_sign text then None else user_name (DownLevel (after_first (λ c. c == backslash) text) (Some (before_first (λ c. c == backslash) text))))
     else
-    (if has at_sign text then user_name (UserPrincipal (before_last (λ c. c == at_sign) text) (after_last (λ c. c == at_sign) text)) else user_name (DownLevel text None))
+    (if has at_sign text then user_name (UserPrincipal (before_last (λ c. c == at_sign) text) (after_last (λ c. c == at_sign) text))
+    else user_name (DownLevel text None))
 
 -- the whole text of a user principal name
 abbrev pub upn_text : List ℕ → List ℕ → List ℕ

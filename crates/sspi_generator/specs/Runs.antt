@@ -11,7 +11,8 @@ use Rattle.sspi_generator.specs.declared.task.GeneratorState.TheVariants.{Suspen
 abbrev pub Counts : ℕ → NetworkRequest → Result (List ℕ) NetFault → ℕ → Type 0
 Counts before request reply after = HasCause before after reply
 
-module _ {T C O : Type 0} (resumes : T → Result (List ℕ) NetFault → Draw → GeneratorState NetworkRequest O → T → Type 0) (sends : C → NetworkRequest → Result (List ℕ) NetFault → C → Type 0) where
+module _ {T C O : Type 0} (resumes : T → Result (List ℕ) NetFault → Draw → GeneratorState NetworkRequest O → T → Type 0)
+    (sends : C → NetworkRequest → Result (List ℕ) NetFault → C → Type 0) where
   -- from a step that ended here: each request is sent, and its answer is the next step's, with the next draw
   abbrev pub Finishes : GeneratorState NetworkRequest O → T → C → List Draw → O → T → C → Type 0
   Finishes (Completed end) task client draws out task' client' = (out ≡ end) × (task' ≡ task) × (client' ≡ client)
@@ -21,7 +22,8 @@ module _ {T C O : Type 0} (resumes : T → Result (List ℕ) NetFault → Draw �
       × sends client request reply after × resumes task reply draw state next × Finishes state next after draws out task' client'
 
 -- a whole run, whose first step uses the first draw
-abbrev pub Resolves : {T C O : Type 0} → (T → Draw → GeneratorState NetworkRequest O → T → Type 0) → (T → Result (List ℕ) NetFault → Draw → GeneratorState NetworkRequest O → T → Type 0)
+abbrev pub Resolves : {T C O : Type 0} → (T → Draw → GeneratorState NetworkRequest O → T → Type 0)
+    → (T → Result (List ℕ) NetFault → Draw → GeneratorState NetworkRequest O → T → Type 0)
     → (C → NetworkRequest → Result (List ℕ) NetFault → C → Type 0) → T → C → List Draw → O → T → C → Type 0
 Resolves starts resumes sends task client [] out task' client' = ⊥
 Resolves {T} {C} {O} starts resumes sends task client (draw ∷ draws) out task' client' =

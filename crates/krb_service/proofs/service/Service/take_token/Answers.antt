@@ -1,4 +1,4 @@
-use Rattle.std.proofs.Common.{List, ℕ, ap, sym, refl, subst, ◌∙◌}
+use Rattle.std.proofs.Common.{List, ℕ, ap, sym, refl, Some, subst, ◌∙◌}
 use Rattle.std.specs.Ordering.{nat_cmp}
 use Rattle.std.specs.BTreeMap.{is_at}
 use Rattle.std.specs.Map.{set_value}
@@ -21,17 +21,21 @@ returns-in-Err-clause-step g c =
 
 pub returns-clause-step : goal.returns-clause-step
 returns-clause-step g c =
+    let now : Connection = c.deref_mut-connection.result.now in
+    let stands = sym c.in-Some.ensures.value ∙ ap Some (sym (c.deref_mut-connection.ensures.value ∙ c.held.view_is)) in
     let a = c.accept_security_context-answer in
     rw (← c.self.view_is)
     (token-taken g.G.ReplayGate.admits (record { connections = c.self.inside.connections.entries; env = c.self.inside.env; gate = c.self.inside.gate })
     (record { connections = (c.get_mut.follows.lender c.settle.new.connection).entries; env = c.self.inside.env; gate = a.new.gate })
-    c.args.event.now c.in-Some.connection.now c.in-Ok.token.now a.result a.new.server c.settle.new.connection c.settle.result
-    (sym c.in-Some.ensures.value) (sym (rw (← c.self.view_is) at c.in-Ok.ensures.found)) (rw (c.server_flags.ensures, c.draw_of-draw.ensures) at a.ensures.step)
+    c.args.event.now now c.in-Ok.token.now a.result a.new.server c.settle.new.connection c.settle.result
+    stands (sym (rw (← c.self.view_is) at c.in-Ok.ensures.found)) (rw (c.server_flags.ensures, c.draw_of-draw.ensures) at a.ensures.step)
     c.settle.ensures.other (rw (c.draw_of-draw.ensures) at c.settle.ensures.settles)
     (c.get_mut.follows.holds c.settle.new.connection).0 refl)
 
 pub returns-clause-err : goal.returns-clause-err
 returns-clause-err g c =
+    let now : Connection = c.deref_mut-connection.result.now in
+    let stands = sym c.in-Some.ensures.value ∙ ap Some (sym (c.deref_mut-connection.ensures.value ∙ c.held.view_is)) in
     rw (← c.self.view_is) (on_err_weaker c.settle.result (λ stops.
     let a = c.accept_security_context-answer in
     let m = stopped_leaves g.G.ReplayGate.admits g.G.ReplayGate.is_same g.met.G.ReplayGate.same _ _ _ _ _ _ a.new.server a.new.gate a.result stops.1 a.ensures.step a.ensures.memory in
@@ -40,8 +44,8 @@ returns-clause-err g c =
       connections =
           (c.get_mut.follows.holds c.settle.new.connection).0
           ∙ ap C stops.0
-          ∙ ap (λ context. C (record c.in-Some.connection.now { context = context })) m.0
-          ∙ set_same (is_at (nat_cmp c.args.event.now.connection)) c.self.inside.connections.entries c.in-Some.connection.now (sym c.in-Some.ensures.value);
+          ∙ ap (λ context. C (record now { context = context })) m.0
+          ∙ set_same (is_at (nat_cmp c.args.event.now.connection)) c.self.inside.connections.entries now stands;
       env = refl;
       gate = m.1;
     }) c.settle.ensures.err)

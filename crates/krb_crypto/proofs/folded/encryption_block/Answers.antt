@@ -1,0 +1,6 @@
+use Rattle.std.proofs.Common.{◌∙◌, arith}
+use Rattle.krb_crypto.proofs.FoldedLemmas.{ENCRYPTION_FOLDS_at}
+use Rattle.krb_crypto.proofs.folded.encryption_block.Goals as goal
+
+pub returns-then-usage-lt26 : goal.returns-then-usage-lt26
+returns-then-usage-lt26 c = c.to_be_bytes.ensures ∙ ENCRYPTION_FOLDS_at c.args.usage (omega arith)

@@ -1,0 +1,12 @@
+pub mod BroughtLemmas
+pub mod PlaceLemmas
+pub mod BegunLemmas
+pub mod PhaseLemmas
+pub mod LeadLemmas
+pub mod Known
+pub mod TurnLemmas
+pub mod StartLemmas
+pub mod ReplyLemmas
+pub mod CallLemmas
+pub mod EventLemmas
+pub mod DeclaredLemmas
