@@ -44,8 +44,8 @@ fn answer_text<R: Threads + Wait + Sync, P: Pause + Send, Q: Pause + Send>(
         endpoints,
     };
     let (one, two) = parted(alloc, events)?;
-    let (answers, left) = answers_of(rt, alloc, &described, one, two, first, second)?;
-    let going = Going::start(rt, (described, left));
+    let answers = answers_of(rt, alloc, &described, one, two, first, second)?;
+    let going = Going::start(rt, described);
     let text = text_of(alloc, &low, &high, &answers);
     going.wait(rt);
     text

@@ -5,7 +5,6 @@ ghost use Rattle.krb_threads.specs.Worked.{WorksAt};
 
 use crate::both::run_two;
 use crate::described::{Ends, service_of};
-use crate::going::Going;
 use crate::part::Part;
 use crate::pause::Pause;
 use crate::paused_gate::PausedGate;
@@ -58,8 +57,7 @@ fn run_gates<
     run_two(rt, alloc, first, second)
 }
 
-/// Runs both workers, each at its seat of the book and behind its pause. The connections of both are let go of beside what
-/// follows.
+/// Runs both workers, each at its seat of the book and behind its pause.
 pub fn run_seats<
     'a,
     'b,
@@ -79,7 +77,7 @@ pub fn run_seats<
     second: &'b mut Q,
     one: Work,
     two: Work,
-) -> Result<(Done, Done, Going), OutOfMemory>
+) -> Result<(Done, Done), OutOfMemory>
     ensures first { IfOk result (λ done. WorksAt low.old one.ends.env one.ends.connections.entries one.events.items done.0.replies.items low.new) }
     ensures second { IfOk result (λ done. WorksAt high.old two.ends.env two.ends.connections.entries two.events.items done.1.replies.items high.new) }
     ensures first_events { IfOk result (λ done. done.0.events ≡ one.events) }
@@ -108,8 +106,8 @@ pub fn run_seats<
     };
     let Part {
         service: Service {
-            connections: low_connections,
-            env: low_env,
+            connections: _connections,
+            env: _env,
             gate: PausedGate {
                 pause: _pause,
                 gate: low_gate,
@@ -121,8 +119,8 @@ pub fn run_seats<
     } = one;
     let Part {
         service: Service {
-            connections: high_connections,
-            env: high_env,
+            connections: _other_connections,
+            env: _other_env,
             gate: PausedGate {
                 pause: _other_pause,
                 gate: high_gate,
@@ -134,15 +132,6 @@ pub fn run_seats<
     } = two;
     low_gate.into_seat();
     high_gate.into_seat();
-    let low_ends = Ends {
-        env: low_env,
-        connections: low_connections,
-    };
-    let high_ends = Ends {
-        env: high_env,
-        connections: high_connections,
-    };
-    let going = Going::start(low_rt, (low_ends, high_ends));
     Ok((
         Done {
             replies: low_replies,
@@ -152,6 +141,5 @@ pub fn run_seats<
             replies: high_replies,
             events: high_events,
         },
-        going,
     ))
 }

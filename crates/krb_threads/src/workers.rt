@@ -25,13 +25,6 @@ pub struct Answers {
     pub journal: Journal,
 }
 
-/// What is left of the events of both workers.
-#[derive(Drop)]
-pub struct Left {
-    pub low: Vec<Event>,
-    pub high: Vec<Event>,
-}
-
 /// Runs both workers.
 pub fn answers_of<R: Threads + Wait + Sync, P: Pause + Send, Q: Pause + Send>(
     rt: &R,
@@ -41,10 +34,10 @@ pub fn answers_of<R: Threads + Wait + Sync, P: Pause + Send, Q: Pause + Send>(
     high: Vec<Event>,
     first: &mut P,
     second: &mut Q,
-) -> Result<(Answers, Left), OutOfMemory>
-    ensures { IfOk result (λ both.
+) -> Result<Answers, OutOfMemory>
+    ensures { IfOk result (λ answers.
         AreAnswers described.now.skew described.now.env (all_connections described.now)
-        low.items high.items both.0.first.items both.0.second.items both.0.journal) }
+        low.items high.items answers.first.items answers.second.items answers.journal) }
 {
     answers_as::<Brand, R, P, Q>(
         rt,
@@ -71,15 +64,15 @@ fn answers_as<L: Calls + Send + Sync, R: Threads + Wait + Sync, P: Pause + Send,
     high: Vec<Event>,
     first: &mut P,
     second: &mut Q,
-) -> Result<(Answers, Left), OutOfMemory>
+) -> Result<Answers, OutOfMemory>
     requires name { blank.name ≡ L.name }
     requires parts { blank.parts ≡ L.parts }
     requires two { blank.parts ≡ 2 }
     requires skew { skew ≡ L.skew }
     requires own_skew { described.now.skew ≡ skew }
-    ensures { IfOk result (λ both.
+    ensures { IfOk result (λ answers.
         AreAnswers described.now.skew described.now.env (all_connections described.now)
-        low.items high.items both.0.first.items both.0.second.items both.0.journal) }
+        low.items high.items answers.first.items answers.second.items answers.journal) }
 {
     let (book, all) = blank.open::<L>();
     let (shared, seats) = SharedBook::with_seats(alloc, book, all, skew, 2)?;
@@ -94,7 +87,7 @@ fn answers_as<L: Calls + Send + Sync, R: Threads + Wait + Sync, P: Pause + Send,
         events: high,
     };
     let (low_seat, high_seat) = seats.split_at_mut(1);
-    let (one, two, going) = run_seats(
+    let (one, two) = run_seats(
         rt,
         rt,
         alloc,
@@ -108,27 +101,11 @@ fn answers_as<L: Calls + Send + Sync, R: Threads + Wait + Sync, P: Pause + Send,
         two,
     )?;
     match shared.close(Items::new(seats)) {
-        Ok(journal) => {
-            going.wait(rt);
-            let answers = Answers {
-                first: one.replies,
-                second: two.replies,
-                journal,
-            };
-            let left = Left {
-                low: one.events,
-                high: two.events,
-            };
-            Ok((answers, left))
-        }
-        Err(_) => {
-            going.wait(rt);
-            let answers = run_at_desk(alloc, described, one.events, two.events, first, second)?;
-            let left = Left {
-                low: Vec::new(alloc),
-                high: Vec::new(alloc),
-            };
-            Ok((answers, left))
-        }
+        Ok(journal) => Ok(Answers {
+            first: one.replies,
+            second: two.replies,
+            journal,
+        }),
+        Err(_) => run_at_desk(alloc, described, one.events, two.events, first, second),
     }
 }
