@@ -1,6 +1,6 @@
 //! What an initiator sends, is answered and becomes, call by call.
 
-ghost use Rattle.std.specs.Prelude.{◌<◌, IfOk, length};
+ghost use Rattle.std.specs.Prelude.{◌<◌, length};
 ghost use Rattle.sspi_generator.specs.Draws.{IsInRange, AreInRange};
 ghost use Rattle.krb_initiation.specs.InitRuns.{IsNew, turns_left};
 
@@ -22,9 +22,7 @@ use crate::script::Script;
 use bitflags::Flags;
 use krb_client::InitDone;
 use krb_context::Kerberos;
-use krb_initiation::{
-    GeneratorInitSecurityContext, InitOptions, InitRun, initialize_security_context,
-};
+use krb_initiation::{GeneratorInitSecurityContext, InitOptions, initialize_security_context};
 use sspi_core::{Cause, ClientRequestFlags, Draw, Error, MAX_MOMENT, SecurityStatus};
 use sspi_generator::{MemClient, NetFault, NetworkClient};
 use std::alloc::{AllocError, Global};
@@ -103,13 +101,13 @@ fn flags_of(letters: &str) -> ClientRequestFlags {
     all
 }
 
-/// What its caller asks for, with these flags and this token of the service.
+/// What its caller asks for: a line `call` has the flags, and the token of the service.
 fn options_of(
     alloc: Global,
     initiator: &Initiator,
-    flags: &str,
-    token: &'static str,
+    call: &'static str,
 ) -> Result<InitOptions, Fail> {
+    let (flags, token) = call.split_once(' ').unwrap_or((call, "-"));
     let target = initiator.target(alloc)?;
     let token = octets(alloc, token)?;
     let credentials = initiator.credentials(alloc)?;
@@ -124,47 +122,31 @@ fn options_of(
     })
 }
 
-/// What a line `call` begins: its flags, and the token of the service.
-fn begun(
-    alloc: Global,
-    client: &Kerberos,
-    initiator: &Initiator,
-    call: &'static str,
-) -> Result<Result<InitRun, Error>, Fail>
-    ensures new { IfOk result (λ answer. IfOk answer (λ run. IsNew run)) }
-    ensures turns { IfOk result (λ answer. IfOk answer (λ run. turns_left run.phase < 13)) }
-{
-    let (flags, token) = call.split_once(' ').unwrap_or((call, "-"));
-    let options = options_of(alloc, initiator, flags, token)?;
-    Ok(initialize_security_context(alloc, client, options))
-}
-
 fn end_over(
-    run: InitRun,
+    run: &mut GeneratorInitSecurityContext,
     network: &mut dyn NetworkClient,
     draws: &[Draw],
 ) -> Result<InitDone, Error>
-    requires new { IsNew run }
-    requires turns { turns_left run.phase < length draws.now }
+    requires new { IsNew run.old }
+    requires turns { turns_left run.old.phase < length draws.now }
     requires moments { AreInRange draws.now }
 {
-    let mut run: GeneratorInitSecurityContext = GeneratorInitSecurityContext::new(run);
     run.resolve_with_client(network, draws)
 }
 
+/// What the call ends with over a network.
 fn end_of(
-    begun: Result<InitRun, Error>,
+    alloc: Global,
+    client: &Kerberos,
+    options: InitOptions,
     network: &mut dyn NetworkClient,
     draws: &[Draw; 13],
 ) -> Result<InitDone, Error>
-    requires new { IfOk begun (λ run. IsNew run) }
-    requires turns { IfOk begun (λ run. turns_left run.phase < 13) }
-    requires moments { AreInRange draws.now }
+    requires { AreInRange draws.now }
 {
-    match begun {
-        Ok(run) => end_over(run, network, draws),
-        Err(error) => Err(error),
-    }
+    let run = initialize_security_context(alloc, client, options)?;
+    let mut run: GeneratorInitSecurityContext = GeneratorInitSecurityContext::new(run);
+    end_over(&mut run, network, draws)
 }
 
 fn has_key(alloc: Global, client: &Kerberos, word: &'static str) -> bool {
@@ -246,9 +228,9 @@ fn goes_so(
     let _note = script.take("note");
     let call = script.take("call").unwrap_or("");
     let draws = draws_of(script);
-    let begun = begun(alloc, client, initiator, call)?;
+    let options = options_of(alloc, initiator, call)?;
     let mut kdc = Kdc::new(alloc, *script);
-    let end = end_of(begun, &mut kdc, &draws);
+    let end = end_of(alloc, client, options, &mut kdc, &draws);
     *script = kdc.script();
     Ok(ends_so(alloc, client, end, script) && kdc.is_asked_so())
 }
@@ -340,21 +322,21 @@ const ALICE: &str = "\
      kdc tcp://kdc.example:88\n\
      keytab EXAMPLE.COM\\alice 18 72e14c8e96dfba330802c689e06448591bc19da4f18500d9d63671d6ce24d52d";
 
-fn alices(alloc: Global) -> Result<Result<InitRun, Error>, Fail>
-    ensures new { IfOk result (λ answer. IfOk answer (λ run. IsNew run)) }
-    ensures turns { IfOk result (λ answer. IfOk answer (λ run. turns_left run.phase < 13)) }
-{
-    let initiator = Initiator::next(&mut Script::new(ALICE));
-    let client = initiator.client(alloc)?;
-    begun(alloc, &client, &initiator, "M -")
+fn alice() -> Initiator {
+    Initiator::next(&mut Script::new(ALICE))
 }
 
-/// The end of an initialization of which nothing is sent.
-fn end_unsent(begun: Result<InitRun, Error>) -> Result<InitDone, Error>
-    requires { IfOk begun (λ run. IsNew run) }
+fn end_at_once(run: &mut GeneratorInitSecurityContext) -> Result<InitDone, Error>
+    requires { IsNew run.old }
 {
-    let mut run: GeneratorInitSecurityContext = GeneratorInitSecurityContext::new(begun?);
     run.resolve_to_result(&draw_of(CHANCE))
+}
+
+/// The end of a call of which nothing is sent.
+fn end_unsent(alloc: Global, client: &Kerberos, options: InitOptions) -> Result<InitDone, Error> {
+    let run = initialize_security_context(alloc, client, options)?;
+    let mut run: GeneratorInitSecurityContext = GeneratorInitSecurityContext::new(run);
+    end_at_once(&mut run)
 }
 
 fn is_error(end: &Result<InitDone, Error>, cause: Cause) -> bool {
@@ -364,20 +346,34 @@ fn is_error(end: &Result<InitDone, Error>, cause: Cause) -> bool {
     }
 }
 
+fn is_suspended(alloc: Global, client: &Kerberos) -> Result<bool, Fail> {
+    let options = options_of(alloc, &alice(), "M -")?;
+    Ok(is_error(&end_unsent(alloc, client, options), Cause::Suspended))
+}
+
 #[test]
 fn an_initialization_sends_nothing_itself(rt: HostRuntime) -> Result<(), Fail> {
-    let end = end_unsent(alices(rt.alloc())?);
-    assert!(rt; is_error(&end, Cause::Suspended));
+    let client = alice().client(rt.alloc())?;
+    assert!(rt; is_suspended(rt.alloc(), &client)?);
     Ok(())
+}
+
+fn fails_over(alloc: Global, client: &Kerberos, network: &mut MemClient) -> Result<bool, Fail> {
+    let options = options_of(alloc, &alice(), "M -")?;
+    let draws = draws_of(&mut Script::new(""));
+    let end = end_of(alloc, client, options, network, &draws);
+    Ok(is_error(&end, Cause::Network(5)))
+}
+
+fn fails_at_once(alloc: Global, client: &Kerberos) -> Result<bool, Fail> {
+    let mut answers = VecDeque::new(alloc);
+    answers.push_back(Err(NetFault::Failed(5)))?;
+    fails_over(alloc, client, &mut MemClient::new(answers))
 }
 
 #[test]
 fn a_failure_of_the_network_is_told(rt: HostRuntime) -> Result<(), Fail> {
-    let mut answers = VecDeque::new(rt.alloc());
-    answers.push_back(Err(NetFault::Failed(5)))?;
-    let mut client = MemClient::new(answers);
-    let draws = draws_of(&mut Script::new(""));
-    let end = end_of(alices(rt.alloc())?, &mut client, &draws);
-    assert!(rt; is_error(&end, Cause::Network(5)));
+    let client = alice().client(rt.alloc())?;
+    assert!(rt; fails_at_once(rt.alloc(), &client)?);
     Ok(())
 }

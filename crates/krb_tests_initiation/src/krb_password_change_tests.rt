@@ -13,9 +13,7 @@ use crate::script::Script;
 use krb_conf::Env;
 use krb_context::{ContextChange, Kerberos};
 use krb_der::{OutOfMemory, Text};
-use krb_password_change::{
-    ChangePassword, ChangePasswordRun, GeneratorChangePassword, change_password,
-};
+use krb_password_change::{ChangePassword, GeneratorChangePassword, change_password};
 use sspi_core::{Draw, Error, Secret};
 use std::alloc::Global;
 use std::test::Fail;
@@ -61,41 +59,33 @@ fn client_of(alloc: Global, url: &str) -> Result<Kerberos, OutOfMemory> {
     Ok(Kerberos::new_client_from_config(config, [0, 0, 0, 7]))
 }
 
-#[tactic(auto, using(crate::proofs::Asks::asks_thrice))]
-fn begun(
-    alloc: Global,
-    client: &Kerberos,
-    account: &str,
-) -> Result<Result<ChangePasswordRun, Error>, OutOfMemory>
-    ensures new { IfOk result (λ answer. IfOk answer (λ run. IsNew run)) }
-    ensures turns { IfOk result (λ answer. IfOk answer (λ run. turns_left run.phase < 4)) }
-{
-    let change = change_of(alloc, account)?;
-    Ok(change_password(alloc, client, change, Env::new(alloc)))
-}
-
-fn end_over(run: ChangePasswordRun, kdc: &mut Kdc, draws: &[Draw]) -> Result<ContextChange, Error>
-    requires new { IsNew run }
-    requires turns { turns_left run.phase < length draws.now }
+fn end_over(
+    run: &mut GeneratorChangePassword,
+    kdc: &mut Kdc,
+    draws: &[Draw],
+) -> Result<ContextChange, Error>
+    requires new { IsNew run.old }
+    requires turns { turns_left run.old.phase < length draws.now }
     requires moments { AreInRange draws.now }
 {
-    let mut run: GeneratorChangePassword = GeneratorChangePassword::new(run);
     run.resolve_with(kdc, draws)
 }
 
+/// What the change ends with.
+#[tactic(auto, using(crate::proofs::Asks::asks_thrice))]
 fn end_of(
-    begun: Result<ChangePasswordRun, Error>,
+    alloc: Global,
+    client: &Kerberos,
+    change: ChangePassword,
     kdc: &mut Kdc,
     draws: &[Draw; 4],
 ) -> Result<ContextChange, Error>
-    requires new { IfOk begun (λ run. IsNew run) }
-    requires turns { IfOk begun (λ run. turns_left run.phase < 4) }
+    requires new_password { length change.new_password ≤ 2 ^ 24 }
     requires moments { AreInRange draws.now }
 {
-    match begun {
-        Ok(run) => end_over(run, kdc, draws),
-        Err(error) => Err(error),
-    }
+    let run = change_password(alloc, client, change, Env::new(alloc))?;
+    let mut run: GeneratorChangePassword = GeneratorChangePassword::new(run);
+    end_over(&mut run, kdc, draws)
 }
 
 /// Whether the context has the number of a line `number` afterwards, or a line `refused` prints the refusal.
@@ -109,20 +99,27 @@ fn ends_so(alloc: Global, end: &Result<ContextChange, Error>, script: &mut Scrip
     }
 }
 
-/// Whether the next change asks for what the script says, and ends so: a line `change` has the user, and the URL of its KDC or `-`.
-fn goes_so(alloc: Global, script: &mut Script) -> Result<bool, OutOfMemory> {
-    let _note = script.take("note");
-    let (account, url) = script
-        .take("change")
-        .unwrap_or("")
-        .split_once(' ')
-        .unwrap_or(("", ""));
-    let client = client_of(alloc, url)?;
-    let begun = begun(alloc, &client, account)?;
+/// Whether the next change asks for what the script says, and ends so.
+fn ends_as_said(
+    alloc: Global,
+    client: &Kerberos,
+    account: &str,
+    script: &mut Script,
+) -> Result<bool, OutOfMemory> {
+    let change = change_of(alloc, account)?;
     let mut kdc = Kdc::new(alloc, *script);
-    let end = end_of(begun, &mut kdc, &draws());
+    let end = end_of(alloc, client, change, &mut kdc, &draws());
     *script = kdc.script();
     Ok(ends_so(alloc, &end, script) && kdc.is_asked_so())
+}
+
+/// The same with a new context: a line `change` has the user, and the URL of its KDC or `-`.
+fn goes_so(alloc: Global, script: &mut Script) -> Result<bool, OutOfMemory> {
+    let _note = script.take("note");
+    let line = script.take("change").unwrap_or("");
+    let (account, url) = line.split_once(' ').unwrap_or((line, "-"));
+    let client = client_of(alloc, url)?;
+    ends_as_said(alloc, &client, account, script)
 }
 
 /// What is left of the text where a change goes otherwise: nothing where all go so.
