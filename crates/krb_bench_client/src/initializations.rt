@@ -1,6 +1,6 @@
 //! Initializations of alice with her keytab: her tickets, the AP-REQ to the service, and its answer.
 
-ghost use Rattle.std.specs.Prelude.{◌≡◌, ◌<◌, IfOk, length};
+ghost use Rattle.std.specs.Prelude.{◌<◌, length};
 ghost use Rattle.sspi_generator.specs.Draws.{AreInRange};
 ghost use Rattle.krb_initiation.specs.InitRuns.{IsNew, turns_left};
 
@@ -11,10 +11,8 @@ use krb_client::InitDone;
 use krb_conf::{Env, KerberosConfig};
 use krb_context::Kerberos;
 use krb_der::{Name, Octets, OutOfMemory, TryCopy};
-use krb_initiation::{
-    GeneratorInitSecurityContext, InitOptions, InitRun, initialize_security_context,
-};
-use sspi_core::{Cause, ClientRequestFlags, CredentialsBuffers, Draw};
+use krb_initiation::{GeneratorInitSecurityContext, InitOptions, initialize_security_context};
+use sspi_core::{Cause, ClientRequestFlags, CredentialsBuffers, Draw, Error};
 use sspi_generator::MemClient;
 use std::alloc::Global;
 
@@ -47,32 +45,32 @@ fn options(
     })
 }
 
-fn begun(
-    alloc: Global,
-    context: &Kerberos,
-    credentials: &CredentialsBuffers,
-    token: Octets,
-) -> Result<InitRun, Cause>
-    ensures new { IfOk result (λ run. IsNew run) }
-    ensures turns { IfOk result (λ run. turns_left run.phase ≡ 12) }
-{
-    let options = options(alloc, credentials, token)?;
-    match initialize_security_context(alloc, context, options) {
-        Ok(run) => Ok(run),
-        Err(error) => Err(error.cause),
-    }
-}
-
-fn finish(run: InitRun, network: &mut MemClient, draws: &[Draw]) -> Result<InitDone, Cause>
-    requires new { IsNew run }
-    requires turns { turns_left run.phase < length draws.now }
+/// What a run that is lent ends with: whoever owns it makes no other call.
+fn end_over(
+    run: &mut GeneratorInitSecurityContext,
+    network: &mut MemClient,
+    draws: &[Draw],
+) -> Result<InitDone, Error>
+    requires new { IsNew run.old }
+    requires turns { turns_left run.old.phase < length draws.now }
     requires moments { AreInRange draws.now }
 {
+    run.resolve_with_client(network, draws)
+}
+
+/// What an initiator does with these options.
+fn end_of(
+    alloc: Global,
+    context: &Kerberos,
+    options: InitOptions,
+    network: &mut MemClient,
+    draws: &[Draw; 13],
+) -> Result<InitDone, Error>
+    requires { AreInRange draws.now }
+{
+    let run = initialize_security_context(alloc, context, options)?;
     let mut run: GeneratorInitSecurityContext = GeneratorInitSecurityContext::new(run);
-    match run.resolve_with_client(network, draws) {
-        Ok(done) => Ok(done),
-        Err(error) => Err(error.cause),
-    }
+    end_over(&mut run, network, draws)
 }
 
 /// What the context does when it is given this token.
@@ -83,10 +81,14 @@ fn take(
     token: Octets,
     network: &mut MemClient,
 ) -> Result<(), Cause> {
-    let run = begun(alloc, context, credentials, token)?;
-    let done = finish(run, network, &DRAWS)?;
-    context.settle(done.change);
-    Ok(())
+    let options = options(alloc, credentials, token)?;
+    match end_of(alloc, context, options, network, &DRAWS) {
+        Ok(done) => {
+            context.settle(done.change);
+            Ok(())
+        }
+        Err(error) => Err(error.cause),
+    }
 }
 
 /// Shows the service a ticket, and hears its answer.
