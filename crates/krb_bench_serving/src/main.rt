@@ -5,12 +5,15 @@
 //! long enough to measure. With the word `threads` and a number, those of two threads alone do, in so many rounds.
 #![tactic(auto)]
 
+mod messages;
 mod serving;
+mod starts;
 mod two_threads;
 
 use anyhow::Result;
 use std::env;
 use std::env::Env;
+use std::rt::Clock;
 
 /// How many rounds `full` has on one thread and on two, in turn.
 const ROUNDS: u32 = 20;
@@ -43,14 +46,21 @@ fn read_words(rt: &(impl Env + AllocGlobal)) -> Result<Asked> {
     }
 }
 
+/// The measurements of one thread.
+fn one_thread(rt: &(impl Print + Eprint + Clock + AllocGlobal), full: bool) -> Result<()> {
+    serving::run(rt, full)?;
+    messages::run(rt, full)?;
+    starts::run(rt, full)
+}
+
 fn main(rt: HostRuntime) -> Result<()> {
     match read_words(&rt)? {
         Asked::Trial => {
-            serving::run(&rt, false)?;
+            one_thread(&rt, false)?;
             two_threads::run(&rt, two_threads::TRIAL)
         }
         Asked::Full => {
-            serving::run(&rt, true)?;
+            one_thread(&rt, true)?;
             two_threads::run(&rt, two_threads::full(ROUNDS))
         }
         Asked::Threads(rounds) => two_threads::run(&rt, two_threads::full(rounds)),
