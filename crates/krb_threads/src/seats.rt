@@ -5,6 +5,7 @@ ghost use Rattle.krb_threads.specs.Worked.{WorksAt};
 
 use crate::both::run_two;
 use crate::described::{Ends, service_of};
+use crate::going::Going;
 use crate::part::Part;
 use crate::pause::Pause;
 use crate::paused_gate::PausedGate;
@@ -22,12 +23,11 @@ pub struct Work {
     pub events: Vec<Event>,
 }
 
-/// The replies of one worker, its events, and its connections as the run left them.
+/// The replies of one worker, and its events.
 #[derive(Drop)]
 pub struct Done {
     pub replies: Vec<Reply>,
     pub events: Vec<Event>,
-    pub ends: Ends,
 }
 
 /// Runs both parts, each behind its pause and at its seat.
@@ -58,7 +58,8 @@ fn run_gates<
     run_two(rt, alloc, first, second)
 }
 
-/// Runs both workers, each at its seat of the book and behind its pause.
+/// Runs both workers, each at its seat of the book and behind its pause. The connections of both are let go of beside what
+/// follows.
 pub fn run_seats<
     'a,
     'b,
@@ -78,7 +79,7 @@ pub fn run_seats<
     second: &'b mut Q,
     one: Work,
     two: Work,
-) -> Result<(Done, Done), OutOfMemory>
+) -> Result<(Done, Done, Going), OutOfMemory>
     ensures first { IfOk result (λ done. WorksAt low.old one.ends.env one.ends.connections.entries one.events.items done.0.replies.items low.new) }
     ensures second { IfOk result (λ done. WorksAt high.old two.ends.env two.ends.connections.entries two.events.items done.1.replies.items high.new) }
     ensures first_events { IfOk result (λ done. done.0.events ≡ one.events) }
@@ -133,22 +134,24 @@ pub fn run_seats<
     } = two;
     low_gate.into_seat();
     high_gate.into_seat();
+    let low_ends = Ends {
+        env: low_env,
+        connections: low_connections,
+    };
+    let high_ends = Ends {
+        env: high_env,
+        connections: high_connections,
+    };
+    let going = Going::start(low_rt, (low_ends, high_ends));
     Ok((
         Done {
             replies: low_replies,
             events: low_events,
-            ends: Ends {
-                env: low_env,
-                connections: low_connections,
-            },
         },
         Done {
             replies: high_replies,
             events: high_events,
-            ends: Ends {
-                env: high_env,
-                connections: high_connections,
-            },
         },
+        going,
     ))
 }

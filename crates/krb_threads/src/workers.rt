@@ -6,7 +6,6 @@ ghost use Rattle.krb_threads.specs.Described.{all_connections};
 
 use crate::described::{Described, ends_in_threads};
 use crate::desk::run_at_desk;
-use crate::going::Going;
 use crate::pause::Pause;
 use crate::seats::{Work, run_seats};
 use krb_der::{Items, OutOfMemory};
@@ -95,7 +94,7 @@ fn answers_as<L: Calls + Send + Sync, R: Threads + Wait + Sync, P: Pause + Send,
         events: high,
     };
     let (low_seat, high_seat) = seats.split_at_mut(1);
-    let (one, two) = run_seats(
+    let (one, two, going) = run_seats(
         rt,
         rt,
         alloc,
@@ -108,7 +107,6 @@ fn answers_as<L: Calls + Send + Sync, R: Threads + Wait + Sync, P: Pause + Send,
         one,
         two,
     )?;
-    let going = Going::start(rt, (one.ends, two.ends));
     match shared.close(Items::new(seats)) {
         Ok(journal) => {
             going.wait(rt);
