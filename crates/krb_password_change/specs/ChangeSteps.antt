@@ -3,6 +3,7 @@
 use Rattle.std.specs.Prelude.{◌≡◌, ℕ, ◌==◌, List, length, take, Option, Some, None, Result}
 use Rattle.krb_crypto.specs.Suite.{key_size}
 use Rattle.krb_messages.specs.declared.ap_rep.ApRep.{ApRep as Reply}
+use Rattle.krb_exchange.specs.declared.kdc_rep.AsRep.{AsRep}
 use Rattle.krb_exchange.specs.declared.kdc_req.KdcReqBody.{KdcReqBody}
 use Rattle.krb_exchange.specs.declared.kdc_rep.KdcRep.{KdcRep}
 use Rattle.krb_exchange.specs.declared.krb_priv.KrbPriv.{KrbPriv}
@@ -64,12 +65,17 @@ AsksChange changer kdc rep key draw = do
   service ← Takes Port (password_kdc kdc)
   Gives (Asks (change_request changer key.suite key.key rep service draw) (AwaitsAnswer (answer_leg rep key service draw)))
 
+-- an AS-REP: its key, and what is asked for with it
+abbrev pub AsksWith : Changer → Kdc → List ℕ → AsRep → Draw → Result (Turn ChangePhase ContextChange) Cause → Type 0
+AsksWith changer kdc salt as_rep draw = do
+  key ← TakesReplyKey changer.asker.credentials salt as_rep
+  AsksChange changer kdc as_rep.0 key draw
+
 -- the second reply
 unfoldable pub TakesAsRep : Changer → Kdc → List ℕ → Result (List ℕ) NetFault → Draw → Result (Turn ChangePhase ContextChange) Cause → Type 0
 TakesAsRep changer kdc salt reply draw = do
   as_rep ← Grants kdc.protocol as_rep_layout reply
-  key ← TakesReplyKey changer.asker.credentials salt as_rep
-  AsksChange changer kdc as_rep.0 key draw
+  AsksWith changer kdc salt as_rep draw
 
 -- what stands behind an AP-REP, which is not looked at
 abbrev pub behind_reply : ApMessage → KrbPriv → Option KrbPriv

@@ -13,7 +13,7 @@ ghost use Rattle.krb_credentials.specs.Granted.{IsSendable};
 ghost use Rattle.krb_password_change.specs.declared.phase.ChangePhase.TheVariants as phases;
 ghost use Rattle.krb_password_change.specs.Changes.{IsReady};
 ghost use Rattle.krb_password_change.specs.Requested.{change_request};
-ghost use Rattle.krb_password_change.specs.ChangeSteps.{body_of, AsksFirst, AsksSecond, answer_leg, AsksChange, TakesAsRep};
+ghost use Rattle.krb_password_change.specs.ChangeSteps.{body_of, AsksFirst, AsksSecond, answer_leg, AsksChange, AsksWith, TakesAsRep};
 ghost use Rattle.krb_password_change.specs.ChangeRuns.{GoesDown};
 
 use crate::change::Changer;
@@ -132,19 +132,20 @@ fn check_key(key: &ReplyKey) -> Result<(), Cause>
 /// What the answer to the new password will be judged by.
 fn answer_leg(
     alloc: Global,
-    rep: KdcRep,
+    rep: &KdcRep,
     key: &ReplyKey,
     service: &Kdc,
     draw: &Draw,
 ) -> Result<AnswerLeg, OutOfMemory>
-    ensures { IfOk result (λ leg. leg ≡ answer_leg rep key.now service.now draw.now) }
+    ensures { IfOk result (λ leg. leg ≡ answer_leg rep.now key.now service.now draw.now) }
 {
     let subkey = drawn_key(alloc, key.suite, draw)?;
+    let realm = rep.crealm.copy(alloc)?;
     Ok(AnswerLeg {
         protocol: service.protocol,
         suite: key.suite,
         subkey,
-        realm: rep.crealm,
+        realm,
     })
 }
 
@@ -152,20 +153,20 @@ fn answer_leg(
 fn sent_change(
     alloc: Global,
     changer: &Changer,
-    rep: KdcRep,
+    rep: &KdcRep,
     key: &ReplyKey,
     service: &Kdc,
     draw: &Draw,
 ) -> Result<Turn<ChangePhase, ContextChange>, Cause>
     requires changer { IsReady changer.now }
-    requires rep { IsSendable rep }
+    requires rep { IsSendable rep.now }
     requires realm { length service.now.realm ≤ 2 ^ 24 }
     requires moment { draw.now.moment ≤ MAX_MOMENT }
-    ensures step { Answers (Gives (turns.Asks (change_request changer.now key.now.suite key.now.key rep service.now draw.now)
-        (phases.AwaitsAnswer (answer_leg rep key.now service.now draw.now)))) result }
+    ensures step { Answers (Gives (turns.Asks (change_request changer.now key.now.suite key.now.key rep.now service.now draw.now)
+        (phases.AwaitsAnswer (answer_leg rep.now key.now service.now draw.now)))) result }
     ensures down { IfOk result (λ turn. GoesDown 1 turn) }
 {
-    let request = change_request(alloc, changer, key.suite, &key.key, &rep, service, draw)?;
+    let request = change_request(alloc, changer, key.suite, &key.key, rep, service, draw)?;
     let leg = answer_leg(alloc, rep, key, service, draw)?;
     Ok(Turn::Asks(request, ChangePhase::AwaitsAnswer(leg)))
 }
@@ -176,20 +177,40 @@ fn ask_change(
     alloc: Global,
     changer: &Changer,
     kdc: &Kdc,
-    rep: KdcRep,
+    rep: &KdcRep,
     key: &ReplyKey,
     draw: &Draw,
 ) -> Result<Turn<ChangePhase, ContextChange>, Cause>
     requires changer { IsReady changer.now }
-    requires rep { IsSendable rep }
+    requires rep { IsSendable rep.now }
     requires realm { length kdc.now.realm ≤ 2 ^ 24 }
     requires moment { draw.now.moment ≤ MAX_MOMENT }
-    ensures step { Answers (AsksChange changer.now kdc.now rep key.now draw.now) result }
+    ensures step { Answers (AsksChange changer.now kdc.now rep.now key.now draw.now) result }
     ensures down { IfOk result (λ turn. GoesDown 1 turn) }
 {
     check_key(key)?;
     let service = password_kdc(alloc, kdc)?;
     sent_change(alloc, changer, rep, key, &service, draw)
+}
+
+/// The request for the new password, with the key of this AS-REP.
+fn ask_with(
+    alloc: Global,
+    changer: &Changer,
+    kdc: &Kdc,
+    salt: &Text,
+    as_rep: &AsRep,
+    draw: &Draw,
+) -> Result<Turn<ChangePhase, ContextChange>, Cause>
+    requires changer { IsReady changer.now }
+    requires rep { IsSendable as_rep.now.0 }
+    requires realm { length kdc.now.realm ≤ 2 ^ 24 }
+    requires moment { draw.now.moment ≤ MAX_MOMENT }
+    ensures step { Answers (AsksWith changer.now kdc.now salt.now as_rep.now draw.now) result }
+    ensures down { IfOk result (λ turn. GoesDown 1 turn) }
+{
+    let key = reply_key(alloc, &changer.asker, salt, as_rep)?;
+    ask_change(alloc, changer, kdc, &as_rep.0, &key, draw)
 }
 
 /// What follows the second reply.
@@ -209,7 +230,5 @@ pub(crate) fn take_as_rep(
     ensures down { IfOk result (λ turn. GoesDown 1 turn) }
 {
     let as_rep = granted_as_rep(alloc, kdc.protocol, reply)?;
-    let key = reply_key(alloc, &changer.asker, salt, &as_rep)?;
-    let AsRep(rep) = as_rep;
-    ask_change(alloc, changer, kdc, rep, &key, draw)
+    ask_with(alloc, changer, kdc, salt, &as_rep, draw)
 }
