@@ -3,6 +3,7 @@ use Rattle.std.specs.Prelude.{ℕ, true, List, take, Some, Result}
 use Rattle.krb_exchange.specs.declared.kdc_req.KdcReqBody.{KdcReqBody}
 use Rattle.krb_exchange.specs.declared.kdc_rep.AsRep.{AsRep}
 use Rattle.krb_exchange.specs.Layouts.{as_rep_layout}
+use Rattle.krb_context.specs.declared.context.ContextChange.{ContextChange}
 use Rattle.krb_context.specs.declared.state.KerberosState.TheVariants.{Preauthentication}
 use Rattle.sspi_core.specs.declared.results.SecurityStatus.TheVariants.{ContinueNeeded}
 use Rattle.sspi_core.specs.declared.protocol.NetworkProtocol.{NetworkProtocol}
@@ -43,19 +44,23 @@ AsksSecond asker kdc body reply draw = do
   again ← AsksAgain asker kdc body reply draw
   Gives (Asks again.request (AwaitsAsRep kdc again.salt))
 
--- the ticket of the AS-REP goes to the client, and its key becomes the service's own; the client's AP-REQ is awaited
+-- the key of the AS-REP becomes the service's own, and the client's AP-REQ is awaited
+abbrev pub change_of : Acceptor → List ℕ → ReplyKey → ContextChange
+change_of acceptor realm reply = record {
+  state = Preauthentication;
+  realm = Some realm;
+  encryption_params = record acceptor.params { encryption_type = Some reply.suite };
+  seq_number = acceptor.number;
+  krb5_user_to_user = true;
+  ticket_decryption_key = Some reply.key;
+}
+
+-- the ticket of the AS-REP goes to the client
 unfoldable pub done_of : Acceptor → AsRep → ReplyKey → InitDone
 done_of acceptor as_rep reply = record {
   status = ContinueNeeded;
   token = token_of acceptor.dce as_rep.0.ticket;
-  change = record {
-    state = Preauthentication;
-    realm = Some as_rep.0.crealm;
-    encryption_params = record acceptor.params { encryption_type = Some reply.suite };
-    seq_number = acceptor.number;
-    krb5_user_to_user = true;
-    ticket_decryption_key = Some reply.key;
-  };
+  change = change_of acceptor as_rep.0.crealm reply;
 }
 
 -- the second reply ends the exchange

@@ -9,7 +9,7 @@ ghost use Rattle.krb_client.specs.declared.turn.Turn.TheVariants as turns;
 ghost use Rattle.krb_credentials.specs.Clients.{IsShort};
 ghost use Rattle.krb_credentials.specs.Granted.{IsSendable};
 ghost use Rattle.krb_user_to_user.specs.declared.steps.AcceptPhase.TheVariants as phases;
-ghost use Rattle.krb_user_to_user.specs.AcceptSteps.{body_of, AsksFirst, AsksSecond, done_of, TakesAsRep};
+ghost use Rattle.krb_user_to_user.specs.AcceptSteps.{body_of, AsksFirst, AsksSecond, change_of, done_of, TakesAsRep};
 ghost use Rattle.krb_user_to_user.specs.AcceptRuns.{GoesDown};
 
 use crate::request::Acceptor;
@@ -146,6 +146,27 @@ fn params_with(
     Ok(made)
 }
 
+/// What becomes of the context: the key of the AS-REP is the service's own.
+fn change_of(
+    alloc: Global,
+    acceptor: &Acceptor,
+    realm: &Name,
+    reply: ReplyKey,
+) -> Result<ContextChange, OutOfMemory>
+    ensures { IfOk result (λ change. change ≡ change_of acceptor.now realm.now reply) }
+{
+    let realm = text_of(alloc, realm)?;
+    let encryption_params = params_with(alloc, &acceptor.params, reply.suite)?;
+    Ok(ContextChange {
+        state: KerberosState::Preauthentication,
+        realm: Some(realm),
+        encryption_params,
+        seq_number: acceptor.number,
+        krb5_user_to_user: true,
+        ticket_decryption_key: Some(reply.key),
+    })
+}
+
 /// What the exchange ends with.
 #[tactic(auto, unfolding(crate::specs::AcceptSteps::done_of))]
 fn done_of(
@@ -159,20 +180,12 @@ fn done_of(
 {
     let AsRep(rep) = as_rep;
     let KdcRep { crealm, ticket, .. } = rep;
-    let realm = text_of(alloc, &crealm)?;
-    let encryption_params = params_with(alloc, &acceptor.params, reply.suite)?;
+    let change = change_of(alloc, acceptor, &crealm, reply)?;
     let token = token_of(alloc, acceptor.dce, ticket)?;
     Ok(InitDone {
         status: SecurityStatus::ContinueNeeded,
         token,
-        change: ContextChange {
-            state: KerberosState::Preauthentication,
-            realm: Some(realm),
-            encryption_params,
-            seq_number: acceptor.number,
-            krb5_user_to_user: true,
-            ticket_decryption_key: Some(reply.key),
-        },
+        change,
     })
 }
 
