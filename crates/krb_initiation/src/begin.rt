@@ -217,6 +217,27 @@ fn wanted_of(
     })
 }
 
+/// What it asks ticket-granting services for, and with what it goes to the service.
+fn way_of(
+    alloc: Global,
+    context: &Kerberos,
+    options: &InitOptions,
+    target: Name,
+    user_to_user: bool,
+    mechanism: Octets,
+) -> Result<(Wanted, Errand), OutOfMemory>
+    requires named { 0 < length mechanism }
+    requires mechanism { length mechanism ≤ 2 ^ 24 }
+    ensures wanted { IfOk result (λ way. way.0 ≡ wanted_of options.now target (initiator_of context.now user_to_user options.now.flags)) }
+    ensures errand { IfOk result (λ way. way.1 ≡ errand_of context.now options.now user_to_user mechanism) }
+    ensures short { IfOk result (λ way. IfSome way.0.channel_bindings AreShortBindings) }
+    ensures can { IfOk result (λ way. CanGo way.1) }
+{
+    let errand = errand_of(alloc, context, options, user_to_user, mechanism)?;
+    let wanted = wanted_of(alloc, options, target, &errand.initiator)?;
+    Ok((wanted, errand))
+}
+
 /// An initiator on its way to the ticket.
 fn seeker_of(
     alloc: Global,
@@ -237,8 +258,8 @@ fn seeker_of(
         user_to_user,
         mechanism,
     } = tgt;
-    let errand = errand_of(alloc, context, options, user_to_user, mechanism)?;
-    let wanted = wanted_of(alloc, options, target, &errand.initiator)?;
+    let way = way_of(alloc, context, options, target, user_to_user, mechanism)?;
+    let (wanted, errand) = way;
     let Identity { asker, client } = identity;
     Ok(Initiation::Seeks(Seeker {
         asker,

@@ -120,23 +120,22 @@ pub(crate) fn take_first(
 
 /// The phase behind a request that follows a referral.
 fn sent_next_tgs(
-    alloc: Global,
     begun: Begun,
     shown: Shown,
-    leg: &TgsLeg,
+    home: Name,
+    hops: u8,
 ) -> Result<Turn<InitPhase, InitDone>, Cause>
-    requires few { leg.now.hops < 9 }
-    ensures step { Answers (Gives (turns.Asks begun.request (phases.AwaitsTgsRep (leg_of begun.kdc shown leg.now.home (leg.now.hops + 1))))) result }
-    ensures down { IfOk result (λ turn. GoesDown (9 - leg.now.hops) turn) }
+    requires few { hops < 9 }
+    ensures step { Answers (Gives (turns.Asks begun.request (phases.AwaitsTgsRep (leg_of begun.kdc shown home (hops + 1))))) result }
+    ensures down { IfOk result (λ turn. GoesDown (9 - hops) turn) }
 {
-    let home = leg.home.copy(alloc)?;
     let Begun { request, kdc } = begun;
     let next = TgsLeg {
         kdc,
         suite: shown.suite,
         key: shown.key,
         home,
-        hops: leg.hops + 1,
+        hops: hops + 1,
     };
     Ok(Turn::Asks(request, InitPhase::AwaitsTgsRep(next)))
 }
@@ -158,6 +157,7 @@ fn refer(
     ensures step { Answers (Refers seeker.now leg.now realm.now shown draw.now) result }
     ensures down { IfOk result (λ turn. GoesDown (9 - leg.now.hops) turn) }
 {
+    let home = leg.home.copy(alloc)?;
     let asked = &leg.kdc.realm;
     let begun = follow(
         alloc,
@@ -170,7 +170,7 @@ fn refer(
         realm,
         draw,
     )?;
-    sent_next_tgs(alloc, begun, shown, leg)
+    sent_next_tgs(begun, shown, home, leg.hops)
 }
 
 /// The service's ticket is shown to the service.

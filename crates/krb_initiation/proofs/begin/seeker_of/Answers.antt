@@ -10,5 +10,5 @@ use Rattle.krb_initiation.proofs.begin.seeker_of.Goals as goal
 wanting : {A : Type 0} (checks : Result A Cause → Type 0) (answer : Result A Cause) → IsErrAnd answer (λ d. d ≡ Memory) → Answers checks answer
 wanting checks answer is = record { so = λ ne. absurd (ne (is_err answer Memory is)) }
 
-pub returns-in_err-wanted-clause-step : goal.returns-in_err-wanted-clause-step
-returns-in_err-wanted-clause-step c = wanting _ _ c.from_residual-in_err-wanted.ensures.1
+pub returns-in_err-way-clause-step : goal.returns-in_err-way-clause-step
+returns-in_err-way-clause-step c = wanting _ _ c.from_residual.ensures.1
