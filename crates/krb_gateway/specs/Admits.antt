@@ -9,6 +9,7 @@ use Rattle.krb_replay.specs.Book.{Book, Follows, StandsFor}
 use Rattle.krb_server.specs.Accepts.{Accepts}
 use Rattle.krb_server.specs.declared.admission.Accepted.{Accepted}
 use Rattle.krb_server.specs.declared.admission.Accepted.TheVariants.{Done}
+use Rattle.sspi_core.specs.declared.cause.Cause.{Cause}
 use Rattle.sspi_core.specs.declared.draw.Draw.{Draw}
 use Rattle.sspi_core.specs.declared.buffer.BufferType.TheVariants as types
 use Rattle.sspi_core.specs.Buffer.{Buffer, no_flags}
@@ -23,13 +24,26 @@ pub record Waits (service : ServerProperties) (connection : Kerberos) : Type 0 w
 abbrev pub answer_in : Accepted → List ℕ
 answer_in (Done status answer admits) = answer
 
--- the token passes every check of the acceptor, the question to the book among them, at a connection that waited for one
-pub record Admits (service : ServerProperties) (old : Book) (token : List ℕ) (draw : Draw) (answer : List ℕ) (connection : Kerberos) (new : Book) : Type 0 where
-  pub waiting : Kerberos
-  pub waits : Waits service waiting
+-- the token passes every check of the acceptor, the question to the book among them
+pub record LetsIn (waiting : Kerberos) (old : Book) (token : List ℕ) (draw : Draw) (answer : List ℕ) (connection : Kerberos)
+    (new : Book) : Type 0 where
   pub accepted : Accepted
   pub answer_is : answer ≡ answer_in accepted
   pub accepts : Accepts (Follows StandsFor) waiting false token draw old (Ok accepted) connection new
+
+-- it does so at a connection of the service that waited for a token
+pub record Admits (service : ServerProperties) (old : Book) (token : List ℕ) (draw : Draw) (answer : List ℕ) (connection : Kerberos)
+    (new : Book) : Type 0 where
+  pub waiting : Kerberos
+  pub waits : Waits service waiting
+  pub passes : LetsIn waiting old token draw answer connection new
+
+-- what the checks of the acceptor answer, the question to the book among them, at a connection of the service that waited for a token
+pub record Judges (service : ServerProperties) (old : Book) (token : List ℕ) (draw : Draw) (new : Book) (answer : Result Accepted Cause) : Type 0 where
+  pub waiting : Kerberos
+  pub waits : Waits service waiting
+  pub connection : Kerberos
+  pub accepts : Accepts (Follows StandsFor) waiting false token draw old answer connection new
 
 -- a message that came whole, and an empty buffer for its text
 abbrev pub whole_message : List ℕ → List Buffer

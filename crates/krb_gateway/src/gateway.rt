@@ -1,12 +1,19 @@
 //! What a server keeps, and the three calls that it makes of the library.
 
-ghost use Rattle.std.specs.Prelude.{◌≡◌, map, Ok, None, Some, IfOk, IfErr};
+ghost use Rattle.std.specs.Prelude.{◌≡◌, false, map, Ok, None, Some, IfOk, IfErr};
 ghost use Rattle.krb_replay.specs.Book.{StandsFor};
 ghost use Rattle.krb_replay.specs.History.{no_history};
 ghost use Rattle.krb_context.specs.ServiceKeys.{new_properties, IsNotAscii};
 ghost use Rattle.krb_context.specs.Queries.{name_of};
 ghost use Rattle.krb_context.specs.Unwraps.{Unwraps};
-ghost use Rattle.krb_gateway.specs.Admits.{Waits, answer_in, Admits, whole_message};
+ghost use Rattle.krb_context.specs.declared.server.ServerProperties.{ServerProperties};
+ghost use Rattle.krb_context.specs.Refusals.{Refuses};
+ghost use Rattle.krb_replay.specs.Book.{Follows};
+ghost use Rattle.krb_server.specs.Accepts.{Accepts};
+ghost use Rattle.sspi_core.specs.Kinds.{error_of};
+ghost use Rattle.sspi_core.specs.declared.cause.Cause.TheVariants as causes;
+ghost use Rattle.sspi_core.specs.declared.error.Place.TheVariants as places;
+ghost use Rattle.krb_gateway.specs.Admits.{Waits, answer_in, LetsIn, Admits, Judges, whole_message};
 
 use krb_server::{
     Accepted, Draw, Env, Error, Flags, Items, Kerberos, KerberosConfig, Message, Octets, Part,
@@ -42,6 +49,28 @@ fn answer_in(accepted: Accepted) -> Octets
     token
 }
 
+/// What goes back to the client that sent this token at its connection, and the client's name.
+fn let_in(
+    alloc: Global,
+    connection: &mut Kerberos,
+    book: &mut ReplayBook,
+    token: &[u8],
+    draw: &Draw,
+) -> Result<(Octets, Username), Error>
+    requires { (service : ServerProperties) × Waits service connection.old }
+    ensures accepts { IfOk result (λ guest. LetsIn connection.old book.old token.now draw.now guest.0 connection.new book.new) }
+    ensures named { IfOk result (λ guest. name_of connection.new ≡ Ok guest.1) }
+    ensures refused { IfErr result (λ error. Refuses places.Elsewhere
+        (λ answer. Accepts (Follows StandsFor) connection.old false token.now draw.now book.old answer connection.new book.new) error) }
+{
+    let flags = ServerRequestFlags::from_bits_retain(0);
+    let env = Env::new(alloc);
+    let accepted = accept_security_context(alloc, connection, book, token, flags, &env, draw)?;
+    let answer = answer_in(accepted);
+    let names = connection.query_context_names(alloc)?;
+    Ok((answer, names.username))
+}
+
 impl Gateway {
     /// A service of these components, as `host` and `server.example.com`, and its key of 16 or 32 octets.
     /// Refused as NotAscii where a component is past ASCII.
@@ -58,7 +87,8 @@ impl Gateway {
 
     /// A connection that waits for its client's token. Its first sequence number is drawn.
     fn connection(&self, alloc: Global, draw: &Draw) -> Result<Kerberos, Error>
-        ensures { IfOk result (Waits self.now.service) }
+        ensures waits { IfOk result (Waits self.now.service) }
+        ensures errors { IfErr result (λ error. error ≡ error_of causes.Memory) }
     {
         let config = KerberosConfig {
             kdc_url: None,
@@ -73,27 +103,20 @@ impl Gateway {
     pub fn admit(&mut self, alloc: Global, token: &[u8], draw: &Draw) -> Result<Guest, Error>
         ensures admits { IfOk result (λ guest. Admits self.old.service self.old.book token.now draw.now guest.answer guest.connection self.new.book) }
         ensures named { IfOk result (λ guest. name_of guest.connection ≡ Ok guest.name) }
+        // A refusal is that of the first check that failed, unless memory ran out.
+        ensures refused { IfErr result (λ error. Refuses places.Elsewhere
+            (Judges self.old.service self.old.book token.now draw.now self.new.book) error) }
         ensures service { self.new.service ≡ self.old.service }
     {
         let mut connection = self.connection(alloc, draw)?;
-        let flags = ServerRequestFlags::from_bits_retain(0);
-        let env = Env::new(alloc);
-        let accepted = accept_security_context(
-            alloc,
-            &mut connection,
-            &mut self.book,
-            token,
-            flags,
-            &env,
-            draw,
-        );
-        let answer = answer_in(accepted?);
-        let name = connection.query_context_names(alloc)?.username;
-        Ok(Guest {
-            name,
-            answer,
-            connection,
-        })
+        match let_in(alloc, &mut connection, &mut self.book, token, draw) {
+            Ok((answer, name)) => Ok(Guest {
+                name,
+                answer,
+                connection,
+            }),
+            Err(error) => Err(error),
+        }
     }
 }
 
