@@ -1,7 +1,6 @@
 -- Each chain of checks has at most one answer.
-use Rattle.std.proofs.Common.{◌≡◌, ℕ, Bool, true, false, List, [], Result, Ok, Err, refl, sym, ap, ◌∙◌, subst}
+use Rattle.std.proofs.Common.{◌≡◌, ℕ, Bool, true, false, List, Result, Ok, Err, sym, ◌∙◌, subst}
 use Rattle.krb_der.specs.Layout.{Layout}
-use Rattle.krb_der.proofs.Records.{one_spelling_lem}
 use Rattle.krb_messages.specs.Layouts.{ap_req_layout, enc_ticket_part_layout, authenticator_layout, ap_rep_layout, enc_ap_rep_part_layout}
 use Rattle.krb_messages.specs.declared.ap_rep.ApRep.{ApRep}
 use Rattle.krb_context.specs.Params.{suite_of}
@@ -10,7 +9,6 @@ use Rattle.krb_messages.specs.declared.ap_req.ApReq.{ApReq}
 use Rattle.krb_messages.specs.declared.enc_ticket_part.EncTicketPart.{EncTicketPart}
 use Rattle.krb_messages.specs.declared.encryption.EncryptedData.{EncryptedData}
 use Rattle.krb_crypto.specs.declared.suite.CipherSuite.{CipherSuite}
-use Rattle.krb_crypto.proofs.SealedLemmas.{sealed_once}
 use Rattle.krb_context.specs.declared.context.Kerberos.{Kerberos}
 use Rattle.krb_context.specs.declared.server.ServerProperties.{ServerProperties}
 use Rattle.krb_replay.specs.declared.ask.Verdict.{Verdict}
@@ -19,8 +17,9 @@ use Rattle.sspi_core.specs.declared.draw.Draw.{Draw}
 use Rattle.sspi_core.proofs.Once.{Once, then_once, finds_once, takes_once, holds_once, passes_once, gives_once}
 use Rattle.krb_server.specs.declared.request.Request.{Request}
 use Rattle.krb_server.specs.declared.admission.Admission.{Admission}
-use Rattle.krb_replies.specs.declared.unseal.Refusals.{Refusals}
-use Rattle.krb_replies.specs.Unseals.{IsRead, own_key, session_key, Unseals, Opens}
+use Rattle.krb_exchange.proofs.Spelled.{same_record}
+use Rattle.krb_replies.proofs.Once.{opens_once}
+use Rattle.krb_replies.specs.Unseals.{IsRead, own_key, session_key}
 use Rattle.krb_replies.specs.Answered.{OpensApRep, TellsNumber}
 use Rattle.krb_server.specs.Opens.{OpensData}
 use Rattle.krb_server.specs.Tokens.{IsApReq, Receives}
@@ -30,29 +29,15 @@ use Rattle.krb_server.specs.ThirdLeg.{ReadsApRep, TellsLast, IsLastWord, Closes,
 use Rattle.krb_server.specs.Accepts.{Begins, Finishes, Judged}
 use Rattle.krb_server.proofs.Frames.{same_message}
 
--- octets spell one record
-read_once : {A : Type 0} (layout : Layout A) (octets : List ℕ) (x y : A) → IsRead layout octets x → IsRead layout octets y → x ≡ y
-read_once layout octets x y h k =
-    sym (layout.back x) ∙ ap layout.of (one_spelling_lem layout.kind (layout.view x) (layout.view y) octets octets [] [] layout.ascends h k refl).1 ∙ layout.back y
-
-unseals_once : (refusals : Refusals) (suite : CipherSuite) (key : List ℕ) (usage : ℕ) (text : List ℕ) → Once (Unseals refusals suite key usage text)
-unfolding Unseals
-unseals_once refusals suite key usage text =
-    then_once _ _ (holds_once _ _) (λ _. then_once _ _ (holds_once _ _) (λ _. finds_once _ _ (sealed_once suite key usage text)))
-
-opens_once : {A : Type 0} (layout : Layout A) (refusals : Refusals) (suite : CipherSuite) (key : List ℕ) (usage : ℕ) (text : List ℕ) → Once (Opens layout refusals suite key usage text)
-unfolding Opens
-opens_once layout refusals suite key usage text = then_once _ _ (unseals_once refusals suite key usage text) (λ plain. finds_once _ _ (read_once layout plain))
-
 opens_data_once : {A : Type 0} (layout : Layout A) (key : List ℕ) (usage : ℕ) (part : EncryptedData) → Once (OpensData layout key usage part)
 unfolding OpensData
 opens_data_once layout key usage part =
     then_once _ _ (takes_once _ _) (λ suite. then_once _ _ (opens_once layout own_key suite key usage part.cipher) (λ value. gives_once _))
 
 same_ap_req : (dce : Bool) (token : List ℕ) (m n : ApReq) → IsApReq dce token m → IsApReq dce token n → m ≡ n
-same_ap_req true token m n h k = read_once ap_req_layout token m n h k
+same_ap_req true token m n h k = same_record ap_req_layout m n token h k
 same_ap_req false token m n h k =
-    read_once ap_req_layout k.octets m n (subst (λ (octets : List ℕ). IsRead ap_req_layout octets m) (same_message _ _ _ _ _ token h.frame k.frame) h.read) k.read
+    same_record ap_req_layout m n k.octets (subst (λ (octets : List ℕ). IsRead ap_req_layout octets m) (same_message _ _ _ _ _ token h.frame k.frame) h.read) k.read
 
 receives_once : (dce : Bool) (token : List ℕ) → Once (Receives dce token)
 unfolding Receives
@@ -104,7 +89,7 @@ tells_number_once suite key message =
 
 reads_once : (token : List ℕ) → Once (ReadsApRep token)
 unfolding ReadsApRep
-reads_once token = then_once _ _ (holds_once _ _) (λ _. finds_once _ _ (read_once ap_rep_layout token))
+reads_once token = then_once _ _ (holds_once _ _) (λ _. finds_once _ _ (λ x y s t. same_record ap_rep_layout x y token s t))
 
 tells_last_once : (server : Kerberos) (token : List ℕ) → Once (TellsLast server token)
 unfolding TellsLast
