@@ -21,7 +21,7 @@ use Rattle.krb_server.specs.Accepts.{Begins as BeginsApReq}
 use Rattle.krb_server.specs.Requests.{Requests}
 use Rattle.krb_server.specs.Tokens.{ap_req_id, IsApReq, Receives}
 use Rattle.krb_server.specs.declared.request.Request.{Request}
-use Rattle.krb_user_to_user.proofs.Once.{requests_tgt_once}
+use Rattle.krb_user_to_user.proofs.Once.{same_run, requests_tgt_once}
 use Rattle.krb_user_to_user.specs.declared.accept_run.AcceptRun.{AcceptRun}
 use Rattle.krb_user_to_user.specs.declared.request.Beginning.{Beginning}
 use Rattle.krb_acceptor.specs.declared.accept.Accepted.{Accepted}
@@ -72,10 +72,6 @@ none_found dce state token message is (Some tgt_req) h = absurd (no_tgt_req dce 
 -- a token whose AP-REQ passes the checks before the gate begins no user-to-user
 pub ap_req_begins_none : (server : Kerberos) (dce : Bool) (token : List ℕ) (request : Request) → BeginsApReq server dce token (Ok request) → (found : Option TgtReq) → Found (Begins dce server.state token) found → found ≡ None
 ap_req_begins_none server dce token request begun found h = let came = ap_req_in server dce token request begun in none_found dce server.state token came.0 came.1 found h
-
--- a run is who asks and how far it has come
-pub same_run : (x y : AcceptRun) → x.acceptor ≡ y.acceptor → x.phase ≡ y.phase → x ≡ y
-same_run x y a p = ap (λ z. record { alloc = x.alloc; acceptor = z; phase = x.phase }) a ∙ ap (λ z. record { alloc = x.alloc; acceptor = y.acceptor; phase = z }) p
 
 checks_once : (server : Kerberos) (tgt_req : TgtReq) (dce : Bool) (env : Env) → Once (Checks server tgt_req dce env)
 unfolding Checks

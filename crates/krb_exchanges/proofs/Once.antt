@@ -9,7 +9,6 @@ use Rattle.krb_initiation.specs.Beginnings.{Begins as BeginsInitiation}
 use Rattle.krb_initiation.specs.declared.options.InitOptions.{InitOptions}
 use Rattle.krb_initiation.specs.declared.seeker.Initiation.{Initiation}
 use Rattle.krb_user_to_user.proofs.Once as acceptances
-use Rattle.krb_user_to_user.specs.declared.accept_run.AcceptRun.{AcceptRun}
 use Rattle.sspi_core.proofs.Once.{Once}
 use Rattle.sspi_core.specs.Kinds.{error_of}
 use Rattle.sspi_core.specs.declared.cause.Cause.{Cause}
@@ -41,15 +40,11 @@ turns_once over checks s t p q one fed also h k =
     let same = one.same x.0 y.0 x.1 y.1 in
     (x.2 ∙ ap state_of same ∙ sym y.2, x.3 ∙ ap (phase_of over) same ∙ sym y.3)
 
--- a run is who asks, or what is to be done, and how far it has come
-same_acceptance : (x y : AcceptRun) → x.acceptor ≡ y.acceptor → x.phase ≡ y.phase → x ≡ y
-same_acceptance x y a p = ap (λ z. record { alloc = x.alloc; acceptor = z; phase = x.phase }) a ∙ ap (λ z. record { alloc = x.alloc; acceptor = y.acceptor; phase = z }) p
-
 -- the two steps of a run
 starts_once : (run : Run) (draw : Draw) (s t : State) (x y : Run) → IsFed s → IsFed t → StartsAt run draw s x → StartsAt run draw t y → (s ≡ t) × (x ≡ y)
 starts_once (Accepts run) draw s t (Accepts x) (Accepts y) fed also h k =
     let both = turns_once _ _ s t x.phase y.phase (acceptances.starts_once run.acceptor run.phase draw) fed also h.turn k.turn in
-    (both.0, ap Accepts (same_acceptance x y (h.stays ∙ sym k.stays) both.1))
+    (both.0, ap Accepts (acceptances.same_run x y (h.stays ∙ sym k.stays) both.1))
 starts_once (Accepts run) draw s t (Accepts x) (Initiates y) fed also h k = absurd k
 starts_once (Accepts run) draw s t (Initiates x) y fed also h k = absurd h
 starts_once (Initiates run) draw s t (Accepts x) y fed also h k = absurd h
@@ -61,7 +56,7 @@ starts_once (Initiates run) draw s t (Initiates x) (Initiates y) fed also h k =
 resumes_once : (run : Run) (answer : Result (List ℕ) NetFault) (draw : Draw) (s t : State) (x y : Run) → IsFed s → IsFed t → ResumesAt run answer draw s x → ResumesAt run answer draw t y → (s ≡ t) × (x ≡ y)
 resumes_once (Accepts run) answer draw s t (Accepts x) (Accepts y) fed also h k =
     let both = turns_once _ _ s t x.phase y.phase (acceptances.next_once run.acceptor run.phase answer draw) fed also h.turn k.turn in
-    (both.0, ap Accepts (same_acceptance x y (h.stays ∙ sym k.stays) both.1))
+    (both.0, ap Accepts (acceptances.same_run x y (h.stays ∙ sym k.stays) both.1))
 resumes_once (Accepts run) answer draw s t (Accepts x) (Initiates y) fed also h k = absurd k
 resumes_once (Accepts run) answer draw s t (Initiates x) y fed also h k = absurd h
 resumes_once (Initiates run) answer draw s t (Accepts x) y fed also h k = absurd h

@@ -1,5 +1,5 @@
 -- Each step in which a service fetches its ticket has at most one answer.
-use Rattle.std.proofs.Common.{◌≡◌, ℕ, Bool, List, Result}
+use Rattle.std.proofs.Common.{◌≡◌, ℕ, Bool, List, Result, ap, ◌∙◌}
 use Rattle.krb_conf.specs.declared.env.Env.{Env}
 use Rattle.krb_context.specs.declared.context.Kerberos.{Kerberos}
 use Rattle.krb_exchange.specs.declared.kdc_req.KdcReqBody.{KdcReqBody}
@@ -13,12 +13,17 @@ use Rattle.sspi_generator.specs.declared.network.NetFault.{NetFault}
 use Rattle.krb_client.proofs.Once.{begins_once, asks_again_once, grants_as_rep_once}
 use Rattle.krb_client.specs.declared.asker.Asker.{Asker}
 use Rattle.krb_credentials.proofs.Once.{names_client_once, takes_reply_key_once}
+use Rattle.krb_user_to_user.specs.declared.accept_run.AcceptRun.{AcceptRun}
 use Rattle.krb_user_to_user.specs.declared.request.Acceptor.{Acceptor}
 use Rattle.krb_user_to_user.specs.declared.steps.AcceptPhase.{AcceptPhase}
 use Rattle.krb_user_to_user.specs.declared.steps.AcceptPhase.TheVariants.{New, AwaitsError, AwaitsAsRep, Over}
 use Rattle.krb_user_to_user.specs.TgtRequests.{RequestsTgt}
 use Rattle.krb_user_to_user.specs.AcceptSteps.{AsksFirst, AsksSecond, TakesAsRep}
 use Rattle.krb_user_to_user.specs.AcceptRuns.{Starts, Next}
+
+-- a run is who asks and how far it has come
+pub same_run : (x y : AcceptRun) → x.acceptor ≡ y.acceptor → x.phase ≡ y.phase → x ≡ y
+same_run x y a p = ap (λ z. record { alloc = x.alloc; acceptor = z; phase = x.phase }) a ∙ ap (λ z. record { alloc = x.alloc; acceptor = y.acceptor; phase = z }) p
 
 -- a TGT-REQ is judged to one answer
 pub requests_tgt_once : (server : Kerberos) (credentials : CredentialsBuffers) (tgt_req : TgtReq) (dce : Bool) (env : Env) → Once (RequestsTgt server credentials tgt_req dce env)
