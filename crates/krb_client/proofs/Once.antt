@@ -1,10 +1,10 @@
 -- Each step of an exchange with a KDC has at most one answer.
-use Rattle.std.proofs.Common.{◌≡◌, ℕ, List, length, get_or, Option, Some, None, Result, Ok, Err, refl, sym, ap, ◌∙◌, arith}
+use Rattle.std.proofs.Common.{◌≡◌, ℕ, List, length, get_or, Option, Some, None, Result, refl, sym, ap, ◌∙◌, arith}
 use Rattle.url.specs.Parts.{Parts}
 use Rattle.krb_der.specs.Layout.{Layout, items_layout}
 use Rattle.krb_crypto.specs.declared.suite.CipherSuite.{CipherSuite}
-use Rattle.krb_exchange.specs.Table.{as_rep, tgs_rep, krb_error}
-use Rattle.krb_exchange.specs.Layouts.{as_rep_layout, tgs_rep_layout, pa_data_layout, etype_info2_entry_layout, enc_as_rep_part_layout}
+use Rattle.krb_exchange.specs.Table.{as_rep, krb_error}
+use Rattle.krb_exchange.specs.Layouts.{as_rep_layout, pa_data_layout, etype_info2_entry_layout, enc_as_rep_part_layout}
 use Rattle.krb_exchange.specs.Results.{HasOneResult}
 use Rattle.krb_exchange.specs.declared.kdc_req.KdcReqBody.{KdcReqBody}
 use Rattle.krb_exchange.specs.declared.kdc_rep.AsRep.{AsRep}

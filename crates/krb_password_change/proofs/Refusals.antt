@@ -1,7 +1,5 @@
 -- Which checks refuse because the network failed: none but the first one on a reply.
-use Rattle.std.proofs.Common.{ℕ, List, [], ◌∷◌, Option, Some, None, Result, Err, refl}
-use Rattle.krb_exchange.specs.declared.pa_data.EtypeInfo2Entry.{EtypeInfo2Entry}
-use Rattle.krb_exchange.specs.declared.kdc_rep.AsRep.{AsRep}
+use Rattle.std.proofs.Common.{ℕ, List, Option, Result, Err, refl}
 use Rattle.krb_exchange.specs.Layouts.{as_rep_layout}
 use Rattle.krb_exchange.specs.declared.krb_priv.KrbPriv.{KrbPriv}
 use Rattle.krb_exchange.specs.declared.kdc_req.KdcReqBody.{KdcReqBody}
@@ -10,21 +8,17 @@ use Rattle.krb_crypto.specs.declared.suite.CipherSuite.{CipherSuite}
 use Rattle.sspi_core.specs.declared.cause.Cause.{Cause}
 use Rattle.sspi_core.specs.declared.cause.Cause.TheVariants.{Shape, Etype, KeyLength, Port, Short, Altered, Inner, UserData, ResultCode}
 use Rattle.sspi_core.specs.declared.draw.Draw.{Draw}
-use Rattle.sspi_core.specs.declared.identity.CredentialsBuffers.{CredentialsBuffers}
 use Rattle.sspi_core.specs.declared.protocol.NetworkProtocol.{NetworkProtocol}
 use Rattle.sspi_generator.specs.declared.network.NetFault.{NetFault}
 use Rattle.sspi_generator.specs.Steps.{IsFailure}
 use Rattle.krb_sending.specs.declared.kdc.Kdc.{Kdc}
 use Rattle.krb_sending.specs.Replies.{Unwraps, Replies}
-use Rattle.krb_replies.specs.Told.{Hands}
-use Rattle.krb_replies.specs.Salts.{entry_hint, first_hint, TellsEtype}
-use Rattle.krb_replies.specs.Keys.{BringsKey}
 use Rattle.krb_replies.specs.Answered.{TellsStatus}
 use Rattle.krb_replies.specs.Unseals.{Unseals, Opens}
 use Rattle.krb_client.specs.declared.asker.Asker.{Asker}
 use Rattle.krb_client.proofs.Refusals.{IsNetwork, Refuses, then_refuses, finds_refuses, takes_refuses, holds_refuses, gives_refuses, begins_refuses, again_refuses, grants_refuse, replies_refuse}
 use Rattle.krb_credentials.specs.declared.key.ReplyKey.{ReplyKey}
-use Rattle.krb_credentials.specs.ReplyKeys.{TakesReplyKey}
+use Rattle.krb_credentials.proofs.Refusals.{key_refuses}
 use Rattle.krb_password_change.specs.declared.change.Changer.{Changer}
 use Rattle.krb_password_change.specs.declared.phase.AnswerLeg.{AnswerLeg}
 use Rattle.krb_password_change.specs.declared.phase.ChangePhase.{ChangePhase}
@@ -45,33 +39,6 @@ starts_refuse changer (AwaitsAnswer leg) draw e h z = h
 starts_refuse changer Over draw e h z = h
 
 module _ (P : Type 0) where
-  entry_refuses : (etype : List ℕ) (salt : Option (List ℕ)) (e : Cause) → Hands (entry_hint etype salt) (Err e) → IsNetwork e → P
-  entry_refuses etype (Some salt) e h z = let i = h.is in absurd cc
-  entry_refuses etype None e h z = let i = h.is in let j = z.1 in absurd cc
-
-  hint_refuses : (etype used : List ℕ) (entries : Option (List EtypeInfo2Entry)) (e : Cause) → Hands (first_hint etype used entries) (Err e) → IsNetwork e → P
-  hint_refuses etype used None e h z = let i = h.is in absurd cc
-  hint_refuses etype used (Some []) e h z = let i = h.is in let j = z.1 in absurd cc
-  hint_refuses etype used (Some (entry ∷ entries)) e h z = entry_refuses entry.etype entry.salt e h z
-
-  tells_refuse : (used : List ℕ) (as_rep : AsRep) → Refuses P (TellsEtype used as_rep)
-  unfolding TellsEtype
-  tells_refuse used as_rep =
-      then_refuses P _ _ (finds_refuses P Shape _ (λ z. let e = z.1 in absurd cc)) (λ entries. then_refuses P _ _ (record { not = hint_refuses _ used entries })
-      (λ hint. then_refuses P _ _ (takes_refuses P Etype _ (λ z. let e = z.1 in absurd cc)) (λ suite. gives_refuses P _)))
-
-  brings_refuse : (suite : CipherSuite) (key : List ℕ) (as_rep : AsRep) → Refuses P (BringsKey suite key as_rep)
-  unfolding BringsKey Opens Unseals
-  brings_refuse suite key as_rep =
-      then_refuses P _ _ (then_refuses P _ _ (then_refuses P _ _ (holds_refuses P KeyLength _ (λ z. let e = z.1 in absurd cc))
-      (λ _. then_refuses P _ _ (holds_refuses P Short _ (λ z. let e = z.1 in absurd cc)) (λ _. finds_refuses P Altered _ (λ z. let e = z.1 in absurd cc))))
-      (λ plain. finds_refuses P Inner _ (λ z. let e = z.1 in absurd cc))) (λ part. gives_refuses P _)
-
-  key_refuses : (credentials : CredentialsBuffers) (used : List ℕ) (as_rep : AsRep) → Refuses P (TakesReplyKey credentials used as_rep)
-  unfolding TakesReplyKey
-  key_refuses credentials used as_rep =
-      then_refuses P _ _ (tells_refuse used as_rep) (λ hint. then_refuses P _ _ (brings_refuse _ _ as_rep) (λ key. gives_refuses P _))
-
   change_refuses : (changer : Changer) (kdc : Kdc) (rep : KdcRep) (key : ReplyKey) (draw : Draw) → Refuses P (AsksChange changer kdc rep key draw)
   unfolding AsksChange
   change_refuses changer kdc rep key draw =
