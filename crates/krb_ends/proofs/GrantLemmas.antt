@@ -33,7 +33,8 @@ use Rattle.krb_authenticators.proofs.ApLengths.{data_le}
 use Rattle.krb_authenticators.proofs.Lengths.{le_trans, length-hash, number_some}
 use Rattle.krb_initiator.specs.declared.errand.Errand.{Errand}
 use Rattle.krb_initiator.specs.Initiators.{is_bare, exchange_flags}
-use Rattle.krb_initiator.specs.Shown.{drawn_key, drawn_confounder, number_after, gss_checksum, service_authenticator, framed}
+use Rattle.krb_context.specs.Contexts.{next_number}
+use Rattle.krb_initiator.specs.Shown.{drawn_key, drawn_confounder, gss_checksum, service_authenticator, framed}
 use Rattle.krb_server.specs.Complete.{is_known_options, is_mutual}
 use Rattle.sspi_core.specs.declared.bindings.ChannelBindings.{ChannelBindings}
 use Rattle.sspi_core.specs.declared.draw.Draw.{Draw}
@@ -228,7 +229,7 @@ module _ (errand : Errand) (suite : CipherSuite) (rep : KdcRep) (draw : Draw) (g
   unfolding authenticator_kind authenticator_row encryption_key encryption_key_row
   sound = (
     lit< tt,
-    (granted.realm_sound, (granted.name_sound, (sound_sum flags errand.bindings, (lit< tt, (moment_time draw.moment is.moment, ((lit< tt, (tt, tt)), (number_some (number_after errand.initiator.number), (sound_sign errand.bindings, tt)))))))),
+    (granted.realm_sound, (granted.name_sound, (sound_sum flags errand.bindings, (lit< tt, (moment_time draw.moment is.moment, ((lit< tt, (tt, tt)), (number_some (next_number errand.initiator.number), (sound_sign errand.bindings, tt)))))))),
   )
 
   -- its octets, and how many they are besides the client's
@@ -250,7 +251,7 @@ module _ (errand : Errand) (suite : CipherSuite) (rep : KdcRep) (draw : Draw) (g
       (short-append _ _ _ _ (short-field 4 0xa4 0x02 (microseconds draw.moment) (lit< tt) (lit< tt) (lit< tt) (short-word (draw.moment % 1000000)))
       (short-append _ _ _ _ (short-field 15 0xa5 0x18 (time_octets second) (lit< tt) (lit< tt) (lit< tt) time)
       (short-append _ _ _ _ (short-field 64 0xa6 0x30 _ (lit< tt) (lit< tt) (lit< tt) (short-more _ 64 _ (lit≤ tt) keyed))
-      (short-append _ _ _ _ (short-field 5 0xa7 0x02 (number_octets (number_after errand.initiator.number)) (lit< tt) (lit< tt) (lit< tt) (short-unsigned (number_after errand.initiator.number)))
+      (short-append _ _ _ _ (short-field 5 0xa7 0x02 (number_octets (next_number errand.initiator.number)) (lit< tt) (lit< tt) (lit< tt) (short-unsigned (next_number errand.initiator.number)))
       (short-append _ _ _ _ (short-sign errand.bindings) short-nothing))))) in
       let body = short-append _ _ _ _ (short-field 1 0xa0 0x02 (5 ∷ []) (lit< tt) (lit< tt) (lit< tt) version)
       (short-append _ _ _ _ (short-field a 0xa1 0x1b rep.crealm (lit< tt) (lit< tt) (omega (arith, small)) realm)

@@ -1,6 +1,6 @@
 -- What an initiator shows to a service: an AP-REQ with the ticket that a KDC gave (RFC 4120, sections 3.2.2 and 5.5.1; RFC 4121,
 -- section 4.1).
-use Rattle.std.specs.Prelude.{ℕ, ◌+◌, ◌%◌, ◌^◌, ◌<◌, ◌≤◌, ◌==◌, List, [], ◌∷◌, ◌++◌, length, take, drop, Some, None, IfSome, Result, if◌then◌else◌}
+use Rattle.std.specs.Prelude.{ℕ, ◌+◌, ◌^◌, ◌<◌, ◌≤◌, ◌==◌, List, [], ◌∷◌, ◌++◌, length, take, drop, Some, None, IfSome, Result, if◌then◌else◌}
 use Rattle.bitflags.specs.Sets.{without}
 use Rattle.krb_der.specs.Der.{tlv}
 use Rattle.krb_crypto.specs.Suite.{key_size}
@@ -12,6 +12,7 @@ use Rattle.krb_exchange.specs.declared.kdc_rep.KdcRep.{KdcRep}
 use Rattle.krb_options.specs.Options.{gss_deleg, gss_flags_of, ap_options_of}
 use Rattle.krb_context.specs.declared.context.ContextChange.{ContextChange}
 use Rattle.krb_context.specs.declared.state.KerberosState.TheVariants.{ApExchange}
+use Rattle.krb_context.specs.Contexts.{next_number}
 use Rattle.sspi_core.specs.declared.results.SecurityStatus.TheVariants.{ContinueNeeded}
 use Rattle.sspi_core.specs.declared.draw.Draw.{Draw}
 use Rattle.sspi_core.specs.declared.cause.Cause.{Cause}
@@ -36,10 +37,6 @@ drawn_key suite draw = take (key_size suite) draw.random
 abbrev pub drawn_confounder : CipherSuite → Draw → List ℕ
 drawn_confounder suite draw = take 16 (drop (key_size suite) draw.random)
 
--- the number after the context's own
-abbrev pub number_after : ℕ → ℕ
-number_after number = (number + 1) % 2 ^ 32
-
 -- a checksum of type 8003 hex with the flags of the context, but without GSS_C_DELEG_FLAG, which a KRB-CRED would follow (RFC 4121,
 -- section 4.1.1)
 abbrev pub gss_checksum : ℕ → ChecksumOptions
@@ -48,11 +45,11 @@ gss_checksum flags = record {
   checksum_value = with_flags default_value (without 32 (gss_flags_of flags) gss_deleg);
 }
 
--- the client of the reply, with that number, the drawn subkey, that checksum and the bindings
+-- the client of the reply, with the number after the context's own, the drawn subkey, that checksum and the bindings
 abbrev pub service_authenticator : Errand → CipherSuite → KdcRep → Draw → Authenticator
 service_authenticator errand suite rep draw =
     let key : EncKey = record { key_type = suite; key_value = drawn_key suite draw } in
-    authenticator rep (Some (number_after errand.initiator.number)) (Some key) (Some (gss_checksum errand.initiator.flags.0)) errand.bindings draw.moment
+    authenticator rep (Some (next_number errand.initiator.number)) (Some key) (Some (gss_checksum errand.initiator.flags.0)) errand.bindings draw.moment
 
 -- the AP-REQ, with the options that the exchange goes by: its authenticator is sealed under the session key of its ticket
 abbrev pub service_request : Errand → CipherSuite → List ℕ → KdcRep → Draw → ApReq

@@ -1,6 +1,6 @@
 -- How a password is changed, step by step: an AS exchange (RFC 4120, section 3.1), and the request for a new password (RFC 3244,
 -- section 2).
-use Rattle.std.specs.Prelude.{◌≡◌, ℕ, ◌==◌, List, length, take, Option, Some, None, Result}
+use Rattle.std.specs.Prelude.{ℕ, ◌==◌, List, length, take, Option, Some, None, Result}
 use Rattle.krb_crypto.specs.Suite.{key_size}
 use Rattle.krb_messages.specs.declared.ap_rep.ApRep.{ApRep as Reply}
 use Rattle.krb_exchange.specs.declared.kdc_req.KdcReqBody.{KdcReqBody}
@@ -10,6 +10,7 @@ use Rattle.krb_exchange.specs.declared.priv_message.ApMessage.{ApMessage}
 use Rattle.krb_exchange.specs.declared.priv_message.ApMessage.TheVariants.{ApReq, ApRep}
 use Rattle.krb_exchange.specs.Layouts.{as_rep_layout}
 use Rattle.krb_exchange.specs.PrivMessages.{IsPrivMessage}
+use Rattle.krb_context.specs.Contexts.{next_number}
 use Rattle.krb_context.specs.declared.context.ContextChange.{ContextChange}
 use Rattle.sspi_core.specs.declared.protocol.NetworkProtocol.{NetworkProtocol}
 use Rattle.sspi_core.specs.declared.draw.Draw.{Draw}
@@ -35,7 +36,7 @@ use Rattle.krb_password_change.specs.declared.phase.AnswerLeg.{AnswerLeg}
 use Rattle.krb_password_change.specs.declared.phase.ChangePhase.{ChangePhase}
 use Rattle.krb_password_change.specs.declared.phase.ChangePhase.TheVariants.{AwaitsError, AwaitsAsRep, AwaitsAnswer}
 use Rattle.krb_password_change.specs.Ports.{password_kdc}
-use Rattle.krb_password_change.specs.Requested.{drawn_key, number_after, change_request}
+use Rattle.krb_password_change.specs.Requested.{drawn_key, change_request}
 
 -- what is asked for: a ticket to the service that changes passwords; the first four random octets are the nonce
 unfoldable pub body_of : Client → Draw → KdcReqBody
@@ -93,7 +94,7 @@ change_of changer leg = record {
   state = changer.state;
   realm = Some leg.realm;
   encryption_params = record changer.params { encryption_type = Some leg.suite };
-  seq_number = number_after changer.number;
+  seq_number = next_number changer.number;
   krb5_user_to_user = changer.user_to_user;
   ticket_decryption_key = None;
 }

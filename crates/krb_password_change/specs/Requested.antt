@@ -1,5 +1,5 @@
 -- The request for a new password: an AP-REQ, and the password sealed under a key that is drawn for it (RFC 3244, section 2).
-use Rattle.std.specs.Prelude.{ℕ, ◌+◌, ◌%◌, ◌^◌, List, take, drop, Some, None}
+use Rattle.std.specs.Prelude.{ℕ, ◌+◌, List, take, drop, Some, None}
 use Rattle.krb_crypto.specs.Suite.{key_size}
 use Rattle.krb_crypto.specs.declared.suite.CipherSuite.{CipherSuite}
 use Rattle.krb_messages.specs.declared.authenticator.Authenticator.{Authenticator}
@@ -13,6 +13,7 @@ use Rattle.krb_exchange.specs.Layouts.{krb_priv_layout}
 use Rattle.krb_exchange.specs.PrivMessages.{message_octets}
 use Rattle.sspi_core.specs.declared.draw.Draw.{Draw}
 use Rattle.sspi_generator.specs.declared.network.NetworkRequest.{NetworkRequest}
+use Rattle.krb_context.specs.Contexts.{next_number}
 use Rattle.krb_sending.specs.declared.kdc.Kdc.{Kdc}
 use Rattle.krb_sending.specs.Requests.{request_to}
 use Rattle.krb_requests.specs.Pieces.{spelling}
@@ -31,10 +32,6 @@ first_confounder suite draw = take 16 (drop (key_size suite) draw.random)
 abbrev pub second_confounder : CipherSuite → Draw → List ℕ
 second_confounder suite draw = take 16 (drop (key_size suite + 16) draw.random)
 
--- the number after the context's own
-abbrev pub number_after : ℕ → ℕ
-number_after number = (number + 1) % 2 ^ 32
-
 -- the client of the reply, with that number and the drawn key, without a checksum and without bindings
 abbrev pub change_authenticator : ℕ → CipherSuite → KdcRep → Draw → Authenticator
 change_authenticator number suite rep draw =
@@ -45,11 +42,11 @@ change_authenticator number suite rep draw =
 abbrev pub message_by : Changer → CipherSuite → List ℕ → Ticket → Authenticator → Draw → KrbPrivMessage
 message_by changer suite key ticket authenticator draw =
     priv_request suite key (first_confounder suite draw) (second_confounder suite draw) ticket authenticator
-    (priv_part changer.new_password (number_after changer.number) changer.client.host)
+    (priv_part changer.new_password (next_number changer.number) changer.client.host)
 
 -- with the ticket of the reply
 abbrev pub change_message : Changer → CipherSuite → List ℕ → KdcRep → Draw → KrbPrivMessage
-change_message changer suite key rep draw = message_by changer suite key rep.ticket (change_authenticator (number_after changer.number) suite rep draw) draw
+change_message changer suite key rep draw = message_by changer suite key rep.ticket (change_authenticator (next_number changer.number) suite rep draw) draw
 
 -- its octets
 abbrev pub ap_spelling : ApMessage → List ℕ

@@ -10,7 +10,7 @@ ghost use Rattle.krb_password_change.specs.ChangeRuns.{GoesDown};
 
 use crate::change::Changer;
 use crate::phase::{AnswerLeg, ChangePhase};
-use crate::request::{number_after, params_in};
+use crate::request::{next_number, params_in};
 use krb_client::Turn;
 use krb_context::{ContextChange, EncryptionParams};
 use krb_crypto::CipherSuite;
@@ -104,7 +104,7 @@ fn change_of(
         state: changer.state,
         realm: Some(realm),
         encryption_params,
-        seq_number: number_after(changer.number),
+        seq_number: next_number(changer.number),
         krb5_user_to_user: changer.user_to_user,
         ticket_decryption_key: None,
     })

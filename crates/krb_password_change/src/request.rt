@@ -3,13 +3,14 @@
 ghost use Rattle.std.specs.Prelude.{◌≡◌, ◌<◌, ◌≤◌, ◌^◌, length, get_or, Some, [], IfOk};
 ghost use Rattle.krb_crypto.specs.Suite.{key_size};
 ghost use Rattle.krb_messages.specs.Layouts.{authenticator_layout, ticket_layout};
+ghost use Rattle.krb_context.specs.Contexts.{next_number};
 ghost use Rattle.krb_context.specs.Params.{suite_of};
 ghost use Rattle.sspi_core.specs.declared.draw.TheConstants.{MAX_MOMENT};
 ghost use Rattle.krb_requests.specs.Pieces.{Fits};
 ghost use Rattle.krb_authenticators.specs.Passwords.{FitsPriv};
 ghost use Rattle.krb_credentials.specs.Granted.{IsSendable};
 ghost use Rattle.krb_password_change.specs.Changes.{IsReady};
-ghost use Rattle.krb_password_change.specs.Requested.{drawn_key, first_confounder, second_confounder, number_after, change_authenticator, message_by, change_message, written, change_request};
+ghost use Rattle.krb_password_change.specs.Requested.{drawn_key, first_confounder, second_confounder, change_authenticator, message_by, change_message, written, change_request};
 
 use crate::change::Changer;
 use krb_authenticators::{
@@ -57,8 +58,8 @@ fn second_confounder(suite: CipherSuite, draw: &Draw) -> [u8; 16]
 }
 
 /// The number after the context's own, going round at 2^32.
-pub(crate) fn number_after(number: u32) -> u32
-    ensures { result ≡ number_after number }
+pub(crate) fn next_number(number: u32) -> u32
+    ensures { result ≡ next_number number }
 {
     number.wrapping_add(1)
 }
@@ -138,7 +139,7 @@ fn message_by(
         changer.new_password.as_ref().as_str().as_bytes(),
         authenticator,
         &params,
-        number_after(changer.number),
+        next_number(changer.number),
         changer.client.host.as_str(),
         confounders(suite, draw),
     );
@@ -163,7 +164,7 @@ fn change_message(
     ensures made { IfOk result (λ message. message ≡ change_message changer.now suite key.now rep.now draw.now) }
     ensures fits { IfOk result FitsPriv }
 {
-    let number = number_after(changer.number);
+    let number = next_number(changer.number);
     let authenticator = change_authenticator(alloc, number, suite, rep, draw)?;
     let ticket = rep.ticket.copy(alloc)?;
     message_by(alloc, changer, suite, key, ticket, &authenticator, draw)
