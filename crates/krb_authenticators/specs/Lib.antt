@@ -4,3 +4,4 @@ pub mod Authenticators
 pub mod ApRequests
 pub mod TgsRequests
 pub mod Passwords
+pub mod Drawn

@@ -2,13 +2,14 @@
 //!
 //! Each record is computed by a definition in `specs/`: `Checksums` and `Bindings` for the checksum of flags and channel
 //! bindings (RFC 4121, section 4.1.1), `Authenticators` and `ApRequests` (RFC 4120, section 5.5.1), `TgsRequests` (section
-//! 5.4.1), `Passwords` for a change of a password (section 5.7.1; RFC 3244, section 2).
+//! 5.4.1), `Passwords` for a change of a password (section 5.7.1; RFC 3244, section 2). What is drawn for them is `Drawn`.
 #![tactic(auto)]
 
 mod ap_req;
 mod authenticator;
 mod bindings;
 mod checksum;
+mod drawn;
 mod options;
 mod password;
 mod tgs_req;
@@ -17,6 +18,7 @@ pub use ap_req::{generate_ap_req, generate_tgs_ap_req};
 pub use authenticator::generate_authenticator;
 pub use bindings::bindings_hash;
 pub use checksum::ChecksumValues;
+pub use drawn::{drawn_confounder, drawn_key, params_in};
 pub use options::{
     AuthenticatorChecksumExtension, ChecksumOptions, EncKey, GenerateAuthenticatorOptions,
     GenerateTgsReqOptions,

@@ -34,7 +34,8 @@ use Rattle.krb_authenticators.proofs.Lengths.{le_trans, length-hash, number_some
 use Rattle.krb_initiator.specs.declared.errand.Errand.{Errand}
 use Rattle.krb_initiator.specs.Initiators.{is_bare, exchange_flags}
 use Rattle.krb_context.specs.Contexts.{next_number}
-use Rattle.krb_initiator.specs.Shown.{drawn_key, drawn_confounder, gss_checksum, service_authenticator, framed}
+use Rattle.krb_authenticators.specs.Drawn.{drawn_key, drawn_confounder}
+use Rattle.krb_initiator.specs.Shown.{gss_checksum, service_authenticator, framed}
 use Rattle.krb_server.specs.Complete.{is_known_options, is_mutual}
 use Rattle.sspi_core.specs.declared.bindings.ChannelBindings.{ChannelBindings}
 use Rattle.sspi_core.specs.declared.draw.Draw.{Draw}

@@ -1,6 +1,6 @@
 -- What an initiator shows to a service: an AP-REQ with the ticket that a KDC gave (RFC 4120, sections 3.2.2 and 5.5.1; RFC 4121,
 -- section 4.1).
-use Rattle.std.specs.Prelude.{ℕ, ◌+◌, ◌^◌, ◌<◌, ◌≤◌, ◌==◌, List, [], ◌∷◌, ◌++◌, length, take, drop, Some, None, IfSome, Result, if◌then◌else◌}
+use Rattle.std.specs.Prelude.{ℕ, ◌+◌, ◌^◌, ◌<◌, ◌≤◌, ◌==◌, List, [], ◌∷◌, ◌++◌, length, Some, None, IfSome, Result, if◌then◌else◌}
 use Rattle.bitflags.specs.Sets.{without}
 use Rattle.krb_der.specs.Der.{tlv}
 use Rattle.krb_crypto.specs.Suite.{key_size}
@@ -22,6 +22,7 @@ use Rattle.krb_requests.specs.Pieces.{spelling}
 use Rattle.krb_authenticators.specs.declared.options.ChecksumOptions.{ChecksumOptions}
 use Rattle.krb_authenticators.specs.declared.options.EncKey.{EncKey}
 use Rattle.krb_authenticators.specs.Bindings.{AreShortBindings}
+use Rattle.krb_authenticators.specs.Drawn.{drawn_key, drawn_confounder}
 use Rattle.krb_authenticators.specs.Checksums.{default_value, with_flags}
 use Rattle.krb_authenticators.specs.Authenticators.{authenticator}
 use Rattle.krb_authenticators.specs.ApRequests.{ap_req, service_usage}
@@ -29,13 +30,6 @@ use Rattle.krb_client.specs.declared.done.InitDone.{InitDone}
 use Rattle.krb_initiator.specs.Initiators.{is_bare, exchange_flags}
 use Rattle.krb_initiator.specs.declared.initiator.Initiator.{Initiator}
 use Rattle.krb_initiator.specs.declared.errand.Errand.{Errand}
-
--- the subkey that is drawn, and the confounder behind it
-abbrev pub drawn_key : CipherSuite → Draw → List ℕ
-drawn_key suite draw = take (key_size suite) draw.random
-
-abbrev pub drawn_confounder : CipherSuite → Draw → List ℕ
-drawn_confounder suite draw = take 16 (drop (key_size suite) draw.random)
 
 -- a checksum of type 8003 hex with the flags of the context, but without GSS_C_DELEG_FLAG, which a KRB-CRED would follow (RFC 4121,
 -- section 4.1.1)

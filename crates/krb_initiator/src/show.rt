@@ -7,20 +7,20 @@ ghost use Rattle.sspi_core.specs.Checks.{Answers, Gives, Holds};
 ghost use Rattle.krb_crypto.specs.Suite.{key_size};
 ghost use Rattle.krb_messages.specs.Layouts.{authenticator_layout, ticket_layout, ap_req_layout};
 ghost use Rattle.krb_options.specs.Options.{ap_options_of};
-ghost use Rattle.krb_context.specs.Params.{suite_of};
 ghost use Rattle.krb_requests.specs.Pieces.{Fits};
 ghost use Rattle.krb_authenticators.specs.Authenticators.{IsShortChecksum};
+ghost use Rattle.krb_authenticators.specs.Drawn.{drawn_confounder};
 ghost use Rattle.krb_authenticators.specs.ApRequests.{ap_req, service_usage};
 ghost use Rattle.krb_credentials.specs.Granted.{IsSendable};
 ghost use Rattle.krb_initiator.specs.Initiators.{exchange_flags};
-ghost use Rattle.krb_initiator.specs.Shown.{drawn_key, drawn_confounder, gss_checksum, service_authenticator, service_request, message, framed, token_of, change_of, shown, ShowsTicket, CanGo};
+ghost use Rattle.krb_initiator.specs.Shown.{gss_checksum, service_authenticator, service_request, message, framed, token_of, change_of, shown, ShowsTicket, CanGo};
 
 use crate::errand::Errand;
 use crate::initiator::{Initiator, exchange_flags, is_bare};
 use bitflags::Flags;
 use krb_authenticators::{
-    ChecksumOptions, ChecksumValues, EncKey, GenerateAuthenticatorOptions, generate_ap_req,
-    generate_authenticator,
+    ChecksumOptions, ChecksumValues, EncKey, GenerateAuthenticatorOptions, drawn_confounder,
+    drawn_key, generate_ap_req, generate_authenticator, params_in,
 };
 use krb_client::InitDone;
 use krb_context::{ApOptions, ContextChange, EncryptionParams, GssFlags, KerberosState};
@@ -31,24 +31,6 @@ use krb_messages::constants::{AP_REQ_TOKEN_ID, GSS_CHECKSUM_TYPE};
 use krb_messages::{ApReq, Authenticator, Oid, Ticket, write_framed};
 use sspi_core::{Cause, ClientRequestFlags, Draw, Secret, SecurityStatus, hold};
 use std::alloc::Global;
-
-/// The key that the client chooses.
-fn drawn_key(alloc: Global, suite: CipherSuite, draw: &Draw) -> Result<Secret<Octets>, OutOfMemory>
-    ensures drawn { IfOk result (λ key. key ≡ drawn_key suite draw.now) }
-    ensures short { IfOk result (λ key. length key ≤ 2 ^ 24) }
-{
-    let key = &draw.random[..suite.key_size()];
-    Ok(Secret::new(Octets::from_slice(alloc, key)?))
-}
-
-fn drawn_confounder(suite: CipherSuite, draw: &Draw) -> [u8; 16]
-    ensures { result ≡ drawn_confounder suite draw.now }
-{
-    let start = suite.key_size();
-    let mut confounder = [0; 16];
-    confounder.copy_from_slice(&draw.random[start..start + 16]);
-    confounder
-}
 
 /// The flags of the context, but never delegation, for which there would have to be a KRB-CRED.
 fn gss_checksum(alloc: Global, flags: ClientRequestFlags) -> Result<ChecksumOptions, OutOfMemory>
@@ -96,15 +78,6 @@ fn service_authenticator(
         Ok(authenticator) => Ok(authenticator),
         Err(_) => Err(OutOfMemory),
     }
-}
-
-/// Parameters of a suite, without keys.
-fn params_in(suite: CipherSuite) -> EncryptionParams
-    ensures { suite_of result ≡ suite }
-{
-    let mut params = EncryptionParams::default_for_client();
-    params.encryption_type = Some(suite);
-    params
 }
 
 /// The AP-REQ of this authenticator. The session key has its length, so nothing is refused.

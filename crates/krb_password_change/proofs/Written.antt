@@ -1,32 +1,16 @@
 -- The octets of a request for a new password, and how many there are.
-use Rattle.std.proofs.Common.{◌≡◌, ℕ, ◌+◌, ◌<◌, ◌≤◌, ◌^◌, List, [], ◌∷◌, ◌++◌, length, take, Result, Ok, Err, IfOk, arith, lit≤, sym, subst, ap, ◌∙◌, refl}
-use Rattle.std.proofs.lemmas.List.{length-take}
+use Rattle.std.proofs.Common.{◌≡◌, ℕ, ◌+◌, ◌<◌, ◌≤◌, ◌^◌, List, [], ◌∷◌, ◌++◌, length, Result, Ok, Err, IfOk, arith, lit≤, sym, subst, ap, ◌∙◌, refl}
 use Rattle.krb_der.specs.declared.memory.OutOfMemory.{OutOfMemory}
 use Rattle.krb_der.proofs.Lengths.{append_le}
-use Rattle.krb_crypto.specs.Suite.{key_size}
-use Rattle.krb_crypto.specs.declared.suite.CipherSuite.{CipherSuite}
-use Rattle.krb_crypto.specs.declared.suite.CipherSuite.TheVariants.{Aes128CtsHmacSha196, Aes256CtsHmacSha196}
-use Rattle.krb_messages.specs.Layouts.{ap_req_layout}
 use Rattle.krb_exchange.specs.Layouts.{krb_priv_layout}
 use Rattle.krb_exchange.specs.PrivMessages.{SpellsAp, IsWritten, IsWritable, IsWritableAp, two_octets, message_octets}
 use Rattle.krb_exchange.specs.declared.krb_priv.KrbPriv.{KrbPriv}
 use Rattle.krb_exchange.specs.declared.priv_message.KrbPrivMessage.{KrbPrivMessage}
 use Rattle.krb_exchange.specs.declared.priv_message.ApMessage.{ApMessage}
 use Rattle.krb_exchange.specs.declared.priv_message.ApMessage.TheVariants.{ApReq, ApRep}
-use Rattle.sspi_core.specs.declared.draw.Draw.{Draw}
 use Rattle.krb_requests.specs.Pieces.{Fits, spelling}
 use Rattle.krb_authenticators.specs.Passwords.{FitsRequest, FitsPriv}
-use Rattle.krb_password_change.specs.Requested.{drawn_key, ap_spelling, written}
-
-key_size_small : (suite : CipherSuite) → key_size suite ≤ 32
-key_size_small Aes128CtsHmacSha196 = lit≤ tt
-key_size_small Aes256CtsHmacSha196 = lit≤ tt
-
-drawn_short : (suite : CipherSuite) (draw : Draw) → length (drawn_key suite draw) ≤ 2 ^ 24
-drawn_short suite draw = omega (arith, key_size_small suite, length-take (key_size suite) draw.random)
-
-pub key_short : (suite : CipherSuite) (draw : Draw) (key : List ℕ) → key ≡ drawn_key suite draw → length key ≤ 2 ^ 24
-key_short suite draw key e = subst (λ (o : List ℕ). length o ≤ 2 ^ 24) (sym e) (drawn_short suite draw)
+use Rattle.krb_password_change.specs.Requested.{ap_spelling, written}
 
 -- what fits can be written
 pub ap_writable : (message : ApMessage) → FitsRequest message → IsWritableAp message

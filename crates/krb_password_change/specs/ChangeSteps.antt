@@ -36,7 +36,8 @@ use Rattle.krb_password_change.specs.declared.phase.AnswerLeg.{AnswerLeg}
 use Rattle.krb_password_change.specs.declared.phase.ChangePhase.{ChangePhase}
 use Rattle.krb_password_change.specs.declared.phase.ChangePhase.TheVariants.{AwaitsError, AwaitsAsRep, AwaitsAnswer}
 use Rattle.krb_password_change.specs.Ports.{password_kdc}
-use Rattle.krb_password_change.specs.Requested.{drawn_key, change_request}
+use Rattle.krb_authenticators.specs.Drawn.{drawn_key}
+use Rattle.krb_password_change.specs.Requested.{change_request}
 
 -- what is asked for: a ticket to the service that changes passwords; the first four random octets are the nonce
 unfoldable pub body_of : Client → Draw → KdcReqBody

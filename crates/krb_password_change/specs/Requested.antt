@@ -18,17 +18,12 @@ use Rattle.krb_sending.specs.declared.kdc.Kdc.{Kdc}
 use Rattle.krb_sending.specs.Requests.{request_to}
 use Rattle.krb_requests.specs.Pieces.{spelling}
 use Rattle.krb_authenticators.specs.declared.options.EncKey.{EncKey}
+use Rattle.krb_authenticators.specs.Drawn.{drawn_key, drawn_confounder}
 use Rattle.krb_authenticators.specs.Authenticators.{authenticator}
 use Rattle.krb_authenticators.specs.Passwords.{priv_part, priv_request}
 use Rattle.krb_password_change.specs.declared.change.Changer.{Changer}
 
--- the random octets of the request, in their order: a key, and two confounders of sixteen
-abbrev pub drawn_key : CipherSuite → Draw → List ℕ
-drawn_key suite draw = take (key_size suite) draw.random
-
-abbrev pub first_confounder : CipherSuite → Draw → List ℕ
-first_confounder suite draw = take 16 (drop (key_size suite) draw.random)
-
+-- behind the key that is drawn and its confounder, a second confounder
 abbrev pub second_confounder : CipherSuite → Draw → List ℕ
 second_confounder suite draw = take 16 (drop (key_size suite + 16) draw.random)
 
@@ -41,7 +36,7 @@ change_authenticator number suite rep draw =
 -- the AP-REQ with this authenticator, and the new password with the same number, from the client's machine
 abbrev pub message_by : Changer → CipherSuite → List ℕ → Ticket → Authenticator → Draw → KrbPrivMessage
 message_by changer suite key ticket authenticator draw =
-    priv_request suite key (first_confounder suite draw) (second_confounder suite draw) ticket authenticator
+    priv_request suite key (drawn_confounder suite draw) (second_confounder suite draw) ticket authenticator
     (priv_part changer.new_password (next_number changer.number) changer.client.host)
 
 -- with the ticket of the reply

@@ -10,7 +10,8 @@ ghost use Rattle.krb_password_change.specs.ChangeRuns.{GoesDown};
 
 use crate::change::Changer;
 use crate::phase::{AnswerLeg, ChangePhase};
-use crate::request::{next_number, params_in};
+use crate::request::next_number;
+use krb_authenticators::params_in;
 use krb_client::Turn;
 use krb_context::{ContextChange, EncryptionParams};
 use krb_crypto::CipherSuite;

@@ -4,19 +4,19 @@ ghost use Rattle.std.specs.Prelude.{◌≡◌, ◌<◌, ◌≤◌, ◌^◌, leng
 ghost use Rattle.krb_crypto.specs.Suite.{key_size};
 ghost use Rattle.krb_messages.specs.Layouts.{authenticator_layout, ticket_layout};
 ghost use Rattle.krb_context.specs.Contexts.{next_number};
-ghost use Rattle.krb_context.specs.Params.{suite_of};
 ghost use Rattle.sspi_core.specs.declared.draw.TheConstants.{MAX_MOMENT};
 ghost use Rattle.krb_requests.specs.Pieces.{Fits};
+ghost use Rattle.krb_authenticators.specs.Drawn.{drawn_confounder};
 ghost use Rattle.krb_authenticators.specs.Passwords.{FitsPriv};
 ghost use Rattle.krb_credentials.specs.Granted.{IsSendable};
 ghost use Rattle.krb_password_change.specs.Changes.{IsReady};
-ghost use Rattle.krb_password_change.specs.Requested.{drawn_key, first_confounder, second_confounder, change_authenticator, message_by, change_message, written, change_request};
+ghost use Rattle.krb_password_change.specs.Requested.{second_confounder, change_authenticator, message_by, change_message, written, change_request};
 
 use crate::change::Changer;
 use krb_authenticators::{
-    EncKey, GenerateAuthenticatorOptions, generate_authenticator, generate_krb_priv_request,
+    EncKey, GenerateAuthenticatorOptions, drawn_confounder, drawn_key, generate_authenticator,
+    generate_krb_priv_request, params_in,
 };
-use krb_context::EncryptionParams;
 use krb_crypto::CipherSuite;
 use krb_der::{Items, Octets, OutOfMemory, TryCopy};
 use krb_exchange::{KdcRep, KrbPrivMessage};
@@ -25,28 +25,6 @@ use krb_sending::{Kdc, request_to};
 use sspi_core::{Draw, Secret};
 use sspi_generator::NetworkRequest;
 use std::alloc::Global;
-
-/// The key that the new password and the answer are sealed under.
-pub(crate) fn drawn_key(
-    alloc: Global,
-    suite: CipherSuite,
-    draw: &Draw,
-) -> Result<Secret<Octets>, OutOfMemory>
-    ensures drawn { IfOk result (λ key. key ≡ drawn_key suite draw.now) }
-    ensures short { IfOk result (λ key. length key ≤ 2 ^ 24) }
-{
-    let key = &draw.random[..suite.key_size()];
-    Ok(Secret::new(Octets::from_slice(alloc, key)?))
-}
-
-fn first_confounder(suite: CipherSuite, draw: &Draw) -> [u8; 16]
-    ensures { result ≡ first_confounder suite draw.now }
-{
-    let start = suite.key_size();
-    let mut confounder = [0; 16];
-    confounder.copy_from_slice(&draw.random[start..start + 16]);
-    confounder
-}
 
 fn second_confounder(suite: CipherSuite, draw: &Draw) -> [u8; 16]
     ensures { result ≡ second_confounder suite draw.now }
@@ -95,22 +73,12 @@ fn change_authenticator(
     }
 }
 
-/// Parameters of a suite, without keys.
-pub(crate) fn params_in(suite: CipherSuite) -> EncryptionParams
-    ensures chosen { result.encryption_type ≡ Some suite }
-    ensures suite { suite_of result ≡ suite }
-{
-    let mut params = EncryptionParams::default_for_client();
-    params.encryption_type = Some(suite);
-    params
-}
-
 fn confounders(suite: CipherSuite, draw: &Draw) -> [[u8; 16]; 2]
-    ensures first { get_or result 0 [] ≡ first_confounder suite draw.now }
+    ensures first { get_or result 0 [] ≡ drawn_confounder suite draw.now }
     ensures second { get_or result 1 [] ≡ second_confounder suite draw.now }
 {
     [
-        first_confounder(suite, draw),
+        drawn_confounder(suite, draw),
         second_confounder(suite, draw),
     ]
 }

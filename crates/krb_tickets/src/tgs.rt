@@ -2,7 +2,6 @@
 
 ghost use Rattle.std.specs.Prelude.{◌≡◌, ◌==◌, ◌<◌, ◌≤◌, ◌^◌, nat_lt, not, length, take, drop, IfOk, IfSome};
 ghost use Rattle.krb_crypto.specs.Suite.{key_size};
-ghost use Rattle.krb_context.specs.Params.{suite_of};
 ghost use Rattle.krb_messages.specs.Layouts.{authenticator_layout};
 ghost use Rattle.krb_exchange.specs.Layouts.{tgs_req_layout};
 ghost use Rattle.sspi_core.specs.declared.cause.Cause.TheVariants as causes;
@@ -18,10 +17,9 @@ ghost use Rattle.krb_tickets.specs.TgsAsked.{drawn_number, drawn_nonce, drawn_co
 use crate::wanted::{Shown, Wanted};
 use krb_authenticators::{
     GenerateAuthenticatorOptions, GenerateTgsReqOptions, generate_authenticator, generate_tgs_req,
+    params_in,
 };
 use krb_client::{Asker, Begun};
-use krb_context::EncryptionParams;
-use krb_crypto::CipherSuite;
 use krb_der::{Asn1, Items, Name, OutOfMemory, TryCopy};
 use krb_exchange::{KdcRep, TgsReq};
 use krb_messages::{Authenticator, Ticket};
@@ -55,15 +53,6 @@ fn drawn_confounder(draw: &Draw) -> [u8; 16]
     let mut confounder = [0; 16];
     confounder.copy_from_slice(&draw.random[8..24]);
     confounder
-}
-
-/// Parameters of a suite, without keys.
-fn params_in(suite: CipherSuite) -> EncryptionParams
-    ensures { suite_of result ≡ suite }
-{
-    let mut params = EncryptionParams::default_for_client();
-    params.encryption_type = Some(suite);
-    params
 }
 
 /// Who asks. An authenticator without a checksum has no room to lack.
