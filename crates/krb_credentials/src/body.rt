@@ -1,6 +1,6 @@
 //! What a client asks a KDC for first.
 
-ghost use Rattle.std.specs.Prelude.{◌≡◌, ◌≤◌, ◌^◌, IfOk, length, map};
+ghost use Rattle.std.specs.Prelude.{◌≡◌, ◌≤◌, ◌^◌, IfOk, length, map, take};
 ghost use Rattle.sspi_core.specs.declared.draw.TheConstants.{MAX_MOMENT};
 ghost use Rattle.krb_exchange.specs.Layouts.{kdc_req_body_layout};
 ghost use Rattle.krb_requests.specs.Pieces.{Fits};
@@ -11,7 +11,7 @@ use crate::client::Client;
 use krb_der::OutOfMemory;
 use krb_exchange::KdcReqBody;
 use krb_requests::{GenerateAsReqOptions, as_req_body};
-use sspi_core::ClientRequestFlags;
+use sspi_core::{ClientRequestFlags, Draw};
 use std::alloc::Global;
 
 /// A service to which a KDC gives a first ticket.
@@ -31,6 +31,15 @@ fn service_components(service: FirstService, realm: &str) -> [&str; 2]
         FirstService::TicketGranting => ["krbtgt", realm],
         FirstService::PasswordChange => ["kadmin", "changepw"],
     }
+}
+
+/// The nonce of a client's first AS-REQ: the first random octets.
+pub fn drawn_nonce(draw: &Draw) -> [u8; 4]
+    ensures { result ≡ take 4 draw.now.random }
+{
+    let mut nonce = [0; 4];
+    nonce.copy_from_slice(&draw.random[..4]);
+    nonce
 }
 
 /// The body of a client's first AS-REQ (RFC 4120, section 5.4.1), as `generate_as_req_kdc_body` makes it. No name of a

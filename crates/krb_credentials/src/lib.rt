@@ -12,7 +12,7 @@ mod granted;
 mod key;
 
 pub use asker::asker_of;
-pub use body::{FirstService, first_body};
+pub use body::{FirstService, drawn_nonce, first_body};
 pub use client::{Client, client_of, short_name};
 pub use granted::{granted_as_rep, granted_tgs_rep};
 pub use key::{ReplyKey, reply_key};

@@ -1,6 +1,6 @@
 //! The AS exchange of an initiator.
 
-ghost use Rattle.std.specs.Prelude.{◌≡◌, ◌≤◌, ◌^◌, IfOk, length, take};
+ghost use Rattle.std.specs.Prelude.{◌≡◌, ◌≤◌, ◌^◌, IfOk, length};
 ghost use Rattle.sspi_core.specs.declared.draw.TheConstants.{MAX_MOMENT};
 ghost use Rattle.sspi_core.specs.Checks.{Answers, Gives};
 ghost use Rattle.krb_exchange.specs.Layouts.{kdc_req_body_layout};
@@ -13,21 +13,13 @@ ghost use Rattle.krb_initiation.specs.InitRuns.{GoesDown};
 
 use crate::seeker::{InitPhase, Seeker};
 use krb_client::{Asker, InitDone, Turn, ask_again, begin};
-use krb_credentials::{FirstService, first_body};
+use krb_credentials::{FirstService, drawn_nonce, first_body};
 use krb_der::{Octets, OutOfMemory, Text, TryCopy};
 use krb_exchange::KdcReqBody;
 use krb_sending::Kdc;
 use sspi_core::{Cause, Draw};
 use sspi_generator::{NetFault, NetworkRequest};
 use std::alloc::Global;
-
-fn drawn_nonce(draw: &Draw) -> [u8; 4]
-    ensures { result ≡ take 4 draw.now.random }
-{
-    let mut nonce = [0; 4];
-    nonce.copy_from_slice(&draw.random[..4]);
-    nonce
-}
 
 /// What is asked for first.
 #[tactic(auto, unfolding(crate::specs::InitSteps::body_of))]

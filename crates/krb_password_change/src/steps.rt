@@ -1,6 +1,6 @@
 //! The steps in which a password is changed, up to the request for the new one.
 
-ghost use Rattle.std.specs.Prelude.{◌≡◌, ◌==◌, ◌≤◌, ◌^◌, IfOk, length, take};
+ghost use Rattle.std.specs.Prelude.{◌≡◌, ◌==◌, ◌≤◌, ◌^◌, IfOk, length};
 ghost use Rattle.krb_crypto.specs.Suite.{key_size};
 ghost use Rattle.sspi_core.specs.declared.draw.TheConstants.{MAX_MOMENT};
 ghost use Rattle.sspi_core.specs.declared.cause.Cause.TheVariants as causes;
@@ -24,21 +24,15 @@ use bitflags::Flags;
 use krb_authenticators::drawn_key;
 use krb_client::{Asker, Turn, ask_again, begin};
 use krb_context::ContextChange;
-use krb_credentials::{Client, FirstService, ReplyKey, first_body, granted_as_rep, reply_key};
+use krb_credentials::{
+    Client, FirstService, ReplyKey, drawn_nonce, first_body, granted_as_rep, reply_key,
+};
 use krb_der::{Octets, OutOfMemory, Text, TryCopy};
 use krb_exchange::{AsRep, KdcRep, KdcReqBody};
 use krb_sending::Kdc;
 use sspi_core::{Cause, ClientRequestFlags, Draw, hold};
 use sspi_generator::{NetFault, NetworkRequest};
 use std::alloc::Global;
-
-fn drawn_nonce(draw: &Draw) -> [u8; 4]
-    ensures { result ≡ take 4 draw.now.random }
-{
-    let mut nonce = [0; 4];
-    nonce.copy_from_slice(&draw.random[..4]);
-    nonce
-}
 
 /// What is asked for.
 #[tactic(auto, unfolding(crate::specs::ChangeSteps::body_of))]

@@ -1,6 +1,6 @@
 //! The steps in which a service fetches its ticket.
 
-ghost use Rattle.std.specs.Prelude.{◌≡◌, ◌≤◌, ◌^◌, IfOk, Some, length, take};
+ghost use Rattle.std.specs.Prelude.{◌≡◌, ◌≤◌, ◌^◌, IfOk, Some, length};
 ghost use Rattle.sspi_core.specs.declared.draw.TheConstants.{MAX_MOMENT};
 ghost use Rattle.sspi_core.specs.Checks.{Answers, Gives};
 ghost use Rattle.krb_exchange.specs.Layouts.{kdc_req_body_layout};
@@ -17,7 +17,9 @@ use crate::tgt_rep::token_of;
 use bitflags::Flags;
 use krb_client::{Asker, InitDone, Turn, ask_again, begin};
 use krb_context::{ContextChange, EncryptionParams, KerberosState};
-use krb_credentials::{Client, FirstService, ReplyKey, first_body, granted_as_rep, reply_key};
+use krb_credentials::{
+    Client, FirstService, ReplyKey, drawn_nonce, first_body, granted_as_rep, reply_key,
+};
 use krb_crypto::CipherSuite;
 use krb_der::{Name, Octets, OutOfMemory, Text, TryCopy};
 use krb_exchange::{AsRep, KdcRep, KdcReqBody};
@@ -36,14 +38,6 @@ pub enum AcceptPhase {
     /// The second one was sent there, under a key with this salt.
     AwaitsAsRep(Kdc, Text),
     Over,
-}
-
-fn drawn_nonce(draw: &Draw) -> [u8; 4]
-    ensures { result ≡ take 4 draw.now.random }
-{
-    let mut nonce = [0; 4];
-    nonce.copy_from_slice(&draw.random[..4]);
-    nonce
 }
 
 /// What is asked for.
