@@ -1,0 +1,8 @@
+//! The tests of both ends together, over public items: what the laws of `krb_ends` speak of, with values that meet their premises.
+//! Nothing stands on them.
+//!
+//! The octets of replies and tokens are those of a second implementation.
+#![tactic(auto)]
+
+#[cfg(test)]
+mod krb_ends_tests;
