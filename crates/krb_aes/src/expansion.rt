@@ -1,6 +1,6 @@
 //! The words of a key schedule (FIPS 197, section 5.2).
 
-ghost use Rattle.std.specs.Prelude.{◌≡◌, ◌⊎◌, ℕ, ◌+◌, ◌*◌, ◌/◌, ◌%◌, ◌<◌, ◌≤◌, length, take};
+ghost use Rattle.std.specs.Prelude.{◌≡◌, ◌⊎◌, ◌+◌, ◌*◌, ◌/◌, ◌%◌, ◌<◌, ◌≤◌, length, take};
 ghost use Rattle.krb_aes.specs.Word.{sub_word, word_at, added_word};
 ghost use Rattle.krb_aes.specs.Aes.{IsKey, round_count, key_expansion};
 
@@ -39,45 +39,32 @@ pub fn load_word(octets: &[u8], at: usize) -> u32
     u32::from_be_bytes([octets[at], octets[at + 1], octets[at + 2], octets[at + 3]])
 }
 
-/// What is added to word `i - 4` to give word `i` of a key of four words, after the word `previous`.
-fn added_to_four(previous: u32, i: usize) -> u32
-    requires low { 4 ≤ i }
-    requires high { i < 44 }
-    ensures { result ≡ added_word 4 i previous }
+/// Where word `i` stands in its group of `key_words` words, and the number of that group. No division is by a variable.
+fn place_of(i: usize, key_words: usize) -> (usize, usize)
+    requires size { (key_words ≡ 4) ⊎ (key_words ≡ 8) }
+    ensures { result ≡ (i % key_words, i / key_words) }
 {
-    if i % 4 == 0 {
-        sub_word(previous.rotate_left(8)) ^ ROUND_CONSTANTS[i / 4 - 1]
+    if key_words == 4 {
+        (i % 4, i / 4)
     } else {
-        previous
+        (i % 8, i / 8)
     }
 }
 
-/// What is added to word `i - 8` to give word `i` of a key of eight words, after the word `previous`.
-fn added_to_eight(previous: u32, i: usize) -> u32
-    requires low { 8 ≤ i }
-    requires high { i < 60 }
-    ensures { result ≡ added_word 8 i previous }
-{
-    if i % 8 == 0 {
-        sub_word(previous.rotate_left(8)) ^ ROUND_CONSTANTS[i / 8 - 1]
-    } else if i % 8 == 4 {
-        sub_word(previous)
-    } else {
-        previous
-    }
-}
-
-/// What is added to word `i - key_words` to give word `i`, after the word `previous`. No division is by a variable.
+/// What is added to word `i - key_words` to give word `i`, after the word `previous`.
 fn added_word(previous: u32, i: usize, key_words: usize) -> u32
     requires size { (key_words ≡ 4) ⊎ (key_words ≡ 8) }
     requires low { key_words ≤ i }
     requires high { i < 4 * (key_words + 7) }
     ensures { result ≡ added_word key_words i previous }
 {
-    if key_words == 4 {
-        added_to_four(previous, i)
+    let (place, group) = place_of(i, key_words);
+    if place == 0 {
+        sub_word(previous.rotate_left(8)) ^ ROUND_CONSTANTS[group - 1]
+    } else if place == 4 {
+        sub_word(previous)
     } else {
-        added_to_eight(previous, i)
+        previous
     }
 }
 

@@ -3,7 +3,7 @@
 ghost use Rattle.std.specs.Prelude.{◌≡◌, ◌↔◌, ◌⊎◌, ◌≤◌, ◌^◌, length, IfOk, IfErr, IfSome, option_map, Some, true, false, ◌∷◌, [], Err};
 ghost use Rattle.std.specs.Option.{option_copied};
 ghost use Rattle.sspi_core.specs.declared.cause.Cause.TheVariants as causes;
-ghost use Rattle.sspi_core.specs.declared.draw.TheConstants.{MAX_MOMENT};
+ghost use Rattle.sspi_core.specs.Moments.{last_moment};
 ghost use Rattle.sspi_core.specs.Kinds.{error_of};
 ghost use Rattle.krb_messages.specs.Layouts.{authenticator_layout};
 ghost use Rattle.krb_requests.specs.Pieces.{whole_second, Fits};
@@ -187,7 +187,7 @@ fn put_together(
     extras: Extras,
     now: u64,
 ) -> Result<Authenticator, OutOfMemory>
-    requires { now ≤ MAX_MOMENT }
+    requires { now ≤ last_moment }
     ensures { IfOk result (λ made. made ≡ record {
       authenticator_vno = 5 ∷ [];
       crealm = rep.now.crealm;
@@ -227,7 +227,7 @@ pub fn generate_authenticator(
     options: GenerateAuthenticatorOptions<'_>,
     now: u64,
 ) -> Result<Authenticator, Error>
-    requires moment { now ≤ MAX_MOMENT }
+    requires moment { now ≤ last_moment }
     requires short { AreShort options.kdc_rep.now options.sub_key options.checksum (option_copied options.channel_bindings) }
     ensures made { IfOk result (λ made. made ≡ authenticator options.entry.kdc_rep.now options.entry.seq_num options.entry.sub_key
         options.entry.checksum (option_copied options.entry.channel_bindings) now) }

@@ -2,7 +2,7 @@
 
 ghost use Rattle.std.specs.Prelude.{◌≡◌, ◌≤◌, ◌^◌, ◌∷◌, [], true, length, IfOk, IfErr, IfSome, IfNone, MatchOption, IsTrue, Some, None, Err};
 ghost use Rattle.md5.specs.Md5.{md5};
-ghost use Rattle.sspi_core.specs.declared.draw.TheConstants.{MAX_MOMENT};
+ghost use Rattle.sspi_core.specs.Moments.{last_moment};
 ghost use Rattle.sspi_core.specs.declared.cause.Cause.TheVariants as causes;
 ghost use Rattle.sspi_core.specs.Kinds.{error_of};
 ghost use Rattle.krb_der.specs.Schema.{is_ascii};
@@ -100,7 +100,7 @@ fn body_with(
     now: u64,
     nonce: [u8; 4],
 ) -> Result<KdcReqBody, OutOfMemory>
-    requires { now ≤ MAX_MOMENT }
+    requires { now ≤ last_moment }
     ensures { IfOk result (λ made. made ≡ record (tgs_body realm [] [] additional_tickets flags.0 now nonce) { sname = Some sname }) }
 {
     let etype = etypes(alloc)?;
@@ -136,7 +136,7 @@ fn tgs_body(
     now: u64,
     nonce: [u8; 4],
 ) -> Result<KdcReqBody, OutOfMemory>
-    requires moment { now ≤ MAX_MOMENT }
+    requires moment { now ≤ last_moment }
     requires ascii { is_askable realm.now service.now host.now ≡ true }
     ensures { IfOk result (λ made. made ≡ tgs_body realm.now service.now host.now tickets flags.0 now nonce) }
 {
@@ -335,7 +335,7 @@ pub fn generate_tgs_req(
     nonce: [u8; 4],
     confounder: [u8; 16],
 ) -> Result<TgsReq, Error>
-    requires moment { now ≤ MAX_MOMENT }
+    requires moment { now ≤ last_moment }
     requires realm { length options.realm.now ≤ 2 ^ 24 }
     requires service { length options.service_principal.now ≤ 2 ^ 24 }
     requires ticket { Fits ticket_layout (2 ^ 24) options.ticket }

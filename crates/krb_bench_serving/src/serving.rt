@@ -10,7 +10,7 @@ use krb_service::{Calls, MemSink, MemSource, Words, serve};
 use std::alloc::Global;
 use std::rt::Clock;
 use std::str;
-use std::time::Instant;
+use std::time::{Duration, Instant};
 
 /// The second of the first event, from the beginning of 1970.
 const START: u32 = 1_700_000_000;
@@ -28,8 +28,20 @@ const KEY: &str = "000102030405060708090a0b0c0d0e0f101112131415161718191a1b1c1d1
 pub(crate) const ZEROS: &str =
     "00000000000000000000000000000000000000000000000000000000000000000000000000000000000000000000000000000000000000000000000000000000";
 
+/// An input in memory, and what is told of it.
+#[derive(Clone, Copy)]
+pub(crate) struct Load<'a> {
+    pub(crate) name: &'a str,
+    pub(crate) events: u32,
+    /// What each answer begins with that is counted.
+    pub(crate) answer: &'a str,
+    /// How many octets go through the service: of the input, or of the messages' texts.
+    pub(crate) octets: usize,
+    pub(crate) input: &'a [u8],
+}
+
 /// An acceptor and its key.
-pub(crate) fn acceptor_lines(alloc: Global, k: u32) -> Option<String> {
+fn acceptor_lines(alloc: Global, k: u32) -> Option<String> {
     let service = "host/server.example.com";
     format!(in alloc; "acceptor {k} 0 bench {service}\nkey {k} {service} {KEY}\n").ok()
 }
@@ -39,9 +51,8 @@ fn second(k: u32) -> u32 {
     START + k / EVENTS_A_SECOND
 }
 
-/// The event of an acceptor. Each tenth one repeats the token before it.
-pub(crate) fn event_line(alloc: Global, client: &DemoClient, k: u32) -> Option<String> {
-    let sender = if k % 10 == 0 { k.saturating_sub(1) } else { k };
+/// The event of an acceptor, whose token is the one of event number `sender`.
+fn event_line(alloc: Global, client: &DemoClient, k: u32, sender: u32) -> Option<String> {
     let sent = Time::new(i64::from(second(sender)));
     let confounder = u128::from(sender).to_be_bytes();
     let token = client
@@ -52,8 +63,17 @@ pub(crate) fn event_line(alloc: Global, client: &DemoClient, k: u32) -> Option<S
     format!(in alloc; "event {k} {moment} {ZEROS} - token {digits}\n").ok()
 }
 
+/// Whose token an event has: each tenth one may repeat the token before it.
+fn sender_of(k: u32, repeats: bool) -> u32 {
+    if repeats && k % 10 == 0 {
+        k.saturating_sub(1)
+    } else {
+        k
+    }
+}
+
 /// An input of so many acceptors, and an event at each, ten in a second.
-pub(crate) fn long_input(alloc: Global, count: u32) -> Option<Vec<u8>> {
+pub(crate) fn admissions(alloc: Global, count: u32, repeats: bool) -> Option<Vec<u8>> {
     let room = (count as usize).saturating_mul(OCTETS_A_CONNECTION);
     let mut input = Vec::with_capacity(alloc, room).ok()?;
     input.extend_from_slice(b"skew 300\n").ok()?;
@@ -65,9 +85,8 @@ pub(crate) fn long_input(alloc: Global, count: u32) -> Option<Vec<u8>> {
     }
     let client = DemoClient::new(alloc).ok()?;
     for k in 1..last {
-        input
-            .extend_from_slice(event_line(alloc, &client, k)?.as_bytes())
-            .ok()?;
+        let line = event_line(alloc, &client, k, sender_of(k, repeats))?;
+        input.extend_from_slice(line.as_bytes()).ok()?;
     }
     Some(input)
 }
@@ -79,41 +98,79 @@ pub(crate) fn command(alloc: Global, word: &str) -> Option<Words> {
     Some(Words::new(words))
 }
 
-/// The last line of an output.
-pub(crate) fn last_line(output: &[u8]) -> &str {
-    match str::from_utf8(output) {
-        Ok(text) => text.lines().last().unwrap_or(""),
-        Err(_) => "",
-    }
+/// An output as text.
+fn text_of(output: &[u8]) -> &str {
+    str::from_utf8(output).unwrap_or("")
 }
 
-/// Serves an input of so many events, and prints the last line that was written, and the time.
-fn measure(
-    rt: &(impl Print + Eprint + Clock + AllocGlobal),
-    name: &str,
-    count: u32,
-    input: &[u8],
-) -> Result<()> {
+/// The last line of an output.
+pub(crate) fn last_line(output: &[u8]) -> &str {
+    text_of(output).lines().last().unwrap_or("")
+}
+
+/// How many lines of an output begin so.
+fn count_answers(output: &[u8], answer: &str) -> u32 {
+    let mut count = 0u32;
+    for line in text_of(output).lines() {
+        if line.starts_with(answer) {
+            count = count.saturating_add(1);
+        }
+    }
+    count
+}
+
+/// What `serve` writes for an input, and how long it takes.
+pub(crate) fn served(rt: &(impl Clock + AllocGlobal), input: &[u8]) -> Result<(MemSink, Duration)> {
     let alloc = rt.alloc();
     let words = command(alloc, "serve").context("out of memory")?;
     let mut source = MemSource::new(input, Calls::sound(alloc));
     let mut sink = MemSink::new(alloc, Calls::sound(alloc));
     let start = Instant::now(rt)?;
     let _status = serve(alloc, &words, &mut source, &mut sink);
-    let spent = start.elapsed(rt)?.as_nanos();
-    let end = last_line(sink.bytes());
-    println!(rt; "serve: {name}, {count} events: {end}")?;
-    let octets = input.len();
-    let each = spent.checked_div(u128::from(count)).unwrap_or(0);
+    let spent = start.elapsed(rt)?;
+    Ok((sink, spent))
+}
+
+/// Prints how long the events of an input took.
+fn tell(rt: &impl Eprint, load: &Load, spent: u128) -> Result<()> {
+    let (name, events, octets) = (load.name, load.events, load.octets);
+    let each = spent.checked_div(u128::from(events)).unwrap_or(0);
     let a_second = 1_000_000_000u128.checked_div(each).unwrap_or(0);
     let rate = (octets as u128)
         .saturating_mul(1_000)
         .checked_div(spent)
         .unwrap_or(0);
     eprintln!(rt;
-        "serve: {name}, {count} events, {octets} octets: {each} ns each, {a_second} a second, {rate} MB/s"
+        "serve: {name}, {events} events, {octets} octets: {each} ns each, {a_second} a second, {rate} MB/s"
     )?;
     Ok(())
+}
+
+/// Serves an input, and prints how it was answered and how long that took.
+pub(crate) fn measure(rt: &(impl Print + Eprint + Clock + AllocGlobal), load: &Load) -> Result<()> {
+    let (sink, spent) = served(rt, load.input)?;
+    let (name, events, answer) = (load.name, load.events, load.answer);
+    let count = count_answers(sink.bytes(), answer);
+    let end = last_line(sink.bytes());
+    println!(rt; "serve: {name}, {events} events: {count} {answer}, {end}")?;
+    tell(rt, load, spent.as_nanos())
+}
+
+/// Measures an input of admissions.
+fn measure_admissions(
+    rt: &(impl Print + Eprint + Clock + AllocGlobal),
+    name: &str,
+    events: u32,
+    input: &[u8],
+) -> Result<()> {
+    let load = Load {
+        name,
+        events,
+        answer: "ok",
+        octets: input.len(),
+        input,
+    };
+    measure(rt, &load)
 }
 
 fn measure_demonstration(rt: &(impl Print + Eprint + Clock + AllocGlobal), count: u32) -> Result<()>
@@ -123,12 +180,12 @@ fn measure_demonstration(rt: &(impl Print + Eprint + Clock + AllocGlobal), count
     let input = demonstration(rt.alloc(), count)
         .ok()
         .context("out of memory")?;
-    measure(rt, "the demonstration", count, input.as_slice())
+    measure_admissions(rt, "the demonstration", count, input.as_slice())
 }
 
 fn measure_long(rt: &(impl Print + Eprint + Clock + AllocGlobal), count: u32) -> Result<()> {
-    let input = long_input(rt.alloc(), count).context("out of memory")?;
-    measure(rt, "ten a second", count, input.as_slice())
+    let input = admissions(rt.alloc(), count, true).context("out of memory")?;
+    measure_admissions(rt, "ten a second", count, input.as_slice())
 }
 
 /// Measures the demonstration's input, and inputs of 1,000, 10,000 and 100,000 connections.

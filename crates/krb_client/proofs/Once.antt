@@ -1,11 +1,10 @@
 -- Each step of an exchange with a KDC has at most one answer.
-use Rattle.std.proofs.Common.{◌≡◌, ℕ, List, length, get_or, Option, Some, None, Result, Ok, Err, refl, sym, ap, ◌∙◌, arith}
+use Rattle.std.proofs.Common.{◌≡◌, ℕ, List, length, get_or, Option, Some, None, Result, refl, sym, ap, ◌∙◌, arith}
 use Rattle.url.specs.Parts.{Parts}
 use Rattle.krb_der.specs.Layout.{Layout, items_layout}
-use Rattle.krb_crypto.proofs.SealedLemmas.{sealed_once}
 use Rattle.krb_crypto.specs.declared.suite.CipherSuite.{CipherSuite}
-use Rattle.krb_exchange.specs.Table.{as_rep, tgs_rep, krb_error}
-use Rattle.krb_exchange.specs.Layouts.{as_rep_layout, tgs_rep_layout, pa_data_layout, etype_info2_entry_layout, enc_as_rep_part_layout}
+use Rattle.krb_exchange.specs.Table.{as_rep, krb_error}
+use Rattle.krb_exchange.specs.Layouts.{as_rep_layout, pa_data_layout, etype_info2_entry_layout, enc_as_rep_part_layout}
 use Rattle.krb_exchange.specs.Results.{HasOneResult}
 use Rattle.krb_exchange.specs.declared.kdc_req.KdcReqBody.{KdcReqBody}
 use Rattle.krb_exchange.specs.declared.kdc_rep.AsRep.{AsRep}
@@ -22,10 +21,9 @@ use Rattle.krb_sending.proofs.Carrying.{unwraps_once}
 use Rattle.krb_replies.specs.Told.{Hands}
 use Rattle.krb_replies.specs.Hints.{etype_info2, IsInfo2}
 use Rattle.krb_replies.specs.Salts.{IsHints, NamesSalt, TellsEtype}
-use Rattle.krb_replies.specs.Unseals.{Unseals, Opens}
 use Rattle.krb_replies.specs.Keys.{BringsKey}
-use Rattle.krb_replies.specs.declared.unseal.Refusals.{Refusals}
-use Rattle.sspi_core.proofs.Once.{Once, then_once, finds_once, takes_once, holds_once, gives_once}
+use Rattle.krb_replies.proofs.Once.{opens_once}
+use Rattle.sspi_core.proofs.Once.{Once, then_once, finds_once, takes_once, gives_once}
 use Rattle.sspi_core.specs.Protocol.{scheme_of}
 use Rattle.sspi_core.specs.declared.cause.Cause.{Cause}
 use Rattle.sspi_core.specs.declared.draw.Draw.{Draw}
@@ -104,18 +102,7 @@ unfolding TellsEtype
 tells_etype_once used as_rep =
     then_once _ _ (finds_once _ _ (same_info2 _)) (λ entries. then_once _ _ (hands_once _) (λ hint. then_once _ _ (takes_once _ _) (λ suite. gives_once _)))
 
--- what is sealed to a key
-unseals_once : (refusals : Refusals) (suite : CipherSuite) (key : List ℕ) (usage : ℕ) (text : List ℕ) → Once (Unseals refusals suite key usage text)
-unfolding Unseals
-unseals_once refusals suite key usage text =
-    then_once _ _ (holds_once _ _) (λ _. then_once _ _ (holds_once _ _) (λ _. finds_once _ _ (sealed_once suite key usage text)))
-
-pub opens_once : {A : Type 0} (layout : Layout A) (refusals : Refusals) (suite : CipherSuite) (key : List ℕ) (usage : ℕ) (text : List ℕ)
-    → Once (Opens layout refusals suite key usage text)
-unfolding Opens
-opens_once layout refusals suite key usage text =
-    then_once _ _ (unseals_once refusals suite key usage text) (λ plain. finds_once _ _ (λ x y s t. same_record layout x y plain s t))
-
+-- the session key that an AS-REP brings
 pub brings_key_once : (suite : CipherSuite) (key : List ℕ) (as_rep : AsRep) → Once (BringsKey suite key as_rep)
 unfolding BringsKey
 brings_key_once suite key as_rep = then_once _ _ (opens_once enc_as_rep_part_layout _ suite key 3 as_rep.0.enc_part.cipher) (λ part. gives_once _)

@@ -2,7 +2,7 @@
 
 ghost use Rattle.std.specs.Prelude.{◌≡◌, ◌≤◌, ◌^◌, true, IfOk, length, Err};
 ghost use Rattle.sspi_core.specs.declared.cause.Cause.TheVariants as causes;
-ghost use Rattle.sspi_core.specs.declared.draw.TheConstants.{MAX_MOMENT};
+ghost use Rattle.sspi_core.specs.Moments.{last_moment};
 ghost use Rattle.sspi_core.specs.Checks.{Answers, Gives};
 ghost use Rattle.krb_exchange.specs.Layouts.{kdc_req_body_layout};
 ghost use Rattle.krb_requests.specs.Pieces.{Fits};
@@ -147,7 +147,7 @@ fn ask_second(
     reply: Result<Octets, NetFault>,
     draw: &Draw,
 ) -> Result<Turn<AsPhase, AsDone>, Cause>
-    requires moment { draw.now.moment ≤ MAX_MOMENT }
+    requires moment { draw.now.moment ≤ last_moment }
     requires body { Fits kdc_req_body_layout (2 ^ 28) body.now }
     requires realm { length kdc.now.realm ≤ 2 ^ 24 }
     ensures step { Answers (AsksSecond asker.now kdc.now body.now reply draw.now) result }
@@ -189,7 +189,7 @@ fn in_phase(
     draw: &Draw,
 ) -> Result<Turn<AsPhase, AsDone>, Cause>
     requires awaiting { IsAwaiting phase.now }
-    requires moment { draw.now.moment ≤ MAX_MOMENT }
+    requires moment { draw.now.moment ≤ last_moment }
     ensures step { Answers (Next asker.now phase.now reply draw.now) result }
     ensures down { IfOk result (λ turn. GoesDown (turns_left phase.now) turn) }
 {
@@ -209,7 +209,7 @@ fn next(
     draw: &Draw,
 ) -> Result<Turn<AsPhase, AsDone>, Cause>
     requires awaiting { IsAwaiting phase.now }
-    requires moment { draw.now.moment ≤ MAX_MOMENT }
+    requires moment { draw.now.moment ≤ last_moment }
     ensures step { Answers (Next asker.now phase.now reply draw.now) result }
     ensures down { IfOk result (λ turn. GoesDown (turns_left phase.now) turn) }
     ensures memory { is_want reply ≡ true → result ≡ Err causes.Memory }

@@ -4,7 +4,7 @@ ghost use Rattle.std.specs.Prelude.{◌≡◌, ◌≤◌, ◌^◌, length, take,
 ghost use Rattle.krb_der.specs.Layout.{items_layout};
 ghost use Rattle.krb_crypto.specs.Suite.{key_size};
 ghost use Rattle.krb_exchange.specs.Layouts.{pa_data_layout, kdc_req_body_layout};
-ghost use Rattle.sspi_core.specs.declared.draw.TheConstants.{MAX_MOMENT};
+ghost use Rattle.sspi_core.specs.Moments.{last_moment};
 ghost use Rattle.sspi_core.specs.Checks.{Answers, Gives};
 ghost use Rattle.krb_requests.specs.Pieces.{Fits};
 ghost use Rattle.krb_requests.specs.Bodies.{as_req_with};
@@ -108,7 +108,7 @@ fn second_request(
     body: &KdcReqBody,
 ) -> Result<NetworkRequest, OutOfMemory>
     requires key { length key.now ≡ key_size suite }
-    requires moment { draw.now.moment ≤ MAX_MOMENT }
+    requires moment { draw.now.moment ≤ last_moment }
     requires body { Fits kdc_req_body_layout (2 ^ 28) body.now }
     requires realm { length kdc.now.realm ≤ 2 ^ 24 }
     ensures { IfOk result (λ request. request ≡ second_request suite key.now draw.now kdc.now body.now) }
@@ -129,7 +129,7 @@ fn sent_second_request(
     salt: Text,
 ) -> Result<Again, Cause>
     requires key { length key.now ≡ key_size (asker_suite asker.now) }
-    requires moment { draw.now.moment ≤ MAX_MOMENT }
+    requires moment { draw.now.moment ≤ last_moment }
     requires body { Fits kdc_req_body_layout (2 ^ 28) body.now }
     requires realm { length kdc.now.realm ≤ 2 ^ 24 }
     ensures { Answers (Gives (record { request = second_request (asker_suite asker.now) key.now draw.now kdc.now body.now; salt = salt })) result }
@@ -152,7 +152,7 @@ pub fn ask_again(
     reply: Result<Octets, NetFault>,
     draw: &Draw,
 ) -> Result<Again, Cause>
-    requires moment { draw.now.moment ≤ MAX_MOMENT }
+    requires moment { draw.now.moment ≤ last_moment }
     requires body { Fits kdc_req_body_layout (2 ^ 28) body.now }
     requires realm { length kdc.now.realm ≤ 2 ^ 24 }
     ensures step { Answers (AsksAgain asker.now kdc.now body.now reply draw.now) result }

@@ -46,17 +46,35 @@ pub halves : (text header body : List ℕ) → text ≡ header ++ body → lengt
 halves text header body e size =
     (sym (ap (take 16) e ∙ take_at header body 16 size), sym (ap (drop 16) e ∙ drop_at header body 16 size))
 
+-- the body is the whole turned to the right, by a count that the header and the body's length tell
+body_turned : (turns : List ℕ → ℕ → ℕ) (text header whole : List ℕ) (turn : ℕ) → IsTurned text header whole turn → turn ≡ turns header (length text - 16)
+    → drop 16 text ≡ slice_rotate_right whole (turns header (length (drop 16 text)))
+body_turned turns text header whole turn t et =
+    let size : length (drop 16 text) ≡ length text - 16 = length-drop 16 text in
+    rotated whole (drop 16 text) turn (omega (arith, t.fits)) t.back ∙ ap (slice_rotate_right whole) (et ∙ ap (turns header) (sym size))
+
+-- and of no other header and whole
+same_turned : (turns : List ℕ → ℕ → ℕ) (text header whole h b w : List ℕ) (turn : ℕ) (P : List ℕ → List ℕ → Type 0)
+    → IsTurned text header whole turn → turn ≡ turns header (length text - 16)
+    → text ≡ h ++ b → length h ≡ 16 → b ≡ slice_rotate_right w (turns h (length b)) → P h w → P header whole
+same_turned turns text header whole h b w turn P t et e front is held =
+    let both = halves text h b e front in
+    let eh : h ≡ header = both.0 ∙ sym t.front in
+    let size : length b ≡ length text - 16 = ap length both.1 ∙ length-drop 16 text in
+    let ew : w ≡ whole =
+    unrotated w b turn (omega (arith, t.fits)) (is ∙ ap (slice_rotate_right w) (ap₂ turns eh size ∙ sym et))
+    ∙ ap (λ (s : List ℕ). drop turn s ++ take turn s) both.1 ∙ sym t.back in
+    subst (λ (v : List ℕ). P header v) ew (subst (λ (v : List ℕ). P v w) eh held)
+
 pub to_spelt : (keys : SealingPair) (peer : Bool) (ec : ℕ) (buffers : List Buffer) (header whole : List ℕ) (turn : ℕ) (p : List ℕ)
     → IsTurned (spelled buffers) header whole turn → turn ≡ sealed_turn ec (rrc_of header) (length (spelled buffers) - 16)
     → is_wrap_header header ≡ true → is_sealed header ≡ true → is_from peer header ≡ true → ec_of header ≡ ec
     → IsSealedAs keys ec header buffers whole p → Spelt keys peer ec buffers p
 to_spelt keys peer ec buffers header whole turn p t et token sealed side count s =
-    let body : List ℕ = drop 16 (spelled buffers) in
     let parts = front_and_body t in
-    let size : length body ≡ length (spelled buffers) - 16 = length-drop 16 (spelled buffers) in
     record {
       header = header;
-      body = body;
+      body = drop 16 (spelled buffers);
       text = parts.0;
       header_size = parts.1;
       token = token;
@@ -65,34 +83,25 @@ to_spelt keys peer ec buffers header whole turn p t et token sealed side count s
       count = count;
       whole = whole;
       sealed_as = s;
-      is = rotated whole body turn (omega (arith, t.fits)) t.back ∙ ap (slice_rotate_right whole) (et ∙ ap (sealed_turn ec (rrc_of header)) (sym size));
+      is = body_turned (λ h n. sealed_turn ec (rrc_of h) n) (spelled buffers) header whole turn t et;
     }
 
 pub from_spelt : (keys : SealingPair) (peer : Bool) (ec : ℕ) (buffers : List Buffer) (header whole : List ℕ) (turn : ℕ) (p : List ℕ)
     → IsTurned (spelled buffers) header whole turn → turn ≡ sealed_turn ec (rrc_of header) (length (spelled buffers) - 16)
     → Spelt keys peer ec buffers p → IsSealedAs keys ec header buffers whole p
 from_spelt keys peer ec buffers header whole turn p t et s =
-    let both = halves (spelled buffers) s.header s.body s.text s.header_size in
-    let eh : s.header ≡ header = both.0 ∙ sym t.front in
-    let size : length s.body ≡ length (spelled buffers) - 16 = ap length both.1 ∙ length-drop 16 (spelled buffers) in
-    let k : sealed_turn ec (rrc_of s.header) (length s.body) ≡ turn =
-    ap₂ (λ (h : List ℕ) (n : ℕ). sealed_turn ec (rrc_of h) n) eh size ∙ sym et in
-    let ew : s.whole ≡ whole =
-    unrotated s.whole s.body turn (omega (arith, t.fits)) (s.is ∙ ap (slice_rotate_right s.whole) k)
-    ∙ ap (λ (b : List ℕ). drop turn b ++ take turn b) both.1 ∙ sym t.back in
-    subst (λ (h : List ℕ). IsSealedAs keys ec h buffers whole p) eh (subst (λ (w : List ℕ). IsSealedAs keys ec s.header buffers w p) ew s.sealed_as)
+    same_turned (λ h n. sealed_turn ec (rrc_of h) n) (spelled buffers) header whole s.header s.body s.whole turn
+    (λ h w. IsSealedAs keys ec h buffers w p) t et s.text s.header_size s.is s.sealed_as
 
 pub to_clear : (key : List ℕ) (peer : Bool) (buffers : List Buffer) (header whole : List ℕ) (turn : ℕ) (p : List ℕ)
     → IsTurned (spelled buffers) header whole turn → turn ≡ rrc_of header % (length (spelled buffers) - 16)
     → is_wrap_header header ≡ true → is_sealed header ≡ false → is_from peer header ≡ true
     → IsClearAs key header whole p → SpeltClear key peer buffers p
 to_clear key peer buffers header whole turn p t et token sealed side s =
-    let body : List ℕ = drop 16 (spelled buffers) in
     let parts = front_and_body t in
-    let size : length body ≡ length (spelled buffers) - 16 = length-drop 16 (spelled buffers) in
     record {
       header = header;
-      body = body;
+      body = drop 16 (spelled buffers);
       text = parts.0;
       header_size = parts.1;
       token = token;
@@ -100,22 +109,15 @@ to_clear key peer buffers header whole turn p t et token sealed side s =
       side = side;
       whole = whole;
       clear_as = s;
-      is = rotated whole body turn (omega (arith, t.fits)) t.back ∙ ap (slice_rotate_right whole) (et ∙ ap (λ (n : ℕ). rrc_of header % n) (sym size));
+      is = body_turned (λ h n. rrc_of h % n) (spelled buffers) header whole turn t et;
     }
 
 pub from_clear : (key : List ℕ) (peer : Bool) (buffers : List Buffer) (header whole : List ℕ) (turn : ℕ) (p : List ℕ)
     → IsTurned (spelled buffers) header whole turn → turn ≡ rrc_of header % (length (spelled buffers) - 16)
     → SpeltClear key peer buffers p → IsClearAs key header whole p
 from_clear key peer buffers header whole turn p t et s =
-    let both = halves (spelled buffers) s.header s.body s.text s.header_size in
-    let eh : s.header ≡ header = both.0 ∙ sym t.front in
-    let size : length s.body ≡ length (spelled buffers) - 16 = ap length both.1 ∙ length-drop 16 (spelled buffers) in
-    let k : rrc_of s.header % length s.body ≡ turn =
-    ap₂ (λ (h : List ℕ) (n : ℕ). rrc_of h % n) eh size ∙ sym et in
-    let ew : s.whole ≡ whole =
-    unrotated s.whole s.body turn (omega (arith, t.fits)) (s.is ∙ ap (slice_rotate_right s.whole) k)
-    ∙ ap (λ (b : List ℕ). drop turn b ++ take turn b) both.1 ∙ sym t.back in
-    subst (λ (h : List ℕ). IsClearAs key h whole p) eh (subst (λ (w : List ℕ). IsClearAs key s.header w p) ew s.clear_as)
+    same_turned (λ h n. rrc_of h % n) (spelled buffers) header whole s.header s.body s.whole turn
+    (λ h w. IsClearAs key h w p) t et s.text s.header_size s.is s.clear_as
 
 -- what is found by one name is found by another of the same meaning
 pub found_as : {V : Type 0} (items : V → List ℕ) (P Q : List ℕ → Type 0) (o : Option V) → ((p : List ℕ) → P p → Q p) → ((p : List ℕ) → Q p → P p)

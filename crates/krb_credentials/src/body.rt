@@ -1,7 +1,7 @@
 //! What a client asks a KDC for first.
 
 ghost use Rattle.std.specs.Prelude.{◌≡◌, ◌≤◌, ◌^◌, IfOk, length, map};
-ghost use Rattle.sspi_core.specs.declared.draw.TheConstants.{MAX_MOMENT};
+ghost use Rattle.sspi_core.specs.Moments.{last_moment};
 ghost use Rattle.krb_exchange.specs.Layouts.{kdc_req_body_layout};
 ghost use Rattle.krb_requests.specs.Pieces.{Fits};
 ghost use Rattle.krb_credentials.specs.Clients.{IsShort};
@@ -44,7 +44,7 @@ pub fn first_body(
     moment: u64,
 ) -> Result<KdcReqBody, OutOfMemory>
     requires short { IsShort client.now }
-    requires moment { moment ≤ MAX_MOMENT }
+    requires moment { moment ≤ last_moment }
     ensures made { IfOk result (λ body. body ≡ first_body client.now service flags.0 nonce moment) }
     ensures fits { IfOk result (λ body. Fits kdc_req_body_layout (2 ^ 28) body) }
 {

@@ -1,10 +1,10 @@
 -- The tables of folded constants hold what the n-fold gives (RFC 3961, sections 5.1 and 5.3).
-use Rattle.std.proofs.Common.{◌≡◌, ℕ, ◌+◌, ◌<◌, List, map, get_or, refl, ap, ◌∙◌, arith}
+use Rattle.std.proofs.Common.{◌≡◌, ℕ, List, map, get_or, refl, ap, ◌∙◌, arith}
 use Rattle.std.proofs.lemmas.List.FromFn.{get_or-map-range_with_len}
 use Rattle.std.specs.List.{range_with_len}
 use Rattle.std.specs.Int.{w128, to_be_bytes}
 use Rattle.krb_crypto.specs.Fold.{copies_bit, number_from, sum_of_pieces, n_fold}
-use Rattle.krb_crypto.specs.Suite.{usage_constant}
+use Rattle.krb_crypto.specs.Suite.{usage_constant, AreFolds}
 use Rattle.krb_crypto.specs.declared.folded.TheConstants.{ENCRYPTION_FOLDS, INTEGRITY_FOLDS, CHECKSUM_FOLDS}
 
 -- the five pieces of a usage and an octet, added
@@ -27,17 +27,17 @@ CHECKSUM_FOLDS_is = refl
 
 -- ---- an entry of a table, as octets
 
-pub ENCRYPTION_FOLDS_at : (u : ℕ) → u < 26 → to_be_bytes w128 (get_or ENCRYPTION_FOLDS u 0) ≡ n_fold (usage_constant u 0xaa)
+folds_are : (octet : ℕ) (folds : List ℕ) → folds ≡ map (fold_of octet) (range_with_len 0 26) → AreFolds octet folds
 unfolding n_fold
-ENCRYPTION_FOLDS_at u h =
-    ap (to_be_bytes w128) (ap (λ (l : List ℕ). get_or l u 0) ENCRYPTION_FOLDS_is ∙ get_or-map-range_with_len (fold_of 0xaa) 0 26 u u 0 h (omega arith))
+folds_are octet folds is = record {
+  at = λ u h. ap (to_be_bytes w128) (ap (λ (l : List ℕ). get_or l u 0) is ∙ get_or-map-range_with_len (fold_of octet) 0 26 u u 0 h (omega arith));
+}
 
-pub INTEGRITY_FOLDS_at : (u : ℕ) → u < 26 → to_be_bytes w128 (get_or INTEGRITY_FOLDS u 0) ≡ n_fold (usage_constant u 0x55)
-unfolding n_fold
-INTEGRITY_FOLDS_at u h =
-    ap (to_be_bytes w128) (ap (λ (l : List ℕ). get_or l u 0) INTEGRITY_FOLDS_is ∙ get_or-map-range_with_len (fold_of 0x55) 0 26 u u 0 h (omega arith))
+pub encryption_folds : AreFolds 0xaa ENCRYPTION_FOLDS
+encryption_folds = folds_are 0xaa ENCRYPTION_FOLDS ENCRYPTION_FOLDS_is
 
-pub CHECKSUM_FOLDS_at : (u : ℕ) → u < 26 → to_be_bytes w128 (get_or CHECKSUM_FOLDS u 0) ≡ n_fold (usage_constant u 0x99)
-unfolding n_fold
-CHECKSUM_FOLDS_at u h =
-    ap (to_be_bytes w128) (ap (λ (l : List ℕ). get_or l u 0) CHECKSUM_FOLDS_is ∙ get_or-map-range_with_len (fold_of 0x99) 0 26 u u 0 h (omega arith))
+pub integrity_folds : AreFolds 0x55 INTEGRITY_FOLDS
+integrity_folds = folds_are 0x55 INTEGRITY_FOLDS INTEGRITY_FOLDS_is
+
+pub checksum_folds : AreFolds 0x99 CHECKSUM_FOLDS
+checksum_folds = folds_are 0x99 CHECKSUM_FOLDS CHECKSUM_FOLDS_is

@@ -1,7 +1,7 @@
 -- The cipher suites and their derived keys (RFC 3961, section 5.1; RFC 3962, section 6).
-use Rattle.std.specs.Prelude.{◌≡◌, ◌≢◌, ℕ, zero, suc, ◌/◌, ◌==◌, ℤ, pos, List, [], ◌∷◌, ◌++◌, length, Option, Some, None, if◌then◌else◌, Result, MatchResult}
+use Rattle.std.specs.Prelude.{◌≡◌, ◌≢◌, ℕ, zero, suc, ◌/◌, ◌==◌, ℤ, pos, ◌<◌, List, [], ◌∷◌, ◌++◌, length, slice_index, Option, Some, None, if◌then◌else◌, Result, MatchResult}
 use Rattle.std.specs.Ordering.{int_eq}
-use Rattle.std.specs.Int.{w32, to_be_bytes}
+use Rattle.std.specs.Int.{w32, w128, to_be_bytes}
 use Rattle.krb_aes.specs.Aes.{aes}
 use Rattle.krb_crypto.specs.Fold.{n_fold}
 use Rattle.krb_crypto.specs.declared.suite.CipherSuite.{CipherSuite}
@@ -65,6 +65,10 @@ dk suite key constant = repeated (aes key) (constant_block constant) (key_size s
 -- the usage in four octets, the highest first, and an octet, as a constant (RFC 3961, section 5.3)
 abbrev pub usage_constant : ℕ → ℕ → List ℕ
 usage_constant usage octet = to_be_bytes w32 usage ++ octet ∷ []
+
+-- the constants of the usages 0 to 25 with this octet, folded, a number each
+pub record AreFolds (octet : ℕ) (folds : List ℕ) : Type 0 where
+  pub at : (usage : ℕ) → usage < 26 → to_be_bytes w128 (slice_index folds usage) ≡ n_fold (usage_constant usage octet)
 
 -- Ke, the key of encryption
 abbrev pub ke : CipherSuite → List ℕ → ℕ → List ℕ

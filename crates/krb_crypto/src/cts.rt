@@ -1,6 +1,6 @@
 // CBC with ciphertext stealing (RFC 3962, section 5).
 
-ghost use Rattle.std.specs.Prelude.{◌≡◌, ◌+◌, ◌-◌, ◌≤◌, ◌<◌, length, take, drop, replicate, ◌++◌};
+ghost use Rattle.std.specs.Prelude.{◌≡◌, ◌+◌, ◌-◌, ◌≤◌, length, take, drop, replicate, ◌++◌};
 ghost use Rattle.krb_aes.specs.Aes.{block_cipher};
 ghost use Rattle.krb_crypto.specs.Cts.{cts};
 

@@ -3,7 +3,7 @@
 
 ghost use Rattle.std.specs.Prelude.{◌≡◌};
 ghost use Rattle.krb_crypto.specs.Fold.{n_fold};
-ghost use Rattle.krb_crypto.specs.Suite.{usage_constant};
+ghost use Rattle.krb_crypto.specs.Suite.{usage_constant, AreFolds};
 
 use crate::fold::n_fold;
 
@@ -114,35 +114,35 @@ fn usage_constant(usage: u32, octet: u8) -> [u8; 5]
     [a, b, c, d, octet]
 }
 
+/// The folded constant of a usage and an octet, where these are the folds of that octet.
+fn folded_constant(folds: &[u128; 26], usage: u32, octet: u8) -> [u8; 16]
+    requires { AreFolds octet folds.now }
+    ensures { result ≡ n_fold (usage_constant usage octet) }
+{
+    if usage < 26 {
+        folds[usage as usize].to_be_bytes()
+    } else {
+        n_fold(&usage_constant(usage, octet))
+    }
+}
+
 /// The folded constant of the key of encryption.
 pub fn encryption_block(usage: u32) -> [u8; 16]
     ensures { result ≡ n_fold (usage_constant usage 0xaa) }
 {
-    if usage < 26 {
-        ENCRYPTION_FOLDS[usage as usize].to_be_bytes()
-    } else {
-        n_fold(&usage_constant(usage, ENCRYPTION))
-    }
+    folded_constant(&ENCRYPTION_FOLDS, usage, ENCRYPTION)
 }
 
 /// The folded constant of the key of the checksum of a sealed text.
 pub fn integrity_block(usage: u32) -> [u8; 16]
     ensures { result ≡ n_fold (usage_constant usage 0x55) }
 {
-    if usage < 26 {
-        INTEGRITY_FOLDS[usage as usize].to_be_bytes()
-    } else {
-        n_fold(&usage_constant(usage, INTEGRITY))
-    }
+    folded_constant(&INTEGRITY_FOLDS, usage, INTEGRITY)
 }
 
 /// The folded constant of the key of a checksum alone.
 pub fn checksum_block(usage: u32) -> [u8; 16]
     ensures { result ≡ n_fold (usage_constant usage 0x99) }
 {
-    if usage < 26 {
-        CHECKSUM_FOLDS[usage as usize].to_be_bytes()
-    } else {
-        n_fold(&usage_constant(usage, CHECKSUM))
-    }
+    folded_constant(&CHECKSUM_FOLDS, usage, CHECKSUM)
 }

@@ -2,7 +2,6 @@
 
 ghost use Rattle.std.specs.Prelude.{◌≡◌, ◌↔◌, ◌+◌, ◌-◌, ◌≤◌, ◌<◌, ◌++◌, ℕ, List, [], length, take, drop, slice_index, vec_len, ◌⊎◌, IsTrue, IfOk, IfErr, OnOk, OnErr};
 ghost use Rattle.krb_aes.specs.Aes.{aes};
-ghost use Rattle.krb_aes.specs.Octets.{IsOctets};
 ghost use Rattle.krb_crypto.specs.Cts.{cts};
 ghost use Rattle.krb_crypto.specs.Hmac.{hmac12};
 ghost use Rattle.krb_crypto.specs.Suite.{key_size};

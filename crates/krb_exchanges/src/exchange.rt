@@ -3,7 +3,7 @@
 ghost use Rattle.std.specs.Prelude.{◌≡◌, ◌≤◌, ◌↔◌, Err, IsTrue, IfOk, IfErr, OnErr};
 ghost use Rattle.sspi_core.specs.Kinds.{error_of};
 ghost use Rattle.sspi_core.specs.declared.cause.Cause.TheVariants as causes;
-ghost use Rattle.sspi_core.specs.declared.draw.TheConstants.{MAX_MOMENT};
+ghost use Rattle.sspi_core.specs.Moments.{last_moment};
 ghost use Rattle.sspi_generator.specs.declared.task.GeneratorState.TheVariants.{Completed};
 ghost use Rattle.sspi_generator.specs.Steps.{OnSuspended};
 ghost use Rattle.krb_exchanges.specs.Runs.{IsNew, IsWaiting};
@@ -92,7 +92,7 @@ fn step_of(
 /// An exchange begins. Where memory runs out it does not.
 pub fn begin(alloc: Global, run: Run, draw: &Draw) -> Result<Step, OutOfMemory>
     requires new { IsNew run }
-    requires moment { draw.now.moment ≤ MAX_MOMENT }
+    requires moment { draw.now.moment ≤ last_moment }
     ensures begins { IfOk result (λ step. Begins run draw.now step) }
 {
     let mut run = Box::new(alloc, run)?;
@@ -109,7 +109,7 @@ pub fn go_on(
     answer: Result<Octets, NetFault>,
     draw: &Draw,
 ) -> Result<Step, Exchange>
-    requires moment { draw.now.moment ≤ MAX_MOMENT }
+    requires moment { draw.now.moment ≤ last_moment }
     ensures goes_on { IfOk result (λ step. GoesOn exchange answer draw.now step) }
     ensures kept { IfErr result (λ kept. kept ≡ exchange) }
 {

@@ -3,7 +3,7 @@
 ghost use Rattle.std.specs.Prelude.{◌≡◌, ◌≤◌, Err};
 ghost use Rattle.sspi_core.specs.Kinds.{error_of};
 ghost use Rattle.sspi_core.specs.declared.cause.Cause.TheVariants as causes;
-ghost use Rattle.sspi_core.specs.declared.draw.TheConstants.{MAX_MOMENT};
+ghost use Rattle.sspi_core.specs.Moments.{last_moment};
 ghost use Rattle.sspi_generator.specs.declared.task.GeneratorState.TheVariants.{Completed};
 ghost use Rattle.sspi_generator.specs.Steps.{OnSuspended};
 ghost use Rattle.krb_exchanges.specs.Runs.{IsNew, IsWaiting, StartsAt, ResumesAt};
@@ -30,7 +30,7 @@ pub(crate) fn start(
     draw: &Draw,
 ) -> GeneratorState<NetworkRequest, Result<InitDone, Error>>
     requires new { IsNew run.old }
-    requires moment { draw.now.moment ≤ MAX_MOMENT }
+    requires moment { draw.now.moment ≤ last_moment }
     ensures step { StartsAt run.old draw.now result run.new }
     ensures waits { OnSuspended result (λ request. IsWaiting run.new) }
     ensures want { result ≡ Completed (Err (error_of causes.Memory)) → run.new ≡ run.old }
@@ -48,7 +48,7 @@ pub(crate) fn resume(
     draw: &Draw,
 ) -> GeneratorState<NetworkRequest, Result<InitDone, Error>>
     requires waiting { IsWaiting run.old }
-    requires moment { draw.now.moment ≤ MAX_MOMENT }
+    requires moment { draw.now.moment ≤ last_moment }
     ensures step { ResumesAt run.old answer draw.now result run.new }
     ensures waits { OnSuspended result (λ request. IsWaiting run.new) }
     ensures want { result ≡ Completed (Err (error_of causes.Memory)) → run.new ≡ run.old }

@@ -5,10 +5,13 @@ use Rattle.krb_context.specs.declared.context.Kerberos.{Kerberos}
 use Rattle.krb_context.specs.declared.server.ServerProperties.{ServerProperties}
 use Rattle.krb_context.specs.Contexts.{new_context}
 use Rattle.krb_context.specs.Params.{default_params}
+use Rattle.krb_context.specs.Queries.{name_of}
 use Rattle.krb_replay.specs.Book.{Book, Follows, StandsFor}
 use Rattle.krb_server.specs.Accepts.{Accepts}
 use Rattle.krb_server.specs.declared.admission.Accepted.{Accepted}
 use Rattle.krb_server.specs.declared.admission.Accepted.TheVariants.{Done}
+use Rattle.sspi_core.specs.Usernames.{UserName}
+use Rattle.sspi_core.specs.declared.cause.Cause.{Cause}
 use Rattle.sspi_core.specs.declared.draw.Draw.{Draw}
 use Rattle.sspi_core.specs.declared.buffer.BufferType.TheVariants as types
 use Rattle.sspi_core.specs.Buffer.{Buffer, no_flags}
@@ -23,13 +26,27 @@ pub record Waits (service : ServerProperties) (connection : Kerberos) : Type 0 w
 abbrev pub answer_in : Accepted → List ℕ
 answer_in (Done status answer admits) = answer
 
--- the token passes every check of the acceptor, the question to the book among them, at a connection that waited for one
-pub record Admits (service : ServerProperties) (old : Book) (token : List ℕ) (draw : Draw) (answer : List ℕ) (connection : Kerberos) (new : Book) : Type 0 where
+-- what the checks of the acceptor answer, the question to the book among them, at a connection of the service that waited for a token
+pub record Judges (service : ServerProperties) (old : Book) (token : List ℕ) (draw : Draw) (answer : Result Accepted Cause)
+    (connection : Kerberos) (new : Book) : Type 0 where
   pub waiting : Kerberos
   pub waits : Waits service waiting
+  pub accepts : Accepts (Follows StandsFor) waiting false token draw old answer connection new
+
+-- the token passes all of them
+pub record Admits (service : ServerProperties) (old : Book) (token : List ℕ) (draw : Draw) (answer : List ℕ)
+    (connection : Kerberos) (new : Book) : Type 0 where
   pub accepted : Accepted
   pub answer_is : answer ≡ answer_in accepted
-  pub accepts : Accepts (Follows StandsFor) waiting false token draw old (Ok accepted) connection new
+  pub judged : Judges service old token draw (Ok accepted) connection new
+
+-- it is refused so, and the book is as the checks leave it
+abbrev pub Rejects : ServerProperties → Book → List ℕ → Draw → Book → Result Accepted Cause → Type 0
+Rejects service old token draw new answer = (connection : Kerberos) × Judges service old token draw answer connection new
+
+-- a name is known of the client
+abbrev pub HasName : Kerberos → Type 0
+HasName connection = (client : UserName) × (name_of connection ≡ Ok client)
 
 -- a message that came whole, and an empty buffer for its text
 abbrev pub whole_message : List ℕ → List Buffer

@@ -1,12 +1,18 @@
-//! What a server keeps, and the three calls that it makes of the library.
+//! What a server keeps, and the calls that it makes of the library.
 
-ghost use Rattle.std.specs.Prelude.{◌≡◌, map, Ok, None, Some, IfOk, IfErr};
-ghost use Rattle.krb_replay.specs.Book.{StandsFor};
+ghost use Rattle.std.specs.Prelude.{◌≡◌, false, map, Ok, None, Some, IfOk, IfErr};
+ghost use Rattle.sspi_core.specs.Kinds.{error_of};
+ghost use Rattle.sspi_core.specs.declared.cause.Cause.TheVariants as causes;
+ghost use Rattle.sspi_core.specs.declared.error.Place.TheVariants as places;
+ghost use Rattle.krb_replay.specs.Book.{StandsFor, Follows, IsUnchanged};
 ghost use Rattle.krb_replay.specs.History.{no_history};
 ghost use Rattle.krb_context.specs.ServiceKeys.{new_properties, IsNotAscii};
 ghost use Rattle.krb_context.specs.Queries.{name_of};
+ghost use Rattle.krb_context.specs.Refusals.{Refuses};
 ghost use Rattle.krb_context.specs.Unwraps.{Unwraps};
-ghost use Rattle.krb_gateway.specs.Admits.{Waits, answer_in, Admits, whole_message};
+ghost use Rattle.krb_server.specs.Accepts.{Accepts};
+ghost use Rattle.krb_server.specs.declared.admission.Accepted.{Accepted};
+ghost use Rattle.krb_gateway.specs.Admits.{Waits, answer_in, Admits, Rejects, HasName, whole_message};
 
 use krb_server::{
     Accepted, Draw, Env, Error, Flags, Items, Kerberos, KerberosConfig, Message, Octets, Part,
@@ -25,7 +31,6 @@ pub struct Gateway {
 /// A client that was admitted.
 #[derive(Drop)]
 pub struct Guest {
-    pub name: Username,
     /// What goes back to the client; no octets where it asked for nothing.
     pub answer: Octets,
     connection: Kerberos,
@@ -40,6 +45,26 @@ fn answer_in(accepted: Accepted) -> Octets
 {
     let Accepted::Done { token, .. } = accepted;
     token
+}
+
+/// Lets in the client that sent this token at its connection, and tells what goes back to it.
+fn let_in(
+    alloc: Global,
+    connection: &mut Kerberos,
+    book: &mut ReplayBook,
+    token: &[u8],
+    draw: &Draw,
+) -> Result<Octets, Error>
+    ensures accepts { IfOk result (λ answer. (accepted : Accepted) × (answer ≡ answer_in accepted)
+        × Accepts (Follows StandsFor) connection.old false token.now draw.now book.old (Ok accepted) connection.new book.new) }
+    ensures refused { IfErr result (Refuses places.Elsewhere
+        (λ answer. Accepts (Follows StandsFor) connection.old false token.now draw.now book.old answer connection.new book.new)) }
+    ensures memory { IfErr result (λ error. error ≡ error_of causes.Memory → IsUnchanged book.old book.new) }
+{
+    let flags = ServerRequestFlags::from_bits_retain(0);
+    let env = Env::new(alloc);
+    let accepted = accept_security_context(alloc, connection, book, token, flags, &env, draw)?;
+    Ok(answer_in(accepted))
 }
 
 impl Gateway {
@@ -58,7 +83,8 @@ impl Gateway {
 
     /// A connection that waits for its client's token. Its first sequence number is drawn.
     fn connection(&self, alloc: Global, draw: &Draw) -> Result<Kerberos, Error>
-        ensures { IfOk result (Waits self.now.service) }
+        ensures waits { IfOk result (Waits self.now.service) }
+        ensures errors { IfErr result (λ error. error ≡ error_of causes.Memory) }
     {
         let config = KerberosConfig {
             kdc_url: None,
@@ -72,28 +98,16 @@ impl Gateway {
     /// Admits the client that sent this token, or says which check of RFC 4120, section 3.2.3, failed first.
     pub fn admit(&mut self, alloc: Global, token: &[u8], draw: &Draw) -> Result<Guest, Error>
         ensures admits { IfOk result (λ guest. Admits self.old.service self.old.book token.now draw.now guest.answer guest.connection self.new.book) }
-        ensures named { IfOk result (λ guest. name_of guest.connection ≡ Ok guest.name) }
+        ensures named { IfOk result (λ guest. HasName guest.connection) }
+        // A refusal is that of the first check that failed, and the book is as that check left it.
+        ensures refused { IfErr result (Refuses places.Elsewhere (Rejects self.old.service self.old.book token.now draw.now self.new.book)) }
+        // Where memory runs out, the book is as before: the same token may come again.
+        ensures memory { IfErr result (λ error. error ≡ error_of causes.Memory → IsUnchanged self.old.book self.new.book) }
         ensures service { self.new.service ≡ self.old.service }
     {
         let mut connection = self.connection(alloc, draw)?;
-        let flags = ServerRequestFlags::from_bits_retain(0);
-        let env = Env::new(alloc);
-        let accepted = accept_security_context(
-            alloc,
-            &mut connection,
-            &mut self.book,
-            token,
-            flags,
-            &env,
-            draw,
-        );
-        let answer = answer_in(accepted?);
-        let name = connection.query_context_names(alloc)?.username;
-        Ok(Guest {
-            name,
-            answer,
-            connection,
-        })
+        let answer = let_in(alloc, &mut connection, &mut self.book, token, draw)?;
+        Ok(Guest { answer, connection })
     }
 }
 
@@ -109,6 +123,14 @@ fn whole_message(alloc: Global, sealed: Octets) -> Result<Message, Error>
 }
 
 impl Guest {
+    /// Who it is.
+    pub fn name(&self, alloc: Global) -> Result<Username, Error>
+        ensures named { IfOk result (λ name. name_of self.now.connection ≡ Ok name) }
+        ensures refused { IfErr result (Refuses places.Query (λ answer. answer ≡ name_of self.now.connection)) }
+    {
+        Ok(self.connection.query_context_names(alloc)?.username)
+    }
+
     /// The text of a message that the client sealed. Each message is opened once.
     pub fn open(&mut self, alloc: Global, sealed: Octets) -> Result<Octets, Error>
         ensures opened { IfOk result (λ text. Unwraps self.old.connection (whole_message sealed) (Ok text)) }

@@ -10,7 +10,7 @@ mod line;
 
 use anyhow::{Context, Result, anyhow};
 use gateway::{Gateway, Guest};
-use krb_server::{Draw, MAX_MOMENT, Octets, UsernameParts};
+use krb_server::{Draw, Error, MAX_MOMENT, Octets, UsernameParts};
 use line::Line;
 use std::alloc::Global;
 use std::io;
@@ -60,6 +60,27 @@ fn print_octets(rt: &(impl Print + AllocGlobal), word: &str, octets: &Octets) ->
     Ok(())
 }
 
+/// Who was admitted, and what goes back to the client.
+fn print_guest(rt: &(impl Print + AllocGlobal), guest: &Guest) -> Result<()> {
+    let name = guest.name(rt.alloc())?;
+    print_name(rt, &name.parts())?;
+    print_octets(rt, "answer", &guest.answer)
+}
+
+/// The client that was admitted, or which check failed first.
+fn print_outcome(
+    rt: &(impl Print + AllocGlobal),
+    outcome: &std::result::Result<Guest, Error>,
+) -> Result<()> {
+    match outcome {
+        Ok(guest) => print_guest(rt, guest),
+        Err(error) => {
+            println!(rt; "refused {error}")?;
+            Ok(())
+        }
+    }
+}
+
 fn admit(
     rt: &(impl Print + AllocGlobal),
     gateway: &mut Gateway,
@@ -67,17 +88,9 @@ fn admit(
     draw: &Draw,
 ) -> Result<Option<Guest>> {
     let token = octets(rt.alloc(), token)?;
-    match gateway.admit(rt.alloc(), token.as_slice(), draw) {
-        Ok(guest) => {
-            print_name(rt, &guest.name.parts())?;
-            print_octets(rt, "answer", &guest.answer)?;
-            Ok(Some(guest))
-        }
-        Err(error) => {
-            println!(rt; "refused {error}")?;
-            Ok(None)
-        }
-    }
+    let outcome = gateway.admit(rt.alloc(), token.as_slice(), draw);
+    print_outcome(rt, &outcome)?;
+    Ok(outcome.ok())
 }
 
 fn open(rt: &(impl Print + AllocGlobal), guest: Option<&mut Guest>, sealed: &str) -> Result<()> {

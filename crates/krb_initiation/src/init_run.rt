@@ -3,7 +3,7 @@
 ghost use Rattle.std.specs.Prelude.{◌≡◌, ◌≤◌, true, IfOk, Err, Result};
 ghost use Rattle.sspi_core.specs.declared.cause.Cause.{Cause};
 ghost use Rattle.sspi_core.specs.declared.cause.Cause.TheVariants as causes;
-ghost use Rattle.sspi_core.specs.declared.draw.TheConstants.{MAX_MOMENT};
+ghost use Rattle.sspi_core.specs.Moments.{last_moment};
 ghost use Rattle.sspi_core.specs.Kinds.{error_of};
 ghost use Rattle.sspi_core.specs.Checks.{Answers};
 ghost use Rattle.krb_client.specs.Turns.{is_want};
@@ -86,7 +86,7 @@ fn start_seeking(
     draw: &Draw,
 ) -> Result<Turn<InitPhase, InitDone>, Cause>
     requires seeker { CanSeek seeker.now }
-    requires moment { draw.now.moment ≤ MAX_MOMENT }
+    requires moment { draw.now.moment ≤ last_moment }
     ensures step { Answers (AsksFirst seeker.now.asker (body_of seeker.now draw.now)) result }
     ensures down { IfOk result (λ turn. GoesDown 12 turn) }
 {
@@ -101,7 +101,7 @@ fn start_new(
     draw: &Draw,
 ) -> Result<Turn<InitPhase, InitDone>, Cause>
     requires initiation { CanBegin initiation.now }
-    requires moment { draw.now.moment ≤ MAX_MOMENT }
+    requires moment { draw.now.moment ≤ last_moment }
     ensures step { Answers (StartsNew initiation.now draw.now) result }
     ensures down { IfOk result (λ turn. GoesDown 12 turn) }
     ensures may { IfOk result (λ turn. MayAsk initiation.now turn) }
@@ -122,7 +122,7 @@ fn started(
 ) -> Result<Turn<InitPhase, InitDone>, Cause>
     requires new { IsNewPhase phase.now }
     requires initiation { CanBegin initiation.now }
-    requires moment { draw.now.moment ≤ MAX_MOMENT }
+    requires moment { draw.now.moment ≤ last_moment }
     ensures step { Answers (Starts initiation.now phase.now draw.now) result }
     ensures down { IfOk result (λ turn. GoesDown (turns_left phase.now) turn) }
     ensures may { IfOk result (λ turn. MayAsk initiation.now turn) }
@@ -146,7 +146,7 @@ fn in_phase(
 ) -> Result<Turn<InitPhase, InitDone>, Cause>
     requires seeker { CanSeek seeker.now }
     requires awaiting { IsAwaiting phase.now }
-    requires moment { draw.now.moment ≤ MAX_MOMENT }
+    requires moment { draw.now.moment ≤ last_moment }
     ensures step { Answers (Continues seeker.now phase.now reply draw.now) result }
     ensures down { IfOk result (λ turn. GoesDown (turns_left phase.now) turn) }
 {
@@ -172,7 +172,7 @@ fn next(
 ) -> Result<Turn<InitPhase, InitDone>, Cause>
     requires initiation { CanWait initiation.now }
     requires awaiting { IsAwaiting phase.now }
-    requires moment { draw.now.moment ≤ MAX_MOMENT }
+    requires moment { draw.now.moment ≤ last_moment }
     ensures step { Answers (Next initiation.now phase.now reply draw.now) result }
     ensures down { IfOk result (λ turn. GoesDown (turns_left phase.now) turn) }
     ensures memory { is_want reply ≡ true → result ≡ Err causes.Memory }

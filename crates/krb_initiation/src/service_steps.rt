@@ -1,7 +1,7 @@
 //! The steps of an initiator that go to the service alone.
 
 ghost use Rattle.std.specs.Prelude.{◌≡◌, ◌≤◌, IfOk};
-ghost use Rattle.sspi_core.specs.declared.draw.TheConstants.{MAX_MOMENT};
+ghost use Rattle.sspi_core.specs.Moments.{last_moment};
 ghost use Rattle.sspi_core.specs.Checks.{Answers, Gives};
 ghost use Rattle.krb_client.specs.declared.turn.Turn.TheVariants as turns;
 ghost use Rattle.krb_initiator.specs.Answered.{TakesApRep};
@@ -64,7 +64,7 @@ fn answer_of(
     token: &Octets,
     draw: &Draw,
 ) -> Result<InitDone, Cause>
-    requires moment { draw.now.moment ≤ MAX_MOMENT }
+    requires moment { draw.now.moment ≤ last_moment }
     ensures { Answers (TakesApRep initiator.now token.now draw.now) result }
 {
     take_ap_rep(alloc, initiator, token.as_slice(), draw)
@@ -78,7 +78,7 @@ pub(crate) fn hear_answer(
     token: &Octets,
     draw: &Draw,
 ) -> Result<Turn<InitPhase, InitDone>, Cause>
-    requires moment { draw.now.moment ≤ MAX_MOMENT }
+    requires moment { draw.now.moment ≤ last_moment }
     ensures step { Answers (HearsAnswer initiator.now token.now draw.now) result }
     ensures down { IfOk result (λ turn. GoesDown 0 turn) }
 {

@@ -1,7 +1,7 @@
 //! The way of an initiator from one ticket-granting service to the next, and to the service.
 
 ghost use Rattle.std.specs.Prelude.{◌≡◌, ◌+◌, ◌-◌, ◌<◌, ◌≤◌, ◌^◌, length, IfOk, IfSome, List, ℕ};
-ghost use Rattle.sspi_core.specs.declared.draw.TheConstants.{MAX_MOMENT};
+ghost use Rattle.sspi_core.specs.Moments.{last_moment};
 ghost use Rattle.sspi_core.specs.Checks.{Answers, Gives};
 ghost use Rattle.krb_authenticators.specs.TgsRequests.{AreShortTickets};
 ghost use Rattle.krb_replies.specs.Realms.{referral_realm};
@@ -46,7 +46,7 @@ fn first_tickets(alloc: Global, tgt: &Option<Ticket>) -> Result<Option<Items<Tic
 fn begin_tgs(alloc: Global, seeker: &Seeker, shown: &Shown, draw: &Draw) -> Result<Begun, Cause>
     requires seeker { CanSeek seeker.now }
     requires rep { IsSendable shown.now.rep }
-    requires moment { draw.now.moment ≤ MAX_MOMENT }
+    requires moment { draw.now.moment ≤ last_moment }
     ensures { Answers (AsksTgs seeker.now.asker seeker.now.wanted shown.now shown.now.rep.crealm shown.now.rep.crealm
         (first_tickets seeker.now.tgt) draw.now) result }
 {
@@ -91,7 +91,7 @@ fn ask_first_tgs(
 ) -> Result<Turn<InitPhase, InitDone>, Cause>
     requires seeker { CanSeek seeker.now }
     requires rep { IsSendable shown.rep }
-    requires moment { draw.now.moment ≤ MAX_MOMENT }
+    requires moment { draw.now.moment ≤ last_moment }
     ensures step { Answers (AsksFirstTgs seeker.now shown draw.now) result }
     ensures down { IfOk result (λ turn. GoesDown 10 turn) }
 {
@@ -110,7 +110,7 @@ pub(crate) fn take_first(
     draw: &Draw,
 ) -> Result<Turn<InitPhase, InitDone>, Cause>
     requires seeker { CanSeek seeker.now }
-    requires moment { draw.now.moment ≤ MAX_MOMENT }
+    requires moment { draw.now.moment ≤ last_moment }
     ensures step { Answers (TakesFirst seeker.now protocol salt.now reply draw.now) result }
     ensures down { IfOk result (λ turn. GoesDown 10 turn) }
 {
@@ -154,7 +154,7 @@ fn refer(
     requires seeker { CanSeek seeker.now }
     requires realm { length realm.now ≤ 2 ^ 24 }
     requires rep { IsSendable shown.rep }
-    requires moment { draw.now.moment ≤ MAX_MOMENT }
+    requires moment { draw.now.moment ≤ last_moment }
     ensures step { Answers (Refers seeker.now leg.now realm.now shown draw.now) result }
     ensures down { IfOk result (λ turn. GoesDown (9 - leg.now.hops) turn) }
 {
@@ -184,7 +184,7 @@ fn arrive(
 ) -> Result<Turn<InitPhase, InitDone>, Cause>
     requires seeker { CanSeek seeker.now }
     requires rep { IsSendable shown.rep }
-    requires moment { draw.now.moment ≤ MAX_MOMENT }
+    requires moment { draw.now.moment ≤ last_moment }
     ensures step { Answers (Arrives seeker.now leg.now shown draw.now) result }
     ensures down { IfOk result (λ turn. GoesDown (9 - leg.now.hops) turn) }
 {
@@ -214,7 +214,7 @@ fn go_to(
 ) -> Result<Turn<InitPhase, InitDone>, Cause>
     requires seeker { CanSeek seeker.now }
     requires rep { IsSendable shown.rep }
-    requires moment { draw.now.moment ≤ MAX_MOMENT }
+    requires moment { draw.now.moment ≤ last_moment }
     ensures step { Answers (GoesTo (referral_realm shown.rep.ticket.sname) seeker.now leg.now shown draw.now) result }
     ensures down { IfOk result (λ turn. GoesDown (9 - leg.now.hops) turn) }
 {
@@ -235,7 +235,7 @@ pub(crate) fn take_next(
     draw: &Draw,
 ) -> Result<Turn<InitPhase, InitDone>, Cause>
     requires seeker { CanSeek seeker.now }
-    requires moment { draw.now.moment ≤ MAX_MOMENT }
+    requires moment { draw.now.moment ≤ last_moment }
     ensures step { Answers (TakesNext seeker.now leg.now reply draw.now) result }
     ensures down { IfOk result (λ turn. GoesDown (9 - leg.now.hops) turn) }
 {

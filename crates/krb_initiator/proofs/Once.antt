@@ -11,7 +11,7 @@ use Rattle.sspi_core.proofs.Once.{Once, then_once, finds_once, takes_once, holds
 use Rattle.sspi_core.specs.declared.draw.Draw.{Draw}
 use Rattle.krb_replies.specs.Unseals.{IsRead}
 use Rattle.krb_replies.specs.Answered.{OpensApRep}
-use Rattle.krb_client.proofs.Once.{opens_once}
+use Rattle.krb_replies.proofs.Once.{opens_once}
 use Rattle.krb_initiator.specs.declared.initiator.Initiator.{Initiator}
 use Rattle.krb_initiator.specs.declared.errand.Errand.{Errand}
 use Rattle.krb_initiator.specs.Initiators.{is_bare}

@@ -2,7 +2,7 @@
 
 ghost use Rattle.std.specs.Prelude.{◌≡◌, ◌↔◌, ◌⊎◌, ◌<◌, ◌≤◌, ◌^◌, length, IfOk, IfErr, Err};
 ghost use Rattle.sspi_core.specs.declared.cause.Cause.TheVariants as causes;
-ghost use Rattle.sspi_core.specs.declared.draw.TheConstants.{MAX_MOMENT};
+ghost use Rattle.sspi_core.specs.Moments.{last_moment};
 ghost use Rattle.sspi_core.specs.Kinds.{error_of};
 ghost use Rattle.krb_crypto.specs.Suite.{key_size};
 ghost use Rattle.krb_messages.specs.Layouts.{enc_ap_rep_part_layout, ap_rep_layout};
@@ -21,7 +21,7 @@ use std::alloc::Global;
 
 /// What the AP-REP seals.
 fn ap_rep_part(alloc: Global, seq_number: Octets, now: u64) -> Result<EncApRepPart, OutOfMemory>
-    requires { now ≤ MAX_MOMENT }
+    requires { now ≤ last_moment }
     ensures { IfOk result (λ part. part ≡ ap_rep_part seq_number now) }
 {
     let microseconds = (now % 1_000_000) as u32;
@@ -82,7 +82,7 @@ pub(crate) fn seal_ap_rep(
     confounder: [u8; 16],
 ) -> Result<ApRep, OutOfMemory>
     requires key { length key.now ≡ key_size suite }
-    requires moment { now ≤ MAX_MOMENT }
+    requires moment { now ≤ last_moment }
     requires some { 0 < length seq_number }
     requires short { length seq_number ≤ 2 ^ 24 }
     ensures made { IfOk result (λ made. made ≡ ap_rep suite key.now confounder (ap_rep_part seq_number now)) }
@@ -106,7 +106,7 @@ pub fn generate_ap_rep(
     now: u64,
     confounder: [u8; 16],
 ) -> Result<ApRep, Error>
-    requires moment { now ≤ MAX_MOMENT }
+    requires moment { now ≤ last_moment }
     requires some { 0 < length seq_number }
     requires short { length seq_number ≤ 2 ^ 24 }
     ensures made { IfOk result (λ made. made ≡ ap_rep (suite_of enc_params.now) session_key.now confounder (ap_rep_part seq_number now)) }

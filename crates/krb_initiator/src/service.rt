@@ -4,7 +4,7 @@ ghost use Rattle.std.specs.Prelude.{◌≡◌, ◌≤◌, ◌^◌, length, nat_l
 ghost use Rattle.std.specs.Result.{result_map_both};
 ghost use Rattle.krb_crypto.specs.Suite.{key_size};
 ghost use Rattle.sspi_core.specs.declared.cause.Cause.TheVariants as causes;
-ghost use Rattle.sspi_core.specs.declared.draw.TheConstants.{MAX_MOMENT};
+ghost use Rattle.sspi_core.specs.Moments.{last_moment};
 ghost use Rattle.sspi_core.specs.Checks.{Answers, Finds, Gives, Holds, Takes};
 ghost use Rattle.krb_messages.specs.declared.encryption.EncryptionKey.{EncryptionKey};
 ghost use Rattle.krb_context.specs.Params.{suite_of};
@@ -167,7 +167,7 @@ fn last_word(
     draw: &Draw,
 ) -> Result<Octets, OutOfMemory>
     requires key { length key.now ≡ key_size suite }
-    requires moment { draw.now.moment ≤ MAX_MOMENT }
+    requires moment { draw.now.moment ≤ last_moment }
     requires number { IsSendableNumber number }
     ensures { IfOk result (λ token. token ≡ last_word suite key.now number draw.now) }
 {
@@ -187,7 +187,7 @@ fn replied(
     draw: &Draw,
 ) -> Result<InitDone, Cause>
     requires key { length key.now ≡ key_size (suite_of initiator.now.params) }
-    requires moment { draw.now.moment ≤ MAX_MOMENT }
+    requires moment { draw.now.moment ≤ last_moment }
     requires number { IsSendableNumber number }
     ensures { Answers (Gives (replied initiator.now key.now subkey number draw.now)) result }
 {
@@ -210,7 +210,7 @@ fn reply(
 ) -> Result<InitDone, Cause>
     requires key { length key.now ≡ key_size (suite_of initiator.now.params) }
     requires number { IfSome part.seq_number IsSendableNumber }
-    requires moment { draw.now.moment ≤ MAX_MOMENT }
+    requires moment { draw.now.moment ≤ last_moment }
     ensures { Answers (Replies initiator.now key.now part.subkey part.seq_number draw.now) result }
 {
     let subkey = key_in(part.subkey)?;
@@ -229,7 +229,7 @@ fn finish(
 ) -> Result<InitDone, Cause>
     requires key { length key.now ≡ key_size (suite_of initiator.now.params) }
     requires number { IfSome part.seq_number IsSendableNumber }
-    requires moment { draw.now.moment ≤ MAX_MOMENT }
+    requires moment { draw.now.moment ≤ last_moment }
     ensures { Answers (Finishes dce initiator.now key.now part draw.now) result }
 {
     if dce {
@@ -253,7 +253,7 @@ pub fn take_ap_rep(
     token: &[u8],
     draw: &Draw,
 ) -> Result<InitDone, Cause>
-    requires moment { draw.now.moment ≤ MAX_MOMENT }
+    requires moment { draw.now.moment ≤ last_moment }
     ensures step { Answers (TakesApRep initiator.now token.now draw.now) result }
 {
     let dce = is_bare(initiator.flags);

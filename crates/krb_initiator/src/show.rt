@@ -1,7 +1,7 @@
 //! The AP-REQ to the service (RFC 4120, sections 3.2.2 and 5.5.1; RFC 4121, section 4.1).
 
 ghost use Rattle.std.specs.Prelude.{◌≡◌, ◌==◌, ◌<◌, ◌≤◌, ◌^◌, length, Some, IfOk};
-ghost use Rattle.sspi_core.specs.declared.draw.TheConstants.{MAX_MOMENT};
+ghost use Rattle.sspi_core.specs.Moments.{last_moment};
 ghost use Rattle.sspi_core.specs.declared.cause.Cause.TheVariants as causes;
 ghost use Rattle.sspi_core.specs.Checks.{Answers, Gives, Holds};
 ghost use Rattle.krb_crypto.specs.Suite.{key_size};
@@ -75,7 +75,7 @@ fn service_authenticator(
 ) -> Result<Authenticator, OutOfMemory>
     requires errand { CanGo errand.now }
     requires rep { IsSendable rep.now }
-    requires moment { draw.now.moment ≤ MAX_MOMENT }
+    requires moment { draw.now.moment ≤ last_moment }
     ensures made { IfOk result (λ made. made ≡ service_authenticator errand.now suite rep.now draw.now) }
     ensures within { IfOk result (λ made. Fits authenticator_layout (2 ^ 27) made) }
 {
@@ -152,7 +152,7 @@ fn service_request(
 ) -> Result<ApReq, OutOfMemory>
     requires errand { CanGo errand.now }
     requires rep { IsSendable rep }
-    requires moment { draw.now.moment ≤ MAX_MOMENT }
+    requires moment { draw.now.moment ≤ last_moment }
     ensures made { IfOk result (λ made. made ≡ service_request errand.now suite key.now rep draw.now) }
     ensures within { IfOk result (λ made. Fits ap_req_layout (2 ^ 28) made) }
 {
@@ -172,7 +172,7 @@ fn message(
 ) -> Result<Octets, OutOfMemory>
     requires errand { CanGo errand.now }
     requires rep { IsSendable rep }
-    requires moment { draw.now.moment ≤ MAX_MOMENT }
+    requires moment { draw.now.moment ≤ last_moment }
     ensures made { IfOk result (λ octets. octets ≡ message errand.now suite key.now rep draw.now) }
     ensures short { IfOk result (λ octets. length octets ≤ 2 ^ 28) }
 {
@@ -254,7 +254,7 @@ fn shown(
 ) -> Result<InitDone, OutOfMemory>
     requires errand { CanGo errand.now }
     requires rep { IsSendable rep }
-    requires moment { draw.now.moment ≤ MAX_MOMENT }
+    requires moment { draw.now.moment ≤ last_moment }
     ensures { IfOk result (λ done. done ≡ shown errand.now suite key rep home.now draw.now) }
 {
     let message = message(alloc, errand, suite, &key, rep, draw)?;
@@ -285,7 +285,7 @@ fn all_shown(
 ) -> Result<InitDone, Cause>
     requires errand { CanGo errand.now }
     requires rep { IsSendable rep }
-    requires moment { draw.now.moment ≤ MAX_MOMENT }
+    requires moment { draw.now.moment ≤ last_moment }
     ensures { Answers (Gives (shown errand.now suite key rep home.now draw.now)) result }
 {
     Ok(shown(alloc, errand, suite, key, rep, home, draw)?)
@@ -309,7 +309,7 @@ pub fn show_ticket(
 ) -> Result<InitDone, Cause>
     requires errand { CanGo errand.now }
     requires rep { IsSendable rep }
-    requires moment { draw.now.moment ≤ MAX_MOMENT }
+    requires moment { draw.now.moment ≤ last_moment }
     ensures step { Answers (ShowsTicket errand.now suite key rep home.now draw.now) result }
 {
     check_key(suite, &key)?;

@@ -7,7 +7,8 @@ use Rattle.krb_der.specs.Reading.{◌>>=◌}
 use Rattle.krb_keytab.specs.declared.entry.KeytabEntry.{KeytabEntry}
 use Rattle.krb_keytab.specs.Format.{counted, version_of, entry_octets, SpellsEntry}
 use Rattle.krb_keytab.specs.Reading.{number_at, octet_at, counted_at, part_at, parts_at, Tail, tail_in, entry_in}
-use Rattle.krb_keytab.proofs.Fields.{IsBytes, IsBytes-take, bind_some, wide16, wide32, number_takes, number_again, octet_takes, counted_takes, counted_again, part_takes, part_again, parts_take, parts_again}
+use Rattle.krb_der.proofs.Values.{IsBytes, IsBytes-take}
+use Rattle.krb_keytab.proofs.Fields.{bind_some, wide16, wide32, number_takes, number_again, octet_takes, counted_takes, counted_again, part_takes, part_again, parts_take, parts_again}
 
 cond_below : (b : Bool) (x y n : ℕ) → x < n → y < n → cond b x y < n
 cond_below true x y n p q = p

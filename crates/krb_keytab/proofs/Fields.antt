@@ -1,32 +1,17 @@
 -- A field that is read is the field that was written, and what was written is read again, whatever follows.
-use Rattle.std.proofs.Common.{◌≡◌, ℕ, zero, suc, ◌+◌, ◌^◌, ◌<◌, ◌≤◌, Bool, true, false, cond, ltb, List, [], ◌∷◌, ◌++◌, length, get_or, take, drop, Option, Some, None, refl, sym, ap, subst, ◌∙◌, append_assoc, arith, inl, inr}
+use Rattle.std.proofs.Common.{◌≡◌, ℕ, zero, suc, ◌+◌, ◌^◌, ◌<◌, ◌≤◌, Bool, true, false, cond, ltb, List, [], ◌∷◌, ◌++◌, length, take, drop, Option, Some, None, refl, sym, ap, subst, ◌∙◌, append_assoc, arith}
 use Rattle.std.specs.List.{flat_map, AllByRecursion}
 use Rattle.std.specs.Int.{Width, w16, w32, byte_len, from_be_bytes, to_be_bytes}
-use Rattle.std.proofs.lemmas.Bool.{cases_lt, ltb-false, le-ltb}
-use Rattle.std.proofs.lemmas.List.{take_at, drop_at, take-append-drop, length-append, length-take, get_or-drop, get_or-take, get_or_past}
+use Rattle.std.proofs.lemmas.Bool.{ltb-false, le-ltb}
+use Rattle.std.proofs.lemmas.List.{take_at, drop_at, take-append-drop, length-append, length-take}
 use Rattle.std.proofs.lemmas.List.Concat.{flat_map-cons}
 use Rattle.std.proofs.lemmas.Nat.{be_bytes_2, be_bytes_4, from_be_bytes-to_be_bytes_2, from_be_bytes-to_be_bytes_4}
 use Rattle.std.proofs.lemmas.Option.{same_Some}
+use Rattle.krb_der.proofs.Values.{IsBytes, IsBytes-drop, IsBytes-take, IsBytes-tail}
 use Rattle.krb_der.specs.Schema.{is_ascii}
 use Rattle.krb_der.specs.Reading.{◌>>=◌, cut}
 use Rattle.krb_keytab.specs.Format.{counted, IsPart}
 use Rattle.krb_keytab.specs.Reading.{number_at, octet_at, counted_at, part_at, parts_at}
-
-abbrev pub IsBytes : List ℕ → Type 0
-IsBytes octets = (i : ℕ) → get_or octets i 0 < 256
-
-pub IsBytes-drop : (n : ℕ) (octets : List ℕ) → IsBytes octets → IsBytes (drop n octets)
-IsBytes-drop n octets h i = rw get_or-drop (h (n + i))
-
-pub IsBytes-take : (n : ℕ) (octets : List ℕ) → IsBytes octets → IsBytes (take n octets)
-IsBytes-take n octets h i =
-    elim (cases_lt i n) [
-      | inl lt ↦ rw (get_or-take n octets i 0 lt) (h i)
-      | inr le ↦ rw (get_or_past (take n octets) i 0 (omega (arith, length-take n octets))) (omega arith)
-    ]
-
-pub IsBytes-rest : (first : ℕ) (octets : List ℕ) → IsBytes (first ∷ octets) → IsBytes octets
-IsBytes-rest first octets h i = h (suc i)
 
 -- the value of a step that answered
 pub bind_some : {A B : Type 0} (o : Option A) (f : A → Option B) (y : B) → (o >>= f) ≡ Some y → (x : A) × (o ≡ Some x) × (f x ≡ Some y)
@@ -97,7 +82,7 @@ octet_takes (first ∷ octets) n rest fits e =
     let same = same_Some (first, octets) (n, rest) e in
     let n-is : first ≡ n = ap (λ (p : ℕ × List ℕ). p.0) same in
     let rest-is : octets ≡ rest = ap (λ (p : ℕ × List ℕ). p.1) same in
-    (record { parts = rw (← n-is, ← rest-is) refl; rest_bytes = rw (← rest-is) (IsBytes-rest first octets fits) }, rw (← n-is) (fits 0))
+    (record { parts = rw (← n-is, ← rest-is) refl; rest_bytes = rw (← rest-is) (IsBytes-tail first octets fits) }, rw (← n-is) (fits 0))
 
 -- ---- so many octets
 

@@ -14,7 +14,7 @@ use Rattle.krb_keytab.specs.declared.entry.KeytabEntry.{KeytabEntry}
 use Rattle.krb_keytab.specs.Format.{Item, Entry, Hole, item_octets, IsItem, entries_among, IsEnd, IsBroken, IsBrokenAt, IsFault, Spells, version_of, written_entry, written_item, written, counted, sizes, size_of, has_short_parts, can_be_written, can_all_be_written, Fits}
 use Rattle.krb_keytab.specs.Reading.{End, next_of}
 use Rattle.krb_keytab.specs.Views.{TakesItem}
-use Rattle.krb_keytab.proofs.Fields.{IsBytes, IsBytes-rest}
+use Rattle.krb_der.proofs.Values.{IsBytes, IsBytes-tail}
 use Rattle.krb_keytab.proofs.Short.{and_parts}
 use Rattle.krb_keytab.proofs.NextItems.{Stands, brought, same_brought, entry_of, next_stands, next_ends, next_broken, end_again, item_again, eqb_no}
 
@@ -119,7 +119,7 @@ one_list one other octets a b =
 
 bytes_behind : (front rest : List ℕ) → IsBytes (front ++ rest) → IsBytes rest
 bytes_behind [] rest bytes = bytes
-bytes_behind (x ∷ front) rest bytes = bytes_behind front rest (IsBytes-rest x (front ++ rest) bytes)
+bytes_behind (x ∷ front) rest bytes = bytes_behind front rest (IsBytes-tail x (front ++ rest) bytes)
 
 bytes_of : (octets : List ℕ) → All (λ octet. octet < 256) octets → IsBytes octets
 bytes_of octets all i =

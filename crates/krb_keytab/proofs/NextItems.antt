@@ -10,7 +10,8 @@ use Rattle.krb_der.specs.Reading.{◌>>=◌, cut}
 use Rattle.krb_keytab.specs.declared.entry.KeytabEntry.{KeytabEntry}
 use Rattle.krb_keytab.specs.Format.{Item, Entry, Hole, item_octets, IsItem, entries_among, IsEnd, IsBroken}
 use Rattle.krb_keytab.specs.Reading.{number_at, entry_in, Next, End, Item as Brings, entry_next, hole_next, sized_next, next_of}
-use Rattle.krb_keytab.proofs.Fields.{IsBytes, bind_some, wide32, number_takes, number_again, cut_takes, cut_again}
+use Rattle.krb_der.proofs.Values.{IsBytes}
+use Rattle.krb_keytab.proofs.Fields.{bind_some, wide32, number_takes, number_again, cut_takes, cut_again}
 use Rattle.krb_keytab.proofs.Entries.{entry_takes, entry_again}
 
 -- which way a test went

@@ -21,7 +21,8 @@ use Rattle.sspi_generator.specs.declared.network.NetFault.{NetFault}
 use Rattle.krb_service.specs.Exchanges.{answer_of}
 use Rattle.krb_service.specs.Initiations.{options_of}
 use Rattle.krb_service.specs.MessageCalls.{is_call}
-use Rattle.krb_service.specs.Policy.{State, AnswersCall, TakesAnswer, TakesTurn, Behind, TakesPart, StepsOnward, StepsBy, Steps, Runs, ready, reached, heard, awaited, is_initiator, draw_of, last_moment}
+use Rattle.krb_service.specs.Policy.{State, AnswersCall, TakesAnswer, TakesTurn, Behind, TakesPart, StepsOnward, StepsBy, Steps, Runs, ready, reached, heard, awaited, is_initiator, draw_of}
+use Rattle.sspi_core.specs.Moments.{last_moment}
 use Rattle.krb_service.specs.declared.connection.Connection.{Connection}
 use Rattle.krb_service.specs.declared.reply.Reply.{Reply}
 use Rattle.krb_origins.specs.Origins.{is_heard, answer_to, HasOrigin, IsKeyless, IsSameInitiator}

@@ -16,7 +16,8 @@ use Rattle.sspi_core.specs.declared.cause.Cause.{Cause}
 use Rattle.sspi_core.specs.declared.cause.Cause.TheVariants as causes
 use Rattle.krb_service.specs.Exchanges.{awaits}
 use Rattle.krb_service.specs.Initiations.{token_heard}
-use Rattle.krb_service.specs.Policy.{◌>>=◌, check, called, ready, reached, heard, awaited, token_of, last_moment}
+use Rattle.krb_service.specs.Policy.{◌>>=◌, check, called, ready, reached, heard, awaited, token_of}
+use Rattle.sspi_core.specs.Moments.{last_moment}
 use Rattle.krb_service.specs.declared.connection.Connection.{Connection}
 
 -- ---- places

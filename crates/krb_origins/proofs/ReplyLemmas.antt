@@ -15,7 +15,7 @@ use Rattle.sspi_core.specs.declared.draw.Draw.{Draw}
 use Rattle.sspi_core.specs.declared.identity.CredentialsBuffers.{CredentialsBuffers}
 use Rattle.sspi_generator.specs.declared.network.NetFault.{NetFault}
 use Rattle.krb_service.specs.Exchanges.{GoesOn, answer_of}
-use Rattle.krb_service.specs.Policy.{last_moment}
+use Rattle.sspi_core.specs.Moments.{last_moment}
 use Rattle.krb_service.specs.declared.connection.Connection.{Connection}
 use Rattle.krb_service.specs.declared.reply.Reply.{Reply}
 use Rattle.krb_origins.specs.Origins.{answer_to, HasOrigin}

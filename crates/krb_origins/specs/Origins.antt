@@ -15,7 +15,7 @@ use Rattle.krb_tickets.specs.Chain.{IsChain}
 use Rattle.krb_initiation.specs.Came.{AreGranted, GrantsFirst, is_referral}
 use Rattle.krb_script.specs.declared.item.Event.{Event}
 use Rattle.krb_service.specs.Exchanges.{answer_of}
-use Rattle.krb_service.specs.Policy.{last_moment}
+use Rattle.sspi_core.specs.Moments.{last_moment}
 use Rattle.krb_service.specs.declared.connection.Connection.{Connection}
 
 -- the event is for the connection with this number, and its moment is in range

@@ -3,7 +3,7 @@
 ghost use Rattle.std.specs.Prelude.{◌≡◌, ◌≤◌, ◌^◌, true, IfOk, length, Err, Result};
 ghost use Rattle.sspi_core.specs.declared.cause.Cause.{Cause};
 ghost use Rattle.sspi_core.specs.declared.cause.Cause.TheVariants as causes;
-ghost use Rattle.sspi_core.specs.declared.draw.TheConstants.{MAX_MOMENT};
+ghost use Rattle.sspi_core.specs.Moments.{last_moment};
 ghost use Rattle.sspi_core.specs.Kinds.{error_of};
 ghost use Rattle.sspi_core.specs.Checks.{Answers};
 ghost use Rattle.krb_client.specs.Turns.{is_want};
@@ -43,6 +43,7 @@ impl ChangePasswordRun {
         ensures new { IsNew result }
         ensures changer { result.changer ≡ changer }
         ensures phase { result.phase ≡ phases.New }
+        ensures turns { turns_left result.phase ≡ 3 }
     {
         ChangePasswordRun {
             alloc,
@@ -64,6 +65,7 @@ pub fn change_password(
     ensures asked { (result ≡ Err (error_of causes.Memory) → ⊥)
         → (answer : Result Changer Cause) × BeginsChange client.now change env answer × BeginsSo answer result }
     ensures new { IfOk result (λ run. IsNew run) }
+    ensures turns { IfOk result (λ run. turns_left run.phase ≡ 3) }
 {
     match begin_change(alloc, client, change, env) {
         Ok(changer) => Ok(ChangePasswordRun::new(alloc, changer)),
@@ -80,7 +82,7 @@ fn started(
 ) -> Result<Turn<ChangePhase, ContextChange>, Cause>
     requires new { IsNewPhase phase.now }
     requires changer { IsReady changer.now }
-    requires moment { draw.now.moment ≤ MAX_MOMENT }
+    requires moment { draw.now.moment ≤ last_moment }
     ensures step { Answers (Starts changer.now phase.now draw.now) result }
     ensures down { IfOk result (λ turn. GoesDown (turns_left phase.now) turn) }
 {
@@ -106,7 +108,7 @@ fn in_phase(
 ) -> Result<Turn<ChangePhase, ContextChange>, Cause>
     requires awaiting { IsAwaiting phase.now }
     requires changer { IsReady changer.now }
-    requires moment { draw.now.moment ≤ MAX_MOMENT }
+    requires moment { draw.now.moment ≤ last_moment }
     ensures step { Answers (Next changer.now phase.now reply draw.now) result }
     ensures down { IfOk result (λ turn. GoesDown (turns_left phase.now) turn) }
 {
@@ -132,7 +134,7 @@ fn next(
 ) -> Result<Turn<ChangePhase, ContextChange>, Cause>
     requires awaiting { IsAwaiting phase.now }
     requires changer { IsReady changer.now }
-    requires moment { draw.now.moment ≤ MAX_MOMENT }
+    requires moment { draw.now.moment ≤ last_moment }
     ensures step { Answers (Next changer.now phase.now reply draw.now) result }
     ensures down { IfOk result (λ turn. GoesDown (turns_left phase.now) turn) }
     ensures memory { is_want reply ≡ true → result ≡ Err causes.Memory }

@@ -4,7 +4,7 @@ ghost use Rattle.std.specs.Prelude.{◌≡◌, ◌<◌, ◌≤◌, ◌^◌, leng
 ghost use Rattle.krb_crypto.specs.Suite.{key_size};
 ghost use Rattle.krb_messages.specs.Layouts.{authenticator_layout, ticket_layout};
 ghost use Rattle.krb_context.specs.Params.{suite_of};
-ghost use Rattle.sspi_core.specs.declared.draw.TheConstants.{MAX_MOMENT};
+ghost use Rattle.sspi_core.specs.Moments.{last_moment};
 ghost use Rattle.krb_requests.specs.Pieces.{Fits};
 ghost use Rattle.krb_authenticators.specs.Passwords.{FitsPriv};
 ghost use Rattle.krb_credentials.specs.Granted.{IsSendable};
@@ -72,7 +72,7 @@ fn change_authenticator(
     draw: &Draw,
 ) -> Result<Authenticator, OutOfMemory>
     requires rep { IsSendable rep.now }
-    requires moment { draw.now.moment ≤ MAX_MOMENT }
+    requires moment { draw.now.moment ≤ last_moment }
     ensures made { IfOk result (λ made. made ≡ change_authenticator number suite rep.now draw.now) }
     ensures within { IfOk result (λ made. Fits authenticator_layout (2 ^ 27) made) }
 {
@@ -159,7 +159,7 @@ fn change_message(
 ) -> Result<KrbPrivMessage, OutOfMemory>
     requires changer { IsReady changer.now }
     requires rep { IsSendable rep.now }
-    requires moment { draw.now.moment ≤ MAX_MOMENT }
+    requires moment { draw.now.moment ≤ last_moment }
     ensures made { IfOk result (λ message. message ≡ change_message changer.now suite key.now rep.now draw.now) }
     ensures fits { IfOk result FitsPriv }
 {
@@ -192,7 +192,7 @@ pub(crate) fn change_request(
     requires changer { IsReady changer.now }
     requires rep { IsSendable rep.now }
     requires realm { length service.now.realm ≤ 2 ^ 24 }
-    requires moment { draw.now.moment ≤ MAX_MOMENT }
+    requires moment { draw.now.moment ≤ last_moment }
     ensures { IfOk result (λ request. request ≡ change_request changer.now suite key.now rep.now service.now draw.now) }
 {
     let message = change_message(alloc, changer, suite, key, rep, draw)?;

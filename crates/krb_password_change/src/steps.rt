@@ -2,7 +2,7 @@
 
 ghost use Rattle.std.specs.Prelude.{◌≡◌, ◌==◌, ◌≤◌, ◌^◌, IfOk, length, take};
 ghost use Rattle.krb_crypto.specs.Suite.{key_size};
-ghost use Rattle.sspi_core.specs.declared.draw.TheConstants.{MAX_MOMENT};
+ghost use Rattle.sspi_core.specs.Moments.{last_moment};
 ghost use Rattle.sspi_core.specs.declared.cause.Cause.TheVariants as causes;
 ghost use Rattle.sspi_core.specs.Checks.{Answers, Gives, Holds};
 ghost use Rattle.krb_exchange.specs.Layouts.{kdc_req_body_layout};
@@ -47,7 +47,7 @@ pub(crate) fn body_of(
     draw: &Draw,
 ) -> Result<KdcReqBody, OutOfMemory>
     requires client { IsShort client.now }
-    requires moment { draw.now.moment ≤ MAX_MOMENT }
+    requires moment { draw.now.moment ≤ last_moment }
     ensures made { IfOk result (λ body. body ≡ body_of client.now draw.now) }
     ensures fits { IfOk result (λ body. Fits kdc_req_body_layout (2 ^ 28) body) }
 {
@@ -112,7 +112,7 @@ pub(crate) fn ask_second(
     reply: Result<Octets, NetFault>,
     draw: &Draw,
 ) -> Result<Turn<ChangePhase, ContextChange>, Cause>
-    requires moment { draw.now.moment ≤ MAX_MOMENT }
+    requires moment { draw.now.moment ≤ last_moment }
     requires body { Fits kdc_req_body_layout (2 ^ 28) body.now }
     requires realm { length kdc.now.realm ≤ 2 ^ 24 }
     ensures step { Answers (AsksSecond asker.now kdc.now body.now reply draw.now) result }
@@ -160,7 +160,7 @@ fn sent_change(
     requires changer { IsReady changer.now }
     requires rep { IsSendable rep }
     requires realm { length service.now.realm ≤ 2 ^ 24 }
-    requires moment { draw.now.moment ≤ MAX_MOMENT }
+    requires moment { draw.now.moment ≤ last_moment }
     ensures step { Answers (Gives (turns.Asks (change_request changer.now key.now.suite key.now.key rep service.now draw.now)
         (phases.AwaitsAnswer (answer_leg rep key.now service.now draw.now)))) result }
     ensures down { IfOk result (λ turn. GoesDown 1 turn) }
@@ -183,7 +183,7 @@ fn ask_change(
     requires changer { IsReady changer.now }
     requires rep { IsSendable rep }
     requires realm { length kdc.now.realm ≤ 2 ^ 24 }
-    requires moment { draw.now.moment ≤ MAX_MOMENT }
+    requires moment { draw.now.moment ≤ last_moment }
     ensures step { Answers (AsksChange changer.now kdc.now rep key.now draw.now) result }
     ensures down { IfOk result (λ turn. GoesDown 1 turn) }
 {
@@ -204,7 +204,7 @@ pub(crate) fn take_as_rep(
 ) -> Result<Turn<ChangePhase, ContextChange>, Cause>
     requires changer { IsReady changer.now }
     requires realm { length kdc.now.realm ≤ 2 ^ 24 }
-    requires moment { draw.now.moment ≤ MAX_MOMENT }
+    requires moment { draw.now.moment ≤ last_moment }
     ensures step { Answers (TakesAsRep changer.now kdc.now salt.now reply draw.now) result }
     ensures down { IfOk result (λ turn. GoesDown 1 turn) }
 {

@@ -1,3 +1,4 @@
 pub mod Telling
 pub mod Chains
 pub mod Tickets
+pub mod Once

@@ -5,7 +5,7 @@ ghost use Rattle.std.specs.List.{slice_split};
 ghost use Rattle.krb_der.specs.Layout.{items_layout};
 ghost use Rattle.krb_exchange.specs.Layouts.{pa_data_layout, kdc_req_body_layout, as_req_layout, tgt_req_layout};
 ghost use Rattle.sspi_core.specs.declared.cause.Cause.TheVariants as causes;
-ghost use Rattle.sspi_core.specs.declared.draw.TheConstants.{MAX_MOMENT};
+ghost use Rattle.sspi_core.specs.Moments.{last_moment};
 ghost use Rattle.sspi_core.specs.Checks.{Answers, Gives, Takes};
 ghost use Rattle.krb_replies.specs.Told.{Tells};
 ghost use Rattle.krb_requests.specs.Pieces.{Fits, principal_of};
@@ -61,7 +61,7 @@ fn body_with(
     sname: PrincipalName,
     host: &Name,
 ) -> Result<KdcReqBody, OutOfMemory>
-    requires { moment ≤ MAX_MOMENT }
+    requires { moment ≤ last_moment }
     ensures { IfOk result (λ made. made ≡ as_req_body options.now moment realm cname sname host.now) }
 {
     let mut maker = Maker::new(alloc);
@@ -108,7 +108,7 @@ fn given_body(
     sname: PrincipalName,
     host: &Name,
 ) -> Result<KdcReqBody, Cause>
-    requires { moment ≤ MAX_MOMENT }
+    requires { moment ≤ last_moment }
     ensures { Answers (Gives (as_req_body options.now moment realm cname sname host.now)) result }
 {
     Ok(body_with(alloc, options, moment, realm, cname, sname, host)?)
@@ -120,7 +120,7 @@ pub fn as_req_body(
     options: &GenerateAsReqOptions<'_>,
     moment: u64,
 ) -> Result<KdcReqBody, Cause>
-    requires { moment ≤ MAX_MOMENT }
+    requires { moment ≤ last_moment }
     ensures made { Answers (MakesBody options.now moment) result }
     ensures within { AreShort options.now → IfOk result (λ body. Fits kdc_req_body_layout (2 ^ 28) body) }
 {
@@ -144,7 +144,7 @@ pub fn generate_as_req_kdc_body(
     options: &GenerateAsReqOptions<'_>,
     moment: u64,
 ) -> Result<KdcReqBody, Error>
-    requires { moment ≤ MAX_MOMENT }
+    requires { moment ≤ last_moment }
     ensures made { Tells (MakesBody options.now moment) result }
     ensures within { AreShort options.now → IfOk result (λ body. Fits kdc_req_body_layout (2 ^ 28) body) }
 {

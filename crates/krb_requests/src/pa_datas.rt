@@ -6,7 +6,7 @@ ghost use Rattle.krb_crypto.specs.Suite.{key_size, suite_of_etype};
 ghost use Rattle.krb_crypto.specs.Password.{password_key};
 ghost use Rattle.krb_exchange.specs.Layouts.{pa_data_layout};
 ghost use Rattle.sspi_core.specs.declared.cause.Cause.TheVariants as causes;
-ghost use Rattle.sspi_core.specs.declared.draw.TheConstants.{MAX_MOMENT};
+ghost use Rattle.sspi_core.specs.Moments.{last_moment};
 ghost use Rattle.sspi_core.specs.Checks.{Answers, Gives, Holds};
 ghost use Rattle.krb_context.specs.Params.{suite_of as context_suite};
 ghost use Rattle.krb_replies.specs.Told.{Tells};
@@ -44,7 +44,7 @@ fn pac_request(alloc: Global) -> Result<PaData, OutOfMemory>
 
 /// The whole second of a moment, and the microseconds behind it.
 fn timestamp(alloc: Global, moment: u64) -> Result<PaEncTsEnc, OutOfMemory>
-    requires { moment ≤ MAX_MOMENT }
+    requires { moment ≤ last_moment }
     ensures { IfOk result (λ made. made ≡ timestamp moment) }
 {
     let microseconds = (moment % 1_000_000) as u32;
@@ -64,7 +64,7 @@ fn enc_timestamp(
     confounder: [u8; 16],
 ) -> Result<PaData, OutOfMemory>
     requires key { length key.now ≡ key_size suite }
-    requires moment { moment ≤ MAX_MOMENT }
+    requires moment { moment ≤ last_moment }
     ensures made { IfOk result (λ made. made ≡ enc_timestamp suite key.now moment confounder) }
     ensures short { IfOk result (λ made. length made.padata_value ≤ 512) }
 {
@@ -120,7 +120,7 @@ pub fn timed_pa_datas(
     confounder: [u8; 16],
 ) -> Result<Items<PaData>, OutOfMemory>
     requires key { length key.now ≡ key_size suite }
-    requires moment { moment ≤ MAX_MOMENT }
+    requires moment { moment ≤ last_moment }
     ensures made { IfOk result (λ made. made ≡ timed_pa_datas suite key.now moment confounder) }
     ensures within { IfOk result (λ made. Fits (items_layout pa_data_layout) (2 ^ 12) made) }
 {
@@ -139,7 +139,7 @@ fn pa_datas(
     confounder: [u8; 16],
 ) -> Result<Items<PaData>, OutOfMemory>
     requires key { IsTrue with_pre_auth → length key.now ≡ key_size suite }
-    requires moment { moment ≤ MAX_MOMENT }
+    requires moment { moment ≤ last_moment }
     ensures made { IfOk result (λ made. made ≡ pa_datas with_pre_auth suite key.now moment confounder) }
     ensures within { IfOk result (λ made. Fits (items_layout pa_data_layout) (2 ^ 12) made) }
 {
@@ -168,7 +168,7 @@ fn sized_pa_datas(
     confounder: [u8; 16],
 ) -> Result<Items<PaData>, Cause>
     requires key { length key.now ≡ key_size suite }
-    requires moment { moment ≤ MAX_MOMENT }
+    requires moment { moment ≤ last_moment }
     ensures made { Answers (Gives (pa_datas with_pre_auth suite key.now moment confounder)) result }
     ensures within { IfOk result (λ made. Fits (items_layout pa_data_layout) (2 ^ 12) made) }
 {
@@ -186,7 +186,7 @@ fn keyed_pa_datas(
     moment: u64,
     confounder: [u8; 16],
 ) -> Result<Items<PaData>, Cause>
-    requires { moment ≤ MAX_MOMENT }
+    requires { moment ≤ last_moment }
     ensures made { Answers (MakesPaDatas with_pre_auth suite key.now moment confounder) result }
     ensures within { IfOk result (λ made. Fits (items_layout pa_data_layout) (2 ^ 12) made) }
 {
@@ -204,7 +204,7 @@ pub fn generate_pa_datas_for_as_req(
     moment: u64,
     confounder: [u8; 16],
 ) -> Result<Items<PaData>, Error>
-    requires { moment ≤ MAX_MOMENT }
+    requires { moment ≤ last_moment }
     ensures made { let suite = context_suite options.now.enc_params.now in
         let key = password_key suite options.now.password.now options.now.salt.now in
         Tells (Gives (pa_datas options.now.with_pre_auth suite key moment confounder)) result }
@@ -232,7 +232,7 @@ pub fn generate_pa_datas_for_as_req_with_key(
     confounder: [u8; 16],
 ) -> Result<Items<PaData>, Error>
     requires known { IsTrue (options.now.key_enctype == 17 || options.now.key_enctype == 18) }
-    requires moment { moment ≤ MAX_MOMENT }
+    requires moment { moment ≤ last_moment }
     ensures made { let suite = suite_of_etype options.now.key_enctype in
         Tells (MakesPaDatas options.now.with_pre_auth suite options.now.key moment confounder) result }
     ensures within { IfOk result (λ made. Fits (items_layout pa_data_layout) (2 ^ 12) made) }

@@ -5,7 +5,7 @@ ghost use Rattle.krb_der.specs.Schema.{is_ascii};
 ghost use Rattle.krb_crypto.specs.Suite.{key_size};
 ghost use Rattle.krb_context.specs.ServiceKeys.{all_ascii};
 ghost use Rattle.sspi_core.specs.declared.cause.Cause.TheVariants as causes;
-ghost use Rattle.sspi_core.specs.declared.draw.TheConstants.{MAX_MOMENT};
+ghost use Rattle.sspi_core.specs.Moments.{last_moment};
 ghost use Rattle.sspi_core.specs.Checks.{Answers, Takes};
 ghost use Rattle.krb_requests.specs.Pieces.{encryption_key, sealed_data, sealed_under, name_of, principal, principal_of, whole_second, three_days_after, etypes};
 
@@ -166,7 +166,7 @@ pub fn principal_of(alloc: Global, name_type: u8, parts: &[&str]) -> Result<Prin
 
 /// The whole second of a moment.
 pub fn whole_second(moment: u64) -> Time
-    requires { moment ≤ MAX_MOMENT }
+    requires { moment ≤ last_moment }
     ensures { result ≡ whole_second moment }
 {
     Time::new((moment / 1_000_000) as i64)
@@ -174,7 +174,7 @@ pub fn whole_second(moment: u64) -> Time
 
 /// The whole second three days after a moment.
 pub fn three_days_after(moment: u64) -> Time
-    requires { moment ≤ MAX_MOMENT }
+    requires { moment ≤ last_moment }
     ensures { result ≡ three_days_after moment }
 {
     Time::new((moment / 1_000_000 + THREE_DAYS) as i64)

@@ -7,9 +7,9 @@ use Rattle.std.proofs.lemmas.Bool.{and_parts, eqb-true, eq-eqb}
 use Rattle.std.proofs.lemmas.List.Sums.{list_all-from_AllPass}
 use Rattle.std.proofs.lemmas.Grind.{common_steps}
 use Rattle.std.proofs.lemmas.Bool.Decides.{nat_tests}
-use Rattle.hex.specs.Hex.{is_hex_digit, hex_digit_value, pair_value, value_at, digit_or_error, decode_pairs, decode_of}
+use Rattle.hex.specs.Hex.{is_hex_digit, hex_digit_value, pair_value, value_at, digit_or_error, decode_pairs, decode_of, decode_sized}
 use Rattle.hex.specs.declared.error.FromHexError.{FromHexError}
-use Rattle.hex.proofs.HexLemmas.{decode_of-even, decode_of-ok}
+use Rattle.hex.proofs.HexLemmas.{decode_of-even, decode_of-ok, decode_sized-ok, decode_sized-twice}
 use Rattle.krb_script.specs.Digits.{are_pairs}
 
 -- looking at each digit, whatever those before it are
@@ -62,3 +62,17 @@ none_of text (Err error) e not = refl
 -- other octets stand for nothing
 pub not_decoded : (text : List ℕ) → are_pairs text ≡ false → result_ok (decode_of text) ≡ None
 not_decoded text not = none_of text (decode_of text) refl not
+
+-- 128 digits, and other texts
+pub sized_decoded : (text octets : List ℕ) → length text ≡ 128 → are_pairs text ≡ true → decode_pairs 0 text ≡ Ok octets → result_ok (decode_sized text 64) ≡ Some octets
+sized_decoded text octets len is e = ap result_ok (decode_sized-twice text 64 len) ∙ decoded text octets is e
+
+pub sized_not_decoded : (text : List ℕ) → length text ≡ 128 → are_pairs text ≡ false → result_ok (decode_sized text 64) ≡ None
+sized_not_decoded text len not = ap result_ok (decode_sized-twice text 64 len) ∙ not_decoded text not
+
+none_sized : (text : List ℕ) (r : Result (List ℕ) FromHexError) → decode_sized text 64 ≡ r → (length text ≡ 128 → ⊥) → result_ok r ≡ None
+none_sized text (Ok bytes) e other = absurd (other (decode_sized-ok text 64 bytes e))
+none_sized text (Err error) e other = refl
+
+pub not_sized : (text : List ℕ) → (length text ≡ 128 → ⊥) → result_ok (decode_sized text 64) ≡ None
+not_sized text other = none_sized text (decode_sized text 64) refl other

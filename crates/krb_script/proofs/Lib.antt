@@ -3,3 +3,4 @@ pub mod BufferLemmas
 pub mod KeytabLemmas
 pub mod ScriptLemmas
 mod DigitLemmas
+mod PartLemmas

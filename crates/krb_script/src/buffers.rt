@@ -6,6 +6,7 @@ ghost use Rattle.krb_script.specs.Gives.{Gives};
 
 use crate::digits::decode;
 use crate::fields::{FieldError, number};
+use crate::parts::split;
 use krb_der::{Items, Octets};
 use sspi_core::{Message, SecurityBufferFlags, SecurityBufferRef};
 use std::alloc::{AllocError, Global};
@@ -19,7 +20,7 @@ const MAX_LIMIT: u64 = 1_048_576;
 fn split_parts<'a>(alloc: Global, field: &'a [u8]) -> Result<Vec<&'a [u8]>, AllocError>
     ensures { IfOk result (λ found. map (λ x. x.now) found.items ≡ parts field.now) }
 {
-    field.split(|b| *b == b':').collect(alloc)
+    split(alloc, b':', field)
 }
 
 /// A buffer by its letter.

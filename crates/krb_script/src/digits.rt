@@ -43,7 +43,7 @@ fn digit_value(digit: u8) -> u8
 }
 
 /// Reads each two digits as an octet.
-fn fill(text: &[u8], octets: &mut [u8])
+pub(crate) fn fill(text: &[u8], octets: &mut [u8])
     requires digits { list_all is_hex_digit text.now ≡ true }
     requires twice { length text.now ≡ 2 * length octets.old }
     ensures { decode_pairs 0 text.now ≡ Ok octets.new }
@@ -53,7 +53,7 @@ fn fill(text: &[u8], octets: &mut [u8])
     }
 }
 
-fn are_pairs(text: &[u8]) -> bool
+pub(crate) fn are_pairs(text: &[u8]) -> bool
     ensures { result ≡ are_pairs text.now }
 {
     text.len() % 2 == 0 && are_digits(text)

@@ -9,9 +9,8 @@ ghost use Rattle.krb_script.specs.Gives.{Gives};
 ghost use Rattle.krb_script.specs.Options.{if_so};
 ghost use Rattle.krb_script.specs.declared.fields.FieldError.TheVariants.{OutOfMemory as NoMemory};
 
-use crate::digits::decode;
+use crate::digits::{are_pairs, decode, fill};
 use bitflags::Flags;
-use hex::FromHex;
 use krb_der::{Name, Octets, OutOfMemory, Text};
 use krb_text::decimal_up_to;
 use sspi_core::ClientRequestFlags;
@@ -169,13 +168,16 @@ pub fn text_or_none(alloc: Global, text: &[u8]) -> Result<Text, FieldError>
 }
 
 /// The 64 octets that 128 hex digits stand for.
+#[tactic(auto, using(crate::proofs::DigitLemmas::sized_decoded, crate::proofs::DigitLemmas::sized_not_decoded, crate::proofs::DigitLemmas::not_sized, crate::proofs::DigitLemmas::all_of))]
 pub fn random_octets(text: &[u8]) -> Result<[u8; 64], FieldError>
     ensures { Gives (random_of text.now) result }
 {
-    match <[u8; 64]>::from_hex(text) {
-        Ok(octets) => Ok(octets),
-        Err(_) => Err(FieldError::Bad),
+    if text.len() != 128 || !are_pairs(text) {
+        return Err(FieldError::Bad);
     }
+    let mut octets = [0; 64];
+    fill(text, &mut octets);
+    Ok(octets)
 }
 
 /// The bit of a flag's letter, and 0 for any other octet.

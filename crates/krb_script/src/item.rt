@@ -7,6 +7,7 @@ ghost use Rattle.krb_script.specs.Gives.{Gives};
 use crate::declaration::{Declaration, parse_declaration};
 use crate::fields::{FieldError, flags, number, number_u32, random_octets};
 use crate::input::{Input, parse_input};
+use crate::parts::split;
 use sspi_core::ClientRequestFlags;
 use std::alloc::{AllocError, Global};
 
@@ -33,7 +34,7 @@ pub enum Item {
 fn split_fields<'a>(alloc: Global, line: &'a [u8]) -> Result<Vec<&'a [u8]>, AllocError>
     ensures { IfOk result (λ parts. map (λ x. x.now) parts.items ≡ fields line.now) }
 {
-    line.split(|b| *b == b' ').collect(alloc)
+    split(alloc, b' ', line)
 }
 
 fn parse_event(alloc: Global, fields: &[&[u8]]) -> Result<Event, FieldError>

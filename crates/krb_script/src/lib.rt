@@ -11,6 +11,7 @@ mod endpoint;
 mod fields;
 mod input;
 mod item;
+mod parts;
 mod script;
 mod stop;
 

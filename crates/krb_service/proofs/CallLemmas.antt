@@ -24,7 +24,8 @@ use Rattle.krb_script.specs.declared.input.Input.TheVariants as inputs
 use Rattle.krb_service.specs.MessageCalls.{is_call, IsSealedBy, IsOpenedBy, IsSignedBy, Seals, Opens, Signs, Verifies, verified, Calls}
 use Rattle.krb_service.proofs.TakeLemmas.{stands_by}
 use Rattle.krb_service.specs.Exchanges.{answer_of}
-use Rattle.krb_service.specs.Policy.{State, ◌>>=◌, check, token_of, last_moment, is_initiating, is_initiator, reached, ready, CallsAt, AnswersCall, Behind, Judges, TakesPart, StepsOnward, StepsBy, Steps}
+use Rattle.krb_service.specs.Policy.{State, ◌>>=◌, check, token_of, is_initiating, is_initiator, reached, ready, CallsAt, AnswersCall, Behind, Judges, TakesPart, StepsOnward, StepsBy, Steps}
+use Rattle.sspi_core.specs.Moments.{last_moment}
 use Rattle.krb_service.specs.Reply.{admits_peer}
 use Rattle.krb_service.specs.declared.connection.Connection.{Connection}
 use Rattle.krb_service.specs.declared.reply.Reply.{Reply}

@@ -25,6 +25,7 @@ use Rattle.krb_script.specs.declared.input.Input.{Input}
 use Rattle.krb_script.specs.declared.input.Input.TheVariants.{Token, Start, KdcReply, KdcFault, Wrap, Unwrap, MakeMic, VerifyMic}
 use Rattle.sspi_core.specs.Checks.{ok_or, told}
 use Rattle.sspi_core.specs.Kinds.{error_of}
+use Rattle.sspi_core.specs.Moments.{last_moment}
 use Rattle.sspi_core.specs.declared.cause.Cause.{Cause}
 use Rattle.sspi_core.specs.declared.cause.Cause.TheVariants as causes
 use Rattle.sspi_core.specs.declared.draw.Draw.{Draw}
@@ -64,10 +65,6 @@ token_of (Wrap message) = None
 token_of (Unwrap message) = None
 token_of (MakeMic payload) = None
 token_of (VerifyMic token payload) = None
-
--- the last moment that is taken: the end of 9999-12-28, in microseconds since 1970-01-01T00:00:00Z
-abbrev pub last_moment : ℕ
-last_moment = 253402041599999999
 
 -- the first checks of an event: the moment is in range, and there is such a connection
 abbrev pub called : List (ℕ × Connection) → Event → Result Connection Cause

@@ -2,7 +2,7 @@
 
 ghost use Rattle.std.specs.Prelude.{◌≡◌, ◌≤◌, Some, None, IfOk, OnErr};
 ghost use Rattle.krb_exchanges.specs.Runs.{IsNew};
-ghost use Rattle.sspi_core.specs.declared.draw.TheConstants.{MAX_MOMENT};
+ghost use Rattle.sspi_core.specs.Moments.{last_moment};
 ghost use Rattle.krb_service.specs.Exchanges.{answer_of, LeadsTo, Opens, GoesOn};
 
 use crate::connection::Connection;
@@ -63,7 +63,7 @@ pub(crate) fn open(
     draw: &Draw,
 ) -> Result<Reply, OutOfMemory>
     requires new { IsNew run }
-    requires moment { draw.now.moment ≤ MAX_MOMENT }
+    requires moment { draw.now.moment ≤ last_moment }
     requires free { connection.old.exchange ≡ None }
     ensures opens { IfOk result (λ reply. Opens connection.old run draw.now reply connection.new) }
     ensures err { OnErr result (connection.new ≡ connection.old) }
@@ -81,7 +81,7 @@ pub(crate) fn go_on(
     answer: Result<Octets, NetFault>,
     draw: &Draw,
 ) -> Result<Reply, OutOfMemory>
-    requires moment { draw.now.moment ≤ MAX_MOMENT }
+    requires moment { draw.now.moment ≤ last_moment }
     requires taken { connection.old.exchange ≡ None }
     ensures goes_on { IfOk result (λ reply. GoesOn (record connection.old { exchange = Some exchange }) exchange answer draw.now reply connection.new) }
     ensures err { OnErr result (connection.new ≡ record connection.old { exchange = Some exchange }) }

@@ -2,7 +2,7 @@
 
 ghost use Rattle.std.specs.Prelude.{◌≡◌, ◌≤◌, None, IfOk, OnErr};
 ghost use Rattle.std.specs.Result.{result_map_both};
-ghost use Rattle.sspi_core.specs.declared.draw.TheConstants.{MAX_MOMENT};
+ghost use Rattle.sspi_core.specs.Moments.{last_moment};
 ghost use Rattle.krb_service.specs.Initiations.{is_before, token_heard, options_of, Undertakes};
 
 use crate::connection::Connection;
@@ -86,7 +86,7 @@ fn begin(
     options: InitOptions,
     draw: &Draw,
 ) -> Result<Reply, OutOfMemory>
-    requires moment { draw.now.moment ≤ MAX_MOMENT }
+    requires moment { draw.now.moment ≤ last_moment }
     requires free { connection.old.exchange ≡ None }
     ensures undertakes { IfOk result (λ reply. Undertakes connection.old options draw.now reply connection.new) }
     ensures err { OnErr result (connection.new ≡ connection.old) }
@@ -106,7 +106,7 @@ pub(crate) fn undertake(
     token: &[u8],
     draw: &Draw,
 ) -> Result<Reply, OutOfMemory>
-    requires moment { draw.now.moment ≤ MAX_MOMENT }
+    requires moment { draw.now.moment ≤ last_moment }
     requires free { connection.old.exchange ≡ None }
     ensures undertakes { IfOk result (λ reply. Undertakes connection.old (options_of connection.old env.now flags token.now) draw.now reply connection.new) }
     ensures err { OnErr result (connection.new ≡ connection.old) }

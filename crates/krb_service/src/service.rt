@@ -2,7 +2,7 @@
 ghost use Rattle.std.specs.Prelude.{◌≡◌, ◌≢◌, ◌≤◌, Err, None, IfOk, OnErr};
 ghost use Rattle.sspi_core.specs.Kinds.{error_of};
 ghost use Rattle.sspi_core.specs.declared.cause.Cause.TheVariants as causes;
-ghost use Rattle.sspi_core.specs.declared.draw.TheConstants.{MAX_MOMENT};
+ghost use Rattle.sspi_core.specs.Moments.{last_moment};
 ghost use Rattle.krb_acceptor.specs.Whole.{CanStart};
 ghost use Rattle.krb_service.specs.Exchanges.{StopsAt};
 ghost use Rattle.krb_service.specs.Policy.{server_flags, draw_of, Settles};
@@ -77,7 +77,7 @@ fn settle(
     draw: &Draw,
 ) -> Result<Reply, OutOfMemory>
     requires ready { IfOk answer CanStart }
-    requires moment { draw.now.moment ≤ MAX_MOMENT }
+    requires moment { draw.now.moment ≤ last_moment }
     requires free { connection.old.exchange ≡ None }
     ensures settles { IfOk result (λ reply. Settles draw.now connection.old answer reply connection.new) }
     ensures other { IfOk result (λ _. answer ≢ Err (error_of causes.Memory)) }
@@ -219,7 +219,7 @@ impl<G: ReplayGate> Service<G> {
     fn called(&self, event: &Event) -> Result<&Connection, Cause>
         ensures found { result_map_both (λ connection. connection.now) (λ cause. cause) result ≡ called self.now.connections event.now }
         ensures stands { IfOk result (λ connection. at_id event.now.connection self.now.connections ≡ Some connection.now) }
-        ensures moment { IfOk result (λ _. event.now.moment ≤ MAX_MOMENT) }
+        ensures moment { IfOk result (λ _. event.now.moment ≤ last_moment) }
     {
         if event.moment > MAX_MOMENT {
             return Err(Cause::Moment);
@@ -235,7 +235,7 @@ impl<G: ReplayGate> Service<G> {
         ensures found { result_map_both (λ connection. connection.now) (λ cause. cause) result ≡ ready self.now.connections event.now }
         ensures stands { IfOk result (λ connection. at_id event.now.connection self.now.connections ≡ Some connection.now) }
         ensures free { IfOk result (λ connection. connection.now.exchange ≡ None) }
-        ensures moment { IfOk result (λ _. event.now.moment ≤ MAX_MOMENT) }
+        ensures moment { IfOk result (λ _. event.now.moment ≤ last_moment) }
     {
         let connection = self.called(event)?;
         if connection.exchange.is_some() {
@@ -248,7 +248,7 @@ impl<G: ReplayGate> Service<G> {
     fn reach<'a>(&self, event: &'a Event) -> Result<&'a [u8], Cause>
         ensures found { result_map_both (λ token. token.now) (λ cause. cause) result ≡ token_reached self.now.connections event.now }
         ensures free { IfOk result (λ _. IsFree (at_id event.now.connection self.now.connections)) }
-        ensures moment { IfOk result (λ _. event.now.moment ≤ MAX_MOMENT) }
+        ensures moment { IfOk result (λ _. event.now.moment ≤ last_moment) }
     {
         let connection = self.ready(event)?;
         if connection.context.is_client() {
@@ -336,7 +336,7 @@ impl<G: ReplayGate> Service<G> {
     fn hear<'a>(&self, event: &'a Event) -> Result<&'a [u8], Cause>
         ensures found { result_map_both (λ token. token.now) (λ cause. cause) result ≡ token_for self.now.connections event.now }
         ensures free { IfOk result (λ _. IsFree (at_id event.now.connection self.now.connections)) }
-        ensures moment { IfOk result (λ _. event.now.moment ≤ MAX_MOMENT) }
+        ensures moment { IfOk result (λ _. event.now.moment ≤ last_moment) }
     {
         let connection = self.ready(event)?;
         token_heard(connection.context.state, &event.input)

@@ -5,7 +5,7 @@ mod proxies;
 mod refusals;
 
 ghost use Rattle.std.specs.Prelude.{◌≡◌, ◌<◌, ◌≤◌, ◌^◌, IfOk, length};
-ghost use Rattle.sspi_core.specs.declared.draw.TheConstants.{MAX_MOMENT};
+ghost use Rattle.sspi_core.specs.Moments.{last_moment};
 ghost use Rattle.sspi_generator.specs.Draws.{IsInRange, AreInRange};
 ghost use Rattle.krb_exchange.specs.Layouts.{kdc_req_body_layout};
 ghost use Rattle.krb_requests.specs.Pieces.{Fits};
@@ -188,7 +188,7 @@ impl NetworkClient for Recorded<'_> {
 
 /// So many microseconds behind that second.
 fn moment(seconds: u32, microseconds: u32) -> u64
-    ensures { result ≤ MAX_MOMENT }
+    ensures { result ≤ last_moment }
 {
     u64::from(seconds) * 1_000_000 + u64::from(microseconds)
 }

@@ -5,7 +5,7 @@ mod messages;
 ghost use Rattle.std.specs.Prelude.{◌≡◌, ◌<◌, ◌≤◌, ◌^◌, IfOk, IfSome, true, length};
 ghost use Rattle.krb_messages.specs.Layouts.{ap_req_layout, authenticator_layout, ticket_layout};
 ghost use Rattle.krb_exchange.specs.Layouts.{tgs_req_layout};
-ghost use Rattle.sspi_core.specs.declared.draw.TheConstants.{MAX_MOMENT};
+ghost use Rattle.sspi_core.specs.Moments.{last_moment};
 ghost use Rattle.krb_requests.specs.Pieces.{Fits};
 ghost use Rattle.krb_credentials.specs.Granted.{IsSendable};
 ghost use Rattle.krb_authenticators.specs.Authenticators.{IsShortChecksum};
@@ -38,7 +38,7 @@ const BEHIND: u32 = 123_456;
 
 /// So many microseconds behind that second.
 fn behind(microseconds: u32) -> u64
-    ensures { result ≤ MAX_MOMENT }
+    ensures { result ≤ last_moment }
 {
     T0 + u64::from(microseconds)
 }

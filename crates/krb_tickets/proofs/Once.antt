@@ -13,7 +13,8 @@ use Rattle.sspi_core.specs.declared.identity.CredentialsBuffers.{CredentialsBuff
 use Rattle.sspi_core.specs.declared.protocol.NetworkProtocol.{NetworkProtocol}
 use Rattle.sspi_generator.specs.declared.network.NetFault.{NetFault}
 use Rattle.krb_replies.specs.Keys.{HandsOnKey}
-use Rattle.krb_client.proofs.Once.{finds_kdc_once, grants_once, grants_as_rep_once, opens_once}
+use Rattle.krb_replies.proofs.Once.{opens_once}
+use Rattle.krb_client.proofs.Once.{finds_kdc_once, grants_once, grants_as_rep_once}
 use Rattle.krb_client.specs.declared.asker.Asker.{Asker}
 use Rattle.krb_credentials.proofs.Once.{takes_reply_key_once}
 use Rattle.krb_tickets.specs.declared.wanted.Wanted.{Wanted}

@@ -6,7 +6,7 @@ ghost use Rattle.krb_context.specs.Params.{suite_of};
 ghost use Rattle.krb_messages.specs.Layouts.{authenticator_layout};
 ghost use Rattle.krb_exchange.specs.Layouts.{tgs_req_layout};
 ghost use Rattle.sspi_core.specs.declared.cause.Cause.TheVariants as causes;
-ghost use Rattle.sspi_core.specs.declared.draw.TheConstants.{MAX_MOMENT};
+ghost use Rattle.sspi_core.specs.Moments.{last_moment};
 ghost use Rattle.sspi_core.specs.Checks.{Answers, Gives, Holds};
 ghost use Rattle.krb_requests.specs.Pieces.{Fits};
 ghost use Rattle.krb_authenticators.specs.Bindings.{AreShortBindings};
@@ -73,7 +73,7 @@ fn tgs_authenticator(
     rep: &KdcRep,
     draw: &Draw,
 ) -> Result<Authenticator, OutOfMemory>
-    requires moment { draw.now.moment ≤ MAX_MOMENT }
+    requires moment { draw.now.moment ≤ last_moment }
     requires rep { IsSendable rep.now }
     requires bindings { IfSome wanted.now.channel_bindings AreShortBindings }
     ensures made { IfOk result (λ made. made ≡ tgs_authenticator wanted.now rep.now draw.now) }
@@ -103,7 +103,7 @@ fn tgs_req_by(
     authenticator: Authenticator,
     draw: &Draw,
 ) -> Result<TgsReq, OutOfMemory>
-    requires moment { draw.now.moment ≤ MAX_MOMENT }
+    requires moment { draw.now.moment ≤ last_moment }
     requires target { length wanted.now.target ≤ 2 ^ 24 }
     requires realm { length realm.now ≤ 2 ^ 24 }
     requires rep { IsSendable shown.now.rep }
@@ -141,7 +141,7 @@ fn tgs_req_for(
     tickets: Option<Items<Ticket>>,
     draw: &Draw,
 ) -> Result<TgsReq, OutOfMemory>
-    requires moment { draw.now.moment ≤ MAX_MOMENT }
+    requires moment { draw.now.moment ≤ last_moment }
     requires target { length wanted.now.target ≤ 2 ^ 24 }
     requires bindings { IfSome wanted.now.channel_bindings AreShortBindings }
     requires realm { length realm.now ≤ 2 ^ 24 }
@@ -163,7 +163,7 @@ fn tgs_request(
     draw: &Draw,
     kdc: &Kdc,
 ) -> Result<NetworkRequest, OutOfMemory>
-    requires moment { draw.now.moment ≤ MAX_MOMENT }
+    requires moment { draw.now.moment ≤ last_moment }
     requires target { length wanted.now.target ≤ 2 ^ 24 }
     requires bindings { IfSome wanted.now.channel_bindings AreShortBindings }
     requires realm { length kdc.now.realm ≤ 2 ^ 24 }
@@ -185,7 +185,7 @@ fn sent_tgs_request(
     draw: &Draw,
     kdc: Kdc,
 ) -> Result<Begun, Cause>
-    requires moment { draw.now.moment ≤ MAX_MOMENT }
+    requires moment { draw.now.moment ≤ last_moment }
     requires target { length wanted.now.target ≤ 2 ^ 24 }
     requires bindings { IfSome wanted.now.channel_bindings AreShortBindings }
     requires realm { length kdc.realm ≤ 2 ^ 24 }
@@ -234,7 +234,7 @@ pub fn ask_tgs(
     tickets: Option<Items<Ticket>>,
     draw: &Draw,
 ) -> Result<Begun, Cause>
-    requires moment { draw.now.moment ≤ MAX_MOMENT }
+    requires moment { draw.now.moment ≤ last_moment }
     requires target { length wanted.now.target ≤ 2 ^ 24 }
     requires bindings { IfSome wanted.now.channel_bindings AreShortBindings }
     requires realm { length realm.now ≤ 2 ^ 24 }
@@ -283,7 +283,7 @@ pub fn follow(
     realm: &Name,
     draw: &Draw,
 ) -> Result<Begun, Cause>
-    requires moment { draw.now.moment ≤ MAX_MOMENT }
+    requires moment { draw.now.moment ≤ last_moment }
     requires target { length wanted.now.target ≤ 2 ^ 24 }
     requires bindings { IfSome wanted.now.channel_bindings AreShortBindings }
     requires realm { length realm.now ≤ 2 ^ 24 }

@@ -3,7 +3,7 @@
 ghost use Rattle.std.specs.Prelude.{◌≡◌, ◌≤◌, ◌^◌, true, IfOk, length, Err, Result};
 ghost use Rattle.sspi_core.specs.declared.cause.Cause.{Cause};
 ghost use Rattle.sspi_core.specs.declared.cause.Cause.TheVariants as causes;
-ghost use Rattle.sspi_core.specs.declared.draw.TheConstants.{MAX_MOMENT};
+ghost use Rattle.sspi_core.specs.Moments.{last_moment};
 ghost use Rattle.sspi_core.specs.Kinds.{error_of};
 ghost use Rattle.sspi_core.specs.Checks.{Answers};
 ghost use Rattle.krb_client.specs.Turns.{is_want};
@@ -85,7 +85,7 @@ fn started(
 ) -> Result<Turn<AcceptPhase, InitDone>, Cause>
     requires new { IsNewPhase phase.now }
     requires realm { length acceptor.now.asker.realm ≤ 2 ^ 24 }
-    requires moment { draw.now.moment ≤ MAX_MOMENT }
+    requires moment { draw.now.moment ≤ last_moment }
     ensures step { Answers (Starts acceptor.now phase.now draw.now) result }
     ensures down { IfOk result (λ turn. GoesDown (turns_left phase.now) turn) }
 {
@@ -109,7 +109,7 @@ fn in_phase(
     draw: &Draw,
 ) -> Result<Turn<AcceptPhase, InitDone>, Cause>
     requires awaiting { IsAwaiting phase.now }
-    requires moment { draw.now.moment ≤ MAX_MOMENT }
+    requires moment { draw.now.moment ≤ last_moment }
     ensures step { Answers (Next acceptor.now phase.now reply draw.now) result }
     ensures down { IfOk result (λ turn. GoesDown (turns_left phase.now) turn) }
 {
@@ -133,7 +133,7 @@ fn next(
     draw: &Draw,
 ) -> Result<Turn<AcceptPhase, InitDone>, Cause>
     requires awaiting { IsAwaiting phase.now }
-    requires moment { draw.now.moment ≤ MAX_MOMENT }
+    requires moment { draw.now.moment ≤ last_moment }
     ensures step { Answers (Next acceptor.now phase.now reply draw.now) result }
     ensures down { IfOk result (λ turn. GoesDown (turns_left phase.now) turn) }
     ensures memory { is_want reply ≡ true → result ≡ Err causes.Memory }

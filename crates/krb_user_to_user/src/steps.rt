@@ -1,7 +1,7 @@
 //! The steps in which a service fetches its ticket.
 
 ghost use Rattle.std.specs.Prelude.{◌≡◌, ◌≤◌, ◌^◌, IfOk, Some, length, take};
-ghost use Rattle.sspi_core.specs.declared.draw.TheConstants.{MAX_MOMENT};
+ghost use Rattle.sspi_core.specs.Moments.{last_moment};
 ghost use Rattle.sspi_core.specs.Checks.{Answers, Gives};
 ghost use Rattle.krb_exchange.specs.Layouts.{kdc_req_body_layout};
 ghost use Rattle.krb_requests.specs.Pieces.{Fits};
@@ -54,7 +54,7 @@ pub(crate) fn body_of(
     draw: &Draw,
 ) -> Result<KdcReqBody, OutOfMemory>
     requires client { IsShort client.now }
-    requires moment { draw.now.moment ≤ MAX_MOMENT }
+    requires moment { draw.now.moment ≤ last_moment }
     ensures made { IfOk result (λ body. body ≡ body_of client.now draw.now) }
     ensures fits { IfOk result (λ body. Fits kdc_req_body_layout (2 ^ 28) body) }
 {
@@ -118,7 +118,7 @@ pub(crate) fn ask_second(
     reply: Result<Octets, NetFault>,
     draw: &Draw,
 ) -> Result<Turn<AcceptPhase, InitDone>, Cause>
-    requires moment { draw.now.moment ≤ MAX_MOMENT }
+    requires moment { draw.now.moment ≤ last_moment }
     requires body { Fits kdc_req_body_layout (2 ^ 28) body.now }
     requires realm { length kdc.now.realm ≤ 2 ^ 24 }
     ensures step { Answers (AsksSecond asker.now kdc.now body.now reply draw.now) result }

@@ -8,6 +8,7 @@ pub mod FormBack
 pub mod Identities
 pub mod Kinds
 pub mod Messages
+pub mod Moments
 pub mod Printed
 pub mod Protocol
 pub mod Shown

@@ -1,10 +1,11 @@
 -- What a step may be given.
 use Rattle.std.specs.Prelude.{◌≤◌, List, [], ◌∷◌}
+use Rattle.sspi_core.specs.Moments.{last_moment}
 use Rattle.sspi_core.specs.declared.draw.Draw.{Draw}
 
--- its moment lies between the beginning of 1970 and the end of 9999-12-28, in microseconds
+-- its moment lies between the beginning of 1970 and the last one
 abbrev pub IsInRange : Draw → Type 0
-IsInRange draw = draw.moment ≤ 253_402_041_599_999_999
+IsInRange draw = draw.moment ≤ last_moment
 
 abbrev pub AreInRange : List Draw → Type 0
 AreInRange [] = Unit {0}

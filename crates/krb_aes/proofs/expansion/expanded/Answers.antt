@@ -1,4 +1,4 @@
-use Rattle.std.proofs.Common.{rules, ◌≡◌, ℕ, ◌+◌, ◌-◌, ◌*◌, ◌/◌, length, refl, arith}
+use Rattle.std.proofs.Common.{rules, ◌≡◌, ℕ, ◌+◌, ◌-◌, ◌*◌, ◌/◌, length, arith}
 use Rattle.krb_aes.specs.Aes.{first_words}
 use Rattle.krb_aes.proofs.ScheduleLemmas.{first_words_step, expanded_step, first_words_whole, key_words_are}
 use Rattle.krb_aes.proofs.expansion.expanded.Goals as goal

@@ -1,6 +1,5 @@
-use Rattle.std.proofs.Common.{◌∙◌, arith}
-use Rattle.krb_crypto.proofs.FoldedLemmas.{ENCRYPTION_FOLDS_at}
+use Rattle.krb_crypto.proofs.FoldedLemmas.{encryption_folds}
 use Rattle.krb_crypto.proofs.folded.encryption_block.Goals as goal
 
-pub returns-then-usage-lt26 : goal.returns-then-usage-lt26
-returns-then-usage-lt26 c = c.to_be_bytes.ensures ∙ ENCRYPTION_FOLDS_at c.args.usage (omega arith)
+pub folded_constant-requires : goal.folded_constant-requires
+folded_constant-requires c = encryption_folds

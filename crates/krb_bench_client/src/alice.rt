@@ -1,0 +1,95 @@
+//! Alice of EXAMPLE.COM: her credentials, her machine, and a KDC in memory.
+
+ghost use Rattle.sspi_generator.specs.Draws.{IsInRange, AreInRange};
+
+use anyhow::Result;
+use krb_conf::KerberosConfig;
+use krb_context::Kerberos;
+use krb_der::{Octets, OutOfMemory, Text, TryCopy};
+use sspi_core::{AuthIdentityBuffers, CredentialsBuffers, Draw, KeytabIdentity, Secret, Username};
+use sspi_generator::{MemClient, NetFault};
+use std::alloc::Global;
+use std::collections::VecDeque;
+
+/// The key that her password gives with the salt `EXAMPLE.COMalice`.
+const KEY: &str = "72e14c8e96dfba330802c689e06448591bc19da4f18500d9d63671d6ce24d52d";
+
+/// When all happens, in microseconds from the beginning of 1970.
+pub const MOMENT: u64 = 1_700_000_000_000_000;
+
+fn draw() -> Draw
+    ensures { IsInRange result }
+{
+    Draw {
+        moment: MOMENT,
+        random: [7; 64],
+    }
+}
+
+/// What she draws at each of the steps that an exchange may take.
+pub fn draws() -> [Draw; 13]
+    ensures { AreInRange result }
+{
+    let draw = draw();
+    [
+        draw, draw, draw, draw, draw, draw, draw, draw, draw, draw, draw, draw, draw,
+    ]
+}
+
+/// The octets that are written in hex.
+pub fn octets(alloc: Global, digits: &str) -> Result<Octets> {
+    Ok(Octets::new(hex::decode(alloc, digits)?))
+}
+
+pub fn with_password(alloc: Global) -> Result<CredentialsBuffers, OutOfMemory> {
+    Ok(CredentialsBuffers::AuthIdentity(AuthIdentityBuffers {
+        user: Text::from_str(alloc, "alice")?,
+        domain: Text::from_str(alloc, "EXAMPLE.COM")?,
+        password: Secret::new(Text::from_str(alloc, "secret")?),
+    }))
+}
+
+/// With the key of a keytab.
+pub fn with_key(alloc: Global) -> Result<CredentialsBuffers> {
+    let key = octets(alloc, KEY)?;
+    let principal = Username::parse(alloc, "EXAMPLE.COM\\alice")?;
+    Ok(CredentialsBuffers::Keytab(KeytabIdentity {
+        principal,
+        key: Secret::new(key),
+        key_enctype: 18,
+    }))
+}
+
+/// Her machine, which knows where the KDC is.
+pub fn config(alloc: Global) -> Result<KerberosConfig, OutOfMemory> {
+    let name = Text::from_str(alloc, "pc")?;
+    KerberosConfig::new(alloc, "tcp://kdc.example:88", name)
+}
+
+/// Her context before its exchange.
+pub fn context(alloc: Global, config: &KerberosConfig) -> Result<Box<Kerberos>, OutOfMemory> {
+    let config = config.copy(alloc)?;
+    let context = Kerberos::new_client_from_config(config, [0, 0, 0, 7]);
+    Ok(Box::new(alloc, context)?)
+}
+
+/// One more client is answered by these replies.
+fn add_answers(
+    alloc: Global,
+    answers: &mut VecDeque<Result<Octets, NetFault>>,
+    replies: &[&str],
+) -> Result<()> {
+    for reply in replies {
+        answers.push_back(Ok(octets(alloc, reply)?))?;
+    }
+    Ok(())
+}
+
+/// A KDC that answers so many clients, each by these replies.
+pub fn network(alloc: Global, replies: &[&str], count: u32) -> Result<MemClient> {
+    let mut answers = VecDeque::new(alloc);
+    for _ in 0..count {
+        add_answers(alloc, &mut answers, replies)?;
+    }
+    Ok(MemClient::new(answers))
+}

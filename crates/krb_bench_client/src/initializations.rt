@@ -1,0 +1,186 @@
+//! Initializations: from alice's keytab over three replies of a KDC to her AP-REQ, and then over the AP-REP of the service to the
+//! key that both agreed on.
+
+ghost use Rattle.std.specs.Prelude.{◌≡◌, IfOk};
+ghost use Rattle.krb_initiation.specs.InitRuns.{IsNew, turns_left};
+
+use crate::alice::{config, context, draws, network, octets, with_key};
+use crate::replies::{AP_REP, AS_REP, KRB_ERROR, TGS_REP};
+use crate::report::{report, sum};
+use anyhow::Result;
+use bitflags::Flags;
+use krb_client::InitDone;
+use krb_conf::{Env, KerberosConfig};
+use krb_context::Kerberos;
+use krb_der::{Octets, TryCopy};
+use krb_initiation::{GeneratorInitSecurityContext, InitOptions, initialize_security_context};
+use krb_requests::name_of;
+use sspi_core::{ClientRequestFlags, CredentialsBuffers, Error};
+use sspi_generator::{Generator, MemClient};
+use std::alloc::Global;
+use std::rt::Clock;
+use std::time::Instant;
+
+/// What a KDC replies to one initialization.
+const REPLIES: [&str; 3] = [KRB_ERROR, AS_REP, TGS_REP];
+
+/// Who asks, and what the service answers.
+#[derive(Drop)]
+struct Setting {
+    config: KerberosConfig,
+    credentials: CredentialsBuffers,
+    ap_rep: Octets,
+}
+
+fn new_setting(alloc: Global) -> Result<Setting> {
+    let config = config(alloc)?;
+    let ap_rep = octets(alloc, AP_REP)?;
+    let credentials = with_key(alloc)?;
+    Ok(Setting {
+        config,
+        credentials,
+        ap_rep,
+    })
+}
+
+/// What alice asks for when the service has sent this token.
+fn options(
+    alloc: Global,
+    credentials: &CredentialsBuffers,
+    token: Octets,
+) -> Result<InitOptions, Error> {
+    let target = name_of(alloc, "host/server.example.com")?;
+    let credentials = credentials.copy(alloc)?;
+    Ok(InitOptions {
+        flags: ClientRequestFlags::MUTUAL_AUTH.union(ClientRequestFlags::CONFIDENTIALITY),
+        target: Some(target),
+        token,
+        credentials: Some(credentials),
+        channel_bindings: None,
+        env: Env::new(alloc),
+    })
+}
+
+/// What her context begins, on the heap.
+fn run_of(
+    alloc: Global,
+    context: &Kerberos,
+    options: InitOptions,
+) -> Result<Box<GeneratorInitSecurityContext>, Error>
+    ensures new { IfOk result (λ run. IsNew run.value) }
+    ensures turns { IfOk result (λ run. turns_left run.value.phase ≡ 12) }
+{
+    match initialize_security_context(alloc, context, options) {
+        Ok(run) => Ok(Box::new(alloc, Generator::new(run))?),
+        Err(error) => Err(error),
+    }
+}
+
+/// What it ends with over the replies.
+fn end_of(
+    run: Box<GeneratorInitSecurityContext>,
+    network: &mut MemClient,
+) -> Result<InitDone, Error>
+    requires new { IsNew run.value }
+    requires turns { turns_left run.value.phase ≡ 12 }
+{
+    let mut run = run;
+    run.resolve_with_client(network, &draws())
+}
+
+fn done_with(
+    alloc: Global,
+    context: &Kerberos,
+    options: InitOptions,
+    network: &mut MemClient,
+) -> Result<InitDone, Error> {
+    match run_of(alloc, context, options) {
+        Ok(run) => end_of(run, network),
+        Err(error) => Err(error),
+    }
+}
+
+fn done_of(
+    alloc: Global,
+    context: &Kerberos,
+    credentials: &CredentialsBuffers,
+    token: Octets,
+    network: &mut MemClient,
+) -> Result<InitDone, Error> {
+    let options = options(alloc, credentials, token)?;
+    done_with(alloc, context, options, network)
+}
+
+/// Her context takes this token.
+fn take(
+    alloc: Global,
+    context: &mut Kerberos,
+    credentials: &CredentialsBuffers,
+    token: Octets,
+    network: &mut MemClient,
+) -> Result<(), Error> {
+    let done = done_of(alloc, context, credentials, token, network)?;
+    context.settle(done.change);
+    Ok(())
+}
+
+/// The sum of the octets of the context's key.
+fn key_sum(context: &Kerberos) -> u64 {
+    match context.encryption_params.key() {
+        Some(key) => sum(key.as_slice()),
+        None => 0,
+    }
+}
+
+/// The service is shown a ticket, and answers: the sum of the octets of the key that is agreed on.
+fn key_in(
+    alloc: Global,
+    setting: &Setting,
+    context: &mut Kerberos,
+    network: &mut MemClient,
+) -> Result<u64, Error> {
+    let nothing = Octets::new(Vec::new(alloc));
+    take(alloc, context, &setting.credentials, nothing, network)?;
+    let ap_rep = setting.ap_rep.copy(alloc)?;
+    take(alloc, context, &setting.credentials, ap_rep, network)?;
+    Ok(key_sum(context))
+}
+
+/// One initialization.
+fn key_of_one(alloc: Global, setting: &Setting, network: &mut MemClient) -> Result<u64, Error> {
+    let mut context = context(alloc, &setting.config)?;
+    key_in(alloc, setting, &mut context, network)
+}
+
+/// So many initializations: the sum of the octets of their keys.
+fn keys_of(
+    alloc: Global,
+    setting: &Setting,
+    network: &mut MemClient,
+    count: u32,
+) -> Result<u64, Error> {
+    let mut sum: u64 = 0;
+    for _ in 0..count {
+        sum = sum.wrapping_add(key_of_one(alloc, setting, network)?);
+    }
+    Ok(sum)
+}
+
+fn measure(
+    rt: &(impl Print + Eprint + Clock + AllocGlobal),
+    setting: &Setting,
+    count: u32,
+) -> Result<()> {
+    let alloc = rt.alloc();
+    let mut network = network(alloc, &REPLIES, count)?;
+    let start = Instant::now(rt)?;
+    let sum = keys_of(alloc, setting, &mut network, count)?;
+    report(rt, "initialization: keytab", count, sum, start.elapsed(rt)?)
+}
+
+/// Measures initializations with the key of a keytab.
+pub fn run(rt: &(impl Print + Eprint + Clock + AllocGlobal), full: bool) -> Result<()> {
+    let count = if full { 20_000 } else { 3 };
+    let setting = new_setting(rt.alloc())?;
+    measure(rt, &setting, count)
+}
