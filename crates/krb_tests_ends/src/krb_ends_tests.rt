@@ -2,10 +2,10 @@
 //! each to the other: each law of `krb_ends` has values here that meet its premises, and calls whose answers it tells.
 
 mod network;
-mod parties;
-mod sessions;
+pub mod parties;
+pub mod sessions;
 mod talk;
-mod tokens;
+pub mod tokens;
 
 use krb_context::Kerberos;
 use krb_crypto::CipherSuite;

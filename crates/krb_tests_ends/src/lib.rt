@@ -1,8 +1,10 @@
-//! The tests of both ends together, over public items: what the laws of `krb_ends` speak of, with values that meet their premises.
-//! Nothing stands on them.
+//! The tests of both ends together, over public items: what the laws of `krb_ends` and `krb_origins` speak of, with values
+//! that meet their premises. Nothing stands on them.
 //!
 //! The octets of replies and tokens are those of a second implementation.
 #![tactic(auto)]
 
 #[cfg(test)]
 mod krb_ends_tests;
+#[cfg(test)]
+mod krb_origins_tests;

@@ -29,3 +29,12 @@ impl Going {
         }
     }
 }
+
+/// Lets go of two values, the second in a thread of its own.
+pub fn let_go_of_both<R: Threads, A: Drop, B: Drop + Send + 'static>(rt: &R, one: A, two: B) {
+    let going = Going::start(rt, two);
+    {
+        let _gone = one;
+    }
+    going.wait(rt);
+}

@@ -5,6 +5,7 @@ ghost use Rattle.krb_threads.specs.Worked.{WorksAt};
 
 use crate::both::run_two;
 use crate::described::{Ends, service_of};
+use crate::going::let_go_of_both;
 use crate::part::Part;
 use crate::pause::Pause;
 use crate::paused_gate::PausedGate;
@@ -106,7 +107,7 @@ pub fn run_seats<
     };
     let Part {
         service: Service {
-            connections: _connections,
+            connections: low_connections,
             env: _env,
             gate: PausedGate {
                 pause: _pause,
@@ -119,7 +120,7 @@ pub fn run_seats<
     } = one;
     let Part {
         service: Service {
-            connections: _other_connections,
+            connections: high_connections,
             env: _other_env,
             gate: PausedGate {
                 pause: _other_pause,
@@ -132,6 +133,7 @@ pub fn run_seats<
     } = two;
     low_gate.into_seat();
     high_gate.into_seat();
+    let_go_of_both(low_rt, low_connections, high_connections);
     Ok((
         Done {
             replies: low_replies,

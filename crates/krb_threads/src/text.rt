@@ -11,6 +11,7 @@ use krb_replay::Verdict;
 use krb_service::{Reply, end_line};
 use krb_shared::Entry;
 use std::alloc::Global;
+use std::thread::{Threads, join};
 
 fn verdict_name(verdict: Verdict) -> &'static str
     ensures { result.now ≡ verdict_name verdict }
@@ -57,6 +58,49 @@ fn put_replies(
     Ok(())
 }
 
+/// A worker's replies as text.
+fn replies_text(
+    alloc: Global,
+    worker: u32,
+    numbers: &[u64],
+    replies: &[Reply],
+) -> Result<String, OutOfMemory>
+    requires { length numbers.now ≡ length replies.now }
+    ensures { IfOk result (λ text. string_bytes text ≡ worker_text worker numbers.now replies.now) }
+{
+    let mut text = String::new(alloc);
+    put_replies(alloc, &mut text, worker, numbers, replies)?;
+    Ok(text)
+}
+
+/// What both workers replied, each made into text in a thread of its own.
+fn texts_in_threads<R: Threads>(
+    rt: &R,
+    alloc: Global,
+    low: &[u64],
+    high: &[u64],
+    answers: &Answers,
+) -> Result<(String, String), OutOfMemory>
+    requires low { length low.now ≡ length answers.now.first.items }
+    requires high { length high.now ≡ length answers.now.second.items }
+    ensures first { IfOk result (λ texts. string_bytes texts.0 ≡ worker_text 0 low.now answers.now.first.items) }
+    ensures second { IfOk result (λ texts. string_bytes texts.1 ≡ worker_text 1 high.now answers.now.second.items) }
+{
+    let (first, second) = join(
+        rt,
+        || -> Result<String, OutOfMemory>
+            requires { length low.now ≡ length answers.now.first.items }
+            ensures { IfOk result (λ text. string_bytes text ≡ worker_text 0 low.entry.now answers.entry.now.first.items) }
+        { replies_text(alloc, 0, low, &answers.first) },
+        || -> Result<String, OutOfMemory>
+            requires { length high.now ≡ length answers.now.second.items }
+            ensures { IfOk result (λ text. string_bytes text ≡ worker_text 1 high.entry.now answers.entry.now.second.items) }
+        { replies_text(alloc, 1, high, &answers.second) },
+    );
+    let first = first?;
+    Ok((first, second?))
+}
+
 /// One entry of the journal more.
 fn put_entry(alloc: Global, text: &mut String, place: u64, entry: &Entry) -> Result<(), OutOfMemory>
     ensures { OnOk result (string_bytes text.new ≡ string_bytes text.old ++ entry_line place entry.now) }
@@ -94,7 +138,8 @@ fn admissions(replies: &[Reply]) -> u64
 }
 
 /// The whole text.
-pub fn text_of(
+pub fn text_of<R: Threads>(
+    rt: &R,
     alloc: Global,
     low: &[u64],
     high: &[u64],
@@ -106,9 +151,8 @@ pub fn text_of(
         ≡ worker_text 0 low.now answers.now.first.items ++ worker_text 1 high.now answers.now.second.items ++ entries_text 1 answers.now.journal.entries
         ++ end_line (admissions answers.now.first.items + admissions answers.now.second.items) answers.now.journal.kept) }
 {
-    let mut text = String::new(alloc);
-    put_replies(alloc, &mut text, 0, low, &answers.first)?;
-    put_replies(alloc, &mut text, 1, high, &answers.second)?;
+    let (mut text, second) = texts_in_threads(rt, alloc, low, high, answers)?;
+    text.push_str(&second)?;
     put_entries(alloc, &mut text, answers.journal.entries.as_slice())?;
     let admitted = admissions(&answers.first) + admissions(&answers.second);
     text.push_str(end_line(admitted, answers.journal.kept).as_str())?;

@@ -96,7 +96,7 @@ fn with_key(alloc: Global, digits: &str, is_of_aes128: bool) -> Result<Credentia
     }))
 }
 
-fn credentials(alloc: Global, has: &Has) -> Result<CredentialsBuffers, Fail> {
+pub fn credentials(alloc: Global, has: &Has) -> Result<CredentialsBuffers, Fail> {
     match has {
         Has::Password(password) => Ok(with_password(alloc, password)?),
         Has::Key(digits, etype) => with_key(alloc, digits, *etype == 17),
@@ -110,7 +110,7 @@ fn variable(alloc: Global) -> Result<(Text, Text), OutOfMemory> {
     Ok((name, value))
 }
 
-fn env(alloc: Global) -> Result<Env, Fail> {
+pub fn env(alloc: Global) -> Result<Env, Fail> {
     let variable = variable(alloc)?;
     Ok(Env {
         vars: Items::new(vec![in alloc; variable]?),
