@@ -15,7 +15,7 @@ use std::sync::ledger::Blank;
 use std::test::Fail;
 
 /// 2023-11-14T22:13:20Z, in seconds.
-const T0: i64 = 1_700_000_000;
+const BEGIN: i64 = 1_700_000_000;
 
 /// The same in microseconds.
 const M0: u64 = 1_700_000_000_000_000;
@@ -33,14 +33,14 @@ pub(crate) fn first_ask(alloc: Global) -> Result<Ask, Fail> {
     let realm = Name::new(Vec::from_slice(alloc, b"EXAMPLE.COM")?).ok_or("not ASCII")?;
     Ok(Ask {
         entry: Record {
-            ctime: Time::new(T0),
+            ctime: Time::new(BEGIN),
             cusec: Octets::new(Vec::from_slice(alloc, &[0])?),
             realm,
             name: principal(alloc, 1)?,
         },
         sname: principal(alloc, 2)?,
-        start: Time::new(T0),
-        end: Time::new(T0 + 36_000),
+        start: Time::new(BEGIN),
+        end: Time::new(BEGIN + 36_000),
         moment: M0,
     })
 }
