@@ -5,6 +5,7 @@ ghost use Rattle.krb_service.specs.Reply.{admissions};
 ghost use Rattle.krb_service.specs.Text.{end_line};
 ghost use Rattle.krb_threads.specs.Answers.{worker_line, worker_text, verdict_name, entry_line, entries_text};
 
+use crate::described::Described;
 use crate::workers::Answers;
 use krb_der::OutOfMemory;
 use krb_replay::Verdict;
@@ -137,13 +138,43 @@ fn admissions(replies: &[Reply]) -> u64
     count
 }
 
-/// The whole text.
-pub fn text_of<R: Threads>(
+/// The same, while this thread lets go of what the lines described: it has made that, and the others make the texts.
+fn texts_beside<R: Threads + Sync>(
     rt: &R,
     alloc: Global,
     low: &[u64],
     high: &[u64],
     answers: &Answers,
+    described: Described,
+) -> Result<(String, String), OutOfMemory>
+    requires low { length low.now ≡ length answers.now.first.items }
+    requires high { length high.now ≡ length answers.now.second.items }
+    ensures first { IfOk result (λ texts. string_bytes texts.0 ≡ worker_text 0 low.now answers.now.first.items) }
+    ensures second { IfOk result (λ texts. string_bytes texts.1 ≡ worker_text 1 high.now answers.now.second.items) }
+{
+    let (_gone, texts) = join(
+        rt,
+        move || {
+            let _described = described;
+        },
+        || -> Result<(String, String), OutOfMemory>
+            requires low { length low.now ≡ length answers.now.first.items }
+            requires high { length high.now ≡ length answers.now.second.items }
+            ensures first { IfOk result (λ texts. string_bytes texts.0 ≡ worker_text 0 low.entry.now answers.entry.now.first.items) }
+            ensures second { IfOk result (λ texts. string_bytes texts.1 ≡ worker_text 1 high.entry.now answers.entry.now.second.items) }
+        { texts_in_threads(rt, alloc, low, high, answers) },
+    );
+    texts
+}
+
+/// The whole text. It lets go of what the lines described.
+pub fn text_of<R: Threads + Sync>(
+    rt: &R,
+    alloc: Global,
+    low: &[u64],
+    high: &[u64],
+    answers: &Answers,
+    described: Described,
 ) -> Result<String, OutOfMemory>
     requires low { length low.now ≡ length answers.now.first.items }
     requires high { length high.now ≡ length answers.now.second.items }
@@ -151,7 +182,7 @@ pub fn text_of<R: Threads>(
         ≡ worker_text 0 low.now answers.now.first.items ++ worker_text 1 high.now answers.now.second.items ++ entries_text 1 answers.now.journal.entries
         ++ end_line (admissions answers.now.first.items + admissions answers.now.second.items) answers.now.journal.kept) }
 {
-    let (mut text, second) = texts_in_threads(rt, alloc, low, high, answers)?;
+    let (mut text, second) = texts_beside(rt, alloc, low, high, answers, described)?;
     text.push_str(&second)?;
     put_entries(alloc, &mut text, answers.journal.entries.as_slice())?;
     let admitted = admissions(&answers.first) + admissions(&answers.second);

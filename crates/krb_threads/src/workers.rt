@@ -6,7 +6,6 @@ ghost use Rattle.krb_threads.specs.Described.{all_connections};
 
 use crate::described::{Described, ends_in_threads};
 use crate::desk::run_at_desk;
-use crate::going::let_go_of_both;
 use crate::pause::Pause;
 use crate::seats::{Work, run_seats};
 use krb_der::{Items, OutOfMemory};
@@ -102,14 +101,11 @@ fn answers_as<L: Calls + Send + Sync, R: Threads + Wait + Sync, P: Pause + Send,
         two,
     )?;
     match shared.close(Items::new(seats)) {
-        Ok(journal) => {
-            let_go_of_both(rt, one.events, two.events);
-            Ok(Answers {
-                first: one.replies,
-                second: two.replies,
-                journal,
-            })
-        }
+        Ok(journal) => Ok(Answers {
+            first: one.replies,
+            second: two.replies,
+            journal,
+        }),
         Err(_) => run_at_desk(alloc, described, one.events, two.events, first, second),
     }
 }
