@@ -102,6 +102,35 @@ fn texts_in_threads<R: Threads>(
     Ok((first, second?))
 }
 
+/// The same by other threads, while this one lets go of what the lines described, since it was this one that made it.
+fn texts_beside<R: Threads + Sync>(
+    rt: &R,
+    alloc: Global,
+    low: &[u64],
+    high: &[u64],
+    answers: &Answers,
+    described: Described,
+) -> Result<(String, String), OutOfMemory>
+    requires low { length low.now ≡ length answers.now.first.items }
+    requires high { length high.now ≡ length answers.now.second.items }
+    ensures first { IfOk result (λ texts. string_bytes texts.0 ≡ worker_text 0 low.now answers.now.first.items) }
+    ensures second { IfOk result (λ texts. string_bytes texts.1 ≡ worker_text 1 high.now answers.now.second.items) }
+{
+    let (_gone, texts) = join(
+        rt,
+        move || {
+            let _described = described;
+        },
+        || -> Result<(String, String), OutOfMemory>
+            requires low { length low.now ≡ length answers.now.first.items }
+            requires high { length high.now ≡ length answers.now.second.items }
+            ensures first { IfOk result (λ texts. string_bytes texts.0 ≡ worker_text 0 low.entry.now answers.entry.now.first.items) }
+            ensures second { IfOk result (λ texts. string_bytes texts.1 ≡ worker_text 1 high.entry.now answers.entry.now.second.items) }
+        { texts_in_threads(rt, alloc, low, high, answers) },
+    );
+    texts
+}
+
 /// One entry of the journal more.
 fn put_entry(alloc: Global, text: &mut String, place: u64, entry: &Entry) -> Result<(), OutOfMemory>
     ensures { OnOk result (string_bytes text.new ≡ string_bytes text.old ++ entry_line place entry.now) }
@@ -136,35 +165,6 @@ fn admissions(replies: &[Reply]) -> u64
         }
     }
     count
-}
-
-/// The same, while this thread lets go of what the lines described: it has made that, and the others make the texts.
-fn texts_beside<R: Threads + Sync>(
-    rt: &R,
-    alloc: Global,
-    low: &[u64],
-    high: &[u64],
-    answers: &Answers,
-    described: Described,
-) -> Result<(String, String), OutOfMemory>
-    requires low { length low.now ≡ length answers.now.first.items }
-    requires high { length high.now ≡ length answers.now.second.items }
-    ensures first { IfOk result (λ texts. string_bytes texts.0 ≡ worker_text 0 low.now answers.now.first.items) }
-    ensures second { IfOk result (λ texts. string_bytes texts.1 ≡ worker_text 1 high.now answers.now.second.items) }
-{
-    let (_gone, texts) = join(
-        rt,
-        move || {
-            let _described = described;
-        },
-        || -> Result<(String, String), OutOfMemory>
-            requires low { length low.now ≡ length answers.now.first.items }
-            requires high { length high.now ≡ length answers.now.second.items }
-            ensures first { IfOk result (λ texts. string_bytes texts.0 ≡ worker_text 0 low.entry.now answers.entry.now.first.items) }
-            ensures second { IfOk result (λ texts. string_bytes texts.1 ≡ worker_text 1 high.entry.now answers.entry.now.second.items) }
-        { texts_in_threads(rt, alloc, low, high, answers) },
-    );
-    texts
 }
 
 /// The whole text. It lets go of what the lines described.
