@@ -1,9 +1,5 @@
 -- The number that decimal digits stand for.
-use Rattle.std.proofs.Common.{◌≡◌, ℕ, nat_lt, ◌+◌, ◌-◌, ◌*◌, ◌≤◌, length, true, List, [], ◌∷◌, take, drop, fold, refl, sym, ap, ◌∙◌, arith, tests, rules}
-use Rattle.std.specs.List.{list_all}
-use Rattle.std.specs.Char.{is_ascii_graphic}
-use Rattle.std.proofs.lemmas.Bool.{and_parts, and_from}
-use Rattle.krb_der.specs.Schema.{is_ascii}
+use Rattle.std.proofs.Common.{◌≡◌, ℕ, ◌+◌, ◌-◌, ◌*◌, ◌≤◌, List, [], ◌∷◌, take, drop, fold, sym, ap, ◌∙◌, arith}
 use Rattle.std.proofs.lemmas.List.{take-append-drop}
 use Rattle.std.proofs.lemmas.List.Sums.{fold-append}
 use Rattle.krb_text.specs.Decimals.{decimal_value}

@@ -1,6 +1,7 @@
 //! Lines of text in and out.
 //!
-//! A [`Source`] gives an input in pieces, and a [`LineReader`] cuts it into lines. Text goes to a [`Sink`] by [`write_line`].
+//! A [`Source`] gives an input in pieces, and a [`LineReader`] cuts it into lines; [`Pieces`] hold the lines of a large piece at
+//! once. Text goes to a [`Sink`] by [`write_line`].
 //!
 //! ```
 //! let mut cutter = LineCutter::new(alloc);
@@ -14,17 +15,19 @@ mod decimal;
 mod lines;
 mod output;
 mod outside;
+mod pieces;
 mod reader;
 mod status;
 mod words;
 
-pub use cutter::{CutFault, LineCutter};
+pub use cutter::{CutFault, LineCutter, MAX_INPUT, MAX_LINE};
 pub use decimal::decimal_up_to;
-pub use lines::is_skipped;
+pub use lines::{is_skipped, newline};
 pub use output::write_line;
 pub use outside::memory::{Calls, MemSink, MemSource, SureSink, SureSource};
 pub use outside::standard::{StdSink, StdSource};
 pub use outside::{Failed, Sink, Source};
+pub use pieces::Pieces;
 pub use reader::{LineReader, ReadError};
 pub use status::Status;
 pub use words::Words;
