@@ -19,7 +19,7 @@ use crate::text::text_of;
 use crate::workers::answers_of;
 use krb_der::OutOfMemory;
 use krb_service::numbered_line;
-use krb_text::{LineReader, Sink, Source, Status, Words, write_line};
+use krb_text::{Sink, Source, Status, Words, write_line};
 use std::alloc::Global;
 use std::sync::Wait;
 use std::thread::Threads;
@@ -140,9 +140,8 @@ pub fn threads<R: Threads + Wait + Sync, P: Pause + Send, Q: Pause + Send, S: So
     if !words.are("threads") {
         return Status::BadWords;
     }
-    let mut reader = LineReader::new(alloc);
     let mut known = Known::new(alloc);
-    match read_all(alloc, &mut reader, &mut known, source) {
+    match read_all(rt, alloc, &mut known, source) {
         Ending::Whole if known.has_begun() => answer(rt, alloc, known, sink, first, second),
         Ending::Whole => write_numbered(sink, "bad line ", known.lines() + 1, Status::BadLine),
         Ending::Bad => write_numbered(sink, "bad line ", known.lines() + 1, Status::BadLine),

@@ -28,6 +28,7 @@ impl Known {
     ghost use Rattle.krb_script.specs.Items.{item_of};
     ghost use Rattle.krb_script.specs.declared.item.Item.TheVariants.{Event as EventItem};
     ghost use Rattle.krb_threads.specs.Known.{nothing_known};
+    ghost use Rattle.krb_threads.specs.Ahead.{Declares};
 
     pub fn new(alloc: Global) -> Known
         ensures { result ≡ nothing_known }
@@ -89,24 +90,40 @@ impl Known {
         }
     }
 
-    fn take_content(&mut self, alloc: Global, line: &[u8]) -> Result<(), FieldError>
+    /// A line that is not skipped. It is read here where it was not read ahead.
+    fn take_content(
+        &mut self,
+        alloc: Global,
+        line: &[u8],
+        ahead: Option<Item>,
+    ) -> Result<(), FieldError>
+        requires { Declares line.now ahead }
         ensures given { GivesAfter (option_and_then (λ item. declare self.old.so_far item) (item_of line.now)) result self.new.so_far }
         ensures err { OnErr result (self.new ≡ self.old) }
         ensures lines { self.new.lines ≡ self.old.lines }
     {
-        let item = parse_item(alloc, line)?;
+        let item = match ahead {
+            Some(item) => item,
+            None => parse_item(alloc, line)?,
+        };
         self.declare(item)
     }
 
-    /// One line more. At `Err` nothing is taken.
-    pub fn take_line(&mut self, alloc: Global, line: &[u8]) -> Result<(), FieldError>
-        requires { self.old.lines < 2 ^ 32 }
+    /// One line more, with what was read of it ahead, if it was. At `Err` nothing is taken.
+    pub fn take_line(
+        &mut self,
+        alloc: Global,
+        line: &[u8],
+        ahead: Option<Item>,
+    ) -> Result<(), FieldError>
+        requires lines { self.old.lines < 2 ^ 32 }
+        requires ahead { Declares line.now ahead }
         ensures given { GivesAfter (declare_line self.old.so_far line.now) result self.new.so_far }
         ensures err { OnErr result (self.new ≡ self.old) }
         ensures lines { OnOk result (self.new.lines ≡ self.old.lines + 1) }
     {
         if !is_skipped(line) {
-            self.take_content(alloc, line)?;
+            self.take_content(alloc, line, ahead)?;
         }
         self.lines += 1;
         Ok(())

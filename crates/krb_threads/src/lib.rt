@@ -15,6 +15,7 @@
 //! says that both workers run at once, or that a worker gets on.
 #![tactic(auto)]
 
+mod ahead;
 mod both;
 mod command;
 mod described;

@@ -24,7 +24,7 @@ returns-in-Long-clause-text g c =
     c.write_numbered-in-Long.result (long_line (c.lines-in-Long.result + 1)) (ap (λ n. long_line (n + 1)) c.lines-in-Long.ensures) c.in-Long.ensures.ends c.write_numbered-in-Long.ensures.whole
     c.write_numbered-in-Long.ensures.cut
 
-pub returns-clause-text : goal.returns-clause-text
-returns-clause-text g c =
+pub returns-in-OutOfMemory-clause-text : goal.returns-in-OutOfMemory-clause-text
+returns-in-OutOfMemory-clause-text g c =
     closed-memory (g.S.Source.left c.args.source.now) (g.S.Source.left c.read_all.new.source) (g.K.Sink.taken c.args.sink.now) (g.K.Sink.taken c.write_stopped.new.sink) c.read_all.new.known c.write_stopped.result
     (stopped_line 0) refl c.in-OutOfMemory.ensures.ends c.write_stopped.ensures.whole c.write_stopped.ensures.cut
