@@ -55,6 +55,7 @@ impl<L: Calls> Locked<L> {
 /// A replay book that threads share, under a lock, with the journal of its calls.
 #[derive(Drop)]
 pub struct SharedBook<L: Calls> {
+    alloc: Global,
     locked: Mutex<Locked<L>>,
 }
 
@@ -85,7 +86,7 @@ impl<L: Calls> SharedBook<L> {
             calls: book,
             rest,
         });
-        Ok((SharedBook { locked }, Items::new(seats)))
+        Ok((SharedBook { alloc, locked }, Items::new(seats)))
     }
 
     /// Asks the book, and leaves a receipt with the seat.
@@ -143,13 +144,30 @@ impl<L: Calls> SharedBook<L> {
         ensures ok { IfOk result (λ journal. All (Agrees journal.entries) seats) }
         ensures differs { IfErr result (λ differs. FirstDiffers differs.journal.entries seats differs.seat differs.call) }
     {
+        let mut receipts = Vec::new(self.alloc);
+        self.close_into(seats, &mut receipts)
+    }
+
+    /// The same, which hands out the receipts of each seat too, for a caller who lets go of them elsewhere. Where there is no
+    /// memory for that, they are let go of here.
+    pub fn close_into(
+        self,
+        seats: Items<Seat<L>>,
+        receipts: &mut Vec<Vec<Receipt>>,
+    ) -> Result<Journal, Differs>
+        requires { AreAll L.parts seats }
+        ensures journal { MatchResult result (IsJournal L.skew) (λ differs. IsJournal L.skew differs.journal) }
+        ensures calls { MatchResult result (λ journal. length journal.entries ≡ calls_of seats) (λ differs. length differs.journal.entries ≡ calls_of seats) }
+        ensures ok { IfOk result (λ journal. All (Agrees journal.entries) seats) }
+        ensures differs { IfErr result (λ differs. FirstDiffers differs.journal.entries seats differs.seat differs.call) }
+    {
         let Locked {
             desk,
             mut calls,
             rest,
         } = self.locked.into_inner();
         let difference = first_difference(desk.entries(), seats.as_slice());
-        let mut all = gathered(rest, seats.into_inner());
+        let mut all = gathered(rest, seats.into_inner(), receipts);
         calls.audit(&mut all);
         let journal = desk.into_journal();
         match difference {
@@ -185,14 +203,22 @@ fn seats_from<L: Calls>(
     Ok(made)
 }
 
-/// The parts of the seats, with their amounts, beside these.
-fn gathered<L: Calls>(rest: Share<L>, seats: Vec<Seat<L>>) -> Share<L>
+/// The parts of the seats, with their amounts, beside these. Their receipts come behind those that are there, if memory allows.
+fn gathered<L: Calls>(
+    rest: Share<L>,
+    seats: Vec<Seat<L>>,
+    receipts: &mut Vec<Vec<Receipt>>,
+) -> Share<L>
     ensures parts { result.parts ≡ rest.parts + sum_by (λ seat. seat.parts) seats.items }
     ensures amount { result.amount ≡ rest.amount + calls_of seats.items }
 {
     let mut all = rest;
     for seat in seats {
-        all.merge(seat.into_share());
+        let (share, own) = seat.into_parts();
+        all.merge(share);
+        if receipts.reserve(1).is_ok() {
+            receipts.push_reserved(own);
+        }
     }
     all
 }

@@ -1,7 +1,8 @@
-//! The cutter of lines, and the ends of the outside.
+//! The cutter of lines, large pieces, and the ends of the outside.
 
 use krb_text::{
-    Calls, CutFault, Failed, LineCutter, MemSink, MemSource, Sink, Source, StdSink, StdSource,
+    Calls, CutFault, Failed, LineCutter, MemSink, MemSource, Pieces, Sink, Source, StdSink,
+    StdSource, SureSource, newline,
 };
 use std::alloc::{AllocError, Global};
 use std::io::{self, Read, Write};
@@ -23,6 +24,21 @@ fn the_cutter_cuts_at_line_ends_and_limits(rt: HostRuntime) -> Result<(), Fail> 
     assert_eq!(rt; cutter.feed(b"x"), Err(CutFault::Long));
     assert_eq!(rt; cutter.taken(), 1_048_579);
     assert_eq!(rt; cutter.feed(b"\n"), Ok(1));
+    Ok(())
+}
+
+#[test]
+fn pieces_hold_what_was_read_and_not_taken(rt: HostRuntime) -> Result<(), Fail> {
+    let mut source = SureSource::new(b"ab\ncd");
+    let mut pieces = Pieces::new(rt.alloc())?;
+    let count = pieces.read(&mut source).map_err(|_| "a read failed")?;
+    assert_eq!(rt; count, 5);
+    assert_eq!(rt; pieces.held(), b"ab\ncd".as_slice());
+    assert_eq!(rt; newline(pieces.held()), Some(2));
+    assert!(rt; !pieces.is_past());
+    pieces.take(count);
+    assert!(rt; pieces.held().is_empty());
+    assert_eq!(rt; pieces.taken(), 5);
     Ok(())
 }
 

@@ -6,7 +6,7 @@ use krb_der::{IntegerAsn1, Items, Name, Octets, OutOfMemory, Time};
 use krb_messages::PrincipalName;
 use krb_replay::Verdict::{self, Admitted, Replayed};
 use krb_replay::{Ask, Record, ReplayGate};
-use krb_shared::{Calls, Desk, DeskGate, Entry, Journal, SharedBook};
+use krb_shared::{Calls, Desk, DeskGate, Entry, Journal, Receipt, SharedBook};
 use std::alloc::Global;
 use std::marker::Brand;
 use std::process::Abort;
@@ -67,6 +67,7 @@ fn ask_twice<L: Calls, R: Wait>(
     alloc: Global,
     blank: Blank,
     skew: u32,
+    receipts: Option<&mut Vec<Vec<Receipt>>>,
 ) -> Result<(Verdict, Verdict, Journal), Fail>
     requires name { blank.name ≡ L.name }
     requires parts { blank.parts ≡ L.parts }
@@ -78,7 +79,11 @@ fn ask_twice<L: Calls, R: Wait>(
     let mut seats = seats.into_inner();
     let one = shared.admit(rt, &mut seats[0], &first_ask(alloc)?)?;
     let two = shared.admit(rt, &mut seats[1], &first_ask(alloc)?)?;
-    match shared.close(Items::new(seats)) {
+    let closed = match receipts {
+        None => shared.close(Items::new(seats)),
+        Some(receipts) => shared.close_into(Items::new(seats), receipts),
+    };
+    match closed {
         Ok(journal) => Ok((one, two, journal)),
         Err(_) => Err(Fail::from("the receipts and the journal differ")),
     }
@@ -86,9 +91,32 @@ fn ask_twice<L: Calls, R: Wait>(
 
 #[test]
 fn a_shared_book_admits_an_authenticator_once(rt: HostRuntime) -> Result<(), Fail> {
-    let (one, two, journal) = ask_twice::<Brand, _>(&rt, rt.alloc(), Blank::new(2), 300)?;
+    let (one, two, journal) = ask_twice::<Brand, _>(&rt, rt.alloc(), Blank::new(2), 300, None)?;
     assert_eq!(rt; (one, two), (Admitted, Replayed));
     check(&rt, &journal, &[(0, 1, Admitted), (1, 1, Replayed)]);
+    Ok(())
+}
+
+/// The receipts of both seats are handed out with the journal, each with its place there.
+#[test]
+fn a_closed_book_hands_out_receipts(rt: HostRuntime) -> Result<(), Fail> {
+    let mut receipts = Vec::new(rt.alloc());
+    let blank = Blank::new(2);
+    let (_one, _two, journal) = ask_twice::<Brand, _>(
+        &rt,
+        rt.alloc(),
+        blank,
+        300,
+        Some(&mut receipts),
+    )?;
+    check(&rt, &journal, &[(0, 1, Admitted), (1, 1, Replayed)]);
+    let mut places = 0u64;
+    for seat in &receipts {
+        for receipt in seat {
+            places = places.saturating_mul(10).saturating_add(receipt.place);
+        }
+    }
+    assert_eq!(rt; places, 12);
     Ok(())
 }
 

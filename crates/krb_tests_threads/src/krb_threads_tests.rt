@@ -127,6 +127,42 @@ fn a_worker_has_the_connections_of_its_parity(rt: HostRuntime) -> Result<(), Fai
     Ok(())
 }
 
+/// A start at each of so many connections, none of which a line declares, and what the two workers answer.
+fn starts(alloc: Global, count: u32) -> Result<(String, String), AllocError> {
+    let mut input = String::from_str(alloc, "skew 300\n")?;
+    let mut low = String::new(alloc);
+    let mut high = String::new(alloc);
+    for id in 0..count {
+        let event = format!(in alloc; "event {id} 1700000000000000 {RANDOM} - start\n")?;
+        input.push_str(&event)?;
+        let worker = id % 2;
+        let number = u64::from(id) + 1;
+        let line = format!(in alloc; "w {worker} {number} refused InvalidHandle Connection\n")?;
+        if worker == 0 {
+            low.push_str(&line)?;
+        } else {
+            high.push_str(&line)?;
+        }
+    }
+    low.push_str(&high)?;
+    low.push_str("end 0 0\n")?;
+    Ok((input, low))
+}
+
+/// The input is so long that two threads read its lines: each takes those of one worker, and all are answered in their order.
+#[test]
+fn a_long_input_is_read_in_order(rt: HostRuntime) -> Result<(), Fail> {
+    let (mut input, text) = starts(rt.alloc(), 2_000)?;
+    check_sound(
+        &rt,
+        input.as_str().as_bytes(),
+        (0, text.as_str().as_bytes()),
+    )?;
+    input.push_str("event 7 x\nabc\n")?;
+    check_sound(&rt, input.as_str().as_bytes(), (3, b"bad line 2002\n"))?;
+    Ok(())
+}
+
 /// A line 2 of so many octets behind the skew.
 fn check_line_of<R: AllocGlobal + Abort + Threads + Wait + Sync>(
     rt: &R,

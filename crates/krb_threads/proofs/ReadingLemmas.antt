@@ -1,5 +1,5 @@
 -- Where the reading of an input stands between two pieces, and where it ends.
-use Rattle.std.proofs.Common.{◌≡◌, ℕ, ◌+◌, ◌-◌, ◌<◌, ◌≤◌, ◌⊎◌, inl, inr, ⊎_elim, min, true, false, List, [], ◌∷◌, ◌++◌, length, length-append, length-drop, take, drop, Option, Some, None, IfSome, refl, ap, sym, ◌∙◌, subst, append_assoc, arith}
+use Rattle.std.proofs.Common.{◌≡◌, ℕ, ◌+◌, ◌-◌, ◌<◌, ◌≤◌, ◌⊎◌, inl, inr, ⊎_elim, true, false, List, [], ◌∷◌, ◌++◌, length, length-append, length-drop, take, drop, Option, Some, None, IfSome, refl, ap, sym, ◌∙◌, subst, append_assoc, arith}
 use Rattle.std.specs.Prelude.{nat_lt, ◌||◌, option_to_list, IsSome, IsTrue}
 use Rattle.std.specs.Io.KnownBytes.{Consumes, IsAtEnd, prepend_known}
 use Rattle.std.proofs.lemmas.List.{append-nil, take_all, take_at, length-take-le, drop-drop, take-append-drop, nil_from_length}
@@ -23,7 +23,7 @@ use Rattle.krb_threads.specs.Known.{Known, nothing_known, Ends}
 use Rattle.krb_threads.specs.Taking.{Takes, TakesWhole, stopped, StopsAt, StopsIn, StopsWith, EndsWith}
 use Rattle.krb_threads.specs.declared.ending.Ending.{Ending}
 use Rattle.krb_threads.specs.declared.ending.Ending.TheVariants.{Whole, Bad, Long, Fault, OutOfMemory}
-use Rattle.std.proofs.lemmas.Bool.{le-ltb, lt-ltb, cases_lt}
+use Rattle.std.proofs.lemmas.Bool.{lt-ltb, cases_lt}
 
 -- nothing is taken yet
 pub takes-none : (at : ℕ) (known : Known) → Takes at known [] known
@@ -335,8 +335,11 @@ pub exit-at : (left b : Option (List ℕ)) (pieces : Pieces) (known new : Known)
     → IfSome left (λ input. (taken : List ℕ) × (Consumes (Some input) b taken × (length taken ≤ max_input + 1)) × (reading_of input ≡ stopped new stop))
 exit-at left b pieces known new stop s within stops =
     let count = s.count in let len = length-append s.handled pieces.held in
-    map_some _ _ left (λ input k. (s.handled ++ pieces.held, (k.2, omega (arith, len)),
-    reading-ahead left b pieces known s input (pieces.held ++ k.0) k.1 ∙ stops k.0)) (known_ahead left b pieces.held s.handled s.consumed)
+    map_some _ _ left (λ input k. (
+      s.handled ++ pieces.held,
+      (k.2, omega (arith, len)),
+      reading-ahead left b pieces known s input (pieces.held ++ k.0) k.1 ∙ stops k.0,
+    )) (known_ahead left b pieces.held s.handled s.consumed)
 
 pub exit-memory : (left b : Option (List ℕ)) (pieces : Pieces) (known new : Known) → Standing left b pieces known → IsWithin pieces → Ends left b new OutOfMemory
 exit-memory left b pieces known new s within =
@@ -371,10 +374,14 @@ exit-with left b pieces known new stop s begun at_end stops =
     let taken = s.handled ++ pieces.held in
     let count = s.count in let len = length-append s.handled pieces.held in let low = begun.0.1 in let fits = begun.1 in
     map_some _ _ left (λ input k.
-    let whole : input ≡ taken = k.1 ∙ ap (λ m. s.handled ++ (pieces.held ++ m)) (k.3 at_end) ∙ ap (λ l. s.handled ++ l) (append-nil pieces.held) in
-    (taken, (k.2, omega (arith, len)), reading-ahead left b pieces known s input pieces.held whole
-    ∙ ap (λ l. read_lines (pieces.taken + length pieces.held) pieces.taken (known.lines + 1) known.so_far l) (lines_rest pieces.held begun.0.0)
-    ∙ stops (pieces.taken + length pieces.held) pieces.taken (short (pieces.taken + length pieces.held) pieces.taken pieces.held low (omega arith)), sym whole))
+    let whole : input ≡ taken = k.1 ∙ ap (λ m. s.handled ++ (pieces.held ++ m)) (k.3 at_end) ∙ ap (λ l. s.handled ++ l) (append-nil pieces.held) in (
+      taken,
+      (k.2, omega (arith, len)),
+      reading-ahead left b pieces known s input pieces.held whole
+          ∙ ap (λ l. read_lines (pieces.taken + length pieces.held) pieces.taken (known.lines + 1) known.so_far l) (lines_rest pieces.held begun.0.0)
+          ∙ stops (pieces.taken + length pieces.held) pieces.taken (short (pieces.taken + length pieces.held) pieces.taken pieces.held low (omega arith)),
+      sym whole,
+    ))
     (known_ahead left b pieces.held s.handled s.consumed)
 
 pub exit-rest : (left b : Option (List ℕ)) (pieces : Pieces) (known new : Known) (ending : Ending) → Standing left b pieces known → IsBegun pieces → IsAtEnd b → EndsWith known pieces.held new ending → Ends left b new ending

@@ -1,5 +1,5 @@
 -- A run over a gate that keeps a log is a run by the entries that the log gains.
-use Rattle.std.proofs.Common.{◌≡◌, ℕ, Bool, true, false, ◌+◌, ◌-◌, ◌≤◌, List, [], ◌∷◌, ◌++◌, length, length-append, map, take, Option, Some, None, Result, Ok, Err, IsSomeAnd, OnOk, IfErr, ◌<◌, refl, ap, sym, ◌∙◌, subst, append_assoc, arith}
+use Rattle.std.proofs.Common.{◌≡◌, ℕ, Bool, true, false, ◌+◌, ◌≤◌, List, [], ◌∷◌, ◌++◌, length, length-append, map, take, Option, Some, None, Result, Ok, Err, IsSomeAnd, OnOk, IfErr, ◌<◌, refl, ap, sym, ◌∙◌, subst, append_assoc, arith}
 use Rattle.std.proofs.lemmas.List.{append-nil, map-append}
 use Rattle.krb_replay.specs.declared.ask.Ask.{Ask}
 use Rattle.krb_replay.specs.declared.ask.Verdict.{Verdict}
@@ -16,7 +16,7 @@ use Rattle.sspi_generator.specs.declared.network.NetFault.{NetFault}
 use Rattle.krb_server.specs.declared.request.Request.{Request}
 use Rattle.krb_shared.specs.declared.entry.Entry.{Entry}
 use Rattle.krb_shared.specs.declared.entry.Receipt.{Receipt}
-use Rattle.krb_shared.specs.Desk.{Desk, Gate, AdmitsNext, next_call}
+use Rattle.krb_shared.specs.Desk.{Gate, AdmitsNext, next_call}
 use Rattle.krb_shared.specs.Seats.{Seat, AddsReceipt}
 use Rattle.krb_script.specs.declared.item.Event.{Event}
 use Rattle.sspi_core.specs.declared.cause.Cause.{Cause}

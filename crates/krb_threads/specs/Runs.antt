@@ -1,5 +1,5 @@
 -- How the run of a part ends.
-use Rattle.std.specs.Prelude.{◌≡◌, ◌<◌, List, length, take, Result, Ok, Err}
+use Rattle.std.specs.Prelude.{◌<◌, List, length, take, Result, Ok, Err}
 use Rattle.krb_replay.specs.declared.ask.Ask.{Ask}
 use Rattle.krb_replay.specs.declared.ask.Verdict.{Verdict}
 use Rattle.krb_script.specs.declared.item.Event.{Event}

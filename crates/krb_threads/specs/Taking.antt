@@ -1,7 +1,7 @@
 -- What lines declare that stand behind others, and where a reading stops among them.
 use Rattle.std.specs.Prelude.{◌≡◌, ◌≤◌, ◌+◌, ℕ, false, List, ◌++◌, length, take, drop}
 use Rattle.krb_text.specs.Limits.{is_long}
-use Rattle.krb_text.specs.Lines.{Cut, cut, lines, unended}
+use Rattle.krb_text.specs.Lines.{cut, lines, unended}
 use Rattle.krb_text.specs.Pieces.{Pieces}
 use Rattle.krb_script.specs.Script.{Reading, read_lines}
 use Rattle.krb_script.specs.declared.stop.Stop.{Stop}

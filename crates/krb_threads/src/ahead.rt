@@ -1,6 +1,6 @@
 //! What is read of lines ahead of the time when they are taken, by two threads.
 
-ghost use Rattle.std.specs.Prelude.{◌≡◌, ◌<◌, length, IfSome};
+ghost use Rattle.std.specs.Prelude.{◌≡◌, ◌<◌, length, IfOk, IfSome};
 ghost use Rattle.krb_text.specs.Cutter.{first_end};
 ghost use Rattle.krb_text.specs.Lines.{cut};
 ghost use Rattle.krb_threads.specs.Ahead.{Declares, AreOf};
@@ -8,11 +8,43 @@ ghost use Rattle.krb_threads.specs.Ahead.{Declares, AreOf};
 use krb_script::{Item, parse_item};
 use krb_text::{is_skipped, newline};
 use memchr::memchr;
-use std::alloc::Global;
+use std::alloc::{AllocError, Global};
+use std::marker::Model;
 use std::thread::{Threads, join};
 
 /// Fewer octets than these are read sooner by one thread than a second one is made.
 const WORTH_SHARING: usize = 1 << 18;
+
+/// What a line declares, on the heap, since a place for each line is kept and most declarations are long. Contracts see the item.
+#[derive(Drop)]
+pub struct HeldItem {
+    item: Box<Item>,
+}
+
+impl Model for HeldItem {
+    ghost use Rattle.krb_script.specs.declared.item.Item.{Item};
+
+    ghost Value = { Item };
+
+    ghost view = { λ held. held.item.value };
+}
+
+impl HeldItem {
+    /// Puts an item on the heap.
+    fn new(alloc: Global, item: Item) -> Result<HeldItem, AllocError>
+        ensures { IfOk result (λ held. held ≡ item) }
+    {
+        Ok(HeldItem {
+            item: Box::new(alloc, item)?,
+        })
+    }
+
+    pub fn into_item(self) -> Item
+        ensures { result ≡ self }
+    {
+        Box::into_inner(self.item)
+    }
+}
 
 /// Where the first line ends.
 #[tactic(auto, using(crate::proofs::ReadingLemmas::end_within))]
@@ -36,20 +68,20 @@ fn is_odd(line: &[u8]) -> bool {
 }
 
 /// What a line declares, where it names a connection of this worker.
-fn item_for(alloc: Global, odd: bool, line: &[u8]) -> Option<Item>
+fn item_for(alloc: Global, odd: bool, line: &[u8]) -> Option<HeldItem>
     ensures { Declares line.now result }
 {
     if is_skipped(line) || is_odd(line) != odd {
         return None;
     }
     match parse_item(alloc, line) {
-        Ok(item) => Some(item),
+        Ok(item) => HeldItem::new(alloc, item).ok(),
         Err(_) => None,
     }
 }
 
 /// What the whole lines at the head of these octets declare of this worker's connections, each at its line's place.
-fn items_for(alloc: Global, odd: bool, octets: &[u8]) -> Vec<Option<Item>>
+fn items_for(alloc: Global, odd: bool, octets: &[u8]) -> Vec<Option<HeldItem>>
     ensures { AreOf result.items (cut octets.now).whole }
 {
     let mut items = Vec::new(alloc);
@@ -69,7 +101,7 @@ pub fn items_ahead<R: Threads>(
     rt: &R,
     alloc: Global,
     octets: &[u8],
-) -> (Vec<Option<Item>>, Vec<Option<Item>>)
+) -> (Vec<Option<HeldItem>>, Vec<Option<HeldItem>>)
     ensures first { AreOf result.0.items (cut octets.now).whole }
     ensures second { AreOf result.1.items (cut octets.now).whole }
 {
@@ -78,10 +110,10 @@ pub fn items_ahead<R: Threads>(
     }
     join(
         rt,
-        || -> Vec<Option<Item>>
+        || -> Vec<Option<HeldItem>>
             ensures { AreOf result.items (cut octets.entry.now).whole }
         { items_for(alloc, false, octets) },
-        || -> Vec<Option<Item>>
+        || -> Vec<Option<HeldItem>>
             ensures { AreOf result.items (cut octets.entry.now).whole }
         { items_for(alloc, true, octets) },
     )

@@ -10,7 +10,7 @@ ghost use Rattle.krb_threads.specs.Threads.{Answers, Runs};
 
 use crate::described::Described;
 use crate::ending::Ending;
-use crate::going::{Going, let_go_of_both};
+use crate::going::let_go;
 use crate::known::Known;
 use crate::parting::{numbers, parted};
 use crate::pause::Pause;
@@ -45,10 +45,8 @@ fn answer_text<R: Threads + Wait + Sync, P: Pause + Send, Q: Pause + Send>(
     };
     let (one, two) = parted(alloc, events)?;
     let answers = answers_of(rt, alloc, &described, one, two, first, second)?;
-    let going = Going::start(rt, described);
     let text = text_of(rt, alloc, &low, &high, &answers);
-    let_go_of_both(rt, (answers.first, answers.second), answers.journal);
-    going.wait(rt);
+    let_go(rt, described, answers);
     text
 }
 

@@ -92,5 +92,6 @@ pub fn run_at_desk<P: Pause, Q: Pause>(
         first,
         second,
         journal: desk.into_journal(),
+        left: None,
     })
 }

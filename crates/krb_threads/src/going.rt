@@ -1,5 +1,7 @@
 //! What is let go of beside other work.
 
+use crate::described::Described;
+use crate::workers::{Answers, Left};
 use std::thread::{JoinHandle, Threads, spawn};
 
 /// A thread that lets go of a value, or none where none could be made.
@@ -30,11 +32,29 @@ impl Going {
     }
 }
 
-/// Lets go of two values, the second in a thread of its own.
-pub fn let_go_of_both<R: Threads, A: Drop, B: Drop + Send + 'static>(rt: &R, one: A, two: B) {
-    let going = Going::start(rt, two);
+/// Lets go of all that was needed for the answers. Each of two threads gives back what it took itself, since the C library's
+/// allocator has one lock for all that a thread has taken; what both took is given back last.
+pub fn let_go<R: Threads>(rt: &R, described: Described, answers: Answers) {
+    let Answers {
+        first,
+        second,
+        journal,
+        left,
+    } = answers;
+    if let Some(
+        Left {
+            low,
+            high,
+            mut receipts,
+        },
+    ) = left
     {
-        let _gone = one;
+        let high_receipts = receipts.pop();
+        let going = Going::start(rt, (first, low, receipts));
+        {
+            let _gone = (second, high, high_receipts);
+        }
+        going.wait(rt);
     }
-    going.wait(rt);
+    let _gone = (described, journal);
 }

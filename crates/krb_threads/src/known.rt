@@ -1,5 +1,6 @@
 //! What the lines of an input declare.
 
+use crate::ahead::HeldItem;
 use krb_script::{Declaration, Event, FieldError, Item, Script, parse_item};
 use krb_text::is_skipped;
 use std::alloc::Global;
@@ -95,7 +96,7 @@ impl Known {
         &mut self,
         alloc: Global,
         line: &[u8],
-        ahead: Option<Item>,
+        ahead: Option<HeldItem>,
     ) -> Result<(), FieldError>
         requires { Declares line.now ahead }
         ensures given { GivesAfter (option_and_then (λ item. declare self.old.so_far item) (item_of line.now)) result self.new.so_far }
@@ -103,7 +104,7 @@ impl Known {
         ensures lines { self.new.lines ≡ self.old.lines }
     {
         let item = match ahead {
-            Some(item) => item,
+            Some(held) => held.into_item(),
             None => parse_item(alloc, line)?,
         };
         self.declare(item)
@@ -114,7 +115,7 @@ impl Known {
         &mut self,
         alloc: Global,
         line: &[u8],
-        ahead: Option<Item>,
+        ahead: Option<HeldItem>,
     ) -> Result<(), FieldError>
         requires lines { self.old.lines < 2 ^ 32 }
         requires ahead { Declares line.now ahead }

@@ -9,16 +9,20 @@ ghost use Rattle.krb_threads.specs.Ahead.{Declares};
 ghost use Rattle.krb_threads.specs.Known.{nothing_known, Ends};
 ghost use Rattle.krb_threads.specs.Taking.{Takes, TakesWhole, StopsIn, EndsWith};
 
-use crate::ahead::{items_ahead, line_end};
+use crate::ahead::{HeldItem, items_ahead, line_end};
 use crate::ending::Ending;
 use crate::known::Known;
-use krb_script::{FieldError, Item};
+use krb_script::FieldError;
 use krb_text::{MAX_INPUT, MAX_LINE, Pieces, Source, newline};
 use std::alloc::Global;
 use std::thread::Threads;
 
 /// What either has of a line.
-fn either(_line: &[u8], one: Option<Option<Item>>, other: Option<Option<Item>>) -> Option<Item>
+fn either(
+    _line: &[u8],
+    one: Option<Option<HeldItem>>,
+    other: Option<Option<HeldItem>>,
+) -> Option<HeldItem>
     requires one { IfSome one (λ ahead. Declares _line.now ahead) }
     requires other { IfSome other (λ ahead. Declares _line.now ahead) }
     ensures { Declares _line.now result }

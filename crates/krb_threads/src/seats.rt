@@ -5,14 +5,14 @@ ghost use Rattle.krb_threads.specs.Worked.{WorksAt};
 
 use crate::both::run_two;
 use crate::described::{Ends, service_of};
-use crate::going::let_go_of_both;
 use crate::part::Part;
 use crate::pause::Pause;
 use crate::paused_gate::PausedGate;
 use krb_der::OutOfMemory;
-use krb_service::{Event, Reply, Service, Stopped};
+use krb_service::{Event, HeldConnection, Reply, Service, Stopped};
 use krb_shared::{Calls, Seat, SeatGate, SharedBook};
 use std::alloc::Global;
+use std::collections::BTreeMap;
 use std::sync::Wait;
 use std::thread::Threads;
 
@@ -23,11 +23,12 @@ pub struct Work {
     pub events: Vec<Event>,
 }
 
-/// The replies of one worker, and its events.
+/// The replies of one worker, its events, and its connections as they are then.
 #[derive(Drop)]
 pub struct Done {
     pub replies: Vec<Reply>,
     pub events: Vec<Event>,
+    pub connections: BTreeMap<u32, HeldConnection>,
 }
 
 /// Runs both parts, each behind its pause and at its seat.
@@ -133,15 +134,16 @@ pub fn run_seats<
     } = two;
     low_gate.into_seat();
     high_gate.into_seat();
-    let_go_of_both(low_rt, low_connections, high_connections);
     Ok((
         Done {
             replies: low_replies,
             events: low_events,
+            connections: low_connections,
         },
         Done {
             replies: high_replies,
             events: high_events,
+            connections: high_connections,
         },
     ))
 }

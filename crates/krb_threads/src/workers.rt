@@ -6,24 +6,40 @@ ghost use Rattle.krb_threads.specs.Described.{all_connections};
 
 use crate::described::{Described, ends_in_threads};
 use crate::desk::run_at_desk;
-use crate::going::let_go_of_both;
 use crate::pause::Pause;
 use crate::seats::{Work, run_seats};
 use krb_der::{Items, OutOfMemory};
-use krb_service::{Event, Reply};
-use krb_shared::{Calls, Journal, SharedBook};
+use krb_service::{Event, HeldConnection, Reply};
+use krb_shared::{Calls, Journal, Receipt, SharedBook};
 use std::alloc::Global;
+use std::collections::BTreeMap;
 use std::marker::Brand;
 use std::sync::Wait;
 use std::sync::ledger::Blank;
 use std::thread::Threads;
 
-/// The replies of both workers, and the journal of the book on which they stood.
+/// What one worker had, and needs no longer.
+#[derive(Drop)]
+pub struct Had {
+    pub events: Vec<Event>,
+    pub connections: BTreeMap<u32, HeldConnection>,
+}
+
+/// What both had, and the receipts of their seats.
+#[derive(Drop)]
+pub struct Left {
+    pub low: Had,
+    pub high: Had,
+    pub receipts: Vec<Vec<Receipt>>,
+}
+
+/// The replies of both workers, the journal of the book on which they stood, and what is left of their run.
 #[derive(Drop)]
 pub struct Answers {
     pub first: Vec<Reply>,
     pub second: Vec<Reply>,
     pub journal: Journal,
+    pub left: Option<Left>,
 }
 
 /// Runs both workers.
@@ -75,6 +91,7 @@ fn answers_as<L: Calls + Send + Sync, R: Threads + Wait + Sync, P: Pause + Send,
         AreAnswers described.now.skew described.now.env (all_connections described.now)
         low.items high.items answers.first.items answers.second.items answers.journal) }
 {
+    let mut receipts = Vec::new(alloc);
     let (book, all) = blank.open::<L>();
     let (shared, seats) = SharedBook::with_seats(alloc, book, all, skew, 2)?;
     let mut seats = seats.into_inner();
@@ -101,15 +118,23 @@ fn answers_as<L: Calls + Send + Sync, R: Threads + Wait + Sync, P: Pause + Send,
         one,
         two,
     )?;
-    match shared.close(Items::new(seats)) {
-        Ok(journal) => {
-            let_go_of_both(rt, one.events, two.events);
-            Ok(Answers {
-                first: one.replies,
-                second: two.replies,
-                journal,
-            })
-        }
+    match shared.close_into(Items::new(seats), &mut receipts) {
+        Ok(journal) => Ok(Answers {
+            first: one.replies,
+            second: two.replies,
+            journal,
+            left: Some(Left {
+                low: Had {
+                    events: one.events,
+                    connections: one.connections,
+                },
+                high: Had {
+                    events: two.events,
+                    connections: two.connections,
+                },
+                receipts,
+            }),
+        }),
         Err(_) => run_at_desk(alloc, described, one.events, two.events, first, second),
     }
 }

@@ -11,7 +11,7 @@ lines-preserved c =
     let next = c.in-Some.end + 1 in
     let fewer : length (take (length rest - next) (drop next rest)) ≤ length rest = omega (arith, length-take (length rest - next) (drop next rest)) in (
       are-more c.args.octets.now rest c.lines.items.items c.push_reserved.new.self.items c.item_for.result c.in-Some.end (sym c.line_end.ensures.end ∙ c.in-Some.is) c.item_for.ensures
-      (c.push_reserved.ensures.items ∙ ap (λ l. l ++ c.item_for.result ∷ []) c.reserve.ensures.items) c.lines.invariant.0,
+          (c.push_reserved.ensures.items ∙ ap (λ l. l ++ c.item_for.result ∷ []) c.reserve.ensures.items) c.lines.invariant.0,
       omega (arith, fewer, c.lines.invariant.1),
     )
 

@@ -1,4 +1,4 @@
-use Rattle.std.proofs.Common.{◌∙◌, refl, sym, subst}
+use Rattle.std.proofs.Common.{◌∙◌, sym, subst}
 use Rattle.krb_text.specs.Pieces.{IsBegun}
 use Rattle.krb_threads.specs.Taking.{EndsWith}
 use Rattle.krb_threads.proofs.ReadingLemmas.{standing-read, standing-whole, exit-stops, exit-fault, exit-rest, begun-same}

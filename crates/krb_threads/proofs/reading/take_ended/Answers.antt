@@ -1,4 +1,4 @@
-use Rattle.std.proofs.Common.{◌≡◌, List, ℕ, true, take, drop, ap, sym, ◌∙◌, subst}
+use Rattle.std.proofs.Common.{◌≡◌, true, drop, ap, sym, ◌∙◌, subst}
 use Rattle.krb_text.specs.Cutter.{first_end, is_unbroken}
 use Rattle.krb_text.specs.Pieces.{Pieces}
 use Rattle.krb_text.proofs.CutLemmas.{no_end}

@@ -1,10 +1,10 @@
-use Rattle.std.proofs.Common.{◌≡◌, ◌≤◌, ◌<◌, ◌+◌, ◌⊎◌, List, ℕ, Option, IfSome, length, length-drop, take, drop, refl, ap, sym, ◌∙◌, subst, arith}
+use Rattle.std.proofs.Common.{◌+◌, List, ℕ, IfSome, length, length-drop, take, refl, ap, sym, ◌∙◌, subst, arith}
 use Rattle.std.specs.Vec.Iter.{into_iter_items}
 use Rattle.krb_text.specs.Cutter.{first_end}
 use Rattle.krb_text.specs.Limits.{max_line, max_input}
 use Rattle.krb_script.specs.Script.{declare_line}
 use Rattle.krb_threads.specs.Ahead.{Declares}
-use Rattle.krb_threads.proofs.ReadingLemmas.{Next, next-is, are-next, takes-next, next-bad, next-long, not-past}
+use Rattle.krb_threads.proofs.ReadingLemmas.{next-is, are-next, takes-next, next-bad, next-long, not-past}
 use Rattle.krb_threads.proofs.reading.take_lines.Goals as goal
 
 pub is_long-requires : goal.is_long-requires
@@ -57,7 +57,7 @@ lines-preserved g c =
     let low = next.low in
     let fits = not-past max_line end max_input (c.args.at + done + end + 1) c.if-is_long.ensures.1 in (
       takes-next c.args.at c.args.known.now c.lines.known c.take_line.new.self octets done end c.lines.invariant.0 c.lines.invariant.3 next fits.0 fits.1
-      (ap (λ l. declare_line c.lines.known.so_far (take end l)) (sym c.behind-rest.ensures) ∙ c.in-Ok.ensures.given) c.in-Ok.ensures.lines,
+          (ap (λ l. declare_line c.lines.known.so_far (take end l)) (sym c.behind-rest.ensures) ∙ c.in-Ok.ensures.given) c.in-Ok.ensures.lines,
       (are-next octets done end (into_iter_items c.lines.even) (into_iter_items c.next.new.self) c.next.result next c.next.ensures.items (λ some. c.next.ensures.variant.1 (omega (arith, some, c.lines.even.rest.ok.0))) c.lines.invariant.1).1,
       (are-next octets done end (into_iter_items c.lines.odd) (into_iter_items c.next-in-lines.new.self) c.next-in-lines.result next c.next-in-lines.ensures.items (λ some. c.next-in-lines.ensures.variant.1 (omega (arith, some, c.lines.odd.rest.ok.0))) c.lines.invariant.2).1,
       omega arith,

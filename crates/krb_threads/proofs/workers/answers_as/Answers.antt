@@ -1,4 +1,4 @@
-use Rattle.std.proofs.Common.{◌≡◌, ℕ, get_or, ap, sym, ◌∙◌, subst, arith, rules}
+use Rattle.std.proofs.Common.{◌≡◌, ℕ, List, get_or, ap, sym, ◌∙◌, subst, arith, rules}
 use Rattle.std.proofs.lemmas.List.{places}
 use Rattle.krb_shared.specs.Journal.{IsJournal}
 use Rattle.krb_shared.specs.Seats.{Seat, Agrees}
@@ -9,14 +9,17 @@ use Rattle.krb_threads.proofs.workers.answers_as.Goals as goal
 pub returns-in-Ok : goal.returns-in-Ok
 returns-in-Ok g c =
     let e = c.index-high_seat-0.result in
-    let high_ended : get_or c.new.result 1 e ≡ c.run_seats.new.high = search (rules, places) in
     let d = c.index-low_seat-0.result in
     let seats = c.in_ok-shared.seats in
     let count = c.in_ok-shared.ensures.count in
+    let inner = c.into_inner-seats.ensures in
+    let split = c.split_at_mut-low_seat.ensures in
+    let high_ended : get_or c.new.result 1 e ≡ c.run_seats.new.high = ap (λ (l : List Seat). get_or l 1 e) c.new.ensures ∙ search (rules, places, count, inner, split) in
     let low_is : get_or c.split_at_mut-low_seat.result.0.now 0 d ≡ get_or seats 0 d = search (rules, places) in
     let high_is : get_or c.split_at_mut-low_seat.result.1.now 0 e ≡ get_or seats 1 e = search (rules, places) in
-    let low_ended : get_or c.new.result 0 d ≡ c.run_seats.new.low = search (rules, places) in
-    let low_ended_too : get_or c.new.result 1 d ≡ c.run_seats.new.high = search (rules, places) in
+    let front = split.front_len in let back = split.back_len in
+    let low_ended : get_or c.new.result 0 d ≡ c.run_seats.new.low = search (rules, places, c.new.ensures, count, inner, front, back) in
+    let low_ended_too : get_or c.new.result 1 d ≡ c.run_seats.new.high = search (rules, places, c.new.ensures, count, inner, front, back) in
     let journal = c.in-Ok.journal.entries in
     let low_agrees = subst (Agrees journal) low_ended (c.in-Ok.ensures.ok 0 d (search (rules, places))) in
     let high_agrees = subst (Agrees journal) high_ended (c.in-Ok.ensures.ok 1 e (search (rules, places))) in
