@@ -11,7 +11,7 @@ use crate::server::ServerProperties;
 use crate::state::KerberosState;
 use crate::window::NumberWindow;
 use krb_conf::{Env, KerberosConfig};
-use krb_der::{Octets, OutOfMemory, Text, TryCopy};
+use krb_der::{Copier, Octets, OutOfMemory, Text, TryCopy};
 use sspi_core::{CredentialsBuffers, Secret};
 use std::alloc::Global;
 use url::Url;
@@ -173,18 +173,21 @@ impl Kerberos {
 
 impl TryCopy for Kerberos {
     fn copy(&self, alloc: Global) -> Result<Kerberos, OutOfMemory> {
-        Ok(Kerberos {
+        let config = self.config.copy(alloc)?;
+        let mut copier = Copier::new(alloc);
+        let copy = Kerberos {
             state: self.state,
-            config: self.config.copy(alloc)?,
-            auth_identity: self.auth_identity.copy(alloc)?,
-            encryption_params: self.encryption_params.copy(alloc)?,
+            config,
+            auth_identity: copier.copy(&self.auth_identity),
+            encryption_params: copier.copy(&self.encryption_params),
             seq_number: self.seq_number,
-            realm: self.realm.copy(alloc)?,
+            realm: copier.copy(&self.realm),
             krb5_user_to_user: self.krb5_user_to_user,
-            server: self.server.copy(alloc)?,
+            server: copier.copy(&self.server),
             window: self.window,
             kept_to_seal: KeptKey::new(),
             kept_to_open: KeptKey::new(),
-        })
+        };
+        copier.finish(copy)
     }
 }

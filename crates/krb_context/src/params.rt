@@ -5,7 +5,7 @@ ghost use Rattle.krb_context.specs.Params.{default_params, suite_of, size_of, ke
 
 use crate::constants::DEFAULT_ENCRYPTION_TYPE;
 use krb_crypto::{AesSize, CipherSuite};
-use krb_der::{Octets, OutOfMemory, TryCopy};
+use krb_der::{Blank, Copier, Octets, OutOfMemory, TryCopy};
 use krb_messages::constants::{ACCEPTOR_SEAL_USAGE, INITIATOR_SEAL_USAGE};
 use sspi_core::Secret;
 use std::alloc::Global;
@@ -93,13 +93,21 @@ impl EncryptionParams {
 
 impl TryCopy for EncryptionParams {
     fn copy(&self, alloc: Global) -> Result<EncryptionParams, OutOfMemory> {
-        Ok(EncryptionParams {
+        let mut copier = Copier::new(alloc);
+        let copy = EncryptionParams {
             encryption_type: self.encryption_type,
-            session_key: self.session_key.copy(alloc)?,
-            sub_session_key: self.sub_session_key.copy(alloc)?,
+            session_key: copier.copy(&self.session_key),
+            sub_session_key: copier.copy(&self.sub_session_key),
             sspi_encrypt_key_usage: self.sspi_encrypt_key_usage,
             sspi_decrypt_key_usage: self.sspi_decrypt_key_usage,
             ec: self.ec,
-        })
+        };
+        copier.finish(copy)
+    }
+}
+
+impl Blank for EncryptionParams {
+    fn blank(_alloc: Global) -> EncryptionParams {
+        EncryptionParams::default_for_client()
     }
 }

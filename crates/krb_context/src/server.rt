@@ -6,7 +6,7 @@ ghost use Rattle.sspi_core.specs.Kinds.{error_of};
 ghost use Rattle.sspi_core.specs.declared.cause.Cause.TheVariants as causes;
 ghost use Rattle.krb_context.specs.ServiceKeys.{all_ascii, service_named, new_properties, same_components, additional_key, service_key, IsNotAscii};
 
-use krb_der::{IntegerAsn1, Items, Name, Octets, OutOfMemory, TryCopy, is_ascii};
+use krb_der::{Copier, IntegerAsn1, Items, Name, Octets, OutOfMemory, TryCopy, is_ascii};
 use krb_messages::PrincipalName;
 use krb_messages::constants::NT_SRV_INST;
 use sspi_core::{Cause, CredentialsBuffers, Error, Secret, Username};
@@ -172,13 +172,15 @@ impl ServerProperties {
 
 impl TryCopy for ServerProperties {
     fn copy(&self, alloc: Global) -> Result<ServerProperties, OutOfMemory> {
-        Ok(ServerProperties {
-            service_name: self.service_name.copy(alloc)?,
-            user: self.user.copy(alloc)?,
-            client: self.client.copy(alloc)?,
+        let mut copier = Copier::new(alloc);
+        let copy = ServerProperties {
+            service_name: copier.copy(&self.service_name),
+            user: copier.copy(&self.user),
+            client: copier.copy(&self.client),
             max_time_skew: self.max_time_skew,
-            ticket_decryption_key: self.ticket_decryption_key.copy(alloc)?,
-            additional_service_keys: self.additional_service_keys.copy(alloc)?,
-        })
+            ticket_decryption_key: copier.copy(&self.ticket_decryption_key),
+            additional_service_keys: copier.copy(&self.additional_service_keys),
+        };
+        copier.finish(copy)
     }
 }
