@@ -4,7 +4,7 @@ mod changed;
 mod fields;
 mod samples;
 
-use krb_der::{Asn1, Fault, Octets, Shape, TryCopy};
+use krb_der::{Asn1, Fault, Octets, TryCopy};
 use krb_messages::constants::{AP_REP_TOKEN_ID, AP_REQ_TOKEN_ID, KRB5_OID, TGT_REQ_TOKEN_ID};
 use krb_messages::{
     ApRep, ApReq, Authenticator, AuthorizationData, Checksum, EncApRepPart, EncTicketPart,
@@ -12,6 +12,7 @@ use krb_messages::{
     read_framed, serialize_message, write_framed,
 };
 use std::alloc::Global;
+use std::process::Abort;
 use std::test::Fail;
 
 /// The octets of a record that was read, copied and written again.
@@ -46,8 +47,7 @@ fn framed_again(alloc: Global, token: &[u8], token_id: [u8; 2]) -> Result<Octets
     Ok(write_framed(alloc, oid, token_id, message)?)
 }
 
-#[test]
-fn parts_have_one_spelling(rt: HostRuntime) -> Result<(), Fail> {
+fn parts_have_one_spelling_of(rt: &(impl AllocGlobal + Abort)) -> Result<(), Fail> {
     let alloc = rt.alloc();
     assert!(rt; is_one_spelling::<PrincipalName>(alloc, samples::PRINCIPAL_NAME)?);
     assert!(rt; is_one_spelling::<EncryptedData>(alloc, samples::ENCRYPTED_DATA)?);
@@ -61,7 +61,11 @@ fn parts_have_one_spelling(rt: HostRuntime) -> Result<(), Fail> {
 }
 
 #[test]
-fn messages_have_one_spelling(rt: HostRuntime) -> Result<(), Fail> {
+fn parts_have_one_spelling(rt: HostRuntime) -> Result<(), Fail> {
+    parts_have_one_spelling_of(&rt)
+}
+
+fn messages_have_one_spelling_of(rt: &(impl AllocGlobal + Abort)) -> Result<(), Fail> {
     let alloc = rt.alloc();
     assert!(rt; is_one_spelling::<Ticket>(alloc, samples::TICKET)?);
     assert!(rt; is_one_spelling::<EncTicketPart>(alloc, samples::ENC_TICKET_PART)?);
@@ -75,6 +79,11 @@ fn messages_have_one_spelling(rt: HostRuntime) -> Result<(), Fail> {
     assert!(rt; is_one_spelling::<Ticket>(alloc, samples::krb5_ticket())?);
     assert!(rt; is_one_spelling::<EncryptedData>(alloc, samples::krb5_authenticator())?);
     Ok(())
+}
+
+#[test]
+fn messages_have_one_spelling(rt: HostRuntime) -> Result<(), Fail> {
+    messages_have_one_spelling_of(&rt)
 }
 
 #[test]
@@ -122,6 +131,27 @@ fn fields_out_of_the_table_are_refused(rt: HostRuntime) {
     }
 }
 
+/// Whether the message of a frame is read and written back as it is.
+fn is_whole(alloc: Global, token_id: [u8; 2], message: &[u8]) -> Result<bool, Fail> {
+    if token_id == AP_REQ_TOKEN_ID {
+        is_one_spelling::<ApReq>(alloc, message)
+    } else {
+        is_one_spelling::<ApRep>(alloc, message)
+    }
+}
+
+/// Whether a token is refused with an octet more, under another token id and at each proper prefix.
+fn is_one_frame(alloc: Global, token: &[u8], token_id: [u8; 2]) -> Result<bool, Fail> {
+    let mut longer = Vec::from_slice(alloc, token)?;
+    longer.push(0)?;
+    let mut is_one = read_framed(&longer, token_id).is_err();
+    is_one = is_one && read_framed(token, [0x04, 0x00]).is_err();
+    for end in 0..token.len() {
+        is_one = is_one && read_framed(&token[..end], token_id).is_err();
+    }
+    Ok(is_one)
+}
+
 #[test]
 fn frames_of_real_clients(rt: HostRuntime) -> Result<(), Fail> {
     let alloc = rt.alloc();
@@ -130,28 +160,11 @@ fn frames_of_real_clients(rt: HostRuntime) -> Result<(), Fail> {
         (samples::MS_KRB5_TOKEN, AP_REQ_TOKEN_ID, Oid::MsKrb5),
         (samples::AP_REP_TOKEN, AP_REP_TOKEN_ID, Oid::Krb5),
     ] {
-        assert_eq!(rt; framed_again(alloc, token, token_id)?.as_slice(), token);
+        assert!(rt; framed_again(alloc, token, token_id)?.as_slice() == token);
         let (found, message) = read_framed(token, token_id)?;
         assert!(rt; found == oid);
-        let is_whole = if token_id == AP_REQ_TOKEN_ID {
-            is_one_spelling::<ApReq>(alloc, message)?
-        } else {
-            is_one_spelling::<ApRep>(alloc, message)?
-        };
-        assert!(rt; is_whole);
-        let mut longer = Vec::from_slice(alloc, token)?;
-        longer.push(0)?;
-        assert!(rt; read_framed(&longer, token_id).is_err(), "an octet more");
-        assert!(rt;
-            read_framed(token, [0x04, 0x00]).is_err(),
-            "another token id"
-        );
-        for end in 0..token.len() {
-            assert!(rt;
-                read_framed(&token[..end], token_id).is_err(),
-                "cut at {end}"
-            );
-        }
+        assert!(rt; is_whole(alloc, token_id, message)?);
+        assert!(rt; is_one_frame(alloc, token, token_id)?);
     }
     Ok(())
 }
@@ -194,18 +207,29 @@ fn frames_name_their_mechanisms(rt: HostRuntime) -> Result<(), Fail> {
     Ok(())
 }
 
+/// Whether the ticket is for this service of EXAMPLE.COM, sealed in this type.
+fn is_for(ticket: &Ticket, host: &str, server: &str, etype: u8) -> bool {
+    match ticket.sname.name_string.as_slice() {
+        [first, second] => {
+            ticket.realm.as_str() == "EXAMPLE.COM"
+                && first.as_str() == host
+                && second.as_str() == server
+                && ticket.enc_part.etype.as_slice() == [etype].as_slice()
+        }
+        _ => false,
+    }
+}
+
 #[test]
 fn a_real_ticket_names_its_service(rt: HostRuntime) -> Result<(), Fail> {
-    let alloc = rt.alloc();
-    let ticket = Ticket::read(alloc, samples::krb5_ticket())?;
-    assert_eq!(rt; ticket.realm.as_str(), "EXAMPLE.COM");
-    let [host, server] = ticket.sname.name_string.as_slice() else {
-        return Err(Fail::from(Shape));
-    };
-    assert_eq!(rt; host.as_str(), "host");
-    assert_eq!(rt; server.as_str(), "server.example.com");
-    assert_eq!(rt; ticket.enc_part.etype.as_slice(), [18].as_slice());
-    let framed = serialize_message(alloc, &KRB5_OID)?;
+    let ticket = Ticket::read(rt.alloc(), samples::krb5_ticket())?;
+    assert!(rt; is_for(&ticket, "host", "server.example.com", 18));
+    Ok(())
+}
+
+#[test]
+fn a_message_is_framed_by_its_length(rt: HostRuntime) -> Result<(), Fail> {
+    let framed = serialize_message(rt.alloc(), &KRB5_OID)?;
     assert_eq!(rt;
         framed.as_slice(),
         [0, 0, 0, 9, 0x2a, 0x86, 0x48, 0x86, 0xf7, 0x12, 1, 2, 2].as_slice()

@@ -35,21 +35,40 @@ fn principal(alloc: Global, name_type: u8) -> Result<PrincipalName, OutOfMemory>
     })
 }
 
-/// The ask of a ticket that lives from `start` to `end`, all in seconds but the moment.
-fn ask(alloc: Global, ctime: i64, start: i64, end: i64, moment: u64) -> Result<Ask, Fail> {
-    let realm = Name::new(Vec::from_slice(alloc, b"EXAMPLE.COM")?).ok_or("not ASCII")?;
+/// The record of a client of this realm, by one octet of cusec.
+fn record(alloc: Global, realm: &[u8], cusec: u8, ctime: i64) -> Result<Record, Fail> {
+    let realm = Name::new(Vec::from_slice(alloc, realm)?).ok_or("not ASCII")?;
+    let cusec = Octets::new(Vec::from_slice(alloc, &[cusec])?);
+    Ok(Record {
+        ctime: time(ctime),
+        cusec,
+        realm,
+        name: principal(alloc, 1)?,
+    })
+}
+
+/// The ask of a ticket that lives from `start` to `end`, all in seconds but the moment, for a service of this type of name.
+fn ask_for(
+    alloc: Global,
+    name_type: u8,
+    entry: Record,
+    lifetime: (i64, i64),
+    moment: u64,
+) -> Result<Ask, Fail> {
+    let sname = principal(alloc, name_type)?;
     Ok(Ask {
-        entry: Record {
-            ctime: time(ctime),
-            cusec: Octets::new(Vec::from_slice(alloc, &[0])?),
-            realm,
-            name: principal(alloc, 1)?,
-        },
-        sname: principal(alloc, 2)?,
-        start: time(start),
-        end: time(end),
+        entry,
+        sname,
+        start: time(lifetime.0),
+        end: time(lifetime.1),
         moment,
     })
+}
+
+/// The ask of a client of EXAMPLE.COM.
+fn ask(alloc: Global, ctime: i64, start: i64, end: i64, moment: u64) -> Result<Ask, Fail> {
+    let entry = record(alloc, b"EXAMPLE.COM", 0, ctime)?;
+    ask_for(alloc, 2, entry, (start, end), moment)
 }
 
 /// The verdict of any gate.
@@ -57,22 +76,26 @@ fn verdict_of<G: ReplayGate>(gate: &mut G, ask: Ask) -> Result<Verdict, Fail> {
     Ok(gate.admit(ask)?)
 }
 
-/// The verdict of a new book.
-fn first_of_a_book(alloc: Global, skew: u32, ask: Ask) -> Result<Verdict, Fail> {
-    let mut book = ReplayBook::new(alloc, skew)?;
-    verdict_of(&mut book, ask)
+/// The verdict of any gate on a copy.
+fn verdict_on<G: ReplayGate>(alloc: Global, gate: &mut G, ask: &Ask) -> Result<Verdict, Fail> {
+    verdict_of(gate, ask.copy(alloc)?)
 }
 
-/// The verdict of a new cache.
-fn first_of_a_cache(alloc: Global, skew: u32, ask: Ask) -> Result<Verdict, Fail> {
-    let mut cache = CacheGate::new(alloc, skew);
-    verdict_of(&mut cache, ask)
+/// The verdicts of a book and of a cache.
+fn both_verdicts(
+    alloc: Global,
+    book: &mut ReplayBook,
+    cache: &mut CacheGate,
+    ask: &Ask,
+) -> Result<[Verdict; 2], Fail> {
+    let by_the_book = verdict_on(alloc, book, ask)?;
+    Ok([by_the_book, verdict_on(alloc, cache, ask)?])
 }
 
 /// The verdicts of a new book and a new cache.
-fn first_verdicts(alloc: Global, skew: u32, ask: Ask) -> Result<[Verdict; 2], Fail> {
-    let by_the_book = first_of_a_book(alloc, skew, ask.copy(alloc)?)?;
-    Ok([by_the_book, first_of_a_cache(alloc, skew, ask)?])
+fn first_verdicts(alloc: Global, skew: u32, ask: &Ask) -> Result<[Verdict; 2], Fail> {
+    let mut book = ReplayBook::new(alloc, skew)?;
+    both_verdicts(alloc, &mut book, &mut CacheGate::new(alloc, skew), ask)
 }
 
 /// A skew, an authenticator's time, a ticket's start and end, all in seconds, a moment in microseconds, and the verdict.
@@ -106,40 +129,63 @@ fn judged() -> &'static [Judged] {
     &JUDGED
 }
 
+/// What a new book and a new cache say of one row.
+fn verdicts_of_row(alloc: Global, row: &Judged) -> Result<[Verdict; 2], Fail> {
+    let &(skew, ctime, start, end, moment, _) = row;
+    let ask = ask(alloc, ctime, start, end, moment)?;
+    first_verdicts(alloc, skew, &ask)
+}
+
 #[test]
 fn every_gate_judges_by_the_clock(rt: HostRuntime) -> Result<(), Fail> {
-    for &(skew, ctime, start, end, moment, verdict) in judged() {
-        let ask = ask(rt.alloc(), ctime, start, end, moment)?;
-        let verdicts = first_verdicts(rt.alloc(), skew, ask)?;
-        assert_eq!(rt; verdicts, [verdict; 2], "{ctime} {start} {end} {moment}");
+    for row in judged() {
+        let (skew, ctime, start, end, moment, verdict) = row;
+        assert_eq!(rt;
+            verdicts_of_row(rt.alloc(), row)?,
+            [*verdict; 2],
+            "{skew} {ctime} {start} {end} {moment}"
+        );
     }
     Ok(())
 }
 
-/// An ask by the type of the service's name in the clear part of the ticket.
-fn ask_for(alloc: Global, name_type: u8) -> Result<Ask, Fail> {
-    let mut ask = ask(alloc, T0, T0, T0 + 36_000, M0)?;
-    ask.sname = principal(alloc, name_type)?;
-    Ok(ask)
+/// The verdicts of both by the type of the service's name in the clear part of the ticket.
+fn named_verdicts(
+    alloc: Global,
+    book: &mut ReplayBook,
+    cache: &mut CacheGate,
+    name_type: u8,
+) -> Result<[Verdict; 2], Fail> {
+    let entry = record(alloc, b"EXAMPLE.COM", 0, T0)?;
+    let ask = ask_for(alloc, name_type, entry, (T0, T0 + 36_000), M0)?;
+    both_verdicts(alloc, book, cache, &ask)
 }
 
-#[test]
-fn a_changed_service_name_deceives_the_cache_alone(rt: HostRuntime) -> Result<(), Fail> {
-    let alloc = rt.alloc();
-    let mut book = ReplayBook::new(alloc, 300)?;
-    let mut cache = CacheGate::new(alloc, 300);
-    for (name_type, by_the_book, by_the_cache) in [
-        (2, Admitted, Admitted),
-        (2, Replayed, Replayed),
-        (1, Replayed, Admitted),
+/// Puts each ask to both.
+fn deceive(
+    rt: &(impl AllocGlobal + Abort),
+    book: &mut ReplayBook,
+    cache: &mut CacheGate,
+) -> Result<(), Fail> {
+    for (name_type, verdicts) in [
+        (2, [Admitted, Admitted]),
+        (2, [Replayed, Replayed]),
+        (1, [Replayed, Admitted]),
     ] {
-        let ask = ask_for(alloc, name_type)?;
-        assert_eq!(rt; book.admit(ask.copy(alloc)?)?, by_the_book);
-        assert_eq!(rt; cache.admit(ask)?, by_the_cache);
+        assert_eq!(rt;
+            named_verdicts(rt.alloc(), book, cache, name_type)?,
+            verdicts
+        );
     }
     assert_eq!(rt; (book.kept(), cache.cache.len()), (1, 2));
     assert_eq!(rt; (book.moment(), cache.last_moment()), (M0, M0));
     Ok(())
+}
+
+#[test]
+fn a_changed_service_name_deceives_the_cache_alone(rt: HostRuntime) -> Result<(), Fail> {
+    let mut book = ReplayBook::new(rt.alloc(), 300)?;
+    deceive(&rt, &mut book, &mut CacheGate::new(rt.alloc(), 300))
 }
 
 /// Seconds after T0, which are the authenticator's time and the moment, the verdict, and how many records are then in the
@@ -188,16 +234,22 @@ fn the_greatest_moment_decides(rt: HostRuntime) -> Result<(), Fail> {
     follow(&rt, &[later, early, early])
 }
 
+/// Whether the records go first by their times and then by their octets of cusec.
+fn are_ordered(first: &Record, other: &Record, later: &Record) -> bool {
+    first < later && first != other && first < other && other < later
+}
+
 #[test]
 fn records_go_by_their_parts(rt: HostRuntime) -> Result<(), Fail> {
     let alloc = rt.alloc();
-    let first = ask(alloc, T0, T0, T0, 0)?.entry;
-    let mut later = first.copy(alloc)?;
-    assert!(rt; first == later);
-    later.ctime = time(T0 + 1);
-    let mut other = first.copy(alloc)?;
-    other.cusec = Octets::new(Vec::from_slice(alloc, &[1])?);
-    assert!(rt; first < later && first != other && first < other && other < later);
+    let mut records = Vec::new(alloc);
+    for (cusec, ctime) in [(0, T0), (1, T0), (0, T0 + 1), (0, T0)] {
+        records.push(record(alloc, b"EXAMPLE.COM", cusec, ctime)?)?;
+    }
+    let [first, other, later, again] = records.as_slice() else {
+        return Err(Fail::from("four records"));
+    };
+    assert!(rt; first == again && are_ordered(first, other, later));
     Ok(())
 }
 

@@ -1,10 +1,9 @@
 //! Two hundred asks over few records, by clocks that jump back, with the answers of a reference that shares no code with the
 //! books: a moment and a list of records that only grows. It stands here as plain code too.
 
-use super::{principal, time, verdict_of};
-use krb_der::{Name, Octets};
+use super::{ask_for, record, verdict_of};
 use krb_replay::Verdict::{self, Admitted, Expired, NotYet, Replayed, Skew};
-use krb_replay::{Ask, Record, ReplayBook};
+use krb_replay::{Ask, ReplayBook};
 use std::alloc::{AllocError, Global};
 use std::test::Fail;
 
@@ -223,20 +222,8 @@ fn asks() -> &'static [(Row, Verdict, u64)] {
 }
 
 fn ask(alloc: Global, (client, cusec, ctime, start, end, moment): Row) -> Result<Ask, Fail> {
-    let realm = Name::new(Vec::from_slice(alloc, &[client])?).ok_or("not ASCII")?;
-    let entry = Record {
-        ctime: time(ctime),
-        cusec: Octets::new(Vec::from_slice(alloc, &[cusec])?),
-        realm,
-        name: principal(alloc, 1)?,
-    };
-    Ok(Ask {
-        entry,
-        sname: principal(alloc, 2)?,
-        start: time(start),
-        end: time(end),
-        moment,
-    })
+    let entry = record(alloc, &[client], cusec, ctime)?;
+    ask_for(alloc, 2, entry, (start, end), moment)
 }
 
 /// The verdict of this book and how many records are in its window then.
