@@ -1,6 +1,6 @@
 //! An AP-REQ, up to the question to the replay gate.
 
-ghost use Rattle.std.specs.Prelude.{◌≡◌, MatchResult};
+ghost use Rattle.std.specs.Prelude.{◌≡◌, IfOk, MatchResult};
 ghost use Rattle.std.specs.Result.{result_map_both};
 ghost use Rattle.sspi_core.specs.declared.cause.Cause.TheVariants as causes;
 ghost use Rattle.sspi_core.specs.Checks.{Answers, Holds, Takes};
@@ -11,7 +11,7 @@ use crate::open::open_data;
 use crate::token::receive;
 use krb_context::{KeptKey, ServerProperties};
 use krb_crypto::CipherSuite;
-use krb_der::Octets;
+use krb_der::{Octets, OutOfMemory};
 use krb_messages::constants::{AP_REQ_AUTHENTICATOR_USAGE, TICKET_USAGE};
 use krb_messages::{ApReq, Authenticator, EncTicketPart, PrincipalName, Ticket};
 use krb_replay::{Ask, Record};
@@ -85,6 +85,13 @@ fn open_authenticator(
     Ok(sealed)
 }
 
+/// A value in a box: an early return behind it drops one value in the place of each of its parts.
+fn boxed<T: Drop>(alloc: Global, value: T) -> Result<Box<T>, OutOfMemory>
+    ensures { IfOk result (λ b. b.value ≡ value) }
+{
+    Ok(Box::new(alloc, value)?)
+}
+
 /// The AP-REQ in a token, with what is sealed in it.
 pub(crate) fn read_request(
     alloc: Global,
@@ -95,12 +102,12 @@ pub(crate) fn read_request(
 ) -> Result<Request, Cause>
     ensures { Answers (Requests server.now dce token.now) result }
 {
-    let message = receive(alloc, dce, token)?;
-    let part = open_ticket(alloc, server, kept, &message)?;
+    let message = boxed(alloc, receive(alloc, dce, token)?)?;
+    let part = boxed(alloc, open_ticket(alloc, server, kept, &message)?)?;
     let (suite, authenticator) = open_authenticator(alloc, &message, &part)?;
     Ok(Request {
-        message,
-        part,
+        message: Box::into_inner(message),
+        part: Box::into_inner(part),
         suite,
         authenticator,
     })

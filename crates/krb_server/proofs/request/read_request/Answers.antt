@@ -3,13 +3,13 @@ use Rattle.krb_server.specs.Requests.{Requests}
 use Rattle.sspi_core.proofs.Chain.{chain}
 use Rattle.krb_server.proofs.request.read_request.Goals as goal
 
-pub returns-in_err-message : goal.returns-in_err-message
+pub returns-in_err-receive : goal.returns-in_err-receive
 unfolding Requests
-returns-in_err-message c = search (rules, chain)
+returns-in_err-receive c = search (rules, chain)
 
-pub returns-in_err-part : goal.returns-in_err-part
+pub returns-in_err-open_ticket : goal.returns-in_err-open_ticket
 unfolding Requests
-returns-in_err-part c = search (rules, chain)
+returns-in_err-open_ticket c = search (rules, chain)
 
 pub returns-in_err-suite : goal.returns-in_err-suite
 unfolding Requests
