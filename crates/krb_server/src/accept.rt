@@ -13,7 +13,7 @@ ghost use Rattle.krb_server.specs.Accepts.{awaits_last_word, asks_dce_style, ref
 
 use crate::admission::{Accepted, Acceptor, Admission, admission_of, settle};
 use crate::complete::complete;
-use crate::request::{Request, ask_of, read_request};
+use crate::request::{Request, ask_of, boxed, read_request};
 use crate::third_leg::{conclude, properties};
 use bitflags::Flags;
 use krb_conf::Env;
@@ -101,8 +101,10 @@ fn admit<G: ReplayGate>(
     ensures memory { result ≡ Err causes.Memory → (server.new ≡ server.old) × G.is_same gate.old gate.new }
 {
     let request = begin(alloc, server, dce, token)?;
-    let outcome = finish(alloc, server, dce, draw, &request)?;
-    let verdict = gate.admit(ask_of(request, draw.moment))?;
+    let mut held = boxed(alloc, request)?;
+    let outcome = finish(alloc, server, dce, draw, &held)?;
+    let ask = ask_of(alloc, &mut held, draw.moment);
+    let verdict = gate.admit(ask)?;
     pass(refusal(verdict))?;
     let admission = outcome?;
     Ok(settle(server, admission))

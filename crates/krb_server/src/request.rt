@@ -11,12 +11,13 @@ use crate::open::open_data;
 use crate::token::receive;
 use krb_context::{KeptKey, ServerProperties};
 use krb_crypto::CipherSuite;
-use krb_der::{Octets, OutOfMemory};
+use krb_der::{Blank, Octets, OutOfMemory};
 use krb_messages::constants::{AP_REQ_AUTHENTICATOR_USAGE, TICKET_USAGE};
-use krb_messages::{ApReq, Authenticator, EncTicketPart, PrincipalName, Ticket};
+use krb_messages::{ApReq, Authenticator, EncTicketPart, PrincipalName};
 use krb_replay::{Ask, Record};
 use sspi_core::{Cause, hold};
 use std::alloc::Global;
+use std::mem;
 
 /// An AP-REQ with what is sealed in it.
 #[derive(Drop)]
@@ -86,7 +87,7 @@ fn open_authenticator(
 }
 
 /// A value in a box: an early return behind it drops one value in the place of each of its parts.
-fn boxed<T: Drop>(alloc: Global, value: T) -> Result<Box<T>, OutOfMemory>
+pub(crate) fn boxed<T: Drop>(alloc: Global, value: T) -> Result<Box<T>, OutOfMemory>
     ensures { IfOk result (λ b. b.value ≡ value) }
 {
     Ok(Box::new(alloc, value)?)
@@ -113,28 +114,28 @@ pub(crate) fn read_request(
     })
 }
 
-/// The question to the gate. Nothing is copied.
-pub(crate) fn ask_of(request: Request, moment: u64) -> Ask
-    ensures { result ≡ ask_of request moment }
+/// The question to the gate. Nothing is copied: the request is left with blanks.
+pub(crate) fn ask_of(alloc: Global, request: &mut Request, moment: u64) -> Ask
+    ensures { result ≡ ask_of request.old moment }
 {
-    let Request {
-        message,
-        part,
-        authenticator,
-        ..
-    } = request;
-    let ApReq { ticket, .. } = message;
-    let Ticket { sname, .. } = ticket;
+    let start = request.part.starttime.unwrap_or(request.part.authtime);
+    let end = request.part.endtime;
+    let authenticator = &mut request.authenticator;
+    let ctime = authenticator.ctime;
+    let cusec = mem::replace(&mut authenticator.cusec, Blank::blank(alloc));
+    let realm = mem::replace(&mut authenticator.crealm, Blank::blank(alloc));
+    let name = mem::replace(&mut authenticator.cname, Blank::blank(alloc));
+    let sname = mem::replace(&mut request.message.ticket.sname, Blank::blank(alloc));
     Ask {
         entry: Record {
-            ctime: authenticator.ctime,
-            cusec: Octets::new(authenticator.cusec.into_inner()),
-            realm: authenticator.crealm,
-            name: authenticator.cname,
+            ctime,
+            cusec: Octets::new(cusec.into_inner()),
+            realm,
+            name,
         },
         sname,
-        start: part.starttime.unwrap_or(part.authtime),
-        end: part.endtime,
+        start,
+        end,
         moment,
     }
 }
