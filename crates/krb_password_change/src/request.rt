@@ -178,6 +178,13 @@ fn written(alloc: Global, message: &KrbPrivMessage) -> Result<Octets, OutOfMemor
     message.write(alloc)
 }
 
+/// A value in a box: an early return behind it drops one value in the place of each of its parts.
+pub(crate) fn boxed<T: Drop>(alloc: Global, value: T) -> Result<Box<T>, OutOfMemory>
+    ensures { IfOk result (λ b. b.value ≡ value) }
+{
+    Ok(Box::new(alloc, value)?)
+}
+
 /// The request to the service that changes passwords.
 #[tactic(auto, unfolding(crate::specs::Requested::change_request))]
 pub(crate) fn change_request(
@@ -195,7 +202,10 @@ pub(crate) fn change_request(
     requires moment { draw.now.moment ≤ last_moment }
     ensures { IfOk result (λ request. request ≡ change_request changer.now suite key.now rep.now service.now draw.now) }
 {
-    let message = change_message(alloc, changer, suite, key, rep, draw)?;
+    let message = boxed(
+        alloc,
+        change_message(alloc, changer, suite, key, rep, draw)?,
+    )?;
     let octets = written(alloc, &message)?;
     request_to(alloc, service, octets)
 }

@@ -19,7 +19,7 @@ ghost use Rattle.krb_password_change.specs.ChangeRuns.{GoesDown};
 use crate::change::Changer;
 use crate::phase::{AnswerLeg, ChangePhase};
 use crate::port::password_kdc;
-use crate::request::{change_request, drawn_key};
+use crate::request::{boxed, change_request, drawn_key};
 use bitflags::Flags;
 use krb_client::{Asker, Turn, ask_again, begin};
 use krb_context::ContextChange;
@@ -132,19 +132,20 @@ fn check_key(key: &ReplyKey) -> Result<(), Cause>
 /// What the answer to the new password will be judged by.
 fn answer_leg(
     alloc: Global,
-    rep: KdcRep,
+    rep: &KdcRep,
     key: &ReplyKey,
     service: &Kdc,
     draw: &Draw,
 ) -> Result<AnswerLeg, OutOfMemory>
-    ensures { IfOk result (λ leg. leg ≡ answer_leg rep key.now service.now draw.now) }
+    ensures { IfOk result (λ leg. leg ≡ answer_leg rep.now key.now service.now draw.now) }
 {
+    let realm = rep.crealm.copy(alloc)?;
     let subkey = drawn_key(alloc, key.suite, draw)?;
     Ok(AnswerLeg {
         protocol: service.protocol,
         suite: key.suite,
         subkey,
-        realm: rep.crealm,
+        realm,
     })
 }
 
@@ -152,20 +153,20 @@ fn answer_leg(
 fn sent_change(
     alloc: Global,
     changer: &Changer,
-    rep: KdcRep,
+    rep: &KdcRep,
     key: &ReplyKey,
     service: &Kdc,
     draw: &Draw,
 ) -> Result<Turn<ChangePhase, ContextChange>, Cause>
     requires changer { IsReady changer.now }
-    requires rep { IsSendable rep }
+    requires rep { IsSendable rep.now }
     requires realm { length service.now.realm ≤ 2 ^ 24 }
     requires moment { draw.now.moment ≤ last_moment }
-    ensures step { Answers (Gives (turns.Asks (change_request changer.now key.now.suite key.now.key rep service.now draw.now)
-        (phases.AwaitsAnswer (answer_leg rep key.now service.now draw.now)))) result }
+    ensures step { Answers (Gives (turns.Asks (change_request changer.now key.now.suite key.now.key rep.now service.now draw.now)
+        (phases.AwaitsAnswer (answer_leg rep.now key.now service.now draw.now)))) result }
     ensures down { IfOk result (λ turn. GoesDown 1 turn) }
 {
-    let request = change_request(alloc, changer, key.suite, &key.key, &rep, service, draw)?;
+    let request = change_request(alloc, changer, key.suite, &key.key, rep, service, draw)?;
     let leg = answer_leg(alloc, rep, key, service, draw)?;
     Ok(Turn::Asks(request, ChangePhase::AwaitsAnswer(leg)))
 }
@@ -176,15 +177,15 @@ fn ask_change(
     alloc: Global,
     changer: &Changer,
     kdc: &Kdc,
-    rep: KdcRep,
+    rep: &KdcRep,
     key: &ReplyKey,
     draw: &Draw,
 ) -> Result<Turn<ChangePhase, ContextChange>, Cause>
     requires changer { IsReady changer.now }
-    requires rep { IsSendable rep }
+    requires rep { IsSendable rep.now }
     requires realm { length kdc.now.realm ≤ 2 ^ 24 }
     requires moment { draw.now.moment ≤ last_moment }
-    ensures step { Answers (AsksChange changer.now kdc.now rep key.now draw.now) result }
+    ensures step { Answers (AsksChange changer.now kdc.now rep.now key.now draw.now) result }
     ensures down { IfOk result (λ turn. GoesDown 1 turn) }
 {
     check_key(key)?;
@@ -208,8 +209,9 @@ pub(crate) fn take_as_rep(
     ensures step { Answers (TakesAsRep changer.now kdc.now salt.now reply draw.now) result }
     ensures down { IfOk result (λ turn. GoesDown 1 turn) }
 {
-    let as_rep = granted_as_rep(alloc, kdc.protocol, reply)?;
-    let key = reply_key(alloc, &changer.asker, salt, &as_rep)?;
-    let AsRep(rep) = as_rep;
-    ask_change(alloc, changer, kdc, rep, &key, draw)
+    let granted = granted_as_rep(alloc, kdc.protocol, reply)?;
+    let held = boxed(alloc, granted)?;
+    let as_rep: &AsRep = &held;
+    let key = reply_key(alloc, &changer.asker, salt, as_rep)?;
+    ask_change(alloc, changer, kdc, &as_rep.0, &key, draw)
 }
