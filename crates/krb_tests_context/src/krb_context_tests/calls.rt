@@ -1,6 +1,7 @@
 //! Calls that change a context, that no context has, and that tell of the package.
 
 use super::cause_of;
+use super::ends::boxed;
 use super::queries::{new_client, password_identity};
 use bitflags::Flags;
 use krb_conf::{Env, KerberosConfig};
@@ -125,11 +126,11 @@ fn tells_kdc(alloc: Global, client: &Kerberos, env: &Env, kdc_url: &str) -> Resu
 }
 
 /// A client of EXAMPLE.COM.
-fn client_with_kdc(alloc: Global, kdc_url: &str) -> Result<Kerberos, Fail> {
+fn client_with_kdc(alloc: Global, kdc_url: &str) -> Result<Box<Kerberos>, Fail> {
     let name = Text::new(String::from_str(alloc, "hostname")?);
     let realm = Text::new(String::from_str(alloc, "EXAMPLE.COM")?);
     let config = KerberosConfig::new(alloc, kdc_url, name)?;
-    let mut client = Kerberos::new_client_from_config(config, [0; 4]);
+    let mut client = boxed(alloc, Kerberos::new_client_from_config(config, [0; 4]))?;
     client.realm = Some(realm);
     Ok(client)
 }

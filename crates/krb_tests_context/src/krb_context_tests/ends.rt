@@ -58,32 +58,42 @@ pub fn properties(alloc: Global) -> Result<ServerProperties, Fail> {
     Ok(ServerProperties::new(alloc, &["host", "server.example.com"], None, 300, None)?)
 }
 
-fn new_acceptor(alloc: Global, random: [u8; 4]) -> Result<Kerberos, Fail> {
-    let properties = properties(alloc)?;
-    Ok(Kerberos::new_server_from_config(config(alloc)?, properties, random)?)
+/// A context in a box: whoever owns it then owns one value in the place of each of its parts, which costs a check far less.
+pub fn boxed(alloc: Global, context: Kerberos) -> Result<Box<Kerberos>, Fail> {
+    Ok(Box::new(alloc, context)?)
 }
 
-fn new_initiator(alloc: Global, random: [u8; 4]) -> Result<Kerberos, Fail> {
-    Ok(Kerberos::new_client_from_config(config(alloc)?, random))
+fn new_acceptor(alloc: Global, random: [u8; 4]) -> Result<Box<Kerberos>, Fail> {
+    let properties = properties(alloc)?;
+    boxed(
+        alloc,
+        Kerberos::new_server_from_config(config(alloc)?, properties, random)?,
+    )
+}
+
+fn new_initiator(alloc: Global, random: [u8; 4]) -> Result<Box<Kerberos>, Fail> {
+    boxed(
+        alloc,
+        Kerberos::new_client_from_config(config(alloc)?, random),
+    )
 }
 
 /// The context once the exchange is over.
-fn established(context: Kerberos, end: &End, key: Octets) -> Kerberos {
-    let mut context = context;
+fn establish(context: &mut Kerberos, end: &End, key: Octets) {
     context.state = KerberosState::Final;
     context.encryption_params.encryption_type = Some(end.suite);
     context.encryption_params.sub_session_key = Some(Secret::new(key));
     context.encryption_params.ec = end.ec;
-    context
 }
 
-pub fn context_of(alloc: Global, end: &End) -> Result<Kerberos, Fail> {
+pub fn context_of(alloc: Global, end: &End) -> Result<Box<Kerberos>, Fail> {
     let key = octets(alloc, end.key)?;
     let random = end.number.to_be_bytes();
-    let context = if end.acceptor {
+    let mut context = if end.acceptor {
         new_acceptor(alloc, random)?
     } else {
         new_initiator(alloc, random)?
     };
-    Ok(established(context, end, key))
+    establish(&mut context, end, key);
+    Ok(context)
 }

@@ -1,6 +1,6 @@
 //! What contexts tell of themselves.
 
-use super::ends::{INITIATOR, SHORT_ACCEPTOR, config, context_of, octets, properties};
+use super::ends::{INITIATOR, SHORT_ACCEPTOR, boxed, config, context_of, octets, properties};
 use krb_context::{Kerberos, KerberosServerConfig, ProtocolConfig};
 use krb_crypto::{AesSize, CipherSuite};
 use krb_der::{Text, TryCopy};
@@ -95,9 +95,17 @@ fn contexts() -> &'static [Told] {
     &TOLD
 }
 
-pub fn new_client(alloc: Global) -> Result<Kerberos, Fail> {
+fn instance(
+    alloc: Global,
+    config: &ProtocolConfig,
+    random: [u8; 4],
+) -> Result<Box<Kerberos>, Fail> {
+    boxed(alloc, config.new_instance(alloc, random)?)
+}
+
+pub fn new_client(alloc: Global) -> Result<Box<Kerberos>, Fail> {
     let config = ProtocolConfig::Client(config(alloc)?);
-    Ok(config.new_instance(alloc, [0, 0, 0, 1])?)
+    instance(alloc, &config, [0, 0, 0, 1])
 }
 
 fn server_config(alloc: Global) -> Result<KerberosServerConfig, Fail> {
@@ -113,14 +121,10 @@ fn copied_config(alloc: Global) -> Result<ProtocolConfig, Fail> {
     Ok(ProtocolConfig::Server(config.copy(alloc)?))
 }
 
-fn instance(alloc: Global, config: &ProtocolConfig) -> Result<Kerberos, Fail> {
-    Ok(config.new_instance(alloc, [0, 0, 0, 0])?)
-}
-
 /// The acceptor that a copy of its configuration makes.
-fn new_server(alloc: Global) -> Result<Kerberos, Fail> {
+fn new_server(alloc: Global) -> Result<Box<Kerberos>, Fail> {
     let config = copied_config(alloc)?;
-    instance(alloc, &config)
+    instance(alloc, &config, [0; 4])
 }
 
 /// user@example.com and its password.
@@ -147,7 +151,7 @@ fn admit(alloc: Global, acceptor: &mut Kerberos) -> Result<(), Fail> {
     Ok(())
 }
 
-fn context(alloc: Global, which: Asked) -> Result<Kerberos, Fail> {
+fn context(alloc: Global, which: Asked) -> Result<Box<Kerberos>, Fail> {
     match which {
         Asked::NewClient | Asked::Speaking => new_client(alloc),
         Asked::NewServer => new_server(alloc),
@@ -216,7 +220,7 @@ fn tells(alloc: Global, context: &Kerberos, row: &Told) -> Result<bool, Fail> {
 }
 
 fn copy_tells(alloc: Global, context: &Kerberos, row: &Told) -> Result<bool, Fail> {
-    let copied = context.copy(alloc)?;
+    let copied = boxed(alloc, context.copy(alloc)?)?;
     tells(alloc, &copied, row)
 }
 
