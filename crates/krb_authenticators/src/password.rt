@@ -122,6 +122,13 @@ fn are_sized(suite: CipherSuite, key: &[u8], subkey: &[u8]) -> bool
     key.len() == suite.key_size() && subkey.len() == suite.key_size()
 }
 
+/// A value in a box: an early return behind it drops one value in the place of each of its parts.
+fn boxed<T: Drop>(alloc: Global, value: T) -> Result<Box<T>, OutOfMemory>
+    ensures { IfOk result (λ b. b.value ≡ value) }
+{
+    Ok(Box::new(alloc, value)?)
+}
+
 /// The request to the service that changes passwords: an AP-REQ without options, and behind it the new password in a KRB-PRIV
 /// under the authenticator's subkey.
 ///
@@ -158,20 +165,23 @@ pub fn generate_krb_priv_request(
         return Err(Error::from(Cause::KeyLength));
     }
     let [first, second] = confounders;
-    let part = priv_part(alloc, new_password, seq_num, address)?;
-    let krb_priv = krb_priv(alloc, suite, subkey, &part, second)?;
+    let ticket = boxed(alloc, ticket)?;
+    let plain = priv_part(alloc, new_password, seq_num, address)?;
+    let part = boxed(alloc, plain)?;
+    let sealed = krb_priv(alloc, suite, subkey, &part, second)?;
+    let krb_priv = boxed(alloc, sealed)?;
     let request = seal_ap_req(
         alloc,
         suite,
         key,
         AP_REQ_AUTHENTICATOR_USAGE,
         0,
-        ticket,
+        Box::into_inner(ticket),
         authenticator,
         first,
     )?;
     Ok(KrbPrivMessage {
         ap_message: ApMessage::ApReq(request),
-        krb_priv,
+        krb_priv: Box::into_inner(krb_priv),
     })
 }
