@@ -217,6 +217,13 @@ fn wanted_of(
     })
 }
 
+/// A value in a box: an early return behind it drops one value in the place of each of its parts.
+pub(crate) fn boxed<T: Drop>(alloc: Global, value: T) -> Result<Box<T>, OutOfMemory>
+    ensures { IfOk result (λ b. b.value ≡ value) }
+{
+    Ok(Box::new(alloc, value)?)
+}
+
 /// An initiator on its way to the ticket.
 fn seeker_of(
     alloc: Global,
@@ -237,15 +244,18 @@ fn seeker_of(
         user_to_user,
         mechanism,
     } = tgt;
+    let identity = boxed(alloc, identity)?;
+    let ticket = boxed(alloc, ticket)?;
     let errand = errand_of(alloc, context, options, user_to_user, mechanism)?;
+    let errand = boxed(alloc, errand)?;
     let wanted = wanted_of(alloc, options, target, &errand.initiator)?;
-    let Identity { asker, client } = identity;
+    let Identity { asker, client } = Box::into_inner(identity);
     Ok(Initiation::Seeks(Seeker {
         asker,
         client,
         wanted,
-        tgt: ticket,
-        errand,
+        tgt: Box::into_inner(ticket),
+        errand: Box::into_inner(errand),
     }))
 }
 

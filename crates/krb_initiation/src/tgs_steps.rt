@@ -14,6 +14,7 @@ ghost use Rattle.krb_initiation.specs.Seekers.{CanSeek};
 ghost use Rattle.krb_initiation.specs.InitSteps.{leg_of, AsksFirstTgs, TakesFirst, Refers, Arrives, GoesTo, TakesNext};
 ghost use Rattle.krb_initiation.specs.InitRuns.{GoesDown};
 
+use crate::begin::boxed;
 use crate::seeker::{InitPhase, Seeker, TgsLeg};
 use crate::service_steps::end;
 use krb_client::{Begun, InitDone, Turn};
@@ -129,12 +130,15 @@ fn sent_next_tgs(
     ensures step { Answers (Gives (turns.Asks begun.request (phases.AwaitsTgsRep (leg_of begun.kdc shown leg.now.home (leg.now.hops + 1))))) result }
     ensures down { IfOk result (λ turn. GoesDown (9 - leg.now.hops) turn) }
 {
+    let shown = boxed(alloc, shown)?;
     let home = leg.home.copy(alloc)?;
     let Begun { request, kdc } = begun;
+    let Shown { suite, key, rep } = Box::into_inner(shown);
+    drop(rep);
     let next = TgsLeg {
         kdc,
-        suite: shown.suite,
-        key: shown.key,
+        suite,
+        key,
         home,
         hops: leg.hops + 1,
     };
