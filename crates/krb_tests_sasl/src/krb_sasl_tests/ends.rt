@@ -97,34 +97,63 @@ fn key_of(alloc: Global, key: Option<&str>) -> Result<Option<Secret<Octets>>, Fa
     }
 }
 
+/// A value in a box: whoever owns it owns one value in the place of each of its parts, which costs a check far less.
+fn boxed<T: Drop>(alloc: Global, value: T) -> Result<Box<T>, Fail> {
+    Ok(Box::new(alloc, value)?)
+}
+
+fn new_acceptor(alloc: Global, random: [u8; 4]) -> Result<Box<Kerberos>, Fail> {
+    let names = ["host", "server.example.com"];
+    let properties = ServerProperties::new(alloc, &names, None, 300, None)?;
+    let context = Kerberos::new_server_from_config(config(alloc)?, properties, random)?;
+    boxed(alloc, context)
+}
+
 /// A new context of a side.
-fn new_context(alloc: Global, end: &End) -> Result<Kerberos, Fail> {
+fn new_context(alloc: Global, end: &End) -> Result<Box<Kerberos>, Fail> {
     let random = end.number.to_be_bytes();
     if end.acceptor {
-        let names = ["host", "server.example.com"];
-        let properties = ServerProperties::new(alloc, &names, None, 300, None)?;
-        Ok(Kerberos::new_server_from_config(config(alloc)?, properties, random)?)
+        new_acceptor(alloc, random)
     } else {
-        Ok(Kerberos::new_client_from_config(config(alloc)?, random))
+        boxed(
+            alloc,
+            Kerberos::new_client_from_config(config(alloc)?, random),
+        )
     }
 }
 
 /// The context of an end.
-pub fn context_of(alloc: Global, end: &End) -> Result<Kerberos, Fail> {
+pub fn context_of(alloc: Global, end: &End) -> Result<Box<Kerberos>, Fail> {
     let key = key_of(alloc, end.key)?;
-    let mut context = new_context(alloc, end)?;
+    let mut held = new_context(alloc, end)?;
+    let context: &mut Kerberos = &mut held;
     context.state = end.state;
     context.encryption_params.encryption_type = Some(CipherSuite::Aes256CtsHmacSha196);
     context.encryption_params.sub_session_key = key;
-    Ok(context)
+    Ok(held)
 }
 
 /// A server that offers these layers, and receives messages of `size` octets at most.
-pub fn new_server(alloc: Global, end: &End, layers: u8, size: u32) -> Result<SaslServer, Fail> {
-    SaslServer::new(context_of(alloc, end)?, layers, size).map_err(fail)
+pub fn new_server(
+    alloc: Global,
+    end: &End,
+    layers: u8,
+    size: u32,
+) -> Result<Box<SaslServer>, Fail> {
+    let context = Box::into_inner(context_of(alloc, end)?);
+    boxed(alloc, SaslServer::new(context, layers, size).map_err(fail)?)
 }
 
 /// A client that wants this layer, and receives messages of `size` octets at most.
-pub fn new_client(alloc: Global, wanted: Layer, size: u32, name: &str) -> Result<SaslClient, Fail> {
-    SaslClient::new(alloc, context_of(alloc, &INITIATOR)?, wanted, size, name).map_err(fail)
+pub fn new_client(
+    alloc: Global,
+    wanted: Layer,
+    size: u32,
+    name: &str,
+) -> Result<Box<SaslClient>, Fail> {
+    let context = Box::into_inner(context_of(alloc, &INITIATOR)?);
+    boxed(
+        alloc,
+        SaslClient::new(alloc, context, wanted, size, name).map_err(fail)?,
+    )
 }

@@ -57,7 +57,10 @@ fn server_is_made(
     wanted: Option<Wanted>,
 ) -> Result<bool, Fail> {
     let context = context_of(alloc, end)?;
-    Ok(is_refused(&SaslServer::new(context, layers, size).err(), wanted))
+    Ok(is_refused(
+        &SaslServer::new(Box::into_inner(context), layers, size).err(),
+        wanted,
+    ))
 }
 
 #[test]
@@ -95,7 +98,7 @@ fn client_is_made(
     wanted: Option<Wanted>,
 ) -> Result<bool, Fail> {
     let context = context_of(alloc, end)?;
-    let client = SaslClient::new(alloc, context, layer, size, "alice");
+    let client = SaslClient::new(alloc, Box::into_inner(context), layer, size, "alice");
     Ok(is_refused(&client.err(), wanted))
 }
 
