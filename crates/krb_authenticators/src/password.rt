@@ -15,7 +15,7 @@ use crate::ap_req::seal_ap_req;
 use crate::authenticator::number;
 use krb_context::EncryptionParams;
 use krb_crypto::CipherSuite;
-use krb_der::{Asn1, Octets, OutOfMemory};
+use krb_der::{Asn1, Octets, OutOfMemory, boxed};
 use krb_exchange::{ApMessage, EncKrbPrivPart, KrbPriv, KrbPrivMessage};
 use krb_messages::constants::{
     AP_REQ_AUTHENTICATOR_USAGE, KERBEROS_VERSION, KRB_PRIV_MSG_TYPE, KRB_PRIV_USAGE,
@@ -120,13 +120,6 @@ fn are_sized(suite: CipherSuite, key: &[u8], subkey: &[u8]) -> bool
     ensures { result ≡ are_sized suite key.now subkey.now }
 {
     key.len() == suite.key_size() && subkey.len() == suite.key_size()
-}
-
-/// A value in a box: an early return behind it drops one value in the place of each of its parts.
-fn boxed<T: Drop>(alloc: Global, value: T) -> Result<Box<T>, OutOfMemory>
-    ensures { IfOk result (λ b. b.value ≡ value) }
-{
-    Ok(Box::new(alloc, value)?)
 }
 
 /// The request to the service that changes passwords: an AP-REQ without options, and behind it the new password in a KRB-PRIV

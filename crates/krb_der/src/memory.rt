@@ -1,6 +1,8 @@
-//! Want of memory.
+//! Out of memory as an error, and values in boxes.
 
-use std::alloc::{AllocError, AllocFailed};
+ghost use Rattle.std.specs.Prelude.{◌≡◌, IfOk};
+
+use std::alloc::{AllocError, AllocFailed, Global};
 use std::fmt;
 
 /// Memory ran out.
@@ -30,3 +32,11 @@ impl fmt::Display for OutOfMemory {
 }
 
 impl std::error::Error for OutOfMemory {}
+
+/// A value in a box, for an owner that may still return early: what is dropped there is then one value in the place of each of
+/// its parts.
+pub fn boxed<T: Drop>(alloc: Global, value: T) -> Result<Box<T>, OutOfMemory>
+    ensures { IfOk result (λ b. b.value ≡ value) }
+{
+    Ok(Box::new(alloc, value)?)
+}

@@ -69,7 +69,7 @@ module _ (seeker : Seeker) (suite : CipherSuite) where
       (follows _ _ error.error _ (record { is = refl })
       (follows _ _ error.named _ error.names (record { is = ap Ok error.salt_is })))
 
-  asks_second : (kdc : Kdc) (body : KdcReqBody) (step : Step) (salt key : List ℕ) → AnswersError seeker.asker kdc.protocol step.reply salt → sized_key seeker.asker salt ≡ Some key
+  pub asks_second : (kdc : Kdc) (body : KdcReqBody) (step : Step) (salt key : List ℕ) → AnswersError seeker.asker kdc.protocol step.reply salt → sized_key seeker.asker salt ≡ Some key
       → AsksSecond seeker.asker kdc body (Ok step.reply) step.draw (Ok (Asks (second_request (asker_suite seeker.asker) key step.draw kdc body) (AwaitsAsRep kdc salt)))
   unfolding AsksSecond AsksAgain
   asks_second kdc body step salt key error has =
@@ -105,10 +105,10 @@ module _ (seeker : Seeker) (suite : CipherSuite) where
       (follows _ _ key _ brought (record { is = ap (λ (s : CipherSuite). Ok (record { suite = s; key = key })) (sym numbered) }))
 
   -- what was shown, and the leg that awaits the next reply
-  abbrev shown : List ℕ → KdcRep → Shown
+  abbrev pub shown : List ℕ → KdcRep → Shown
   shown key rep = record { suite = suite; key = key; rep = rep }
 
-  abbrev leg : Known → List ℕ → ℕ → TgsLeg
+  abbrev pub leg : Known → List ℕ → ℕ → TgsLeg
   leg known home hops = record { kdc = known.kdc; suite = suite; key = known.key; home = home; hops = hops }
 
   takes_as_rep : (protocol : NetworkProtocol) (used reply : List ℕ) (rep : AsRep) (key : List ℕ) → GrantsFirst seeker.asker suite protocol used reply rep key
@@ -127,7 +127,7 @@ module _ (seeker : Seeker) (suite : CipherSuite) where
       follows _ _ tt _ (holds_true KeyLength (length key == key_size suite) (eq-eqb (length key) (key_size suite) fits))
       (follows _ _ kdc _ found (gives _))
 
-  takes_first : (home : Kdc) (used : List ℕ) (step : Step) (rep : AsRep) (known : Known) → GrantsFirst seeker.asker suite home.protocol used step.reply rep known.key
+  pub takes_first : (home : Kdc) (used : List ℕ) (step : Step) (rep : AsRep) (known : Known) → GrantsFirst seeker.asker suite home.protocol used step.reply rep known.key
       → HasKdc seeker.asker rep.0.crealm rep.0.crealm known.kdc
       → TakesFirst seeker home.protocol used (Ok step.reply) step.draw
       (Ok (Asks (tgs_request seeker.wanted (shown known.key rep.0) (first_tickets seeker.tgt) step.draw known.kdc) (AwaitsTgsRep (leg known rep.0.crealm 0))))
@@ -139,7 +139,7 @@ module _ (seeker : Seeker) (suite : CipherSuite) where
 
   -- ---- TGS-REPs
 
-  hands_on : (known : Known) (reply : List ℕ) (rep : TgsRep) (key : List ℕ) → length known.key ≡ key_size suite → GrantsNext suite known reply rep key
+  pub hands_on : (known : Known) (reply : List ℕ) (rep : TgsRep) (key : List ℕ) → length known.key ≡ key_size suite → GrantsNext suite known reply rep key
       → HandsOnKey suite known.key rep (Ok key)
   unfolding HandsOnKey
   hands_on known reply rep key fits next =
@@ -153,7 +153,7 @@ module _ (seeker : Seeker) (suite : CipherSuite) where
       follows _ _ rep _ (grants tgs_rep_layout known.kdc.protocol reply rep next.brings) (follows _ _ key _ (hands_on known reply rep key fits next) (gives (shown key rep.0)))
 
   -- a referral is followed
-  refers : (known : Known) (home : List ℕ) (hops : ℕ) (step : Step) (next : Known) → length known.key ≡ key_size suite → hops < 9 → (refers_to : Refers seeker.asker home suite known step.reply next)
+  pub refers : (known : Known) (home : List ℕ) (hops : ℕ) (step : Step) (next : Known) → length known.key ≡ key_size suite → hops < 9 → (refers_to : Refers seeker.asker home suite known step.reply next)
       → TakesNext seeker (leg known home hops) (Ok step.reply) step.draw
       (Ok (Asks (tgs_request seeker.wanted (shown next.key refers_to.rep.0) None step.draw next.kdc) (AwaitsTgsRep (leg next home (hops + 1)))))
   unfolding TakesNext RefersOn Follows
@@ -169,7 +169,7 @@ module _ (seeker : Seeker) (suite : CipherSuite) where
       (gives _)))
 
   -- the service's ticket is shown to the service
-  arrives : (service_key : List ℕ) (known : Known) (home : List ℕ) (hops : ℕ) (step : Step) (rep : TgsRep) (part : EncTicketPart) → length known.key ≡ key_size suite
+  pub arrives : (service_key : List ℕ) (known : Known) (home : List ℕ) (hops : ℕ) (step : Step) (rep : TgsRep) (part : EncTicketPart) → length known.key ≡ key_size suite
       → Serves seeker.wanted.target suite service_key known step.reply rep part
       → TakesNext seeker (leg known home hops) (Ok step.reply) step.draw (Ok (Ends (shown_to seeker.errand suite part.key.key_value rep.0 home step.draw)))
   unfolding TakesNext Arrives ShowsTicket
@@ -203,7 +203,7 @@ module _ (seeker : Seeker) (suite : CipherSuite) where
   served home service_key known (step ∷ steps) last rep part honest = served home service_key honest.0 steps last rep part honest.2
 
   -- the start
-  starts : (home : Kdc) (draw : Draw) → FindsKdc seeker.asker.kdc_url seeker.asker.env seeker.asker.realm (Ok home)
+  pub starts : (home : Kdc) (draw : Draw) → FindsKdc seeker.asker.kdc_url seeker.asker.env seeker.asker.realm (Ok home)
       → AsksFirst seeker.asker (body_of seeker draw) (Ok (Asks (first_request home (body_of seeker draw)) (AwaitsError home (body_of seeker draw))))
   unfolding AsksFirst Begins
   starts home draw found =

@@ -64,7 +64,7 @@ octet_of n xs h = more_octets (n % 256) xs (omega arith) h
 IsOctets-le : (n : ℕ) → IsOctets (to_le_bytes w32 n)
 IsOctets-le n = octet_of n _ (octet_of _ _ (octet_of _ _ (octet_of _ _ none_octets)))
 
-IsOctets-digest : (words : List ℕ) (n : ℕ) → IsOctets (digest_bytes words n)
+pub IsOctets-digest : (words : List ℕ) (n : ℕ) → IsOctets (digest_bytes words n)
 unfolding digest_bytes
 IsOctets-digest words zero = none_octets
 IsOctets-digest words (suc n) = IsOctets-append (digest_bytes words n) _ (IsOctets-digest words n) (IsOctets-le _)
@@ -127,7 +127,7 @@ sound_sum flags (Some bindings) = (lit< tt, (tt, tt))
 
 -- ---- the number, and the sign of bindings
 
-short-unsigned : (number : ℕ) → IsShort 5 (number_octets number)
+pub short-unsigned : (number : ℕ) → IsShort 5 (number_octets number)
 short-unsigned number =
     let word : List ℕ = to_be_bytes w32 number in
     elim (nat_lt (get_or word 0 0) 0x80) as (λ v. IsShort 5 (if v then word else 0x00 ∷ word)) [
@@ -135,7 +135,7 @@ short-unsigned number =
       | false ↦ record { octets = more_octets 0x00 word (lit< tt) (short-word number).octets; short = lit≤ tt }
     ]
 
-abbrev sign_octets : Option ChannelBindings → List ℕ
+abbrev pub sign_octets : Option ChannelBindings → List ℕ
 sign_octets bindings =
     option_map_or (λ value. tlv 0xa8 (tlv 0x30 (contents (sequence_of authorization_data_element) value))) (option_map (map authorization_data_element_row) (sign_if bindings)) []
 
@@ -145,7 +145,7 @@ sign_type = record { octets = more_octets 0x00 _ (lit< tt) (more_octets 0x8f [] 
 sign_value : IsShort 4 (0x00 ∷ 0x40 ∷ 0x00 ∷ 0x00 ∷ [])
 sign_value = record { octets = more_octets 0x00 _ (lit< tt) (more_octets 0x40 _ (lit< tt) (more_octets 0x00 _ (lit< tt) (more_octets 0x00 [] (lit< tt) none_octets))); short = lit≤ tt }
 
-short-sign : (bindings : Option ChannelBindings) → IsShort 64 (sign_octets bindings)
+pub short-sign : (bindings : Option ChannelBindings) → IsShort 64 (sign_octets bindings)
 unfolding authorization_data_element authorization_data_element_row
 short-sign None = short-more 0 64 [] (lit≤ tt) short-nothing
 short-sign (Some bindings) =
@@ -154,7 +154,7 @@ short-sign (Some bindings) =
     let list = short-append _ _ _ _ (short-tlv _ 0x30 _ (lit< tt) (lit< tt) element) short-nothing in
     short-more _ 64 _ (lit≤ tt) (short-field _ 0xa8 0x30 _ (lit< tt) (lit< tt) (lit< tt) list)
 
-sound_sign : (bindings : Option ChannelBindings) → IfSome (option_map (map authorization_data_element_row) (sign_if bindings)) (IsSound (sequence_of authorization_data_element))
+pub sound_sign : (bindings : Option ChannelBindings) → IfSome (option_map (map authorization_data_element_row) (sign_if bindings)) (IsSound (sequence_of authorization_data_element))
 unfolding authorization_data_element authorization_data_element_row
 sound_sign None = tt
 sound_sign (Some bindings) = ((lit< tt, (tt, tt)), tt)

@@ -24,7 +24,7 @@ use krb_client::Asker;
 use krb_conf::{Env, parse_target_name};
 use krb_context::{Kerberos, KerberosState};
 use krb_credentials::{Client, asker_of, client_of};
-use krb_der::{Name, Octets, OutOfMemory, TryCopy};
+use krb_der::{Name, Octets, OutOfMemory, TryCopy, boxed};
 use krb_initiator::{Errand, Initiator, exchange_flags};
 use krb_tickets::Wanted;
 use sspi_core::{Cause, ChannelBindings, ClientRequestFlags, CredentialsBuffers, hold};
@@ -215,13 +215,6 @@ fn wanted_of(
         flags: exchange_flags(initiator),
         channel_bindings,
     })
-}
-
-/// A value in a box: an early return behind it drops one value in the place of each of its parts.
-pub(crate) fn boxed<T: Drop>(alloc: Global, value: T) -> Result<Box<T>, OutOfMemory>
-    ensures { IfOk result (λ b. b.value ≡ value) }
-{
-    Ok(Box::new(alloc, value)?)
 }
 
 /// An initiator on its way to the ticket.

@@ -14,12 +14,11 @@ ghost use Rattle.krb_initiation.specs.Seekers.{CanSeek};
 ghost use Rattle.krb_initiation.specs.InitSteps.{leg_of, AsksFirstTgs, TakesFirst, Refers, Arrives, GoesTo, TakesNext};
 ghost use Rattle.krb_initiation.specs.InitRuns.{GoesDown};
 
-use crate::begin::boxed;
 use crate::seeker::{InitPhase, Seeker, TgsLeg};
 use crate::service_steps::end;
 use krb_client::{Begun, InitDone, Turn};
 use krb_credentials::short_name;
-use krb_der::{Items, Name, Octets, OutOfMemory, Text, TryCopy};
+use krb_der::{Items, Name, Octets, OutOfMemory, Text, TryCopy, boxed};
 use krb_exchange::KdcRep;
 use krb_initiator::show_ticket;
 use krb_messages::Ticket;

@@ -17,7 +17,7 @@ use krb_authenticators::{
 };
 use krb_context::EncryptionParams;
 use krb_crypto::CipherSuite;
-use krb_der::{Items, Octets, OutOfMemory, TryCopy};
+use krb_der::{Items, Octets, OutOfMemory, TryCopy, boxed};
 use krb_exchange::{KdcRep, KrbPrivMessage};
 use krb_messages::{Authenticator, Ticket};
 use krb_sending::{Kdc, request_to};
@@ -176,13 +176,6 @@ fn written(alloc: Global, message: &KrbPrivMessage) -> Result<Octets, OutOfMemor
     ensures short { IfOk result (λ octets. length octets < 2 ^ 30) }
 {
     message.write(alloc)
-}
-
-/// A value in a box: an early return behind it drops one value in the place of each of its parts.
-pub(crate) fn boxed<T: Drop>(alloc: Global, value: T) -> Result<Box<T>, OutOfMemory>
-    ensures { IfOk result (λ b. b.value ≡ value) }
-{
-    Ok(Box::new(alloc, value)?)
 }
 
 /// The request to the service that changes passwords.

@@ -13,12 +13,12 @@ ghost use Rattle.krb_server.specs.Accepts.{awaits_last_word, asks_dce_style, ref
 
 use crate::admission::{Accepted, Acceptor, Admission, admission_of, settle};
 use crate::complete::complete;
-use crate::request::{Request, ask_of, boxed, read_request};
+use crate::request::{Request, ask_of, read_request};
 use crate::third_leg::{conclude, properties};
 use bitflags::Flags;
 use krb_conf::Env;
 use krb_context::{Kerberos, KerberosState};
-use krb_der::OutOfMemory;
+use krb_der::{OutOfMemory, boxed};
 use krb_replay::{ReplayGate, Verdict};
 use sspi_core::{Cause, Draw, Error, ServerRequestFlags, hold, pass};
 use std::alloc::Global;

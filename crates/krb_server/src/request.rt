@@ -11,7 +11,7 @@ use crate::open::open_data;
 use crate::token::receive;
 use krb_context::{KeptKey, ServerProperties};
 use krb_crypto::CipherSuite;
-use krb_der::{Blank, Octets, OutOfMemory};
+use krb_der::{Blank, Octets, OutOfMemory, boxed};
 use krb_messages::constants::{AP_REQ_AUTHENTICATOR_USAGE, TICKET_USAGE};
 use krb_messages::{ApReq, Authenticator, EncTicketPart, PrincipalName};
 use krb_replay::{Ask, Record};
@@ -84,13 +84,6 @@ fn open_authenticator(
     )?;
     check_names(part, &sealed.1)?;
     Ok(sealed)
-}
-
-/// A value in a box: an early return behind it drops one value in the place of each of its parts.
-pub(crate) fn boxed<T: Drop>(alloc: Global, value: T) -> Result<Box<T>, OutOfMemory>
-    ensures { IfOk result (λ b. b.value ≡ value) }
-{
-    Ok(Box::new(alloc, value)?)
 }
 
 /// The AP-REQ in a token, with what is sealed in it.

@@ -16,3 +16,4 @@ pub mod OnceLemmas
 pub mod LeftLemmas
 pub mod BookLemmas
 pub mod GateLemmas
+pub mod AdmittedLemmas

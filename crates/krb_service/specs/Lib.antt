@@ -5,6 +5,7 @@ pub mod Initiations
 pub mod Policy
 pub mod Described
 pub mod Left
+pub mod Admitted
 pub mod Text
 pub mod Progress
 pub mod Closing

@@ -1,6 +1,6 @@
 //! Laws of the service, for all values.
 
-ghost use Rattle.std.specs.Prelude.{◌≡◌, ◌≢◌, ◌⊎◌, ◌++◌, ℕ, List, length, true, Some, None, Ok, Err};
+ghost use Rattle.std.specs.Prelude.{◌≡◌, ◌≢◌, ◌↔◌, ◌⊎◌, ◌++◌, ℕ, List, length, true, Some, None, Ok, Err};
 ghost use Rattle.krb_replay.specs.Book.{Book, Follows, StandsFor};
 ghost use Rattle.krb_replay.specs.Clock.{clock_refusal};
 ghost use Rattle.krb_replay.specs.History.{History, verdict_of};
@@ -19,6 +19,7 @@ ghost use Rattle.krb_service.specs.declared.reply.Reply.{Reply};
 ghost use Rattle.krb_service.specs.Policy.{State, Steps, Runs, Says, Brings, reached, reply_of, server_flags, draw_of};
 ghost use Rattle.krb_service.specs.Described.{Remembers, with_gate};
 ghost use Rattle.krb_service.specs.Left.{record_left, records_left};
+ghost use Rattle.krb_service.specs.Admitted.{IsAdmissible, reply_to, service_behind};
 ghost use Rattle.krb_service.specs.Reply.{admits_peer};
 ghost use Rattle.krb_service.specs.Serve.{Written, end_of};
 ghost use Rattle.krb_text.specs.declared.status.Status.{Status};
@@ -52,6 +53,24 @@ pub fn records_are_left_once()
         → IsDistinct (state.gate.admitted ++ records_left (Remembers skew) state events replies after runs) }
     ensures done { (skew : ℕ) (state after : State History) (event : Event) (reply : Reply) (step : Steps (Remembers skew) state event reply after)
         → admits_peer reply ≡ true → length (record_left (Remembers skew) state event reply after step) ≡ 1 }
+{}
+
+/// An event admits its peer exactly where it is admissible: its token came to an acceptor that waits for one and is an AP-REQ, whose
+/// ticket is encrypted under the service's key, whose authenticator is encrypted under the ticket's, whose record no event left before,
+/// and which is in time and in order. It is answered by the AP-REP that its options ask for, and makes what they ask for of the connection.
+pub fn admitted_exactly_where()
+    ensures exactly { (skew : ℕ) (state after : State History) (event : Event) (reply : Reply)
+        → Steps (Remembers skew) state event reply after → (admits_peer reply ≡ true) ↔ IsAdmissible skew state event }
+    ensures answer { (skew : ℕ) (state after : State History) (event : Event) (reply : Reply)
+        → Steps (Remembers skew) state event reply after → (admissible : IsAdmissible skew state event) → reply ≡ reply_to admissible }
+    ensures service { (skew : ℕ) (state after : State History) (event : Event) (reply : Reply)
+        → Steps (Remembers skew) state event reply after → (admissible : IsAdmissible skew state event) → after ≡ service_behind admissible }
+    ensures book { (before after : State Book) (h : History) (event : Event) (reply : Reply) → StandsFor before.gate h
+        → Steps (Follows StandsFor) before event reply after
+        → (admits_peer reply ≡ true) ↔ IsAdmissible before.gate.skew (with_gate before h) event }
+    ensures book_answer { (before after : State Book) (h : History) (event : Event) (reply : Reply) → StandsFor before.gate h
+        → Steps (Follows StandsFor) before event reply after
+        → (admissible : IsAdmissible before.gate.skew (with_gate before h) event) → reply ≡ reply_to admissible }
 {}
 
 /// An event in time, at an acceptor that waits for a token, whose AP-REQ passes every check and is admitted by the gate that
