@@ -5,6 +5,7 @@ ghost use Rattle.std.specs.Ordering.{int_cmp, is_eq};
 ghost use Rattle.std.specs.declared.cmp.Ordering.TheVariants.{Less};
 ghost use Rattle.krb_replay.specs.declared.record.Record.{Record};
 ghost use Rattle.krb_replay.specs.declared.ask.Ask.{Ask};
+ghost use Rattle.krb_replay.specs.declared.book.ReplayBook.TheInside.{Inside};
 ghost use Rattle.krb_replay.specs.declared.ask.Verdict.{Verdict};
 ghost use Rattle.krb_replay.specs.declared.cache.AuthenticatorCacheRecord.{AuthenticatorCacheRecord};
 ghost use Rattle.krb_replay.specs.Records.{record_eq, record_cmp, ask_eq, IsDistinct};
@@ -80,4 +81,10 @@ pub fn cache_records_compare_by_their_fields()
     ensures same { (a b : AuthenticatorCacheRecord) → IsTrue (⟦<AuthenticatorCacheRecord as PartialEq>⟧.eq a b) ↔ (a ≡ b) }
     ensures hash { (a b : AuthenticatorCacheRecord) → IsTrue (⟦<AuthenticatorCacheRecord as PartialEq>⟧.eq a b)
         → ⟦<AuthenticatorCacheRecord as Hash>⟧.hash_input a ≡ ⟦<AuthenticatorCacheRecord as Hash>⟧.hash_input b }
+{}
+
+/// A book is its skew, its moment and its records, and nothing else: two with the same three are equal, so no list that only grows
+/// can hide behind them.
+pub fn books_hold_nothing_else()
+    ensures { (a b : Inside) → a.skew ≡ b.skew → a.moment ≡ b.moment → a.records ≡ b.records → a ≡ b }
 {}

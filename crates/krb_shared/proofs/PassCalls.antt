@@ -79,6 +79,7 @@ module _ (s t : Place) (w x : View) (number seen now_seen : ℕ) (receipts after
         seen = subst (IsPrefix s.me.0.front) (sym front) looked.1;
         receipts = same;
         own = λ _. ap (entries_of number) front ∙ own_still s w number seen receipts journal at looked ∙ sym same;
+        legal = λ _. subst (IsLegal s.me.0.skew) (sym front) looked.2;
       }
 
   pub admitted : (moment before_moment call : ℕ) (ask : Ask) (verdict : Verdict) → call ≡ length receipts + 1 → x ≡ has_called (w.front ++ entry_of number call ask verdict ∷ []) w → IsLegal x.skew x.front → t.me ≡ (at_stage Idle x, []) → t.table_id ≡ s.table_id

@@ -71,9 +71,10 @@ pub record IsLeft (old new : PassAccount) : Type 0 where
   pub seen : IsPrefix old.front new.front
   pub receipts : new.receipts ≡ old.receipts
   pub own : entries_of old.number old.front ≡ old.receipts → entries_of old.number new.front ≡ new.receipts
+  pub legal : IsLegal old.skew old.front → IsLegal old.skew new.front
 
 pub IsLeft-same : (pass : PassAccount) → IsLeft pass pass
-IsLeft-same pass = record { table = refl; number = refl; skew = refl; passes = refl; moment = refl; seen = ([], append-nil pass.front); receipts = refl; own = λ own. own }
+IsLeft-same pass = record { table = refl; number = refl; skew = refl; passes = refl; moment = refl; seen = ([], append-nil pass.front); receipts = refl; own = λ own. own; legal = λ legal. legal }
 
 prefix_on : (xs ys zs : List Entry) → IsPrefix xs ys → IsPrefix ys zs → IsPrefix xs zs
 prefix_on xs ys zs p q = (p.0 ++ q.0, sym (append_assoc xs p.0 q.0) ∙ ap (λ l. l ++ q.0) p.1 ∙ q.1)

@@ -12,6 +12,7 @@
 
 mod cutter;
 mod decimal;
+pub mod laws;
 mod lines;
 mod output;
 mod outside;
