@@ -15,7 +15,7 @@ use Rattle.krb_exchange.specs.declared.pa_data.PaData.{PaData}
 use Rattle.krb_exchange.specs.declared.kdc_req.KdcReqBody.{KdcReqBody}
 use Rattle.krb_exchange.specs.declared.kdc_req.TgsReq.{TgsReq}
 use Rattle.krb_exchange.specs.Layouts.{pa_pac_options_layout, kdc_req_body_layout}
-use Rattle.krb_options.specs.Options.{option_of}
+use Rattle.krb_context.specs.Options.{option_of}
 use Rattle.sspi_core.specs.Flags as asked
 use Rattle.sspi_core.specs.declared.cause.Cause.{Cause}
 use Rattle.sspi_core.specs.declared.cause.Cause.TheVariants.{Target, NotAscii, KeyLength}

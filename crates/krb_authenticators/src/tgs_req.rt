@@ -10,7 +10,7 @@ ghost use Rattle.krb_conf.specs.Names.{target_parts};
 ghost use Rattle.krb_crypto.specs.Suite.{key_size};
 ghost use Rattle.krb_messages.specs.Layouts.{authenticator_layout, ticket_layout, ap_req_layout};
 ghost use Rattle.krb_exchange.specs.Layouts.{kdc_req_body_layout, tgs_req_layout};
-ghost use Rattle.krb_options.specs.Options.{option_of};
+ghost use Rattle.krb_context.specs.Options.{option_of};
 ghost use Rattle.krb_context.specs.Params.{suite_of};
 ghost use Rattle.krb_requests.specs.Pieces.{principal, Fits};
 ghost use Rattle.krb_authenticators.specs.ApRequests.{ap_req, tgs_usage};

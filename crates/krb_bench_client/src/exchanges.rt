@@ -3,17 +3,17 @@
 ghost use Rattle.std.specs.Prelude.{◌≡◌, ◌^◌, IfOk};
 ghost use Rattle.krb_exchange.specs.Layouts.{kdc_req_body_layout};
 ghost use Rattle.krb_requests.specs.Pieces.{Fits};
-ghost use Rattle.krb_client.specs.AsExchanges.{IsNew, turns_left};
-ghost use Rattle.krb_credentials.specs.Clients.{IsShort};
+ghost use Rattle.krb_as.specs.AsExchanges.{IsNew, turns_left};
+ghost use Rattle.krb_as.specs.Clients.{IsShort};
 
 use crate::alice::{MOMENT, config, context, draws, network, with_key, with_password};
 use crate::replies::{AS_REP, KRB_ERROR};
 use crate::report::{report, sum};
 use anyhow::Result;
-use krb_client::{AsDone, AsExchange};
+use krb_as::{AsDone, AsExchange};
 use krb_conf::Env;
 use krb_context::Kerberos;
-use krb_credentials::{
+use krb_as::{
     Client, FirstService, asker_of, client_of, first_body, reply_key, short_name,
 };
 use krb_der::{OutOfMemory, TryCopy};

@@ -2,18 +2,18 @@
 //! key that both agreed on.
 
 ghost use Rattle.std.specs.Prelude.{◌≡◌, IfOk};
-ghost use Rattle.krb_initiation.specs.InitRuns.{IsNew, turns_left};
+ghost use Rattle.krb_initiator.specs.InitRuns.{IsNew, turns_left};
 
 use crate::alice::{config, context, draws, network, octets, with_key};
 use crate::replies::{AP_REP, AS_REP, KRB_ERROR, TGS_REP};
 use crate::report::{report, sum};
 use anyhow::Result;
 use bitflags::Flags;
-use krb_client::InitDone;
+use krb_as::InitDone;
 use krb_conf::{Env, KerberosConfig};
 use krb_context::Kerberos;
 use krb_der::{Octets, TryCopy};
-use krb_initiation::{GeneratorInitSecurityContext, InitOptions, initialize_security_context};
+use krb_initiator::{GeneratorInitSecurityContext, InitOptions, initialize_security_context};
 use krb_requests::name_of;
 use sspi_core::{ClientRequestFlags, CredentialsBuffers, Error};
 use sspi_generator::{Generator, MemClient};

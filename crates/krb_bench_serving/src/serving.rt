@@ -6,7 +6,7 @@ ghost use Rattle.std.specs.Prelude.{◌≤◌};
 use anyhow::{Context, Result};
 use krb_demo::{DemoClient, demonstration};
 use krb_der::Time;
-use krb_service::{Calls, MemSink, MemSource, Words, serve};
+use krb_machine::{Calls, MemSink, MemSource, Words, serve};
 use std::alloc::Global;
 use std::rt::Clock;
 use std::str;

@@ -3,7 +3,7 @@
 use crate::messages::wraps;
 use crate::serving::{admissions, command, last_line, served};
 use anyhow::{Context, Result};
-use krb_service::{Calls, MemSink, MemSource};
+use krb_machine::{Calls, MemSink, MemSource};
 use krb_threads::{NoPause, threads};
 use std::rt::Clock;
 use std::sync::Wait;

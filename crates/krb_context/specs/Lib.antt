@@ -1,3 +1,4 @@
+pub mod Options
 pub mod ClearWraps
 pub mod Configs
 pub mod Contexts

@@ -13,6 +13,7 @@ mod kept;
 pub mod laws;
 mod mic;
 mod open;
+mod options;
 mod params;
 mod parties;
 mod queries;
@@ -32,7 +33,7 @@ pub use constants::{
 pub use context::{ContextChange, Kerberos};
 pub use kept::KeptKey;
 pub use krb_messages::constants::KERBEROS_VERSION;
-pub use krb_options::{ApOptions, GssFlags, KdcOptions};
+pub use options::{ApOptions, GssFlags, KdcOptions};
 pub use params::EncryptionParams;
 pub use queries::package_info;
 pub use server::ServerProperties;

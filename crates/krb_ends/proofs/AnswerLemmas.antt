@@ -28,17 +28,17 @@ use Rattle.krb_context.proofs.ChainLemmas.{takes_some, holds_true}
 use Rattle.krb_replies.specs.Unseals.{IsRead}
 use Rattle.krb_replies.specs.Answered.{OpensApRep}
 use Rattle.krb_requests.specs.Pieces.{spelling, whole_second}
-use Rattle.krb_client.specs.declared.done.InitDone.{InitDone}
-use Rattle.krb_client.specs.declared.turn.Turn.TheVariants.{Ends}
-use Rattle.krb_initiator.specs.declared.initiator.Initiator.{Initiator}
-use Rattle.krb_initiator.specs.Initiators.{is_bare}
-use Rattle.krb_initiator.specs.Answered.{IsApRep as IsApRepToken, ReadsApRep as ReadsToken, confirmed, replied, Confirms, Replies, Finishes, TakesApRep}
-use Rattle.krb_initiation.specs.declared.options.InitOptions.{InitOptions}
-use Rattle.krb_initiation.specs.declared.seeker.Initiation.TheVariants.{Hears as HearsToken}
-use Rattle.krb_initiation.specs.Beginnings.{initiator_of, BeginsIn}
-use Rattle.krb_initiation.specs.InitSteps.{HearsAnswer}
-use Rattle.krb_server.specs.declared.admission.Admission.{Admission}
-use Rattle.krb_server.specs.Admission.{spelling as server_spelling, framed, mechanism, ap_rep_id, ap_rep_with, ap_rep_part, drawn_key, drawn_confounder, number_after, reply_message, token_with, mutual_admission}
+use Rattle.krb_as.specs.declared.done.InitDone.{InitDone}
+use Rattle.krb_as.specs.declared.turn.Turn.TheVariants.{Ends}
+use Rattle.krb_ap.specs.declared.initiator.Initiator.{Initiator}
+use Rattle.krb_ap.specs.Initiators.{is_bare}
+use Rattle.krb_ap.specs.Answered.{IsApRep as IsApRepToken, ReadsApRep as ReadsToken, confirmed, replied, Confirms, Replies, Finishes, TakesApRep}
+use Rattle.krb_initiator.specs.declared.options.InitOptions.{InitOptions}
+use Rattle.krb_initiator.specs.declared.seeker.Initiation.TheVariants.{Hears as HearsToken}
+use Rattle.krb_initiator.specs.Beginnings.{initiator_of, BeginsIn}
+use Rattle.krb_initiator.specs.InitSteps.{HearsAnswer}
+use Rattle.krb_admission.specs.declared.admission.Admission.{Admission}
+use Rattle.krb_admission.specs.Admission.{spelling as server_spelling, framed, mechanism, ap_rep_id, ap_rep_with, ap_rep_part, drawn_key, drawn_confounder, number_after, reply_message, token_with, mutual_admission}
 use Rattle.sspi_core.specs.declared.cause.Cause.TheVariants.{Shape, Reply}
 use Rattle.sspi_core.specs.declared.draw.Draw.{Draw}
 use Rattle.sspi_core.specs.Usernames.{UserName}

@@ -9,12 +9,12 @@ use Rattle.sspi_core.specs.declared.cause.Cause.TheVariants.{NoTarget, Target, N
 use Rattle.sspi_core.specs.declared.identity.CredentialsBuffers.{CredentialsBuffers}
 use Rattle.sspi_core.proofs.Chain.{follows, gives}
 use Rattle.krb_replies.specs.Tickets.{TakesTicket}
-use Rattle.krb_credentials.specs.declared.client.Client.{Client}
-use Rattle.krb_initiator.specs.Initiators.{is_bare}
-use Rattle.krb_initiation.specs.declared.options.InitOptions.{InitOptions}
-use Rattle.krb_initiation.specs.declared.seeker.Initiation.TheVariants.{Seeks}
-use Rattle.krb_initiation.specs.Beginnings.{ChecksTarget, NamesTarget, identity_of, NamesIdentity, Identifies, SeeksTicket, BeginsNew, BeginsIn, Begins}
-use Rattle.krb_initiation.specs.Tgts.{no_tgt, TakesBareTgt, TakesFramedTgt, TakesTgt}
+use Rattle.krb_as.specs.declared.client.Client.{Client}
+use Rattle.krb_ap.specs.Initiators.{is_bare}
+use Rattle.krb_initiator.specs.declared.options.InitOptions.{InitOptions}
+use Rattle.krb_initiator.specs.declared.seeker.Initiation.TheVariants.{Seeks}
+use Rattle.krb_initiator.specs.Beginnings.{ChecksTarget, NamesTarget, identity_of, NamesIdentity, Identifies, SeeksTicket, BeginsNew, BeginsIn, Begins}
+use Rattle.krb_initiator.specs.Tgts.{no_tgt, TakesBareTgt, TakesFramedTgt, TakesTgt}
 use Rattle.krb_ends.specs.Fetches.{CanBegin, seeker_for, AsksMutual}
 
 -- no token tells nothing

@@ -22,21 +22,21 @@ use Rattle.krb_replay.specs.declared.ask.Verdict.{Verdict}
 use Rattle.krb_replies.specs.Answered.{TellsNumber}
 use Rattle.krb_requests.specs.Pieces.{spelling, whole_second}
 use Rattle.krb_authenticators.specs.Authenticators.{microseconds}
-use Rattle.krb_client.specs.declared.done.InitDone.{InitDone}
-use Rattle.krb_initiator.specs.Initiators.{is_bare}
-use Rattle.krb_initiator.specs.Answered.{last_word}
-use Rattle.krb_initiation.specs.declared.options.InitOptions.{InitOptions}
-use Rattle.krb_server.specs.declared.admission.Accepted.TheVariants.{Done as JudgedDone}
-use Rattle.krb_server.specs.declared.admission.Admission.{Admission}
-use Rattle.krb_server.specs.declared.request.Request.{Request}
-use Rattle.krb_server.specs.Accepts.{Begins, Asks, Ends, awaits_last_word}
-use Rattle.krb_server.specs.Admission.{ap_rep_with, ap_rep_part, drawn_key, number_after, mutual_admission, with_client, accepted_of, settled}
-use Rattle.krb_server.specs.Requests.{ask_of}
-use Rattle.krb_server.specs.ThirdLeg.{ReadsApRep, TellsLast, IsLastWord, concluded, Concludes}
-use Rattle.krb_server.proofs.Once.{begins_once, concludes_once}
-use Rattle.krb_acceptor.specs.declared.accept.Accepted.{Accepted}
-use Rattle.krb_acceptor.specs.TgtReqs.{Found, may_begin, Begins as BeginsTgtReq}
-use Rattle.krb_acceptor.specs.Whole.{accepted_as, answered_as, Makes, AcceptsWhole}
+use Rattle.krb_as.specs.declared.done.InitDone.{InitDone}
+use Rattle.krb_ap.specs.Initiators.{is_bare}
+use Rattle.krb_ap.specs.Answered.{last_word}
+use Rattle.krb_initiator.specs.declared.options.InitOptions.{InitOptions}
+use Rattle.krb_admission.specs.declared.admission.Accepted.TheVariants.{Done as JudgedDone}
+use Rattle.krb_admission.specs.declared.admission.Admission.{Admission}
+use Rattle.krb_admission.specs.declared.request.Request.{Request}
+use Rattle.krb_admission.specs.Accepts.{Begins, Asks, Ends, awaits_last_word}
+use Rattle.krb_admission.specs.Admission.{ap_rep_with, ap_rep_part, drawn_key, number_after, mutual_admission, with_client, accepted_of, settled}
+use Rattle.krb_admission.specs.Requests.{ask_of}
+use Rattle.krb_admission.specs.ThirdLeg.{ReadsApRep, TellsLast, IsLastWord, concluded, Concludes}
+use Rattle.krb_admission.proofs.Once.{begins_once, concludes_once}
+use Rattle.krb_server.specs.declared.accept.Accepted.{Accepted}
+use Rattle.krb_server.specs.TgtReqs.{Found, may_begin, Begins as BeginsTgtReq}
+use Rattle.krb_server.specs.Whole.{accepted_as, answered_as, Makes, AcceptsWhole}
 use Rattle.sspi_core.specs.declared.cause.Cause.{Cause}
 use Rattle.sspi_core.specs.declared.cause.Cause.TheVariants.{Sequence, Shape, Number}
 use Rattle.sspi_core.specs.declared.draw.Draw.{Draw}

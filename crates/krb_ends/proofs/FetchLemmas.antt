@@ -23,28 +23,28 @@ use Rattle.sspi_core.specs.declared.draw.Draw.{Draw}
 use Rattle.sspi_core.specs.declared.protocol.NetworkProtocol.{NetworkProtocol}
 use Rattle.sspi_core.proofs.Chain.{follows, gives}
 use Rattle.sspi_generator.specs.declared.network.NetworkRequest.{NetworkRequest}
-use Rattle.krb_sending.specs.declared.kdc.Kdc.{Kdc}
-use Rattle.krb_sending.specs.Kdcs.{FindsKdc}
-use Rattle.krb_sending.specs.Replies.{Replies}
+use Rattle.krb_as.specs.declared.kdc.Kdc.{Kdc}
+use Rattle.krb_as.specs.Kdcs.{FindsKdc}
+use Rattle.krb_as.specs.Replies.{Replies}
 use Rattle.krb_replies.specs.Unseals.{own_key, session_key}
 use Rattle.krb_replies.specs.Keys.{BringsKey, HandsOnKey}
-use Rattle.krb_client.specs.declared.done.InitDone.{InitDone}
-use Rattle.krb_client.specs.declared.request.Again.{Again}
-use Rattle.krb_client.specs.declared.request.Begun.{Begun}
-use Rattle.krb_client.specs.declared.turn.Turn.TheVariants.{Asks, Ends}
-use Rattle.krb_client.specs.Askers.{asker_suite, default_salt, sized_key}
-use Rattle.krb_client.specs.Asked.{first_request, second_request, Begins, AsksAgain}
-use Rattle.krb_client.specs.Replied.{WantsPreAuth, Grants}
-use Rattle.krb_credentials.specs.ReplyKeys.{client_key, TakesReplyKey}
-use Rattle.krb_tickets.specs.declared.wanted.Shown.{Shown}
-use Rattle.krb_tickets.specs.TgsAsked.{is_same_realm, tgs_request, AsksTgs, Follows}
-use Rattle.krb_tickets.specs.Taken.{TakesAsRep, TakesTgsRep}
-use Rattle.krb_initiator.specs.Shown.{message, shown as shown_to, ShowsTicket}
-use Rattle.krb_initiation.specs.declared.seeker.Seeker.{Seeker}
-use Rattle.krb_initiation.specs.declared.seeker.TgsLeg.{TgsLeg}
-use Rattle.krb_initiation.specs.declared.seeker.InitPhase.TheVariants.{AwaitsError, AwaitsAsRep, AwaitsTgsRep}
-use Rattle.krb_initiation.specs.InitSteps.{body_of, AsksFirst, AsksSecond, AsksFirstTgs, TakesFirst, Refers as RefersOn, Arrives, GoesTo, TakesNext}
-use Rattle.krb_initiation.specs.Tgts.{first_tickets}
+use Rattle.krb_as.specs.declared.done.InitDone.{InitDone}
+use Rattle.krb_as.specs.declared.request.Again.{Again}
+use Rattle.krb_as.specs.declared.request.Begun.{Begun}
+use Rattle.krb_as.specs.declared.turn.Turn.TheVariants.{Asks, Ends}
+use Rattle.krb_as.specs.Askers.{asker_suite, default_salt, sized_key}
+use Rattle.krb_as.specs.Asked.{first_request, second_request, Begins, AsksAgain}
+use Rattle.krb_as.specs.Replied.{WantsPreAuth, Grants}
+use Rattle.krb_as.specs.ReplyKeys.{client_key, TakesReplyKey}
+use Rattle.krb_tgs.specs.declared.wanted.Shown.{Shown}
+use Rattle.krb_tgs.specs.TgsAsked.{is_same_realm, tgs_request, AsksTgs, Follows}
+use Rattle.krb_tgs.specs.Taken.{TakesAsRep, TakesTgsRep}
+use Rattle.krb_ap.specs.Shown.{message, shown as shown_to, ShowsTicket}
+use Rattle.krb_initiator.specs.declared.seeker.Seeker.{Seeker}
+use Rattle.krb_initiator.specs.declared.seeker.TgsLeg.{TgsLeg}
+use Rattle.krb_initiator.specs.declared.seeker.InitPhase.TheVariants.{AwaitsError, AwaitsAsRep, AwaitsTgsRep}
+use Rattle.krb_initiator.specs.InitSteps.{body_of, AsksFirst, AsksSecond, AsksFirstTgs, TakesFirst, Refers as RefersOn, Arrives, GoesTo, TakesNext}
+use Rattle.krb_initiator.specs.Tgts.{first_tickets}
 use Rattle.krb_ends.specs.Answers.{IsDraw, Offered}
 use Rattle.krb_ends.specs.Fetches.{Leads, Fetches, AsksMutual, EndsWithOffer}
 use Rattle.krb_ends.specs.HonestKdc.{Brings, AnswersError, GrantsFirst, Known, GrantsNext, HasKdc, Refers, Serves, Step, Answers, AreHonest, AreHonestKdcs}

@@ -22,7 +22,7 @@ use Rattle.krb_exchange.specs.Table.{pa_data, kdc_rep, tgs_rep}
 use Rattle.krb_exchange.specs.Layouts.{pa_data_row, kdc_rep_row, tgs_rep_row, tgs_rep_layout}
 use Rattle.krb_exchange.specs.declared.kdc_rep.KdcRep.{KdcRep}
 use Rattle.krb_exchange.specs.declared.kdc_rep.TgsRep.{TgsRep}
-use Rattle.krb_options.specs.Options.{ap_options_of, gss_flags_of, gss_deleg}
+use Rattle.krb_context.specs.Options.{ap_options_of, gss_flags_of, gss_deleg}
 use Rattle.bitflags.specs.Sets.{without}
 use Rattle.krb_replies.specs.Unseals.{IsRead}
 use Rattle.krb_requests.specs.Pieces.{spelling, whole_second}
@@ -31,10 +31,10 @@ use Rattle.krb_authenticators.specs.Bindings.{bindings_hash}
 use Rattle.krb_authenticators.specs.Checksums.{default_value, with_flags, with_hash}
 use Rattle.krb_authenticators.proofs.ApLengths.{data_le}
 use Rattle.krb_authenticators.proofs.Lengths.{le_trans, length-hash, number_some}
-use Rattle.krb_initiator.specs.declared.errand.Errand.{Errand}
-use Rattle.krb_initiator.specs.Initiators.{is_bare, exchange_flags}
-use Rattle.krb_initiator.specs.Shown.{drawn_key, drawn_confounder, number_after, gss_checksum, service_authenticator, framed}
-use Rattle.krb_server.specs.Complete.{is_known_options, is_mutual}
+use Rattle.krb_ap.specs.declared.errand.Errand.{Errand}
+use Rattle.krb_ap.specs.Initiators.{is_bare, exchange_flags}
+use Rattle.krb_ap.specs.Shown.{drawn_key, drawn_confounder, number_after, gss_checksum, service_authenticator, framed}
+use Rattle.krb_admission.specs.Complete.{is_known_options, is_mutual}
 use Rattle.sspi_core.specs.declared.bindings.ChannelBindings.{ChannelBindings}
 use Rattle.sspi_core.specs.declared.draw.Draw.{Draw}
 use Rattle.sspi_core.specs.Flags.{has_flag, mutual_auth, use_session_key}

@@ -32,21 +32,21 @@ use Rattle.krb_exchange.specs.declared.user_to_user.TgtReq.{TgtReq}
 use Rattle.krb_replies.specs.declared.unseal.Refusals.{Refusals}
 use Rattle.krb_replies.specs.Unseals.{suite_of, own_key, IsRead, Unseals, Opens}
 use Rattle.krb_requests.specs.Pieces.{spelling}
-use Rattle.krb_initiator.specs.Shown.{framed}
-use Rattle.krb_server.specs.declared.admission.Accepted.{Accepted as Judgement}
-use Rattle.krb_server.specs.declared.admission.Admission.{Admission}
-use Rattle.krb_server.specs.declared.request.Request.{Request}
-use Rattle.krb_server.specs.Accepts.{Begins, Finishes, Judged, Accepts, Asks}
-use Rattle.krb_server.specs.Clients.{client_of}
-use Rattle.krb_server.specs.Complete.{is_known_options, is_mutual, has_good_subkey, Completes}
-use Rattle.krb_server.specs.Opens.{OpensData}
-use Rattle.krb_server.specs.Requests.{is_same_client, OpensTicket, OpensAuthenticator, Requests, ask_of}
-use Rattle.krb_server.specs.Tokens.{ap_req_id, IsApReq, Receives}
-use Rattle.krb_server.proofs.Once.{begins_once}
-use Rattle.krb_server.proofs.Steps.{completed}
-use Rattle.krb_acceptor.specs.declared.accept.Accepted.{Accepted}
-use Rattle.krb_acceptor.specs.Whole.{answered_as, JudgesOther, Makes, AcceptsWhole}
-use Rattle.krb_acceptor.proofs.Once.{ap_req_begins_none}
+use Rattle.krb_ap.specs.Shown.{framed}
+use Rattle.krb_admission.specs.declared.admission.Accepted.{Accepted as Judgement}
+use Rattle.krb_admission.specs.declared.admission.Admission.{Admission}
+use Rattle.krb_admission.specs.declared.request.Request.{Request}
+use Rattle.krb_admission.specs.Accepts.{Begins, Finishes, Judged, Accepts, Asks}
+use Rattle.krb_admission.specs.Clients.{client_of}
+use Rattle.krb_admission.specs.Complete.{is_known_options, is_mutual, has_good_subkey, Completes}
+use Rattle.krb_admission.specs.Opens.{OpensData}
+use Rattle.krb_admission.specs.Requests.{is_same_client, OpensTicket, OpensAuthenticator, Requests, ask_of}
+use Rattle.krb_admission.specs.Tokens.{ap_req_id, IsApReq, Receives}
+use Rattle.krb_admission.proofs.Once.{begins_once}
+use Rattle.krb_admission.proofs.Steps.{completed}
+use Rattle.krb_server.specs.declared.accept.Accepted.{Accepted}
+use Rattle.krb_server.specs.Whole.{answered_as, JudgesOther, Makes, AcceptsWhole}
+use Rattle.krb_server.proofs.Once.{ap_req_begins_none}
 use Rattle.sspi_core.specs.declared.cause.Cause.TheVariants.{Sequence, NoServiceKey, Etype, Names, ClientName, ApOptions, SubKey, Shape}
 use Rattle.sspi_core.specs.declared.cause.Cause.{Cause}
 use Rattle.sspi_core.specs.declared.draw.Draw.{Draw}

@@ -3,14 +3,14 @@ use Rattle.std.proofs.Common.{◌≡◌, List, [], ◌∷◌, sym, subst, Result
 use Rattle.sspi_core.specs.declared.cause.Cause.{Cause}
 use Rattle.sspi_core.specs.declared.draw.Draw.{Draw}
 use Rattle.sspi_generator.specs.declared.network.NetworkRequest.{NetworkRequest}
-use Rattle.krb_client.specs.declared.done.InitDone.{InitDone}
-use Rattle.krb_client.specs.declared.turn.Turn.{Turn}
-use Rattle.krb_client.specs.declared.turn.Turn.TheVariants.{Asks, Ends}
-use Rattle.krb_initiation.specs.declared.seeker.Seeker.{Seeker}
-use Rattle.krb_initiation.specs.declared.seeker.Initiation.TheVariants.{Seeks}
-use Rattle.krb_initiation.specs.declared.seeker.InitPhase.{InitPhase}
-use Rattle.krb_initiation.specs.declared.seeker.InitPhase.TheVariants.{New}
-use Rattle.krb_initiation.proofs.Once.{starts_once, next_once}
+use Rattle.krb_as.specs.declared.done.InitDone.{InitDone}
+use Rattle.krb_as.specs.declared.turn.Turn.{Turn}
+use Rattle.krb_as.specs.declared.turn.Turn.TheVariants.{Asks, Ends}
+use Rattle.krb_initiator.specs.declared.seeker.Seeker.{Seeker}
+use Rattle.krb_initiator.specs.declared.seeker.Initiation.TheVariants.{Seeks}
+use Rattle.krb_initiator.specs.declared.seeker.InitPhase.{InitPhase}
+use Rattle.krb_initiator.specs.declared.seeker.InitPhase.TheVariants.{New}
+use Rattle.krb_initiator.proofs.Once.{starts_once, next_once}
 use Rattle.krb_ends.specs.Fetches.{Leads, Fetches}
 use Rattle.krb_ends.specs.HonestKdc.{Step, Answers}
 

@@ -11,14 +11,14 @@ use Rattle.krb_context.specs.Contexts.{settled}
 use Rattle.krb_context.specs.ServiceKeys.{service_key as key_of_service}
 use Rattle.krb_replay.specs.declared.ask.Ask.{Ask}
 use Rattle.krb_replay.specs.declared.ask.Verdict.{Verdict}
-use Rattle.krb_credentials.specs.declared.client.Client.{Client}
-use Rattle.krb_initiator.specs.Initiators.{is_bare}
-use Rattle.krb_initiation.specs.declared.options.InitOptions.{InitOptions}
-use Rattle.krb_initiation.specs.declared.seeker.Seeker.{Seeker}
-use Rattle.krb_server.specs.Clients.{client_of}
-use Rattle.krb_server.specs.Requests.{ask_of}
-use Rattle.krb_acceptor.specs.declared.accept.Accepted.{Accepted}
-use Rattle.krb_acceptor.specs.Whole.{AcceptsWhole}
+use Rattle.krb_as.specs.declared.client.Client.{Client}
+use Rattle.krb_ap.specs.Initiators.{is_bare}
+use Rattle.krb_initiator.specs.declared.options.InitOptions.{InitOptions}
+use Rattle.krb_initiator.specs.declared.seeker.Seeker.{Seeker}
+use Rattle.krb_admission.specs.Clients.{client_of}
+use Rattle.krb_admission.specs.Requests.{ask_of}
+use Rattle.krb_server.specs.declared.accept.Accepted.{Accepted}
+use Rattle.krb_server.specs.Whole.{AcceptsWhole}
 use Rattle.sspi_core.specs.declared.cause.Cause.{Cause}
 use Rattle.sspi_core.specs.declared.draw.Draw.{Draw}
 use Rattle.sspi_core.specs.declared.identity.CredentialsBuffers.{CredentialsBuffers}

@@ -20,7 +20,7 @@ use Rattle.krb_replies.specs.Answered.{OpensApRep}
 use Rattle.krb_requests.specs.Pieces.{spelling}
 use Rattle.krb_authenticators.proofs.ApLengths.{data_le}
 use Rattle.krb_authenticators.proofs.Lengths.{le_trans}
-use Rattle.krb_server.specs.Admission.{key_with, ap_rep_part, ap_rep_with}
+use Rattle.krb_admission.specs.Admission.{key_with, ap_rep_part, ap_rep_with}
 use Rattle.krb_ends.proofs.HonestLemmas.{spells_itself, opens_carried}
 use Rattle.krb_ends.proofs.OctetsLemmas.{IsShort, short-nothing, short-append, short-field, short-more}
 

@@ -12,19 +12,19 @@ use Rattle.krb_context.specs.Peers.{ArePeers}
 use Rattle.krb_replay.specs.declared.ask.Ask.{Ask}
 use Rattle.krb_replay.specs.declared.ask.Verdict.{Verdict}
 use Rattle.krb_replay.specs.declared.ask.Verdict.TheVariants.{Admitted}
-use Rattle.krb_client.specs.declared.done.InitDone.{InitDone}
-use Rattle.krb_client.specs.declared.turn.Turn.TheVariants.{Ends}
-use Rattle.krb_initiation.specs.declared.options.InitOptions.{InitOptions}
-use Rattle.krb_initiation.specs.declared.seeker.Initiation.{Initiation}
-use Rattle.krb_initiation.specs.declared.seeker.InitPhase.TheVariants.{New}
-use Rattle.krb_initiation.specs.Beginnings.{Begins}
-use Rattle.krb_initiation.specs.InitRuns.{Starts}
-use Rattle.krb_server.specs.declared.admission.Admission.{Admission}
-use Rattle.krb_server.specs.Admission.{drawn_key, mutual_admission, accepted_of, settled}
-use Rattle.krb_server.specs.Requests.{ask_of}
-use Rattle.krb_acceptor.specs.declared.accept.Accepted.{Accepted}
-use Rattle.krb_acceptor.specs.declared.accept.Accepted.TheVariants.{Done}
-use Rattle.krb_acceptor.specs.Whole.{accepted_as, AcceptsWhole}
+use Rattle.krb_as.specs.declared.done.InitDone.{InitDone}
+use Rattle.krb_as.specs.declared.turn.Turn.TheVariants.{Ends}
+use Rattle.krb_initiator.specs.declared.options.InitOptions.{InitOptions}
+use Rattle.krb_initiator.specs.declared.seeker.Initiation.{Initiation}
+use Rattle.krb_initiator.specs.declared.seeker.InitPhase.TheVariants.{New}
+use Rattle.krb_initiator.specs.Beginnings.{Begins}
+use Rattle.krb_initiator.specs.InitRuns.{Starts}
+use Rattle.krb_admission.specs.declared.admission.Admission.{Admission}
+use Rattle.krb_admission.specs.Admission.{drawn_key, mutual_admission, accepted_of, settled}
+use Rattle.krb_admission.specs.Requests.{ask_of}
+use Rattle.krb_server.specs.declared.accept.Accepted.{Accepted}
+use Rattle.krb_server.specs.declared.accept.Accepted.TheVariants.{Done}
+use Rattle.krb_server.specs.Whole.{accepted_as, AcceptsWhole}
 use Rattle.sspi_core.specs.declared.cause.Cause.{Cause}
 use Rattle.sspi_core.specs.declared.draw.Draw.{Draw}
 use Rattle.sspi_core.specs.declared.results.SecurityStatus.{SecurityStatus}

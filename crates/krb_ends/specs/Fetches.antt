@@ -15,19 +15,19 @@ use Rattle.sspi_core.specs.declared.identity.CredentialsBuffers.{CredentialsBuff
 use Rattle.sspi_core.specs.declared.results.SecurityStatus.TheVariants.{ContinueNeeded}
 use Rattle.sspi_core.specs.Flags.{has_flag, mutual_auth, use_session_key}
 use Rattle.sspi_generator.specs.declared.network.NetworkRequest.{NetworkRequest}
-use Rattle.krb_client.specs.declared.done.InitDone.{InitDone}
-use Rattle.krb_client.specs.declared.turn.Turn.TheVariants.{Asks, Ends}
-use Rattle.krb_credentials.specs.declared.client.Client.{Client}
-use Rattle.krb_credentials.specs.Clients.{NamesClient}
-use Rattle.krb_initiator.specs.Initiators.{exchange_flags, is_bare}
-use Rattle.krb_initiation.specs.declared.options.InitOptions.{InitOptions}
-use Rattle.krb_initiation.specs.declared.seeker.Seeker.{Seeker}
-use Rattle.krb_initiation.specs.declared.seeker.Initiation.TheVariants.{Seeks}
-use Rattle.krb_initiation.specs.declared.seeker.InitPhase.{InitPhase}
-use Rattle.krb_initiation.specs.declared.seeker.InitPhase.TheVariants.{New}
-use Rattle.krb_initiation.specs.Beginnings.{identity_of, seeker_of}
-use Rattle.krb_initiation.specs.InitRuns.{Starts, Next}
-use Rattle.krb_initiation.specs.Tgts.{no_tgt}
+use Rattle.krb_as.specs.declared.done.InitDone.{InitDone}
+use Rattle.krb_as.specs.declared.turn.Turn.TheVariants.{Asks, Ends}
+use Rattle.krb_as.specs.declared.client.Client.{Client}
+use Rattle.krb_as.specs.Clients.{NamesClient}
+use Rattle.krb_ap.specs.Initiators.{exchange_flags, is_bare}
+use Rattle.krb_initiator.specs.declared.options.InitOptions.{InitOptions}
+use Rattle.krb_initiator.specs.declared.seeker.Seeker.{Seeker}
+use Rattle.krb_initiator.specs.declared.seeker.Initiation.TheVariants.{Seeks}
+use Rattle.krb_initiator.specs.declared.seeker.InitPhase.{InitPhase}
+use Rattle.krb_initiator.specs.declared.seeker.InitPhase.TheVariants.{New}
+use Rattle.krb_initiator.specs.Beginnings.{identity_of, seeker_of}
+use Rattle.krb_initiator.specs.InitRuns.{Starts, Next}
+use Rattle.krb_initiator.specs.Tgts.{no_tgt}
 use Rattle.krb_ends.specs.Answers.{Offered}
 use Rattle.krb_ends.specs.HonestKdc.{Step, Answers, service_of}
 use Rattle.krb_ends.specs.Offers.{Offer, token_of, IsHonest}

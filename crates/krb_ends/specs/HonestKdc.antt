@@ -15,17 +15,17 @@ use Rattle.krb_exchange.specs.declared.krb_error.KrbError.{KrbError}
 use Rattle.krb_exchange.specs.Layouts.{as_rep_layout, tgs_rep_layout, enc_as_rep_part_layout, enc_tgs_rep_part_layout, krb_error_layout}
 use Rattle.sspi_core.specs.declared.draw.Draw.{Draw}
 use Rattle.sspi_core.specs.declared.protocol.NetworkProtocol.{NetworkProtocol}
-use Rattle.krb_sending.specs.declared.kdc.Kdc.{Kdc}
-use Rattle.krb_sending.specs.Kdcs.{FindsKdc}
-use Rattle.krb_sending.specs.Replies.{Unwraps}
+use Rattle.krb_as.specs.declared.kdc.Kdc.{Kdc}
+use Rattle.krb_as.specs.Kdcs.{FindsKdc}
+use Rattle.krb_as.specs.Replies.{Unwraps}
 use Rattle.krb_replies.specs.Unseals.{IsRead}
 use Rattle.krb_replies.specs.Salts.{NamesSalt, TellsEtype}
 use Rattle.krb_replies.specs.Realms.{referral_realm}
-use Rattle.krb_client.specs.declared.asker.Asker.{Asker}
-use Rattle.krb_client.specs.Askers.{default_salt, sized_key}
-use Rattle.krb_credentials.specs.ReplyKeys.{client_key}
-use Rattle.krb_tickets.specs.TgsAsked.{parts_of, url_for, is_same_realm}
-use Rattle.krb_initiation.specs.declared.seeker.Seeker.{Seeker}
+use Rattle.krb_as.specs.declared.asker.Asker.{Asker}
+use Rattle.krb_as.specs.Askers.{default_salt, sized_key}
+use Rattle.krb_as.specs.ReplyKeys.{client_key}
+use Rattle.krb_tgs.specs.TgsAsked.{parts_of, url_for, is_same_realm}
+use Rattle.krb_initiator.specs.declared.seeker.Seeker.{Seeker}
 use Rattle.krb_ends.specs.Offers.{Carries, IsServiceTicket}
 
 -- what came as a reply brings this record: in a message of at most 2^23 octets

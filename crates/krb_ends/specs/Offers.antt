@@ -18,10 +18,10 @@ use Rattle.krb_context.specs.States.{is_waiting}
 use Rattle.krb_replies.specs.Unseals.{suite_of, IsRead}
 use Rattle.krb_requests.specs.Pieces.{spelling}
 use Rattle.krb_authenticators.specs.ApRequests.{ap_req, service_usage}
-use Rattle.krb_initiator.specs.Shown.{framed}
-use Rattle.krb_server.specs.declared.request.Request.{Request}
-use Rattle.krb_server.specs.Clients.{client_of}
-use Rattle.krb_server.specs.Complete.{is_known_options, is_mutual}
+use Rattle.krb_ap.specs.Shown.{framed}
+use Rattle.krb_admission.specs.declared.request.Request.{Request}
+use Rattle.krb_admission.specs.Clients.{client_of}
+use Rattle.krb_admission.specs.Complete.{is_known_options, is_mutual}
 use Rattle.sspi_core.specs.Usernames.{UserName}
 
 -- a record is sealed in a text

@@ -7,10 +7,10 @@ use Rattle.krb_context.specs.declared.server.ServerProperties.{ServerProperties}
 use Rattle.krb_context.specs.Contexts.{new_context}
 use Rattle.krb_context.specs.Queries.{name_of}
 use Rattle.krb_replay.specs.Book.{Book, Follows, StandsFor}
-use Rattle.krb_server.specs.Accepts.{Accepts, Makes}
-use Rattle.krb_server.specs.Admission.{settled}
-use Rattle.krb_server.specs.declared.admission.Accepted.{Accepted}
-use Rattle.krb_server.specs.declared.admission.Admission.{Admission}
+use Rattle.krb_admission.specs.Accepts.{Accepts, Makes}
+use Rattle.krb_admission.specs.Admission.{settled}
+use Rattle.krb_admission.specs.declared.admission.Accepted.{Accepted}
+use Rattle.krb_admission.specs.declared.admission.Admission.{Admission}
 use Rattle.sspi_core.specs.declared.cause.Cause.{Cause}
 use Rattle.sspi_core.specs.declared.draw.Draw.{Draw}
 use Rattle.krb_gateway.specs.Admits.{Waits, HasName}

@@ -7,9 +7,9 @@ use Rattle.krb_context.specs.Contexts.{new_context}
 use Rattle.krb_context.specs.Params.{default_params}
 use Rattle.krb_context.specs.Queries.{name_of}
 use Rattle.krb_replay.specs.Book.{Book, Follows, StandsFor}
-use Rattle.krb_server.specs.Accepts.{Accepts}
-use Rattle.krb_server.specs.declared.admission.Accepted.{Accepted}
-use Rattle.krb_server.specs.declared.admission.Accepted.TheVariants.{Done}
+use Rattle.krb_admission.specs.Accepts.{Accepts}
+use Rattle.krb_admission.specs.declared.admission.Accepted.{Accepted}
+use Rattle.krb_admission.specs.declared.admission.Accepted.TheVariants.{Done}
 use Rattle.sspi_core.specs.Usernames.{UserName}
 use Rattle.sspi_core.specs.declared.cause.Cause.{Cause}
 use Rattle.sspi_core.specs.declared.draw.Draw.{Draw}

@@ -10,11 +10,11 @@ ghost use Rattle.krb_context.specs.ServiceKeys.{new_properties, IsNotAscii};
 ghost use Rattle.krb_context.specs.Queries.{name_of};
 ghost use Rattle.krb_context.specs.Refusals.{Refuses};
 ghost use Rattle.krb_context.specs.Unwraps.{Unwraps};
-ghost use Rattle.krb_server.specs.Accepts.{Accepts};
-ghost use Rattle.krb_server.specs.declared.admission.Accepted.{Accepted};
+ghost use Rattle.krb_admission.specs.Accepts.{Accepts};
+ghost use Rattle.krb_admission.specs.declared.admission.Accepted.{Accepted};
 ghost use Rattle.krb_gateway.specs.Admits.{Waits, answer_in, Admits, Rejects, HasName, whole_message};
 
-use krb_server::{
+use krb_admission::{
     Accepted, Draw, Env, Error, Flags, Items, Kerberos, KerberosConfig, Message, Octets, Part,
     ReplayBook, Secret, SecurityBufferRef, ServerProperties, ServerRequestFlags, Text, TryCopy,
     Username, accept_security_context,

@@ -1,5 +1,6 @@
-pub mod PartLengths
-pub mod ApRepTokens
-pub mod Numbers
-pub mod ShownLengths
+pub mod Tgts
+pub mod TgtReqs
+pub mod Refusals
+pub mod Tasks
+pub mod Chains
 pub mod Once

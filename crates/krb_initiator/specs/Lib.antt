@@ -1,4 +1,7 @@
-pub mod Initiators
-pub mod ApReps
-pub mod Answered
-pub mod Shown
+pub mod Tgts
+pub mod TgtReqs
+pub mod Seekers
+pub mod Beginnings
+pub mod InitSteps
+pub mod InitRuns
+pub mod Came

@@ -1,20 +1,24 @@
-//! The initiator's end of an exchange (RFC 4120, section 3; RFC 4121, section 4.1).
+//! The initiator whole: from the credentials of a client to a context that is established (RFC 4120, section 3; RFC 4121,
+//! section 4.1).
 //!
-//! [`show_ticket`] shows the service's ticket to the service: an AP-REQ, as a token, and what the context becomes (`ShowsTicket` of
-//! `specs/Shown`). [`take_ap_rep`] takes the service's answer, an AP-REP: a chain of ordered checks, `TakesApRep` of
-//! `specs/Answered`, whose records are in `specs/ApReps`. In DCE style it has the last word. How the ticket is fetched is another
-//! crate's.
+//! [`initialize_security_context`] looks at what its caller asks for and begins an [`InitRun`], a task: it fetches the service's
+//! ticket from KDCs and shows it to the service, or asks the service for the service's own ticket, or hears the service's answer.
+//! What it begins is `Begins` of `specs/Beginnings`, a chain of ordered checks, and so is each step, in `specs/InitSteps`.
 #![tactic(auto)]
 
-mod ap_rep;
-mod change;
-mod errand;
-mod initiator;
-mod service;
-mod show;
+mod as_steps;
+mod begin;
+mod init_run;
+pub mod laws;
+mod options;
+mod seeker;
+mod service_steps;
+mod tgs_steps;
+mod tgt;
+mod tgt_req;
 
-pub use ap_rep::generate_ap_rep;
-pub use errand::Errand;
-pub use initiator::{Initiator, exchange_flags};
-pub use service::take_ap_rep;
-pub use show::show_ticket;
+pub use begin::Identity;
+pub use init_run::{GeneratorInitSecurityContext, InitRun, initialize_security_context};
+pub use options::InitOptions;
+pub use seeker::{InitPhase, Initiation, Seeker, TgsLeg};
+pub use tgt::ServiceTgt;

@@ -4,11 +4,11 @@ use Rattle.krb_context.proofs.ChainLemmas.{passed, gave, took}
 use Rattle.krb_context.specs.declared.context.Kerberos.{Kerberos}
 use Rattle.krb_context.specs.declared.state.KerberosState.{KerberosState}
 use Rattle.krb_context.specs.declared.state.KerberosState.TheVariants.{TgtExchange, Preauthentication, ApExchange, Final}
-use Rattle.krb_initiation.specs.declared.begin.Identity.{Identity}
-use Rattle.krb_initiation.specs.declared.options.InitOptions.{InitOptions}
-use Rattle.krb_initiation.specs.declared.seeker.Initiation.{Initiation}
-use Rattle.krb_initiation.specs.declared.seeker.Initiation.TheVariants.{Requests, Seeks, Hears}
-use Rattle.krb_initiation.specs.Beginnings.{identity_of, NamesIdentity, Identifies, SeeksTicket, RequestsTgt, BeginsNew, BeginsIn, Begins}
+use Rattle.krb_initiator.specs.declared.begin.Identity.{Identity}
+use Rattle.krb_initiator.specs.declared.options.InitOptions.{InitOptions}
+use Rattle.krb_initiator.specs.declared.seeker.Initiation.{Initiation}
+use Rattle.krb_initiator.specs.declared.seeker.Initiation.TheVariants.{Requests, Seeks, Hears}
+use Rattle.krb_initiator.specs.Beginnings.{identity_of, NamesIdentity, Identifies, SeeksTicket, RequestsTgt, BeginsNew, BeginsIn, Begins}
 
 -- it keeps the context's keys, or fetches a ticket for its caller's credentials
 abbrev pub IsFor : Kerberos → InitOptions → Initiation → Type 0

@@ -7,9 +7,9 @@ use Rattle.krb_script.specs.declared.item.Event.{Event}
 use Rattle.sspi_core.specs.Buffer.{Buffer}
 use Rattle.sspi_core.specs.declared.cause.Cause.{Cause}
 use Rattle.sspi_core.specs.declared.identity.CredentialsBuffers.{CredentialsBuffers}
-use Rattle.krb_service.specs.MessageCalls.{IsSealedBy, IsOpenedBy, IsSignedBy, Calls}
-use Rattle.krb_service.specs.declared.connection.Connection.{Connection}
-use Rattle.krb_service.specs.declared.reply.Reply.{Reply}
+use Rattle.krb_machine.specs.MessageCalls.{IsSealedBy, IsOpenedBy, IsSignedBy, Calls}
+use Rattle.krb_machine.specs.declared.connection.Connection.{Connection}
+use Rattle.krb_machine.specs.declared.reply.Reply.{Reply}
 use Rattle.krb_origins.proofs.Known.{Speaks, Stands, stands_beside}
 
 record Keeps (before after : Kerberos) : Type 0 where

@@ -7,11 +7,11 @@ use Rattle.krb_script.specs.declared.endpoint.Role.{Role}
 use Rattle.krb_script.specs.declared.endpoint.Role.TheVariants.{Acceptor, Initiator}
 use Rattle.std.specs.Ordering.{nat_cmp}
 use Rattle.std.specs.BTreeMap.{is_at}
-use Rattle.krb_service.specs.Described.{Remembers, skew_of, service_of, connection_in, connection_of, connections_with, connections_of}
-use Rattle.krb_service.specs.Policy.{State}
-use Rattle.krb_service.specs.Text.{Answered}
-use Rattle.krb_service.specs.declared.connection.Connection.{Connection}
-use Rattle.krb_service.specs.declared.reply.Reply.{Reply}
+use Rattle.krb_machine.specs.Described.{Remembers, skew_of, service_of, connection_in, connection_of, connections_with, connections_of}
+use Rattle.krb_machine.specs.Policy.{State}
+use Rattle.krb_machine.specs.Text.{Answered}
+use Rattle.krb_machine.specs.declared.connection.Connection.{Connection}
+use Rattle.krb_machine.specs.declared.reply.Reply.{Reply}
 use Rattle.krb_origins.specs.Origins.{IsKeyless, HasOrigin}
 use Rattle.krb_origins.proofs.EventLemmas.{origin}
 

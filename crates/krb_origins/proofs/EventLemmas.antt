@@ -8,7 +8,7 @@ use Rattle.std.specs.Option.{option_to_list}
 use Rattle.std.proofs.lemmas.Bool.{eqb-true, true≢false}
 use Rattle.std.proofs.lemmas.List.{append-nil}
 use Rattle.krb_context.specs.declared.server.ServerProperties.{ServerProperties}
-use Rattle.krb_exchanges.specs.declared.run.Run.{Run}
+use Rattle.krb_machine.specs.declared.run.Run.{Run}
 use Rattle.krb_replay.specs.declared.ask.Ask.{Ask}
 use Rattle.krb_replay.specs.declared.ask.Verdict.{Verdict}
 use Rattle.krb_script.specs.Script.{at_id}
@@ -18,13 +18,13 @@ use Rattle.krb_script.specs.declared.item.Event.{Event}
 use Rattle.sspi_core.specs.declared.cause.Cause.{Cause}
 use Rattle.sspi_core.specs.declared.identity.CredentialsBuffers.{CredentialsBuffers}
 use Rattle.sspi_generator.specs.declared.network.NetFault.{NetFault}
-use Rattle.krb_service.specs.Exchanges.{answer_of}
-use Rattle.krb_service.specs.Initiations.{options_of}
-use Rattle.krb_service.specs.MessageCalls.{is_call}
-use Rattle.krb_service.specs.Policy.{State, AnswersCall, TakesAnswer, TakesTurn, Behind, TakesPart, StepsOnward, StepsBy, Steps, Runs, ready, reached, heard, awaited, is_initiator, draw_of}
+use Rattle.krb_machine.specs.Exchanges.{answer_of}
+use Rattle.krb_machine.specs.Initiations.{options_of}
+use Rattle.krb_machine.specs.MessageCalls.{is_call}
+use Rattle.krb_machine.specs.Policy.{State, AnswersCall, TakesAnswer, TakesTurn, Behind, TakesPart, StepsOnward, StepsBy, Steps, Runs, ready, reached, heard, awaited, is_initiator, draw_of}
 use Rattle.sspi_core.specs.Moments.{last_moment}
-use Rattle.krb_service.specs.declared.connection.Connection.{Connection}
-use Rattle.krb_service.specs.declared.reply.Reply.{Reply}
+use Rattle.krb_machine.specs.declared.connection.Connection.{Connection}
+use Rattle.krb_machine.specs.declared.reply.Reply.{Reply}
 use Rattle.krb_origins.specs.Origins.{is_heard, answer_to, HasOrigin, IsKeyless, IsSameInitiator}
 use Rattle.krb_origins.proofs.CallLemmas.{called_stands}
 use Rattle.krb_origins.proofs.Known.{Stands, IsQuiet, stands_first, speaks_before, stands_before}

@@ -5,14 +5,14 @@ use Rattle.krb_context.specs.Contexts.{settled, with_key}
 use Rattle.krb_context.specs.declared.context.ContextChange.{ContextChange}
 use Rattle.krb_context.specs.declared.context.Kerberos.{Kerberos}
 use Rattle.krb_context.specs.declared.server.ServerProperties.{ServerProperties}
-use Rattle.krb_exchanges.specs.declared.run.Run.{Run}
-use Rattle.krb_exchanges.specs.declared.run.Run.TheVariants.{Accepts, Initiates}
-use Rattle.krb_initiation.specs.declared.init_run.InitRun.{InitRun}
-use Rattle.krb_initiation.specs.declared.seeker.Initiation.TheVariants.{Seeks}
-use Rattle.krb_initiation.specs.declared.seeker.Seeker.{Seeker}
+use Rattle.krb_machine.specs.declared.run.Run.{Run}
+use Rattle.krb_machine.specs.declared.run.Run.TheVariants.{Accepts, Initiates}
+use Rattle.krb_initiator.specs.declared.init_run.InitRun.{InitRun}
+use Rattle.krb_initiator.specs.declared.seeker.Initiation.TheVariants.{Seeks}
+use Rattle.krb_initiator.specs.declared.seeker.Seeker.{Seeker}
 use Rattle.krb_script.specs.declared.item.Event.{Event}
 use Rattle.sspi_core.specs.declared.identity.CredentialsBuffers.{CredentialsBuffers}
-use Rattle.krb_service.specs.declared.connection.Connection.{Connection}
+use Rattle.krb_machine.specs.declared.connection.Connection.{Connection}
 use Rattle.krb_origins.specs.Origins.{answer_to, HasOrigin, IsKeyless}
 use Rattle.krb_origins.proofs.BroughtLemmas.{origin_before, AreComing, coming_still}
 use Rattle.krb_origins.proofs.PhaseLemmas.{Led}

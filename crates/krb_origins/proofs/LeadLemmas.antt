@@ -2,9 +2,9 @@
 use Rattle.std.proofs.Common.{◌≡◌, ℕ, ◌+◌, List, [], ◌∷◌, ◌++◌, length, Some, Result, Ok, refl, ap, ◌∙◌, subst, arith, length-append}
 use Rattle.std.proofs.lemmas.List.{length-map}
 use Rattle.sspi_generator.specs.declared.network.NetFault.{NetFault}
-use Rattle.krb_client.specs.declared.done.InitDone.{InitDone}
-use Rattle.krb_initiation.specs.Came.{AreGranted, GrantsFirst, NamesFirst}
-use Rattle.krb_initiation.specs.declared.seeker.Seeker.{Seeker}
+use Rattle.krb_as.specs.declared.done.InitDone.{InitDone}
+use Rattle.krb_initiator.specs.Came.{AreGranted, GrantsFirst, NamesFirst}
+use Rattle.krb_initiator.specs.declared.seeker.Seeker.{Seeker}
 use Rattle.krb_origins.specs.Origins.{handed, LeavesSalt, LeadTo}
 use Rattle.krb_origins.proofs.PhaseLemmas.{LedToEnd, granted_length}
 

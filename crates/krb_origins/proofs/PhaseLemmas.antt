@@ -8,26 +8,26 @@ use Rattle.krb_exchange.specs.declared.kdc_req.KdcReqBody.{KdcReqBody}
 use Rattle.krb_exchange.specs.declared.kdc_rep.TgsRep.{TgsRep}
 use Rattle.krb_exchange.specs.declared.result.KrbResult.{KrbResult}
 use Rattle.krb_context.proofs.ChainLemmas.{passed, gave}
-use Rattle.krb_client.specs.Asked.{AsksAgain}
-use Rattle.krb_client.specs.Replied.{WantsPreAuth, Grants}
-use Rattle.krb_client.specs.declared.done.InitDone.{InitDone}
-use Rattle.krb_client.specs.declared.turn.Turn.{Turn}
-use Rattle.krb_client.specs.declared.turn.Turn.TheVariants.{Asks, Ends}
-use Rattle.krb_initiation.proofs.Chains.{begins, goes_on, ends}
-use Rattle.krb_initiation.specs.Came.{Came, CameWithKey, IsSession, AreGranted}
-use Rattle.krb_initiation.specs.InitRuns.{StartsNew, Continues, Next}
-use Rattle.krb_initiation.specs.InitSteps.{body_of, AsksFirst, AsksSecond, AsksFirstTgs, TakesFirst, Refers, Arrives, GoesTo, TakesNext}
-use Rattle.krb_initiation.specs.declared.seeker.InitPhase.{InitPhase}
-use Rattle.krb_initiation.specs.declared.seeker.InitPhase.TheVariants.{New, AwaitsError, AwaitsAsRep, AwaitsTgsRep, Over}
-use Rattle.krb_initiation.specs.declared.seeker.Initiation.TheVariants.{Seeks}
-use Rattle.krb_initiation.specs.declared.seeker.Seeker.{Seeker}
-use Rattle.krb_initiation.specs.declared.seeker.TgsLeg.{TgsLeg}
+use Rattle.krb_as.specs.Asked.{AsksAgain}
+use Rattle.krb_as.specs.Replied.{WantsPreAuth, Grants}
+use Rattle.krb_as.specs.declared.done.InitDone.{InitDone}
+use Rattle.krb_as.specs.declared.turn.Turn.{Turn}
+use Rattle.krb_as.specs.declared.turn.Turn.TheVariants.{Asks, Ends}
+use Rattle.krb_initiator.proofs.Chains.{begins, goes_on, ends}
+use Rattle.krb_initiator.specs.Came.{Came, CameWithKey, IsSession, AreGranted}
+use Rattle.krb_initiator.specs.InitRuns.{StartsNew, Continues, Next}
+use Rattle.krb_initiator.specs.InitSteps.{body_of, AsksFirst, AsksSecond, AsksFirstTgs, TakesFirst, Refers, Arrives, GoesTo, TakesNext}
+use Rattle.krb_initiator.specs.declared.seeker.InitPhase.{InitPhase}
+use Rattle.krb_initiator.specs.declared.seeker.InitPhase.TheVariants.{New, AwaitsError, AwaitsAsRep, AwaitsTgsRep, Over}
+use Rattle.krb_initiator.specs.declared.seeker.Initiation.TheVariants.{Seeks}
+use Rattle.krb_initiator.specs.declared.seeker.Seeker.{Seeker}
+use Rattle.krb_initiator.specs.declared.seeker.TgsLeg.{TgsLeg}
 use Rattle.krb_replies.specs.Realms.{referral_realm}
-use Rattle.krb_sending.specs.Replies.{brought, Unwraps, Replies}
-use Rattle.krb_sending.specs.declared.kdc.Kdc.{Kdc}
-use Rattle.krb_tickets.specs.Taken.{TakesAsRep, TakesTgsRep}
-use Rattle.krb_tickets.specs.TgsAsked.{Follows}
-use Rattle.krb_tickets.specs.declared.wanted.Shown.{Shown}
+use Rattle.krb_as.specs.Replies.{brought, Unwraps, Replies}
+use Rattle.krb_as.specs.declared.kdc.Kdc.{Kdc}
+use Rattle.krb_tgs.specs.Taken.{TakesAsRep, TakesTgsRep}
+use Rattle.krb_tgs.specs.TgsAsked.{Follows}
+use Rattle.krb_tgs.specs.declared.wanted.Shown.{Shown}
 use Rattle.sspi_core.specs.Checks.{Holds}
 use Rattle.sspi_core.specs.declared.cause.Cause.{Cause}
 use Rattle.sspi_core.specs.declared.draw.Draw.{Draw}

@@ -7,18 +7,18 @@ use Rattle.std.specs.Cmp.{unsigned_tied}
 use Rattle.std.specs.Map.{lookup, set_value}
 use Rattle.std.proofs.lemmas.Bool.{eqb-true, eq-eqb, true≢false}
 use Rattle.krb_context.specs.Contexts.{is_acceptor}
-use Rattle.krb_exchanges.specs.declared.run.Run.{Run}
+use Rattle.krb_machine.specs.declared.run.Run.{Run}
 use Rattle.krb_script.specs.Script.{at_id}
 use Rattle.krb_script.specs.declared.item.Event.{Event}
 use Rattle.krb_script.specs.declared.input.Input.{Input}
 use Rattle.sspi_core.specs.Checks.{ok_or}
 use Rattle.sspi_core.specs.declared.cause.Cause.{Cause}
 use Rattle.sspi_core.specs.declared.cause.Cause.TheVariants as causes
-use Rattle.krb_service.specs.Exchanges.{awaits}
-use Rattle.krb_service.specs.Initiations.{token_heard}
-use Rattle.krb_service.specs.Policy.{◌>>=◌, check, called, ready, reached, heard, awaited, token_of}
+use Rattle.krb_machine.specs.Exchanges.{awaits}
+use Rattle.krb_machine.specs.Initiations.{token_heard}
+use Rattle.krb_machine.specs.Policy.{◌>>=◌, check, called, ready, reached, heard, awaited, token_of}
 use Rattle.sspi_core.specs.Moments.{last_moment}
-use Rattle.krb_service.specs.declared.connection.Connection.{Connection}
+use Rattle.krb_machine.specs.declared.connection.Connection.{Connection}
 
 -- ---- places
 

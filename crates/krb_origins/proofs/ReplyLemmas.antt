@@ -2,22 +2,22 @@
 use Rattle.std.proofs.Common.{◌≡◌, ℕ, true, List, [], ◌∷◌, ◌++◌, Option, Some, Result, Ok, Err, refl, sym, ◌∙◌, subst}
 use Rattle.std.specs.Prelude.{IfSome, nat_le}
 use Rattle.std.proofs.lemmas.Bool.{eq-eqb}
-use Rattle.krb_client.specs.declared.turn.Turn.TheVariants.{Asks, Ends}
-use Rattle.krb_exchanges.specs.declared.run.Run.{Run}
-use Rattle.krb_exchanges.specs.declared.run.Run.TheVariants.{Accepts, Initiates}
-use Rattle.krb_initiation.specs.InitRuns.{Next}
-use Rattle.krb_initiation.specs.declared.init_run.InitRun.{InitRun}
-use Rattle.krb_initiation.specs.declared.seeker.InitPhase.{InitPhase}
-use Rattle.krb_initiation.specs.declared.seeker.Initiation.{Initiation}
-use Rattle.krb_initiation.specs.declared.seeker.Initiation.TheVariants.{Seeks}
+use Rattle.krb_as.specs.declared.turn.Turn.TheVariants.{Asks, Ends}
+use Rattle.krb_machine.specs.declared.run.Run.{Run}
+use Rattle.krb_machine.specs.declared.run.Run.TheVariants.{Accepts, Initiates}
+use Rattle.krb_initiator.specs.InitRuns.{Next}
+use Rattle.krb_initiator.specs.declared.init_run.InitRun.{InitRun}
+use Rattle.krb_initiator.specs.declared.seeker.InitPhase.{InitPhase}
+use Rattle.krb_initiator.specs.declared.seeker.Initiation.{Initiation}
+use Rattle.krb_initiator.specs.declared.seeker.Initiation.TheVariants.{Seeks}
 use Rattle.krb_script.specs.declared.item.Event.{Event}
 use Rattle.sspi_core.specs.declared.draw.Draw.{Draw}
 use Rattle.sspi_core.specs.declared.identity.CredentialsBuffers.{CredentialsBuffers}
 use Rattle.sspi_generator.specs.declared.network.NetFault.{NetFault}
-use Rattle.krb_service.specs.Exchanges.{GoesOn, answer_of}
+use Rattle.krb_machine.specs.Exchanges.{GoesOn, answer_of}
 use Rattle.sspi_core.specs.Moments.{last_moment}
-use Rattle.krb_service.specs.declared.connection.Connection.{Connection}
-use Rattle.krb_service.specs.declared.reply.Reply.{Reply}
+use Rattle.krb_machine.specs.declared.connection.Connection.{Connection}
+use Rattle.krb_machine.specs.declared.reply.Reply.{Reply}
 use Rattle.krb_origins.specs.Origins.{answer_to, HasOrigin}
 use Rattle.krb_origins.proofs.BroughtLemmas.{AreComing, coming_next, coming_brought}
 use Rattle.krb_origins.proofs.Known.{IsFetching, IsUnderWay, Speaks, Stands, speaks_before, stands_free, stands_waiting, stands_settled}

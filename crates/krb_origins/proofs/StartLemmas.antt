@@ -1,33 +1,33 @@
 -- An event at which an initiator begins, or hears its peer, keeps what is known of it.
 use Rattle.std.proofs.Common.{◌≡◌, ℕ, Bool, true, false, List, [], Option, Some, None, Result, Ok, Err, refl, sym, ap, ◌∙◌, subst}
 use Rattle.krb_context.proofs.ChainLemmas.{passed, gave}
-use Rattle.krb_client.specs.declared.done.InitDone.{InitDone}
-use Rattle.krb_client.specs.declared.turn.Turn.{Turn}
-use Rattle.krb_client.specs.declared.turn.Turn.TheVariants.{Asks, Ends}
-use Rattle.krb_exchanges.specs.declared.run.Run.TheVariants.{Initiates}
-use Rattle.krb_initiation.specs.Beginnings.{Begins as BeginsInitiation}
-use Rattle.krb_initiation.specs.InitRuns.{Starts, StartsNew}
-use Rattle.krb_initiation.specs.InitSteps.{requested, HearsAnswer}
-use Rattle.krb_initiation.specs.declared.init_run.InitRun.{InitRun}
-use Rattle.krb_initiation.specs.declared.options.InitOptions.{InitOptions}
-use Rattle.krb_initiation.specs.declared.seeker.InitPhase.{InitPhase}
-use Rattle.krb_initiation.specs.declared.seeker.InitPhase.TheVariants.{New}
-use Rattle.krb_initiation.specs.declared.seeker.Initiation.{Initiation}
-use Rattle.krb_initiation.specs.declared.seeker.Initiation.TheVariants.{Requests, Seeks, Hears}
-use Rattle.krb_initiation.specs.declared.seeker.Seeker.{Seeker}
-use Rattle.krb_initiator.specs.Answered.{Confirms, Replies, Finishes, TakesApRep}
-use Rattle.krb_initiator.specs.Initiators.{is_bare}
-use Rattle.krb_initiator.specs.declared.initiator.Initiator.{Initiator}
+use Rattle.krb_as.specs.declared.done.InitDone.{InitDone}
+use Rattle.krb_as.specs.declared.turn.Turn.{Turn}
+use Rattle.krb_as.specs.declared.turn.Turn.TheVariants.{Asks, Ends}
+use Rattle.krb_machine.specs.declared.run.Run.TheVariants.{Initiates}
+use Rattle.krb_initiator.specs.Beginnings.{Begins as BeginsInitiation}
+use Rattle.krb_initiator.specs.InitRuns.{Starts, StartsNew}
+use Rattle.krb_initiator.specs.InitSteps.{requested, HearsAnswer}
+use Rattle.krb_initiator.specs.declared.init_run.InitRun.{InitRun}
+use Rattle.krb_initiator.specs.declared.options.InitOptions.{InitOptions}
+use Rattle.krb_initiator.specs.declared.seeker.InitPhase.{InitPhase}
+use Rattle.krb_initiator.specs.declared.seeker.InitPhase.TheVariants.{New}
+use Rattle.krb_initiator.specs.declared.seeker.Initiation.{Initiation}
+use Rattle.krb_initiator.specs.declared.seeker.Initiation.TheVariants.{Requests, Seeks, Hears}
+use Rattle.krb_initiator.specs.declared.seeker.Seeker.{Seeker}
+use Rattle.krb_ap.specs.Answered.{Confirms, Replies, Finishes, TakesApRep}
+use Rattle.krb_ap.specs.Initiators.{is_bare}
+use Rattle.krb_ap.specs.declared.initiator.Initiator.{Initiator}
 use Rattle.krb_messages.specs.declared.ap_rep.EncApRepPart.{EncApRepPart}
 use Rattle.krb_messages.specs.declared.encryption.EncryptionKey.{EncryptionKey}
 use Rattle.krb_script.specs.declared.item.Event.{Event}
 use Rattle.sspi_core.specs.declared.cause.Cause.{Cause}
 use Rattle.sspi_core.specs.declared.draw.Draw.{Draw}
 use Rattle.sspi_core.specs.declared.identity.CredentialsBuffers.{CredentialsBuffers}
-use Rattle.krb_service.specs.Exchanges.{Opens}
-use Rattle.krb_service.specs.Initiations.{SetsOut, Undertakes}
-use Rattle.krb_service.specs.declared.connection.Connection.{Connection}
-use Rattle.krb_service.specs.declared.reply.Reply.{Reply}
+use Rattle.krb_machine.specs.Exchanges.{Opens}
+use Rattle.krb_machine.specs.Initiations.{SetsOut, Undertakes}
+use Rattle.krb_machine.specs.declared.connection.Connection.{Connection}
+use Rattle.krb_machine.specs.declared.reply.Reply.{Reply}
 use Rattle.krb_origins.proofs.BegunLemmas.{IsFor, begins_for}
 use Rattle.krb_origins.proofs.BroughtLemmas.{none_coming}
 use Rattle.krb_origins.proofs.Known.{IsFetching, Speaks, Stands, stands_still, stands_free, stands_waiting, stands_kept}

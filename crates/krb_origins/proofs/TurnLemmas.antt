@@ -1,19 +1,19 @@
 -- What a step of an initiator's run makes of its connection.
 use Rattle.std.proofs.Common.{◌≡◌, ℕ, List, Some, None, Result, Ok, Err, subst}
-use Rattle.krb_client.specs.Turns.{Turns, state_of, phase_of}
-use Rattle.krb_client.specs.declared.done.InitDone.{InitDone}
-use Rattle.krb_client.specs.declared.turn.Turn.{Turn}
-use Rattle.krb_client.specs.declared.turn.Turn.TheVariants.{Asks, Ends}
+use Rattle.krb_as.specs.Turns.{Turns, state_of, phase_of}
+use Rattle.krb_as.specs.declared.done.InitDone.{InitDone}
+use Rattle.krb_as.specs.declared.turn.Turn.{Turn}
+use Rattle.krb_as.specs.declared.turn.Turn.TheVariants.{Asks, Ends}
 use Rattle.krb_context.specs.Contexts.{settled}
-use Rattle.krb_exchanges.specs.Runs.{StartsAt, ResumesAt}
-use Rattle.krb_exchanges.specs.Steps.{IsStep, Begins, GoesOn}
-use Rattle.krb_exchanges.specs.declared.exchange.Step.{Step}
-use Rattle.krb_exchanges.specs.declared.run.Run.{Run}
-use Rattle.krb_exchanges.specs.declared.run.Run.TheVariants.{Accepts, Initiates}
-use Rattle.krb_initiation.specs.InitRuns.{Starts, Next}
-use Rattle.krb_initiation.specs.declared.init_run.InitRun.{InitRun}
-use Rattle.krb_initiation.specs.declared.seeker.InitPhase.{InitPhase}
-use Rattle.krb_initiation.specs.declared.seeker.InitPhase.TheVariants.{Over}
+use Rattle.krb_machine.specs.Runs.{StartsAt, ResumesAt}
+use Rattle.krb_machine.specs.Steps.{IsStep, Begins, GoesOn}
+use Rattle.krb_machine.specs.declared.exchange.Step.{Step}
+use Rattle.krb_machine.specs.declared.run.Run.{Run}
+use Rattle.krb_machine.specs.declared.run.Run.TheVariants.{Accepts, Initiates}
+use Rattle.krb_initiator.specs.InitRuns.{Starts, Next}
+use Rattle.krb_initiator.specs.declared.init_run.InitRun.{InitRun}
+use Rattle.krb_initiator.specs.declared.seeker.InitPhase.{InitPhase}
+use Rattle.krb_initiator.specs.declared.seeker.InitPhase.TheVariants.{Over}
 use Rattle.sspi_core.specs.Kinds.{error_of}
 use Rattle.sspi_core.specs.declared.cause.Cause.{Cause}
 use Rattle.sspi_core.specs.declared.cause.Cause.TheVariants.{Memory}
@@ -23,9 +23,9 @@ use Rattle.sspi_generator.specs.declared.network.NetFault.{NetFault}
 use Rattle.sspi_generator.specs.declared.network.NetworkRequest.{NetworkRequest}
 use Rattle.sspi_generator.specs.declared.task.GeneratorState.{GeneratorState}
 use Rattle.sspi_generator.specs.declared.task.GeneratorState.TheVariants.{Suspended, Completed}
-use Rattle.krb_service.specs.Exchanges.{LeadsTo}
-use Rattle.krb_service.specs.declared.connection.Connection.{Connection}
-use Rattle.krb_service.specs.declared.reply.Reply.{Reply}
+use Rattle.krb_machine.specs.Exchanges.{LeadsTo}
+use Rattle.krb_machine.specs.declared.connection.Connection.{Connection}
+use Rattle.krb_machine.specs.declared.reply.Reply.{Reply}
 
 abbrev State : Type 0
 State = GeneratorState NetworkRequest (Result InitDone Error)

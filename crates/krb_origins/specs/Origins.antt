@@ -9,14 +9,14 @@ use Rattle.krb_exchange.specs.declared.kdc_rep.TgsRep.{TgsRep}
 use Rattle.sspi_core.specs.declared.identity.CredentialsBuffers.{CredentialsBuffers}
 use Rattle.sspi_core.specs.declared.protocol.NetworkProtocol.{NetworkProtocol}
 use Rattle.sspi_generator.specs.declared.network.NetFault.{NetFault}
-use Rattle.krb_client.specs.Askers.{default_salt}
-use Rattle.krb_client.specs.Replied.{WantsPreAuth}
-use Rattle.krb_tickets.specs.Chain.{IsChain}
-use Rattle.krb_initiation.specs.Came.{AreGranted, GrantsFirst, is_referral}
+use Rattle.krb_as.specs.Askers.{default_salt}
+use Rattle.krb_as.specs.Replied.{WantsPreAuth}
+use Rattle.krb_tgs.specs.Chain.{IsChain}
+use Rattle.krb_initiator.specs.Came.{AreGranted, GrantsFirst, is_referral}
 use Rattle.krb_script.specs.declared.item.Event.{Event}
-use Rattle.krb_service.specs.Exchanges.{answer_of}
+use Rattle.krb_machine.specs.Exchanges.{answer_of}
 use Rattle.sspi_core.specs.Moments.{last_moment}
-use Rattle.krb_service.specs.declared.connection.Connection.{Connection}
+use Rattle.krb_machine.specs.declared.connection.Connection.{Connection}
 
 -- the event is for the connection with this number, and its moment is in range
 abbrev pub is_heard : ℕ → Event → Bool

@@ -4,11 +4,11 @@ ghost use Rattle.std.specs.Prelude.{◌≡◌, ℕ, List, Some, None};
 ghost use Rattle.krb_replay.specs.History.{History};
 ghost use Rattle.krb_script.specs.Script.{Setup, Declared, at_id};
 ghost use Rattle.krb_script.specs.declared.item.Event.{Event};
-ghost use Rattle.krb_service.specs.Described.{connections_of};
-ghost use Rattle.krb_service.specs.Policy.{State, Runs};
-ghost use Rattle.krb_service.specs.Text.{Answered};
-ghost use Rattle.krb_service.specs.declared.connection.Connection.{Connection};
-ghost use Rattle.krb_service.specs.declared.reply.Reply.{Reply};
+ghost use Rattle.krb_machine.specs.Described.{connections_of};
+ghost use Rattle.krb_machine.specs.Policy.{State, Runs};
+ghost use Rattle.krb_machine.specs.Text.{Answered};
+ghost use Rattle.krb_machine.specs.declared.connection.Connection.{Connection};
+ghost use Rattle.krb_machine.specs.declared.reply.Reply.{Reply};
 ghost use Rattle.krb_origins.specs.Origins.{IsKeyless, HasOrigin, IsSameInitiator};
 
 use krb_replay::ReplayGate;

@@ -14,17 +14,17 @@ use Rattle.sspi_core.specs.declared.identity.CredentialsBuffers.{CredentialsBuff
 use Rattle.sspi_core.specs.declared.protocol.NetworkProtocol.{NetworkProtocol}
 use Rattle.sspi_generator.specs.declared.network.NetFault.{NetFault}
 use Rattle.sspi_generator.specs.Steps.{IsFailure}
-use Rattle.krb_sending.specs.declared.kdc.Kdc.{Kdc}
-use Rattle.krb_sending.specs.Replies.{Unwraps, Replies}
+use Rattle.krb_as.specs.declared.kdc.Kdc.{Kdc}
+use Rattle.krb_as.specs.Replies.{Unwraps, Replies}
 use Rattle.krb_replies.specs.Told.{Hands}
 use Rattle.krb_replies.specs.Salts.{entry_hint, first_hint, TellsEtype}
 use Rattle.krb_replies.specs.Keys.{BringsKey}
 use Rattle.krb_replies.specs.Answered.{TellsStatus}
 use Rattle.krb_replies.specs.Unseals.{Unseals, Opens}
-use Rattle.krb_client.specs.declared.asker.Asker.{Asker}
-use Rattle.krb_client.proofs.Refusals.{IsNetwork, Refuses, then_refuses, finds_refuses, takes_refuses, holds_refuses, gives_refuses, begins_refuses, again_refuses, grants_refuse, replies_refuse}
-use Rattle.krb_credentials.specs.declared.key.ReplyKey.{ReplyKey}
-use Rattle.krb_credentials.specs.ReplyKeys.{TakesReplyKey}
+use Rattle.krb_as.specs.declared.asker.Asker.{Asker}
+use Rattle.krb_as.proofs.Refusals.{IsNetwork, Refuses, then_refuses, finds_refuses, takes_refuses, holds_refuses, gives_refuses, begins_refuses, again_refuses, grants_refuse, replies_refuse}
+use Rattle.krb_as.specs.declared.key.ReplyKey.{ReplyKey}
+use Rattle.krb_as.specs.ReplyKeys.{TakesReplyKey}
 use Rattle.krb_password_change.specs.declared.change.Changer.{Changer}
 use Rattle.krb_password_change.specs.declared.phase.AnswerLeg.{AnswerLeg}
 use Rattle.krb_password_change.specs.declared.phase.ChangePhase.{ChangePhase}

@@ -8,9 +8,9 @@ use Rattle.sspi_core.specs.declared.error.Error.{Error}
 use Rattle.sspi_generator.specs.declared.network.NetworkRequest.{NetworkRequest}
 use Rattle.sspi_generator.specs.declared.task.GeneratorState.{GeneratorState}
 use Rattle.sspi_generator.specs.Steps.{OnSuspended}
-use Rattle.krb_client.specs.declared.turn.Turn.{Turn}
-use Rattle.krb_client.specs.declared.turn.Turn.TheVariants.{Asks, Ends}
-use Rattle.krb_client.specs.Turns.{state_of, phase_of}
+use Rattle.krb_as.specs.declared.turn.Turn.{Turn}
+use Rattle.krb_as.specs.declared.turn.Turn.TheVariants.{Asks, Ends}
+use Rattle.krb_as.specs.Turns.{state_of, phase_of}
 use Rattle.krb_password_change.specs.declared.phase.ChangePhase.{ChangePhase}
 use Rattle.krb_password_change.specs.declared.phase.ChangePhase.TheVariants.{Over}
 use Rattle.krb_password_change.specs.ChangeRuns.{GoesDown, IsAwaiting, turns_left}

@@ -10,9 +10,9 @@ use Rattle.sspi_generator.specs.declared.network.NetworkRequest.{NetworkRequest}
 use Rattle.sspi_generator.specs.declared.network.NetFault.{NetFault}
 use Rattle.sspi_generator.specs.declared.task.GeneratorState.{GeneratorState}
 use Rattle.krb_requests.specs.Pieces.{Fits}
-use Rattle.krb_client.specs.declared.turn.Turn.{Turn}
-use Rattle.krb_client.specs.declared.turn.Turn.TheVariants.{Asks, Ends}
-use Rattle.krb_client.specs.Turns.{Turns}
+use Rattle.krb_as.specs.declared.turn.Turn.{Turn}
+use Rattle.krb_as.specs.declared.turn.Turn.TheVariants.{Asks, Ends}
+use Rattle.krb_as.specs.Turns.{Turns}
 use Rattle.krb_password_change.specs.declared.change.Changer.{Changer}
 use Rattle.krb_password_change.specs.declared.phase.ChangePhase.{ChangePhase}
 use Rattle.krb_password_change.specs.declared.phase.ChangePhase.TheVariants.{New, AwaitsError, AwaitsAsRep, AwaitsAnswer, Over}

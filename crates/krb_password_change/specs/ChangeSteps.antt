@@ -17,19 +17,19 @@ use Rattle.sspi_core.specs.declared.cause.Cause.{Cause}
 use Rattle.sspi_core.specs.declared.cause.Cause.TheVariants.{KeyLength, Port, Shape, ResultCode}
 use Rattle.sspi_core.specs.Checks.{Finds, Gives, Holds, Takes, ◌>>=◌, ◌>>◌}
 use Rattle.sspi_generator.specs.declared.network.NetFault.{NetFault}
-use Rattle.krb_sending.specs.declared.kdc.Kdc.{Kdc}
-use Rattle.krb_sending.specs.Replies.{Unwraps}
+use Rattle.krb_as.specs.declared.kdc.Kdc.{Kdc}
+use Rattle.krb_as.specs.Replies.{Unwraps}
 use Rattle.krb_replies.specs.Answered.{TellsStatus}
-use Rattle.krb_client.specs.declared.turn.Turn.{Turn}
-use Rattle.krb_client.specs.declared.turn.Turn.TheVariants.{Asks, Ends}
-use Rattle.krb_client.specs.declared.asker.Asker.{Asker}
-use Rattle.krb_client.specs.Replied.{Grants}
-use Rattle.krb_client.specs.Asked.{Begins, AsksAgain}
-use Rattle.krb_credentials.specs.declared.client.Client.{Client}
-use Rattle.krb_credentials.specs.declared.body.FirstService.TheVariants.{PasswordChange}
-use Rattle.krb_credentials.specs.declared.key.ReplyKey.{ReplyKey}
-use Rattle.krb_credentials.specs.FirstBodies.{first_body}
-use Rattle.krb_credentials.specs.ReplyKeys.{TakesReplyKey}
+use Rattle.krb_as.specs.declared.turn.Turn.{Turn}
+use Rattle.krb_as.specs.declared.turn.Turn.TheVariants.{Asks, Ends}
+use Rattle.krb_as.specs.declared.asker.Asker.{Asker}
+use Rattle.krb_as.specs.Replied.{Grants}
+use Rattle.krb_as.specs.Asked.{Begins, AsksAgain}
+use Rattle.krb_as.specs.declared.client.Client.{Client}
+use Rattle.krb_as.specs.declared.body.FirstService.TheVariants.{PasswordChange}
+use Rattle.krb_as.specs.declared.key.ReplyKey.{ReplyKey}
+use Rattle.krb_as.specs.FirstBodies.{first_body}
+use Rattle.krb_as.specs.ReplyKeys.{TakesReplyKey}
 use Rattle.krb_password_change.specs.declared.change.Changer.{Changer}
 use Rattle.krb_password_change.specs.declared.phase.AnswerLeg.{AnswerLeg}
 use Rattle.krb_password_change.specs.declared.phase.ChangePhase.{ChangePhase}

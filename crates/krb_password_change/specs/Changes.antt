@@ -6,9 +6,9 @@ use Rattle.sspi_core.specs.declared.identity.CredentialsBuffers.{CredentialsBuff
 use Rattle.sspi_core.specs.declared.identity.CredentialsBuffers.TheVariants.{AuthIdentity as Password}
 use Rattle.sspi_core.specs.declared.cause.Cause.{Cause}
 use Rattle.sspi_core.specs.Checks.{Gives, ◌>>=◌}
-use Rattle.krb_client.specs.Askers.{asker_of}
-use Rattle.krb_credentials.specs.declared.client.Client.{Client}
-use Rattle.krb_credentials.specs.Clients.{NamesClient, IsShort}
+use Rattle.krb_as.specs.Askers.{asker_of}
+use Rattle.krb_as.specs.declared.client.Client.{Client}
+use Rattle.krb_as.specs.Clients.{NamesClient, IsShort}
 use Rattle.krb_password_change.specs.declared.change.ChangePassword.{ChangePassword}
 use Rattle.krb_password_change.specs.declared.change.Changer.{Changer}
 

@@ -3,7 +3,7 @@ use Rattle.std.specs.Prelude.{Option, Some, None, option_map, if◌then◌else�
 use Rattle.url.specs.Parts.{Parts, cannot_have_credentials_or_port}
 use Rattle.sspi_core.specs.declared.protocol.NetworkProtocol.{NetworkProtocol}
 use Rattle.sspi_core.specs.declared.protocol.NetworkProtocol.TheVariants.{Tcp, Udp, Http, Https}
-use Rattle.krb_sending.specs.declared.kdc.Kdc.{Kdc}
+use Rattle.krb_as.specs.declared.kdc.Kdc.{Kdc}
 
 -- the same URL with port 464, unless it takes none
 abbrev pub at_port : Parts → Option Parts

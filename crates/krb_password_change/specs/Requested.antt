@@ -13,8 +13,8 @@ use Rattle.krb_exchange.specs.Layouts.{krb_priv_layout}
 use Rattle.krb_exchange.specs.PrivMessages.{message_octets}
 use Rattle.sspi_core.specs.declared.draw.Draw.{Draw}
 use Rattle.sspi_generator.specs.declared.network.NetworkRequest.{NetworkRequest}
-use Rattle.krb_sending.specs.declared.kdc.Kdc.{Kdc}
-use Rattle.krb_sending.specs.Requests.{request_to}
+use Rattle.krb_as.specs.declared.kdc.Kdc.{Kdc}
+use Rattle.krb_as.specs.Requests.{request_to}
 use Rattle.krb_requests.specs.Pieces.{spelling}
 use Rattle.krb_authenticators.specs.declared.options.EncKey.{EncKey}
 use Rattle.krb_authenticators.specs.Authenticators.{authenticator}

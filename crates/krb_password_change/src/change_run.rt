@@ -6,7 +6,7 @@ ghost use Rattle.sspi_core.specs.declared.cause.Cause.TheVariants as causes;
 ghost use Rattle.sspi_core.specs.Moments.{last_moment};
 ghost use Rattle.sspi_core.specs.Kinds.{error_of};
 ghost use Rattle.sspi_core.specs.Checks.{Answers};
-ghost use Rattle.krb_client.specs.Turns.{is_want};
+ghost use Rattle.krb_as.specs.Turns.{is_want};
 ghost use Rattle.krb_password_change.specs.declared.change.Changer.{Changer};
 ghost use Rattle.krb_password_change.specs.declared.phase.ChangePhase.TheVariants as phases;
 ghost use Rattle.krb_password_change.specs.Changes.{BeginsChange, IsReady};
@@ -16,7 +16,7 @@ use crate::answer::take_answer;
 use crate::change::{ChangePassword, Changer, begin_change};
 use crate::phase::ChangePhase;
 use crate::steps::{ask_first, ask_second, body_of, take_as_rep};
-use krb_client::{Turn, go_on, is_want};
+use krb_as::{Turn, go_on, is_want};
 use krb_conf::Env;
 use krb_context::{ContextChange, Kerberos};
 use krb_der::Octets;
@@ -146,7 +146,7 @@ fn next(
 }
 
 impl Task for ChangePasswordRun {
-    ghost use Rattle.krb_client.specs.Turns.{IsWant, IsFault};
+    ghost use Rattle.krb_as.specs.Turns.{IsWant, IsFault};
     ghost use Rattle.krb_password_change.specs.ChangeRuns.{IsNew, IsWaiting, StartsAt, turns_left};
 
     type Out = Result<ContextChange, Error>;

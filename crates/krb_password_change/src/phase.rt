@@ -3,7 +3,7 @@
 use krb_crypto::CipherSuite;
 use krb_der::{Name, Octets, Text};
 use krb_exchange::KdcReqBody;
-use krb_sending::Kdc;
+use krb_as::Kdc;
 use sspi_core::{NetworkProtocol, Secret};
 
 /// The answer of the service that changes passwords, as it is awaited.

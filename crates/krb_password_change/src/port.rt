@@ -6,7 +6,7 @@ ghost use Rattle.sspi_core.specs.Checks.{Answers, Takes};
 ghost use Rattle.krb_password_change.specs.Ports.{at_port, password_url, password_kdc};
 
 use krb_der::TryCopy;
-use krb_sending::Kdc;
+use krb_as::Kdc;
 use sspi_core::{Cause, NetworkProtocol};
 use std::alloc::Global;
 use url::{ParseError, Url};

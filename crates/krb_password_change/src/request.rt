@@ -7,7 +7,7 @@ ghost use Rattle.krb_context.specs.Params.{suite_of};
 ghost use Rattle.sspi_core.specs.Moments.{last_moment};
 ghost use Rattle.krb_requests.specs.Pieces.{Fits};
 ghost use Rattle.krb_authenticators.specs.Passwords.{FitsPriv};
-ghost use Rattle.krb_credentials.specs.Granted.{IsSendable};
+ghost use Rattle.krb_as.specs.Granted.{IsSendable};
 ghost use Rattle.krb_password_change.specs.Changes.{IsReady};
 ghost use Rattle.krb_password_change.specs.Requested.{drawn_key, first_confounder, second_confounder, number_after, change_authenticator, message_by, change_message, written, change_request};
 
@@ -20,7 +20,7 @@ use krb_crypto::CipherSuite;
 use krb_der::{Items, Octets, OutOfMemory, TryCopy, boxed};
 use krb_exchange::{KdcRep, KrbPrivMessage};
 use krb_messages::{Authenticator, Ticket};
-use krb_sending::{Kdc, request_to};
+use krb_as::{Kdc, request_to};
 use sspi_core::{Draw, Secret};
 use sspi_generator::NetworkRequest;
 use std::alloc::Global;

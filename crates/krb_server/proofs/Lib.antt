@@ -1,6 +1,3 @@
 pub mod Frames
-pub mod Begun
-pub mod Lengths
+pub mod Retold
 pub mod Once
-pub mod Steps
-pub mod Words

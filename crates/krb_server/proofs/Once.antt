@@ -1,127 +1,94 @@
--- Each chain of checks has at most one answer.
-use Rattle.std.proofs.Common.{◌≡◌, ℕ, Bool, true, false, List, [], Result, Ok, Err, refl, sym, ap, ◌∙◌, subst}
-use Rattle.krb_der.specs.Layout.{Layout}
-use Rattle.krb_der.proofs.Records.{one_spelling_lem}
-use Rattle.krb_messages.specs.Layouts.{ap_req_layout, enc_ticket_part_layout, authenticator_layout, ap_rep_layout, enc_ap_rep_part_layout}
-use Rattle.krb_messages.specs.declared.ap_rep.ApRep.{ApRep}
-use Rattle.krb_context.specs.Params.{suite_of}
-use Rattle.krb_server.specs.declared.admission.Accepted.{Accepted}
-use Rattle.krb_messages.specs.declared.ap_req.ApReq.{ApReq}
-use Rattle.krb_messages.specs.declared.enc_ticket_part.EncTicketPart.{EncTicketPart}
-use Rattle.krb_messages.specs.declared.encryption.EncryptedData.{EncryptedData}
-use Rattle.krb_crypto.specs.declared.suite.CipherSuite.{CipherSuite}
-use Rattle.krb_crypto.proofs.SealedLemmas.{sealed_once}
+-- A token begins user-to-user in one way, and not where it is an AP-REQ; and a TGT-REQ has at most one answer.
+use Rattle.std.proofs.Common.{◌≡◌, ℕ, Bool, true, false, List, [], ◌∷◌, Option, Some, None, Result, Ok, Err, refl, sym, ap, ◌∙◌, subst}
+use Rattle.krb_conf.specs.declared.env.Env.{Env}
 use Rattle.krb_context.specs.declared.context.Kerberos.{Kerberos}
-use Rattle.krb_context.specs.declared.server.ServerProperties.{ServerProperties}
-use Rattle.krb_replay.specs.declared.ask.Verdict.{Verdict}
+use Rattle.krb_context.specs.declared.state.KerberosState.{KerberosState}
+use Rattle.krb_der.specs.Der.{tlv}
+use Rattle.krb_messages.specs.Frame.{IsFrame}
+use Rattle.krb_messages.specs.Layouts.{ap_req_layout}
+use Rattle.krb_messages.specs.Table.{ap_req}
+use Rattle.krb_messages.specs.declared.ap_req.ApReq.{ApReq}
+use Rattle.krb_exchange.specs.Layouts.{tgt_req_layout}
+use Rattle.krb_exchange.specs.Table.{tgt_req as tgt_req_kind}
+use Rattle.krb_exchange.specs.declared.user_to_user.TgtReq.{TgtReq}
+use Rattle.krb_exchange.proofs.Spelled.{same_record}
+use Rattle.krb_replies.specs.Unseals.{IsRead}
 use Rattle.sspi_core.specs.declared.cause.Cause.{Cause}
-use Rattle.sspi_core.specs.declared.draw.Draw.{Draw}
-use Rattle.sspi_core.proofs.Once.{Once, then_once, finds_once, takes_once, holds_once, passes_once, gives_once}
-use Rattle.krb_server.specs.declared.request.Request.{Request}
-use Rattle.krb_server.specs.declared.admission.Admission.{Admission}
-use Rattle.krb_replies.specs.declared.unseal.Refusals.{Refusals}
-use Rattle.krb_replies.specs.Unseals.{IsRead, own_key, session_key, Unseals, Opens}
-use Rattle.krb_replies.specs.Answered.{OpensApRep, TellsNumber}
-use Rattle.krb_server.specs.Opens.{OpensData}
-use Rattle.krb_server.specs.Tokens.{IsApReq, Receives}
-use Rattle.krb_server.specs.Requests.{OpensTicket, OpensAuthenticator, Requests}
-use Rattle.krb_server.specs.Complete.{Completes}
-use Rattle.krb_server.specs.ThirdLeg.{ReadsApRep, TellsLast, IsLastWord, Closes, Concludes}
-use Rattle.krb_server.specs.Accepts.{Begins, Finishes, Judged}
-use Rattle.krb_server.proofs.Frames.{same_message}
+use Rattle.sspi_core.proofs.Once.{Once, then_once, takes_once}
+use Rattle.krb_admission.proofs.Begun.{passed}
+use Rattle.krb_admission.proofs.Frames.{same_behind, same_message}
+use Rattle.krb_admission.specs.Accepts.{Begins as BeginsApReq}
+use Rattle.krb_admission.specs.Requests.{Requests}
+use Rattle.krb_admission.specs.Tokens.{ap_req_id, IsApReq, Receives}
+use Rattle.krb_admission.specs.declared.request.Request.{Request}
+use Rattle.krb_user_to_user.proofs.Once.{requests_tgt_once}
+use Rattle.krb_user_to_user.specs.declared.accept_run.AcceptRun.{AcceptRun}
+use Rattle.krb_user_to_user.specs.declared.request.Beginning.{Beginning}
+use Rattle.krb_server.specs.declared.accept.Accepted.{Accepted}
+use Rattle.krb_server.specs.declared.accept.Accepted.TheVariants.{Run}
+use Rattle.krb_server.specs.TgtReqs.{Found, IsTgtReq, Begins}
+use Rattle.krb_server.specs.Whole.{Checks, RunsAs, TakesTgtReq}
 
--- octets spell one record
-read_once : {A : Type 0} (layout : Layout A) (octets : List ℕ) (x y : A) → IsRead layout octets x → IsRead layout octets y → x ≡ y
-read_once layout octets x y h k =
-    sym (layout.back x) ∙ ap layout.of (one_spelling_lem layout.kind (layout.view x) (layout.view y) octets octets [] [] layout.ascends h k refl).1 ∙ layout.back y
+same_tgt_req : (dce : Bool) (token : List ℕ) (x y : TgtReq) → IsTgtReq dce token x → IsTgtReq dce token y → x ≡ y
+same_tgt_req true token x y h k = same_record tgt_req_layout x y token h k
+same_tgt_req false token x y h k =
+    let R : List ℕ → Type 0 = λ octets. IsRead tgt_req_layout octets x in
+    same_record tgt_req_layout x y k.octets (subst R (same_message _ _ _ _ _ token h.frame k.frame) h.read) k.read
 
-unseals_once : (refusals : Refusals) (suite : CipherSuite) (key : List ℕ) (usage : ℕ) (text : List ℕ) → Once (Unseals refusals suite key usage text)
-unfolding Unseals
-unseals_once refusals suite key usage text =
-    then_once _ _ (holds_once _ _) (λ _. then_once _ _ (holds_once _ _) (λ _. finds_once _ _ (sealed_once suite key usage text)))
+-- the TGT-REQ that a token is, if it is one
+pub found_once : (dce : Bool) (state : KerberosState) (token : List ℕ) (x y : Option TgtReq) → Found (Begins dce state token) x → Found (Begins dce state token) y → x ≡ y
+found_once dce state token None None h k = refl
+found_once dce state token None (Some y) h k = absurd (h y k)
+found_once dce state token (Some x) None h k = absurd (k x h)
+found_once dce state token (Some x) (Some y) h k = ap Some (same_tgt_req dce token x y h.is k.is)
 
-opens_once : {A : Type 0} (layout : Layout A) (refusals : Refusals) (suite : CipherSuite) (key : List ℕ) (usage : ℕ) (text : List ℕ) → Once (Opens layout refusals suite key usage text)
-unfolding Opens
-opens_once layout refusals suite key usage text = then_once _ _ (unseals_once refusals suite key usage text) (λ plain. finds_once _ _ (read_once layout plain))
+-- the token id of an AP-REQ is no TGT-REQ's
+other_token_id : (o p m n octets : List ℕ) → IsFrame o ap_req_id m octets → IsFrame p (4 ∷ 0 ∷ []) n octets → ⊥
+other_token_id o p m n octets first second = let e = same_behind o p ap_req_id (4 ∷ 0 ∷ []) m n octets first second in absurd cc
 
-opens_data_once : {A : Type 0} (layout : Layout A) (key : List ℕ) (usage : ℕ) (part : EncryptedData) → Once (OpensData layout key usage part)
-unfolding OpensData
-opens_data_once layout key usage part =
-    then_once _ _ (takes_once _ _) (λ suite. then_once _ _ (opens_once layout own_key suite key usage part.cipher) (λ value. gives_once _))
+-- neither is its tag
+other_tag : (token : List ℕ) (m : ApReq) (t : TgtReq) → IsRead ap_req_layout token m → IsRead tgt_req_layout token t → ⊥
+unfolding ap_req tgt_req_kind tlv
+other_tag token m t h k = let e = sym h.is ∙ k.is in absurd cc
 
-same_ap_req : (dce : Bool) (token : List ℕ) (m n : ApReq) → IsApReq dce token m → IsApReq dce token n → m ≡ n
-same_ap_req true token m n h k = read_once ap_req_layout token m n h k
-same_ap_req false token m n h k =
-    read_once ap_req_layout k.octets m n (subst (λ (octets : List ℕ). IsRead ap_req_layout octets m) (same_message _ _ _ _ _ token h.frame k.frame) h.read) k.read
+-- an AP-REQ is no TGT-REQ
+no_tgt_req : (dce : Bool) (token : List ℕ) (message : ApReq) (tgt_req : TgtReq) → IsApReq dce token message → IsTgtReq dce token tgt_req → ⊥
+no_tgt_req true token message tgt_req h k = other_tag token message tgt_req h k
+no_tgt_req false token message tgt_req h k = other_token_id _ _ _ _ token h.frame k.frame
 
-receives_once : (dce : Bool) (token : List ℕ) → Once (Receives dce token)
-unfolding Receives
-receives_once dce token = then_once _ _ (holds_once _ _) (λ _. finds_once _ _ (same_ap_req dce token))
+ap_req_in : (server : Kerberos) (dce : Bool) (token : List ℕ) (request : Request) → BeginsApReq server dce token (Ok request) → (message : ApReq) × IsApReq dce token message
+unfolding BeginsApReq Requests Receives
+ap_req_in server dce token request h =
+    let a = passed _ _ _ h in
+    let b = passed _ _ _ a.rest in
+    let m = passed _ _ _ b.rest in
+    let s = passed _ _ _ m.held in
+    (m.found, s.rest.is)
 
-opens_ticket_once : (server : ServerProperties) (message : ApReq) → Once (OpensTicket server message)
-unfolding OpensTicket
-opens_ticket_once server message =
-    then_once _ _ (takes_once _ _) (λ key. then_once _ _ (opens_data_once enc_ticket_part_layout key 2 message.ticket.enc_part) (λ _. gives_once _))
+none_found : (dce : Bool) (state : KerberosState) (token : List ℕ) (message : ApReq) → IsApReq dce token message → (found : Option TgtReq) → Found (Begins dce state token) found → found ≡ None
+none_found dce state token message is None h = refl
+none_found dce state token message is (Some tgt_req) h = absurd (no_tgt_req dce token message tgt_req is h.is)
 
-opens_authenticator_once : (message : ApReq) (part : EncTicketPart) → Once (OpensAuthenticator message part)
-unfolding OpensAuthenticator
-opens_authenticator_once message part =
-    then_once _ _ (opens_data_once authenticator_layout part.key.key_value 11 message.authenticator) (λ _. then_once _ _ (holds_once _ _) (λ _. gives_once _))
+-- a token whose AP-REQ passes the checks before the gate begins no user-to-user
+pub ap_req_begins_none : (server : Kerberos) (dce : Bool) (token : List ℕ) (request : Request) → BeginsApReq server dce token (Ok request) → (found : Option TgtReq) → Found (Begins dce server.state token) found → found ≡ None
+ap_req_begins_none server dce token request begun found h = let came = ap_req_in server dce token request begun in none_found dce server.state token came.0 came.1 found h
 
-requests_once : (server : ServerProperties) (dce : Bool) (token : List ℕ) → Once (Requests server dce token)
-unfolding Requests
-requests_once server dce token =
-    then_once _ _ (receives_once dce token) (λ message. then_once _ _ (opens_ticket_once server message) (λ part.
-    then_once _ _ (opens_authenticator_once message part) (λ _. gives_once _)))
+-- a run is who asks and how far it has come
+pub same_run : (x y : AcceptRun) → x.acceptor ≡ y.acceptor → x.phase ≡ y.phase → x ≡ y
+same_run x y a p = ap (λ z. record { alloc = x.alloc; acceptor = z; phase = x.phase }) a ∙ ap (λ z. record { alloc = x.alloc; acceptor = y.acceptor; phase = z }) p
 
-pub begins_once : (server : Kerberos) (dce : Bool) (token : List ℕ) → Once (Begins server dce token)
-unfolding Begins
-begins_once server dce token =
-    then_once _ _ (holds_once _ _) (λ _. then_once _ _ (takes_once _ _) (λ p. requests_once p dce token))
+checks_once : (server : Kerberos) (tgt_req : TgtReq) (dce : Bool) (env : Env) → Once (Checks server tgt_req dce env)
+unfolding Checks
+checks_once server tgt_req dce env = then_once _ _ (takes_once _ _) (λ user. requests_tgt_once server user tgt_req dce env)
 
-completes_once : (request : Request) → Once (Completes request)
-unfolding Completes
-completes_once request = then_once _ _ (takes_once _ _) (λ client. then_once _ _ (holds_once _ _) (λ _. then_once _ _ (holds_once _ _) (λ _. gives_once _)))
+runs_once : (beginning : Result Beginning Cause) (r s : Result Accepted Cause) → RunsAs beginning r → RunsAs beginning s → r ≡ s
+runs_once (Ok beginning) r s h k =
+    let same = same_run h.0 k.0 (h.2 ∙ sym k.2) (h.3 ∙ sym k.3) in
+    h.1 ∙ ap (λ (run : AcceptRun). Ok (Run run)) same ∙ sym k.1
+runs_once (Err cause) r s h k = h ∙ sym k
 
-finishes_once : (server : Kerberos) (dce : Bool) (draw : Draw) (request : Request) → Once (Finishes server dce draw request)
-unfolding Finishes
-finishes_once server dce draw request = then_once _ _ (completes_once request) (λ client. gives_once _)
-
-judged_once : (server : Kerberos) (dce : Bool) (token : List ℕ) (draw : Draw) (verdict : Verdict) → Once (Judged server dce token draw verdict)
-unfolding Judged
-judged_once server dce token draw verdict =
-    then_once _ _ (begins_once server dce token) (λ request. then_once _ _ (passes_once _) (λ _. finishes_once server dce draw request))
-
-pub one_outcome_lem : (server : Kerberos) (dce : Bool) (token : List ℕ) (draw : Draw) (verdict : Verdict) (r s : Result Admission Cause) → Judged server dce token draw verdict r → Judged server dce token draw verdict s → r ≡ s
-one_outcome_lem server dce token draw verdict r s h k = (judged_once server dce token draw verdict).same r s h k
-
--- ---- the third leg
-
-tells_number_once : (suite : CipherSuite) (key : List ℕ) (message : ApRep) → Once (TellsNumber suite key message)
-unfolding TellsNumber OpensApRep
-tells_number_once suite key message =
-    then_once _ _ (opens_once enc_ap_rep_part_layout session_key suite key 12 message.enc_part.cipher) (λ part. takes_once _ _)
-
-reads_once : (token : List ℕ) → Once (ReadsApRep token)
-unfolding ReadsApRep
-reads_once token = then_once _ _ (holds_once _ _) (λ _. finds_once _ _ (read_once ap_rep_layout token))
-
-tells_last_once : (server : Kerberos) (token : List ℕ) → Once (TellsLast server token)
-unfolding TellsLast
-tells_last_once server token =
-    then_once _ _ (reads_once token) (λ message. then_once _ _ (takes_once _ _) (λ key. tells_number_once (suite_of server.encryption_params) key message))
-
-pub last_word_once : (server : Kerberos) (token : List ℕ) → Once (IsLastWord server token)
-unfolding IsLastWord
-last_word_once server token = then_once _ _ (takes_once _ _) (λ _. then_once _ _ (tells_last_once server token) (λ _. holds_once _ _))
-
-closes_once : (server : Kerberos) (o : Result (Unit {0}) Cause) (r s : Result Accepted Cause) (a b : Kerberos) → Closes server o r a → Closes server o s b → (r ≡ s) × (a ≡ b)
-closes_once server (Ok _) r s a b h k = (h.0 ∙ sym k.0, h.1 ∙ sym k.1)
-closes_once server (Err cause) r s a b h k = (h.0 ∙ sym k.0, h.1 ∙ sym k.1)
-
--- each token has one answer where the last word is awaited
-pub concludes_once : (server : Kerberos) (token : List ℕ) (r s : Result Accepted Cause) (a b : Kerberos) → Concludes server token r a → Concludes server token s b → (r ≡ s) × (a ≡ b)
-concludes_once server token r s a b h k =
-    let C : Result (Unit {0}) Cause → Type 0 = λ o. Closes server o s b in
-    let e = (last_word_once server token).same h.outcome k.outcome h.judged k.judged in
-    closes_once server h.outcome r s a b h.closes (subst C (sym e) k.closes)
+pub tgt_req_once : (server : Kerberos) (tgt_req : TgtReq) (dce : Bool) (env : Env) (r s : Result Accepted Cause) → TakesTgtReq server tgt_req dce env r → TakesTgtReq server tgt_req dce env s → r ≡ s
+tgt_req_once server tgt_req dce env r s h k =
+    let same = (checks_once server tgt_req dce env).same h.beginning k.beginning h.checked k.checked in
+    let P : Result Beginning Cause → Type 0 = λ b. RunsAs b s in
+    runs_once h.beginning r s h.runs (subst P (sym same) k.runs)

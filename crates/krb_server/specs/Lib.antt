@@ -1,8 +1,2 @@
-pub mod Opens
-pub mod Tokens
-pub mod Requests
-pub mod Clients
-pub mod Complete
-pub mod Admission
-pub mod ThirdLeg
-pub mod Accepts
+pub mod TgtReqs
+pub mod Whole

@@ -1,167 +1,157 @@
 //! The acceptor's step.
 
-ghost use Rattle.std.specs.Prelude.{◌≡◌, false, IfOk, Err, Result};
+ghost use Rattle.std.specs.Prelude.{◌≡◌, true, false, IfOk, Err, Result};
+ghost use Rattle.std.specs.Result.{result_map_both};
 ghost use Rattle.sspi_core.specs.declared.cause.Cause.{Cause};
 ghost use Rattle.sspi_core.specs.declared.cause.Cause.TheVariants as causes;
 ghost use Rattle.sspi_core.specs.declared.error.Place.TheVariants as places;
 ghost use Rattle.sspi_core.specs.Kinds.{error_of};
-ghost use Rattle.sspi_core.specs.Checks.{Answers, Holds, Passes, told};
-ghost use Rattle.krb_server.specs.declared.admission.Accepted.{Accepted};
-ghost use Rattle.krb_server.specs.Admission.{IsAnswerable};
-ghost use Rattle.krb_context.specs.States.{is_waiting};
-ghost use Rattle.krb_server.specs.Accepts.{awaits_last_word, asks_dce_style, refusal, Begins, Finishes, Accepts};
+ghost use Rattle.sspi_core.specs.Checks.{Answers, Takes, told};
+ghost use Rattle.krb_admission.specs.Accepts.{asks_dce_style};
+ghost use Rattle.krb_user_to_user.specs.TgtRequests.{CanBegin};
+ghost use Rattle.krb_server.specs.declared.accept.Accepted.{Accepted};
+ghost use Rattle.krb_server.specs.Whole.{user_of, Checks, TakesTgtReq, accepted_as, JudgesOther, AcceptsWhole, CanStart};
 
-use crate::admission::{Accepted, Acceptor, Admission, admission_of, settle};
-use crate::complete::complete;
-use crate::request::{Request, ask_of, read_request};
-use crate::third_leg::{conclude, properties};
+use crate::tgt_req::tgt_req_in;
 use bitflags::Flags;
 use krb_conf::Env;
-use krb_context::{Kerberos, KerberosState};
-use krb_der::{OutOfMemory, boxed};
-use krb_replay::{ReplayGate, Verdict};
-use sspi_core::{Cause, Draw, Error, ServerRequestFlags, hold, pass};
+use krb_context::Kerberos;
+use krb_der::{Octets, OutOfMemory};
+use krb_exchange::TgtReq;
+use krb_replay::ReplayGate;
+use krb_replies::tell;
+use krb_user_to_user::{AcceptRun, Beginning, begin_accept};
+use sspi_core::{Cause, CredentialsBuffers, Draw, Error, SecurityStatus, ServerRequestFlags};
 use std::alloc::Global;
 
-fn awaits_last_word(dce: bool, state: KerberosState) -> bool
-    ensures { result ≡ awaits_last_word dce state }
+/// What an accepted token is answered by.
+#[derive(Drop)]
+pub enum Accepted {
+    /// It was an AP-REQ, or the initiator's last word.
+    Done {
+        status: SecurityStatus,
+        /// What goes back to the client; empty where it asked for nothing.
+        token: Octets,
+        /// Whether it was an AP-REQ: a client is admitted.
+        admits: bool,
+    },
+    /// It was a TGT-REQ: the exchange that fetches the service's ticket, and ends with the answer.
+    Run(AcceptRun),
+}
+
+fn user_of(server: &Kerberos) -> Result<&CredentialsBuffers, Cause>
+    ensures { Takes causes.Credentials (user_of server.now) (result_map_both (λ user. user.now) (λ e. e) result) }
 {
-    match state {
-        KerberosState::ApExchange => dce,
-        KerberosState::TgtExchange | KerberosState::Preauthentication | KerberosState::Final => {
-            false
-        }
+    match &server.server {
+        None => Err(Cause::Credentials),
+        Some(properties) => match &properties.user {
+            None => Err(Cause::Credentials),
+            Some(user) => Ok(user),
+        },
     }
 }
 
-fn check_state(server: &Kerberos) -> Result<(), Cause>
-    ensures { Holds causes.Sequence (is_waiting server.now.state) result }
-{
-    hold(server.state.is_waiting(), Cause::Sequence)
-}
-
-/// The checks before the gate. The keys that open a ticket are kept in the context.
-fn begin(alloc: Global, server: &mut Kerberos, dce: bool, token: &[u8]) -> Result<Request, Cause>
-    ensures stays { server.new ≡ server.old }
-    ensures begins { Answers (Begins server.old dce token.now) result }
-{
-    check_state(server)?;
-    let properties = properties(&server.server)?;
-    read_request(alloc, properties, &mut server.kept_to_open, dce, token)
-}
-
-/// What the gate's verdict refuses.
-fn refusal(verdict: Verdict) -> Option<Cause>
-    ensures { result ≡ refusal verdict }
-{
-    match verdict {
-        Verdict::Admitted => None,
-        Verdict::Skew => Some(Cause::Skew),
-        Verdict::NotYet => Some(Cause::NotYet),
-        Verdict::Expired => Some(Cause::Expired),
-        Verdict::Replayed => Some(Cause::Replayed),
-    }
-}
-
-/// The checks behind the gate, and what admission makes, ready before the gate is asked.
-fn finish(
+/// The checks of a TGT-REQ.
+#[tactic(auto, unfolding(crate::specs::Whole::Checks))]
+fn check_tgt_req(
     alloc: Global,
     server: &Kerberos,
+    tgt_req: &TgtReq,
     dce: bool,
-    draw: &Draw,
-    request: &Request,
-) -> Result<Result<Admission, Cause>, OutOfMemory>
-    requires { IsAnswerable request.now }
-    ensures { IfOk result (Finishes server.now dce draw.now request.now) }
+    env: &Env,
+) -> Result<Beginning, Cause>
+    ensures step { Answers (Checks server.now tgt_req.now dce env.now) result }
+    ensures ready { IfOk result (λ beginning. CanBegin beginning) }
 {
-    let completed = complete(alloc, request)?;
-    let acceptor = Acceptor {
-        dce,
-        user_to_user: server.krb5_user_to_user,
-        number: server.seq_number,
-        draw,
-    };
-    match completed {
-        Ok(client) => Ok(Ok(admission_of(alloc, &acceptor, request, client)?)),
-        Err(cause) => Ok(Err(cause)),
+    let user = user_of(server)?;
+    begin_accept(alloc, server, user, tgt_req, dce, env)
+}
+
+/// What a TGT-REQ is answered.
+fn take_tgt_req(
+    alloc: Global,
+    server: &Kerberos,
+    tgt_req: &TgtReq,
+    dce: bool,
+    env: &Env,
+) -> Result<Accepted, Cause>
+    ensures step { Answers (TakesTgtReq server.now tgt_req.now dce env.now) result }
+    ensures ready { IfOk result CanStart }
+{
+    match check_tgt_req(alloc, server, tgt_req, dce, env) {
+        Ok(beginning) => Ok(Accepted::Run(AcceptRun::new(alloc, beginning))),
+        Err(cause) => Err(cause),
     }
 }
 
-/// Judges an AP-REQ. All that needs memory is made before the gate is asked.
-fn admit<G: ReplayGate>(
-    alloc: Global,
-    server: &mut Kerberos,
-    gate: &mut G,
-    dce: bool,
-    token: &[u8],
-    draw: &Draw,
-) -> Result<Accepted, Cause>
-    requires { awaits_last_word dce server.old.state ≡ false }
-    ensures step { (result ≡ Err causes.Memory → ⊥) → Accepts G.admits server.old dce token.now draw.now gate.old result server.new gate.new }
-    ensures memory { result ≡ Err causes.Memory → (server.new ≡ server.old) × G.is_same gate.old gate.new }
+fn accepted_as(accepted: krb_admission::Accepted) -> Accepted
+    ensures same { result ≡ accepted_as accepted }
+    ensures ready { CanStart result }
 {
-    let request = begin(alloc, server, dce, token)?;
-    let mut held = boxed(alloc, request)?;
-    let outcome = finish(alloc, server, dce, draw, &held)?;
-    let ask = ask_of(alloc, &mut held, draw.moment);
-    let verdict = gate.admit(ask)?;
-    pass(refusal(verdict))?;
-    let admission = outcome?;
-    Ok(settle(server, admission))
-}
-
-/// Judges a token: the initiator's last word where it is awaited, and else an AP-REQ.
-fn accept<G: ReplayGate>(
-    alloc: Global,
-    server: &mut Kerberos,
-    gate: &mut G,
-    dce: bool,
-    token: &[u8],
-    draw: &Draw,
-) -> Result<Accepted, Cause>
-    ensures step { (result ≡ Err causes.Memory → ⊥) → Accepts G.admits server.old dce token.now draw.now gate.old result server.new gate.new }
-    ensures memory { result ≡ Err causes.Memory → (server.new ≡ server.old) × G.is_same gate.old gate.new }
-{
-    if awaits_last_word(dce, server.state) {
-        conclude(alloc, server, token)
-    } else {
-        admit(alloc, server, gate, dce, token, draw)
+    let krb_admission::Accepted::Done {
+        status,
+        token,
+        admits,
+    } = accepted;
+    Accepted::Done {
+        status,
+        token,
+        admits,
     }
 }
 
-/// Admits the client whose AP-REQ the token is, or refuses it by the first check that it fails.
+/// What a token that is no TGT-REQ is answered.
+fn judge_other<G: ReplayGate>(
+    alloc: Global,
+    server: &mut Kerberos,
+    gate: &mut G,
+    token: &[u8],
+    flags: ServerRequestFlags,
+    env: &Env,
+    draw: &Draw,
+) -> Result<Accepted, Error>
+    ensures step { (result ≡ Err (error_of causes.Memory) → ⊥)
+        → (answer : Result Accepted Cause) × (result ≡ told places.Elsewhere answer)
+        × JudgesOther G.admits server.old (asks_dce_style flags) token.now draw.now gate.old answer server.new gate.new }
+    ensures ready { IfOk result CanStart }
+    ensures memory { result ≡ Err (error_of causes.Memory) → (server.new ≡ server.old) × G.is_same gate.old gate.new }
+{
+    match krb_admission::accept_security_context(alloc, server, gate, token, flags, env, draw) {
+        Ok(accepted) => Ok(accepted_as(accepted)),
+        Err(error) => Err(error),
+    }
+}
+
+/// Judges a token at an acceptor.
 ///
-/// With `USE_DCE_STYLE` tokens are bare, and else framed. An AP-REP in DCE style is not the end: the context then awaits the
-/// initiator's last word, an AP-REP with the same number, at which the gate is not asked; its messages have 16 octets of
-/// filler from there on (MS-KILE, section 3.4.5.1).
+/// A TGT-REQ that comes first begins user-to-user: `Accepted::Run` is the exchange that fetches the service's ticket, and the
+/// context is as before until what it ends with is settled. Refused, in this order, as IncompleteCredentials Credentials where
+/// the service is no user, and then as `request_tgt` refuses. The gate is not asked.
 ///
-/// The moment of `draw` is the gate's question, in microseconds since 1970-01-01T00:00:00Z. Where the client asks for an
-/// AP-REP, the first random octets of `draw` become the sub-session key, as many as the suite's key has, and the 16 behind
-/// them the AP-REP's confounder.
-///
-/// The refusals of an AP-REQ, in their order: OutOfSequence Sequence where the context waits for no token; those of the checks
-/// of RFC 4120, section 3.2.3, as `specs/Requests` has them, the gate's, and those of `specs/Complete`. A TGT-REQ is no AP-REQ:
-/// InvalidToken Shape; `krb_acceptor` takes it, and reads the environment for it. The refusals of the last word are those of
-/// `specs/ThirdLeg`: InvalidToken Shape, DecryptFailure Reply, InvalidToken Inner, NoNumber, Number.
+/// Every other token is judged as `krb_admission` does: admitted or refused by the first check that it fails, and InvalidToken
+/// Shape where it is nothing.
 pub fn accept_security_context<G: ReplayGate>(
     alloc: Global,
     server: &mut Kerberos,
     gate: &mut G,
     token: &[u8],
     flags: ServerRequestFlags,
-    _env: &Env,
+    env: &Env,
     draw: &Draw,
 ) -> Result<Accepted, Error>
     // Anything but want of memory is what the ordered checks and the gate answer.
     ensures step { (result ≡ Err (error_of causes.Memory) → ⊥)
         → (answer : Result Accepted Cause) × (result ≡ told places.Elsewhere answer)
-        × Accepts G.admits server.old (asks_dce_style flags) token.now draw.now gate.old answer server.new gate.new }
+        × AcceptsWhole G.admits server.old (asks_dce_style flags) token.now env.now draw.now gate.old answer server.new gate.new }
+    // An exchange that begins can be started.
+    ensures ready { IfOk result CanStart }
     // Where memory runs out, context and gate are as before.
     ensures memory { result ≡ Err (error_of causes.Memory) → (server.new ≡ server.old) × G.is_same gate.old gate.new }
 {
     let dce = flags.contains(ServerRequestFlags::USE_DCE_STYLE);
-    match accept(alloc, server, gate, dce, token, draw) {
-        Ok(accepted) => Ok(accepted),
-        Err(cause) => Err(Error::from(cause)),
+    match tgt_req_in(alloc, dce, server.state, token) {
+        Ok(None) => judge_other(alloc, server, gate, token, flags, env, draw),
+        Ok(Some(tgt_req)) => tell(take_tgt_req(alloc, server, &tgt_req, dce, env)),
+        Err(OutOfMemory) => Err(Error::from(Cause::Memory)),
     }
 }

@@ -7,7 +7,7 @@ use crate::krb_ends_tests::tokens::is_hex;
 use krb_der::Octets;
 use krb_replay::ReplayBook;
 use krb_requests::name_of;
-use krb_service::{Event, Input, Reply, Service};
+use krb_machine::{Event, Input, Reply, Service};
 use sspi_core::{ClientRequestFlags, Secret};
 use std::alloc::Global;
 use std::test::Fail;

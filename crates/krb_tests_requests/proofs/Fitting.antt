@@ -3,7 +3,7 @@ use Rattle.std.proofs.Common.{ℕ, ◌≤◌, ◌^◌, Result, Ok, Err, lit≤}
 use Rattle.std.specs.Prelude.{IfOk}
 use Rattle.krb_der.specs.Layout.{Layout}
 use Rattle.krb_requests.specs.Pieces.{Fits}
-use Rattle.krb_client.proofs.Fitting.{fits_more}
+use Rattle.krb_as.proofs.Fitting.{fits_more}
 
 ok_more : {A E : Type 0} (layout : Layout A) (m n : ℕ) → m ≤ n → (answer : Result A E) → IfOk answer (λ value. Fits layout m value) → IfOk answer (λ value. Fits layout n value)
 ok_more layout m n h (Ok value) fits = fits_more layout m n value h fits

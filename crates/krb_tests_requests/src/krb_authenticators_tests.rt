@@ -7,7 +7,7 @@ ghost use Rattle.krb_messages.specs.Layouts.{ap_req_layout, authenticator_layout
 ghost use Rattle.krb_exchange.specs.Layouts.{tgs_req_layout};
 ghost use Rattle.sspi_core.specs.Moments.{last_moment};
 ghost use Rattle.krb_requests.specs.Pieces.{Fits};
-ghost use Rattle.krb_credentials.specs.Granted.{IsSendable};
+ghost use Rattle.krb_as.specs.Granted.{IsSendable};
 ghost use Rattle.krb_authenticators.specs.Authenticators.{IsShortChecksum};
 ghost use Rattle.krb_authenticators.specs.Bindings.{AreShortBindings};
 ghost use Rattle.krb_authenticators.specs.Passwords.{FitsPriv};
@@ -21,7 +21,7 @@ use krb_authenticators::{
     generate_tgs_ap_req, generate_tgs_req,
 };
 use krb_context::{ApOptions, EncryptionParams, GssFlags};
-use krb_credentials::{granted_as_rep, granted_tgs_rep};
+use krb_as::{granted_as_rep, granted_tgs_rep};
 use krb_crypto::CipherSuite;
 use krb_der::{Asn1, Items, Octets, OutOfMemory, TryCopy};
 use krb_exchange::{AsRep, KdcRep, KrbPrivMessage, TgsRep, TgsReq};

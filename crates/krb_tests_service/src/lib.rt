@@ -3,6 +3,6 @@
 #![tactic(auto)]
 
 #[cfg(test)]
-mod krb_service_tests;
+mod krb_machine_tests;
 #[cfg(test)]
 mod krb_text_tests;

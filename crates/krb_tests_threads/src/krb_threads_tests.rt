@@ -2,7 +2,7 @@
 
 ghost use Rattle.std.specs.Prelude.{None};
 
-use krb_service::{Calls, MemSink, MemSource, Words};
+use krb_machine::{Calls, MemSink, MemSource, Words};
 use krb_threads::{NoPause, Pause, threads};
 use std::alloc::{AllocError, Global};
 use std::process::Abort;

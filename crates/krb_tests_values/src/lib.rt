@@ -14,6 +14,6 @@ mod krb_demo_tests;
 #[cfg(test)]
 mod krb_der_tests;
 #[cfg(test)]
-mod krb_options_tests;
+mod krb_context_options_tests;
 #[cfg(test)]
 mod sspi_core_tests;

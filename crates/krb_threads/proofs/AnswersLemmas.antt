@@ -12,9 +12,9 @@ use Rattle.krb_shared.specs.Desk.{Desk}
 use Rattle.krb_shared.specs.Journal.{IsJournal}
 use Rattle.krb_shared.specs.Seats.{Seat, placed_from, calls_of}
 use Rattle.krb_script.specs.declared.item.Event.{Event}
-use Rattle.krb_service.specs.declared.connection.Connection.{Connection}
-use Rattle.krb_service.specs.declared.reply.Reply.{Reply}
-use Rattle.krb_service.proofs.PolicyLemmas.{Runs-length}
+use Rattle.krb_machine.specs.declared.connection.Connection.{Connection}
+use Rattle.krb_machine.specs.declared.reply.Reply.{Reply}
+use Rattle.krb_machine.proofs.PolicyLemmas.{Runs-length}
 use Rattle.krb_conf.specs.declared.env.Env.{Env}
 use Rattle.krb_threads.specs.Journaled.{events_of, numbers_of, entries_of, connections_of, Reads, RunsBy}
 use Rattle.krb_threads.specs.Answers.{AreAnswers}

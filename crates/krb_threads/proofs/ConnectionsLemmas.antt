@@ -7,9 +7,9 @@ use Rattle.std.specs.Map.{keys_of}
 use Rattle.std.proofs.lemmas.List.{map-append}
 use Rattle.std.proofs.lemmas.Cmp.{ranked}
 use Rattle.krb_script.specs.declared.endpoint.Endpoint.{Endpoint}
-use Rattle.krb_service.specs.Described.{connection_of, connections_with}
-use Rattle.krb_service.specs.declared.connection.Connection.{Connection}
-use Rattle.krb_service.proofs.OrderLemmas.{AreBelow, put-last}
+use Rattle.krb_machine.specs.Described.{connection_of, connections_with}
+use Rattle.krb_machine.specs.declared.connection.Connection.{Connection}
+use Rattle.krb_machine.proofs.OrderLemmas.{AreBelow, put-last}
 use Rattle.krb_threads.specs.Journaled.{is_of, connections_of}
 use Rattle.krb_threads.proofs.PartingLemmas.{filter-in, filter-out}
 

@@ -2,7 +2,7 @@
 use Rattle.std.proofs.Common.{◌≡◌, ℕ, ◌+◌, List, [], ◌∷◌, ◌++◌, length, sym, ap, ◌∙◌, arith, append_assoc}
 use Rattle.std.proofs.lemmas.List.{append-nil}
 use Rattle.krb_shared.specs.declared.entry.Entry.{Entry}
-use Rattle.krb_service.specs.declared.reply.Reply.{Reply}
+use Rattle.krb_machine.specs.declared.reply.Reply.{Reply}
 use Rattle.krb_threads.specs.Answers.{worker_line, worker_text, entry_line, entries_text}
 
 pub worker-push : (worker : ℕ) (numbers : List ℕ) (replies : List Reply) (number : ℕ) (reply : Reply) → length numbers ≡ length replies

@@ -3,32 +3,32 @@ use Rattle.std.proofs.Common.{◌≡◌, ℕ, Bool, true, false, ◌+◌, ◌≤
 use Rattle.std.proofs.lemmas.List.{append-nil, map-append}
 use Rattle.krb_replay.specs.declared.ask.Ask.{Ask}
 use Rattle.krb_replay.specs.declared.ask.Verdict.{Verdict}
-use Rattle.krb_server.specs.Accepts.{Asks}
-use Rattle.krb_server.specs.Requests.{ask_of}
-use Rattle.krb_acceptor.specs.Whole.{Makes}
-use Rattle.krb_acceptor.specs.declared.accept.Accepted.{Accepted as Taken}
+use Rattle.krb_admission.specs.Accepts.{Asks}
+use Rattle.krb_admission.specs.Requests.{ask_of}
+use Rattle.krb_server.specs.Whole.{Makes}
+use Rattle.krb_server.specs.declared.accept.Accepted.{Accepted as Taken}
 use Rattle.krb_conf.specs.declared.env.Env.{Env}
 use Rattle.krb_context.specs.declared.context.Kerberos.{Kerberos}
 use Rattle.krb_exchange.specs.declared.user_to_user.TgtReq.{TgtReq}
-use Rattle.krb_exchanges.specs.declared.run.Run.{Run}
+use Rattle.krb_machine.specs.declared.run.Run.{Run}
 use Rattle.sspi_core.specs.declared.draw.Draw.{Draw}
 use Rattle.sspi_generator.specs.declared.network.NetFault.{NetFault}
-use Rattle.krb_server.specs.declared.request.Request.{Request}
+use Rattle.krb_admission.specs.declared.request.Request.{Request}
 use Rattle.krb_shared.specs.declared.entry.Entry.{Entry}
 use Rattle.krb_shared.specs.declared.entry.Receipt.{Receipt}
 use Rattle.krb_shared.specs.Desk.{Gate, AdmitsNext, next_call}
 use Rattle.krb_shared.specs.Seats.{Seat, AddsReceipt}
 use Rattle.krb_script.specs.declared.item.Event.{Event}
 use Rattle.sspi_core.specs.declared.cause.Cause.{Cause}
-use Rattle.krb_service.specs.Described.{with_gate}
-use Rattle.krb_service.specs.Exchanges.{answer_of}
-use Rattle.krb_service.specs.Policy.{State, Behind, AnswersCall, TakesAnswer, TakesTurn, TakesPart, StepsOnward, StepsBy, Steps, Runs, RunsOn, StopsBehind, reached, heard, ready, awaited, is_initiator}
-use Rattle.krb_service.specs.MessageCalls.{is_call}
-use Rattle.krb_service.proofs.CallLemmas.{call-gate}
-use Rattle.krb_service.proofs.ExchangeLemmas.{answer-gate, answer-env, turn-gate, turn-env}
-use Rattle.krb_service.specs.declared.connection.Connection.{Connection}
-use Rattle.krb_service.specs.declared.reply.Reply.{Reply}
-use Rattle.krb_service.specs.declared.service.Stopped.{Stopped}
+use Rattle.krb_machine.specs.Described.{with_gate}
+use Rattle.krb_machine.specs.Exchanges.{answer_of}
+use Rattle.krb_machine.specs.Policy.{State, Behind, AnswersCall, TakesAnswer, TakesTurn, TakesPart, StepsOnward, StepsBy, Steps, Runs, RunsOn, StopsBehind, reached, heard, ready, awaited, is_initiator}
+use Rattle.krb_machine.specs.MessageCalls.{is_call}
+use Rattle.krb_machine.proofs.CallLemmas.{call-gate}
+use Rattle.krb_machine.proofs.ExchangeLemmas.{answer-gate, answer-env, turn-gate, turn-env}
+use Rattle.krb_machine.specs.declared.connection.Connection.{Connection}
+use Rattle.krb_machine.specs.declared.reply.Reply.{Reply}
+use Rattle.krb_machine.specs.declared.service.Stopped.{Stopped}
 use Rattle.krb_threads.specs.Journaled.{Rest, Reads, RunsBy}
 use Rattle.krb_threads.specs.Runs.{EndsAs}
 use Rattle.krb_threads.specs.Worked.{log_of, WorksAt, AreOf, WorksThere}

@@ -9,11 +9,11 @@ use Rattle.krb_shared.specs.declared.entry.Entry.{Entry}
 use Rattle.krb_shared.specs.declared.journal.Journal.{Journal}
 use Rattle.krb_script.specs.Script.{Declared}
 use Rattle.krb_script.specs.declared.item.Event.{Event}
-use Rattle.krb_service.specs.Described.{skew_of, connections_of as all_connections}
-use Rattle.krb_service.specs.Reply.{reply_line, admissions}
-use Rattle.krb_service.specs.Text.{end_line}
-use Rattle.krb_service.specs.declared.connection.Connection.{Connection}
-use Rattle.krb_service.specs.declared.reply.Reply.{Reply}
+use Rattle.krb_machine.specs.Described.{skew_of, connections_of as all_connections}
+use Rattle.krb_machine.specs.Reply.{reply_line, admissions}
+use Rattle.krb_machine.specs.Text.{end_line}
+use Rattle.krb_machine.specs.declared.connection.Connection.{Connection}
+use Rattle.krb_machine.specs.declared.reply.Reply.{Reply}
 use Rattle.krb_threads.specs.Journaled.{events_of, numbers_of, connections_of, entries_of, RunsBy}
 
 -- the journal is that of one book, asked one call after another, and has the calls of the two workers alone; each worker has

@@ -1,7 +1,7 @@
 -- The connections that the lines describe.
 use Rattle.std.specs.Prelude.{◌≡◌, ℕ, List}
-use Rattle.krb_service.specs.Described.{connections_with}
-use Rattle.krb_service.specs.declared.connection.Connection.{Connection}
+use Rattle.krb_machine.specs.Described.{connections_with}
+use Rattle.krb_machine.specs.declared.connection.Connection.{Connection}
 use Rattle.krb_threads.specs.Journaled.{connections_of}
 use Rattle.krb_threads.specs.declared.described.Described.{Described}
 use Rattle.krb_threads.specs.declared.described.Ends.{Ends}

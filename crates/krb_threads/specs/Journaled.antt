@@ -6,9 +6,9 @@ use Rattle.krb_replay.specs.declared.ask.Verdict.{Verdict}
 use Rattle.krb_shared.specs.declared.entry.Entry.{Entry}
 use Rattle.krb_script.specs.declared.item.Event.{Event}
 use Rattle.krb_conf.specs.declared.env.Env.{Env}
-use Rattle.krb_service.specs.Policy.{State, Runs}
-use Rattle.krb_service.specs.declared.connection.Connection.{Connection}
-use Rattle.krb_service.specs.declared.reply.Reply.{Reply}
+use Rattle.krb_machine.specs.Policy.{State, Runs}
+use Rattle.krb_machine.specs.declared.connection.Connection.{Connection}
+use Rattle.krb_machine.specs.declared.reply.Reply.{Reply}
 
 -- whether a connection of this number is the worker's
 abbrev pub is_of : ℕ → ℕ → Bool

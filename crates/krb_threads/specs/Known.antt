@@ -2,7 +2,7 @@
 use Rattle.std.specs.Prelude.{◌≡◌, ◌+◌, ℕ, List, Option, IfSome}
 use Rattle.krb_script.specs.Script.{Declared, nothing_declared, reading_of}
 use Rattle.krb_script.specs.declared.stop.Stop.TheVariants.{Whole as WholeStop, Bad as BadStop, Long as LongStop}
-use Rattle.krb_service.specs.Serve.{IsTaken, IsSound}
+use Rattle.krb_machine.specs.Serve.{IsTaken, IsSound}
 use Rattle.krb_threads.specs.declared.ending.Ending.{Ending}
 use Rattle.krb_threads.specs.declared.ending.Ending.TheVariants.{Whole, Bad, Long, Fault, OutOfMemory}
 

@@ -3,9 +3,9 @@ use Rattle.std.specs.Prelude.{◌<◌, List, length, take, Result, Ok, Err}
 use Rattle.krb_replay.specs.declared.ask.Ask.{Ask}
 use Rattle.krb_replay.specs.declared.ask.Verdict.{Verdict}
 use Rattle.krb_script.specs.declared.item.Event.{Event}
-use Rattle.krb_service.specs.Policy.{State, RunsOn, StopsBehind}
-use Rattle.krb_service.specs.declared.reply.Reply.{Reply}
-use Rattle.krb_service.specs.declared.service.Stopped.{Stopped}
+use Rattle.krb_machine.specs.Policy.{State, RunsOn, StopsBehind}
+use Rattle.krb_machine.specs.declared.reply.Reply.{Reply}
+use Rattle.krb_machine.specs.declared.service.Stopped.{Stopped}
 
 -- over all events, or behind so many of them where memory ran out
 abbrev pub EndsAs : {G : Type 0} → (G → Ask → Verdict → G → Type 0) → (G → G → Type 0) → State G → List Event → List Reply

@@ -5,8 +5,8 @@ use Rattle.krb_text.specs.Output.{IsFront, AppendsFront}
 use Rattle.krb_script.specs.Script.{Declared, reading_of}
 use Rattle.krb_text.specs.declared.status.Status.{Status}
 use Rattle.krb_text.specs.declared.status.Status.TheVariants.{Done, BadWords, BadLine, TooLong, ReadFault, WriteFault, OutOfMemory}
-use Rattle.krb_service.specs.Serve.{IsSound, IsTaken, end_of}
-use Rattle.krb_service.specs.Text.{bad_line, long_line, stopped_line}
+use Rattle.krb_machine.specs.Serve.{IsSound, IsTaken, end_of}
+use Rattle.krb_machine.specs.Text.{bad_line, long_line, stopped_line}
 use Rattle.krb_threads.specs.Answers.{IsAnswer}
 
 -- the text of an input, by the status that goes with its reading: no event is run where a line is bad or long

@@ -6,8 +6,8 @@ use Rattle.krb_shared.specs.declared.entry.Receipt.{Receipt}
 use Rattle.krb_shared.specs.Desk.{Desk}
 use Rattle.krb_shared.specs.Seats.{Seat}
 use Rattle.krb_script.specs.declared.item.Event.{Event}
-use Rattle.krb_service.specs.declared.connection.Connection.{Connection}
-use Rattle.krb_service.specs.declared.reply.Reply.{Reply}
+use Rattle.krb_machine.specs.declared.connection.Connection.{Connection}
+use Rattle.krb_machine.specs.declared.reply.Reply.{Reply}
 use Rattle.krb_threads.specs.Journaled.{RunsBy}
 
 -- the entries of a seat's receipts

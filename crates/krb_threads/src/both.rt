@@ -5,7 +5,7 @@ ghost use Rattle.krb_threads.specs.Runs.{EndsAs};
 
 use crate::part::Part;
 use krb_replay::ReplayGate;
-use krb_service::Stopped;
+use krb_machine::Stopped;
 use std::alloc::Global;
 use std::thread::{Threads, join_mut};
 

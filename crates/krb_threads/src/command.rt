@@ -4,7 +4,7 @@ ghost use Rattle.std.specs.Prelude.{◌≡◌, ◌≢◌, ◌≤◌, ◌↔◌, 
 ghost use Rattle.std.specs.Io.KnownBytes.{Appends};
 ghost use Rattle.krb_text.specs.Causes.{Rose};
 ghost use Rattle.krb_text.specs.Output.{AppendsFront};
-ghost use Rattle.krb_service.specs.Text.{stopped_line};
+ghost use Rattle.krb_machine.specs.Text.{stopped_line};
 ghost use Rattle.krb_threads.specs.Answers.{IsAnswer};
 ghost use Rattle.krb_threads.specs.Threads.{Answers, Runs};
 
@@ -18,7 +18,7 @@ use crate::reading::read_all;
 use crate::text::text_of;
 use crate::workers::answers_of;
 use krb_der::OutOfMemory;
-use krb_service::numbered_line;
+use krb_machine::numbered_line;
 use krb_text::{Sink, Source, Status, Words, write_line};
 use std::alloc::Global;
 use std::sync::Wait;

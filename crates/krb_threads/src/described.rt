@@ -3,7 +3,7 @@
 ghost use Rattle.std.specs.Prelude.{◌≡◌, IfOk, OnOk};
 ghost use Rattle.std.specs.Ordering.{nat_cmp};
 ghost use Rattle.std.specs.BTreeMap.{insert_entry};
-ghost use Rattle.krb_service.specs.Described.{connections_with};
+ghost use Rattle.krb_machine.specs.Described.{connections_with};
 ghost use Rattle.krb_threads.specs.Described.{AreEnds};
 ghost use Rattle.krb_threads.specs.Journaled.{connections_of};
 
@@ -11,7 +11,7 @@ use krb_conf::Env;
 use krb_der::{OutOfMemory, TryCopy};
 use krb_replay::ReplayGate;
 use krb_script::Endpoint;
-use krb_service::{HeldConnection, Service, connection_of};
+use krb_machine::{HeldConnection, Service, connection_of};
 use std::alloc::Global;
 use std::collections::BTreeMap;
 use std::thread::{Threads, join};

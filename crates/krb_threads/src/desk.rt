@@ -11,7 +11,7 @@ use crate::pause::Pause;
 use crate::paused_gate::PausedGate;
 use crate::workers::Answers;
 use krb_der::OutOfMemory;
-use krb_service::{Event, Reply, Service};
+use krb_machine::{Event, Reply, Service};
 use krb_shared::{Desk, DeskGate};
 use std::alloc::Global;
 

@@ -1,7 +1,7 @@
 //! Laws of the command, for all values.
 
 ghost use Rattle.std.specs.Prelude.{◌≡◌, ◌≢◌, ◌⊎◌, ℕ, List};
-ghost use Rattle.krb_service.specs.Serve.{end_of};
+ghost use Rattle.krb_machine.specs.Serve.{end_of};
 ghost use Rattle.krb_text.specs.declared.status.Status.{Status};
 ghost use Rattle.krb_text.specs.declared.status.Status.TheVariants.{Done, BadWords, ReadFault, WriteFault, OutOfMemory};
 ghost use Rattle.krb_threads.specs.Threads.{Written};

@@ -4,7 +4,7 @@ ghost use Rattle.std.specs.Prelude.{◌≡◌};
 ghost use Rattle.krb_threads.specs.Runs.{EndsAs};
 
 use krb_replay::ReplayGate;
-use krb_service::{Event, Reply, Service, Stopped};
+use krb_machine::{Event, Reply, Service, Stopped};
 use std::alloc::Global;
 
 /// A service, its events, and the replies to those that it has taken.

@@ -9,7 +9,7 @@ use crate::part::Part;
 use crate::pause::Pause;
 use crate::paused_gate::PausedGate;
 use krb_der::OutOfMemory;
-use krb_service::{Event, HeldConnection, Reply, Service, Stopped};
+use krb_machine::{Event, HeldConnection, Reply, Service, Stopped};
 use krb_shared::{Calls, Seat, SeatGate, SharedBook};
 use std::alloc::Global;
 use std::collections::BTreeMap;

@@ -1,14 +1,14 @@
 //! The text that tells what the workers answered.
 
 ghost use Rattle.std.specs.Prelude.{◌≡◌, ◌≤◌, ◌++◌, ◌+◌, length, IfOk, OnOk, string_bytes};
-ghost use Rattle.krb_service.specs.Reply.{admissions};
-ghost use Rattle.krb_service.specs.Text.{end_line};
+ghost use Rattle.krb_machine.specs.Reply.{admissions};
+ghost use Rattle.krb_machine.specs.Text.{end_line};
 ghost use Rattle.krb_threads.specs.Answers.{worker_line, worker_text, verdict_name, entry_line, entries_text};
 
 use crate::workers::Answers;
 use krb_der::OutOfMemory;
 use krb_replay::Verdict;
-use krb_service::{Reply, end_line};
+use krb_machine::{Reply, end_line};
 use krb_shared::Entry;
 use std::alloc::Global;
 use std::thread::{Threads, join};

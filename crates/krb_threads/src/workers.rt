@@ -9,7 +9,7 @@ use crate::desk::run_at_desk;
 use crate::pause::Pause;
 use crate::seats::{Work, run_seats};
 use krb_der::{Items, OutOfMemory};
-use krb_service::{Event, HeldConnection, Reply};
+use krb_machine::{Event, HeldConnection, Reply};
 use krb_shared::{Calls, Journal, Receipt, SharedBook};
 use std::alloc::Global;
 use std::collections::BTreeMap;

@@ -4,15 +4,15 @@ use Rattle.krb_conf.specs.declared.env.Env.{Env}
 use Rattle.krb_context.specs.declared.context.Kerberos.{Kerberos}
 use Rattle.krb_exchange.specs.declared.kdc_req.KdcReqBody.{KdcReqBody}
 use Rattle.krb_exchange.specs.declared.user_to_user.TgtReq.{TgtReq}
-use Rattle.krb_sending.specs.declared.kdc.Kdc.{Kdc}
+use Rattle.krb_as.specs.declared.kdc.Kdc.{Kdc}
 use Rattle.sspi_core.proofs.Once.{Once, then_once, holds_once, gives_once}
 use Rattle.sspi_core.specs.declared.draw.Draw.{Draw}
 use Rattle.sspi_core.specs.declared.identity.CredentialsBuffers.{CredentialsBuffers}
 use Rattle.sspi_core.specs.declared.protocol.NetworkProtocol.{NetworkProtocol}
 use Rattle.sspi_generator.specs.declared.network.NetFault.{NetFault}
-use Rattle.krb_client.proofs.Once.{begins_once, asks_again_once, grants_as_rep_once}
-use Rattle.krb_client.specs.declared.asker.Asker.{Asker}
-use Rattle.krb_credentials.proofs.Once.{names_client_once, takes_reply_key_once}
+use Rattle.krb_as.proofs.Once.{begins_once, asks_again_once, grants_as_rep_once}
+use Rattle.krb_as.specs.declared.asker.Asker.{Asker}
+use Rattle.krb_as.proofs.FirstOnce.{names_client_once, takes_reply_key_once}
 use Rattle.krb_user_to_user.specs.declared.request.Acceptor.{Acceptor}
 use Rattle.krb_user_to_user.specs.declared.steps.AcceptPhase.{AcceptPhase}
 use Rattle.krb_user_to_user.specs.declared.steps.AcceptPhase.TheVariants.{New, AwaitsError, AwaitsAsRep, Over}

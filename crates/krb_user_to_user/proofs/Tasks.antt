@@ -7,10 +7,10 @@ use Rattle.sspi_core.specs.declared.error.Error.{Error}
 use Rattle.sspi_generator.specs.declared.network.NetworkRequest.{NetworkRequest}
 use Rattle.sspi_generator.specs.declared.task.GeneratorState.{GeneratorState}
 use Rattle.sspi_generator.specs.Steps.{OnSuspended}
-use Rattle.krb_client.specs.declared.turn.Turn.{Turn}
-use Rattle.krb_client.specs.declared.turn.Turn.TheVariants.{Asks, Ends}
-use Rattle.krb_client.specs.declared.done.InitDone.{InitDone}
-use Rattle.krb_client.specs.Turns.{state_of, phase_of}
+use Rattle.krb_as.specs.declared.turn.Turn.{Turn}
+use Rattle.krb_as.specs.declared.turn.Turn.TheVariants.{Asks, Ends}
+use Rattle.krb_as.specs.declared.done.InitDone.{InitDone}
+use Rattle.krb_as.specs.Turns.{state_of, phase_of}
 use Rattle.krb_user_to_user.specs.declared.steps.AcceptPhase.{AcceptPhase}
 use Rattle.krb_user_to_user.specs.declared.steps.AcceptPhase.TheVariants.{Over}
 use Rattle.krb_user_to_user.specs.AcceptRuns.{GoesDown, IsAwaiting, turns_left}

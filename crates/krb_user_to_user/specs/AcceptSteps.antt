@@ -10,18 +10,18 @@ use Rattle.sspi_core.specs.declared.draw.Draw.{Draw}
 use Rattle.sspi_core.specs.declared.cause.Cause.{Cause}
 use Rattle.sspi_core.specs.Checks.{Gives, ◌>>=◌}
 use Rattle.sspi_generator.specs.declared.network.NetFault.{NetFault}
-use Rattle.krb_sending.specs.declared.kdc.Kdc.{Kdc}
-use Rattle.krb_client.specs.declared.turn.Turn.{Turn}
-use Rattle.krb_client.specs.declared.turn.Turn.TheVariants.{Asks, Ends}
-use Rattle.krb_client.specs.declared.asker.Asker.{Asker}
-use Rattle.krb_client.specs.declared.done.InitDone.{InitDone}
-use Rattle.krb_client.specs.Replied.{Grants}
-use Rattle.krb_client.specs.Asked.{Begins, AsksAgain}
-use Rattle.krb_credentials.specs.declared.client.Client.{Client}
-use Rattle.krb_credentials.specs.declared.body.FirstService.TheVariants.{TicketGranting}
-use Rattle.krb_credentials.specs.declared.key.ReplyKey.{ReplyKey}
-use Rattle.krb_credentials.specs.FirstBodies.{first_body}
-use Rattle.krb_credentials.specs.ReplyKeys.{TakesReplyKey}
+use Rattle.krb_as.specs.declared.kdc.Kdc.{Kdc}
+use Rattle.krb_as.specs.declared.turn.Turn.{Turn}
+use Rattle.krb_as.specs.declared.turn.Turn.TheVariants.{Asks, Ends}
+use Rattle.krb_as.specs.declared.asker.Asker.{Asker}
+use Rattle.krb_as.specs.declared.done.InitDone.{InitDone}
+use Rattle.krb_as.specs.Replied.{Grants}
+use Rattle.krb_as.specs.Asked.{Begins, AsksAgain}
+use Rattle.krb_as.specs.declared.client.Client.{Client}
+use Rattle.krb_as.specs.declared.body.FirstService.TheVariants.{TicketGranting}
+use Rattle.krb_as.specs.declared.key.ReplyKey.{ReplyKey}
+use Rattle.krb_as.specs.FirstBodies.{first_body}
+use Rattle.krb_as.specs.ReplyKeys.{TakesReplyKey}
 use Rattle.krb_user_to_user.specs.declared.request.Acceptor.{Acceptor}
 use Rattle.krb_user_to_user.specs.declared.steps.AcceptPhase.{AcceptPhase}
 use Rattle.krb_user_to_user.specs.declared.steps.AcceptPhase.TheVariants.{AwaitsError, AwaitsAsRep}

@@ -13,9 +13,9 @@ use Rattle.sspi_core.specs.declared.identity.CredentialsBuffers.TheVariants.{Aut
 use Rattle.sspi_core.specs.declared.cause.Cause.{Cause}
 use Rattle.sspi_core.specs.declared.cause.Cause.TheVariants.{ServerName, KeytabUser}
 use Rattle.sspi_core.specs.Checks.{Holds, Gives, ◌>>=◌, ◌>>◌}
-use Rattle.krb_client.specs.Askers.{asker_of}
-use Rattle.krb_credentials.specs.declared.client.Client.{Client}
-use Rattle.krb_credentials.specs.Clients.{NamesClient, IsShort}
+use Rattle.krb_as.specs.Askers.{asker_of}
+use Rattle.krb_as.specs.declared.client.Client.{Client}
+use Rattle.krb_as.specs.Clients.{NamesClient, IsShort}
 use Rattle.krb_user_to_user.specs.declared.request.Acceptor.{Acceptor}
 use Rattle.krb_user_to_user.specs.declared.request.Beginning.{Beginning}
 

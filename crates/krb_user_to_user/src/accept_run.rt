@@ -6,7 +6,7 @@ ghost use Rattle.sspi_core.specs.declared.cause.Cause.TheVariants as causes;
 ghost use Rattle.sspi_core.specs.Moments.{last_moment};
 ghost use Rattle.sspi_core.specs.Kinds.{error_of};
 ghost use Rattle.sspi_core.specs.Checks.{Answers};
-ghost use Rattle.krb_client.specs.Turns.{is_want};
+ghost use Rattle.krb_as.specs.Turns.{is_want};
 ghost use Rattle.krb_user_to_user.specs.declared.request.Beginning.{Beginning};
 ghost use Rattle.krb_user_to_user.specs.declared.steps.AcceptPhase.TheVariants as phases;
 ghost use Rattle.krb_user_to_user.specs.TgtRequests.{is_bare, RequestsTgt, CanBegin};
@@ -15,7 +15,7 @@ ghost use Rattle.krb_user_to_user.specs.AcceptRuns.{Starts, Next, IsNewPhase, Is
 use crate::request::{Acceptor, Beginning, begin_accept};
 use crate::steps::{AcceptPhase, ask_first, ask_second, body_of, take_as_rep};
 use bitflags::Flags;
-use krb_client::{InitDone, Turn, go_on, is_want};
+use krb_as::{InitDone, Turn, go_on, is_want};
 use krb_conf::Env;
 use krb_context::Kerberos;
 use krb_der::Octets;
@@ -145,7 +145,7 @@ fn next(
 }
 
 impl Task for AcceptRun {
-    ghost use Rattle.krb_client.specs.Turns.{IsWant, IsFault};
+    ghost use Rattle.krb_as.specs.Turns.{IsWant, IsFault};
     ghost use Rattle.krb_user_to_user.specs.AcceptRuns.{IsNew, IsWaiting, StartsAt, turns_left};
 
     type Out = Result<InitDone, Error>;

@@ -5,14 +5,14 @@ ghost use Rattle.sspi_core.specs.declared.cause.Cause.{Cause};
 ghost use Rattle.sspi_core.specs.declared.cause.Cause.TheVariants as causes;
 ghost use Rattle.sspi_core.specs.Kinds.{error_of};
 ghost use Rattle.sspi_core.specs.Checks.{Answers, Gives, Holds};
-ghost use Rattle.krb_client.specs.Askers.{asker_of};
-ghost use Rattle.krb_credentials.specs.Clients.{IsShort};
+ghost use Rattle.krb_as.specs.Askers.{asker_of};
+ghost use Rattle.krb_as.specs.Clients.{IsShort};
 ghost use Rattle.krb_user_to_user.specs.TgtRequests.{is_bare, is_own, has_password, acceptor_of, RequestsTgt, CanBegin};
 
-use krb_client::Asker;
+use krb_as::Asker;
 use krb_conf::Env;
 use krb_context::{EncryptionParams, Kerberos};
-use krb_credentials::{Client, client_of};
+use krb_as::{Client, client_of};
 use krb_der::{OutOfMemory, TryCopy};
 use krb_exchange::TgtReq;
 use krb_messages::PrincipalName;

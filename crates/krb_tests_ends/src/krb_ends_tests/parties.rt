@@ -7,7 +7,7 @@ use bitflags::Flags;
 use krb_conf::{Env, KerberosConfig};
 use krb_context::{Kerberos, ServerProperties};
 use krb_der::{Items, Octets, OutOfMemory, Text};
-use krb_initiation::InitOptions;
+use krb_initiator::InitOptions;
 use krb_requests::name_of;
 use sspi_core::{
     AuthIdentityBuffers, ClientRequestFlags, CredentialsBuffers, Draw, Error, KeytabIdentity,

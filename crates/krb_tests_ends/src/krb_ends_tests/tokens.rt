@@ -1,16 +1,16 @@
 //! The tokens of a session, from one end to the other.
 
 ghost use Rattle.std.specs.Prelude.{◌≡◌, IfOk};
-ghost use Rattle.krb_initiation.specs.InitRuns.{IsNew, turns_left};
+ghost use Rattle.krb_initiator.specs.InitRuns.{IsNew, turns_left};
 
 use super::Session;
 use super::network::Network;
 use super::parties::{draws, octets, options_with, server_flags, service_draw};
-use krb_acceptor::{Accepted, accept_security_context};
-use krb_client::InitDone;
+use krb_server::{Accepted, accept_security_context};
+use krb_as::InitDone;
 use krb_conf::Env;
 use krb_context::Kerberos;
-use krb_initiation::{GeneratorInitSecurityContext, InitOptions, initialize_security_context};
+use krb_initiator::{GeneratorInitSecurityContext, InitOptions, initialize_security_context};
 use krb_replay::ReplayBook;
 use sspi_core::{Error, SecurityStatus, ServerRequestFlags};
 use sspi_generator::{Generator, NetworkClient};

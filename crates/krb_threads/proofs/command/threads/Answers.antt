@@ -1,5 +1,5 @@
 use Rattle.std.proofs.Common.{ap, sym, refl, ◌∙◌, ◌+◌}
-use Rattle.krb_service.specs.Text.{bad_line, long_line, stopped_line}
+use Rattle.krb_machine.specs.Text.{bad_line, long_line, stopped_line}
 use Rattle.krb_threads.proofs.ClosingLemmas.{closed-answered, closed-short, closed-bad, closed-long, closed-memory}
 use Rattle.krb_threads.proofs.command.threads.Goals as goal
 

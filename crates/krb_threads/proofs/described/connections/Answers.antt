@@ -5,7 +5,7 @@ use Rattle.std.specs.Map.Iter.{deref_pair}
 use Rattle.std.proofs.lemmas.List.{map-append}
 use Rattle.std.proofs.lemmas.Bool.Decides.{nat_tests}
 use Rattle.std.proofs.lemmas.Map.Iter.{rest_so_far, btree_map_turn}
-use Rattle.krb_service.specs.Described.{connections_with}
+use Rattle.krb_machine.specs.Described.{connections_with}
 use Rattle.krb_threads.specs.Journaled.{is_of, connections_of}
 use Rattle.krb_threads.proofs.ConnectionsLemmas.{below-turn, put-own, put-other}
 use Rattle.krb_threads.proofs.described.connections.Goals as goal

@@ -1,6 +1,6 @@
 use Rattle.std.proofs.Common.{◌≡◌, map}
 use Rattle.std.specs.Map.Iter.{deref_pair}
-use Rattle.krb_service.specs.Described.{connections_with}
+use Rattle.krb_machine.specs.Described.{connections_with}
 use Rattle.krb_threads.specs.Journaled.{connections_of}
 use Rattle.krb_threads.proofs.described.connections.Given as goal
 

@@ -1,5 +1,5 @@
 use Rattle.std.proofs.Common.{◌≡◌, ◌≤◌, take}
-use Rattle.krb_service.specs.Reply.{admissions}
+use Rattle.krb_machine.specs.Reply.{admissions}
 use Rattle.krb_threads.proofs.text.admissions.Given as goal
 
 abbrev pub invariant-loop-index : goal.invariant-loop-index

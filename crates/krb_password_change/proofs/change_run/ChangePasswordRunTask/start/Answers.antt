@@ -1,5 +1,5 @@
 use Rattle.std.proofs.Common.{refl, ap}
-use Rattle.krb_client.proofs.Tasks.{turns_of, kept_of, faulted_of, refused}
+use Rattle.krb_as.proofs.Tasks.{turns_of, kept_of, faulted_of, refused}
 use Rattle.krb_password_change.specs.declared.phase.ChangePhase.{ChangePhase}
 use Rattle.krb_password_change.specs.Changes.{IsReady}
 use Rattle.krb_password_change.specs.ChangeRuns.{turns_left}

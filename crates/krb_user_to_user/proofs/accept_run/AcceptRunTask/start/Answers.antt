@@ -1,5 +1,5 @@
 use Rattle.std.proofs.Common.{refl, ap}
-use Rattle.krb_client.proofs.Tasks.{turns_of, kept_of, faulted_of, refused}
+use Rattle.krb_as.proofs.Tasks.{turns_of, kept_of, faulted_of, refused}
 use Rattle.krb_user_to_user.specs.declared.steps.AcceptPhase.{AcceptPhase}
 use Rattle.krb_user_to_user.specs.AcceptRuns.{turns_left}
 use Rattle.krb_user_to_user.proofs.Refusals.{starts_refuse}

@@ -1,2 +1,0 @@
-pub mod TgtReqs
-pub mod Whole

@@ -1,0 +1,143 @@
+-- The ways in which a token is answered.
+use Rattle.std.proofs.Common.{◌≡◌, ℕ, Bool, true, false, List, Option, Some, None, Result, Ok, Err, refl, sym, ap, ◌∙◌, subst}
+use Rattle.std.specs.Result.{IsErrAnd}
+use Rattle.sspi_core.specs.declared.cause.Cause.{Cause}
+use Rattle.sspi_core.specs.declared.cause.Cause.TheVariants.{ClientName, ApOptions, SubKey, Memory, Sequence}
+use Rattle.sspi_core.specs.declared.draw.Draw.{Draw}
+use Rattle.sspi_core.specs.Checks.{Takes, Holds, Passes, Gives, Goes, Then, Answers, ◌>>◌}
+use Rattle.sspi_core.proofs.Chain.{halts, follows, is_err, same_err}
+use Rattle.krb_replay.specs.declared.ask.Ask.{Ask}
+use Rattle.krb_replay.specs.declared.ask.Verdict.{Verdict}
+use Rattle.krb_replay.specs.declared.ask.Verdict.TheVariants.{Admitted}
+use Rattle.krb_context.specs.declared.context.Kerberos.{Kerberos}
+use Rattle.krb_admission.specs.declared.request.Request.{Request}
+use Rattle.krb_admission.specs.declared.admission.Admission.{Admission}
+use Rattle.krb_admission.specs.declared.admission.Accepted.{Accepted}
+use Rattle.krb_admission.specs.Requests.{ask_of}
+use Rattle.krb_admission.specs.Complete.{Completes}
+use Rattle.krb_admission.specs.Accepts.{Begins, Finishes, Judged, Accepts, Makes, Ends, awaits_last_word, refusal}
+use Rattle.krb_admission.specs.ThirdLeg.{Concludes}
+use Rattle.krb_context.specs.States.{is_waiting}
+use Rattle.krb_context.specs.declared.state.KerberosState.{KerberosState}
+use Rattle.krb_context.specs.declared.state.KerberosState.TheVariants.{TgtExchange, Preauthentication, ApExchange, Final}
+use Rattle.krb_admission.proofs.Once.{one_outcome_lem}
+
+pub answered : {A : Type 0} (checks : Result A Cause → Type 0) (x : A) → Answers checks (Ok x) → checks (Ok x)
+answered checks x h = h.so (λ z. absurd cc)
+
+-- what passes every check passes the first
+goes_on : {A B : Type 0} (first : Result A Cause → Type 0) (next : A → Result B Cause → Type 0) (b : B) → Then first next (Ok b) → (a : A) × first (Ok a)
+goes_on {A} {B} first next b h = go h.middle h.held h.rest
+  where
+    go : (m : Result A Cause) → first m → Goes next m (Ok b) → (a : A) × first (Ok a)
+    go (Ok a) p q = (a, p)
+    go (Err e) p q = absurd cc
+
+-- where the last word is awaited, no AP-REQ may come
+not_waiting : (dce : Bool) (state : KerberosState) → awaits_last_word dce state ≡ true → is_waiting state ≡ false
+not_waiting dce TgtExchange h = absurd cc
+not_waiting dce Preauthentication h = absurd cc
+not_waiting dce ApExchange h = refl
+not_waiting dce Final h = absurd cc
+
+waits_at : (dce : Bool) (state : KerberosState) (request : Request) (m : Result (Unit {0}) Cause) (next : Unit {0} → Result Request Cause → Type 0) → Holds Sequence (is_waiting state) m → Goes next m (Ok request)
+    → awaits_last_word dce state ≡ false
+waits_at dce TgtExchange request m next p q = refl
+waits_at dce Preauthentication request m next p q = refl
+waits_at dce ApExchange request (Ok u) next p q = let e = p.is in absurd cc
+waits_at dce ApExchange request (Err e) next p q = absurd cc
+waits_at dce Final request m next p q = refl
+
+-- a request that passed the checks before the gate came where no last word is awaited
+pub waits : (server : Kerberos) (dce : Bool) (token : List ℕ) (request : Request) → Begins server dce token (Ok request) → awaits_last_word dce server.state ≡ false
+unfolding Begins
+waits server dce token request h = waits_at dce server.state request h.middle _ h.held h.rest
+
+module _ {G : Type 0} (admits : G → Ask → Verdict → G → Type 0) (server : Kerberos) (dce : Bool) (token : List ℕ) (draw : Draw) (old : G) where
+  -- what is made of an AP-REQ
+  ends : (outcome : Result Admission Cause) (answer : Result Accepted Cause) (server' : Kerberos) → awaits_last_word dce server.state ≡ false → Makes server outcome answer server'
+      → Ends (awaits_last_word dce server.state) server token outcome answer server'
+  ends outcome answer server' last made = subst (λ (b : Bool). Ends b server token outcome answer server') (sym last) made
+
+  -- the last word, at which no gate is asked
+  pub last_word : (answer : Result Accepted Cause) (server' : Kerberos) → awaits_last_word dce server.state ≡ true → Concludes server token answer server' → Accepts admits server dce token draw old answer server' old
+  unfolding Judged Begins
+  last_word answer server' last concludes =
+      let begun : Begins server dce token (Err Sequence) = halts _ _ Sequence _ (record { is = rw (not_waiting dce server.state last) refl }) refl in record {
+        verdict = Admitted;
+        request = Err Sequence;
+        begun = begun;
+        gate = refl;
+        outcome = Err Sequence;
+        judged = halts _ _ Sequence _ begun refl;
+        made = subst (λ (b : Bool). Ends b server token (Err Sequence) answer server') (sym last) concludes;
+      }
+
+  pub refused_before : (e : Cause) (answer : Result Accepted Cause) → awaits_last_word dce server.state ≡ false → Answers (Begins server dce token) (Err e) → IsErrAnd answer (λ d. d ≡ e) → (answer ≡ Err Memory → ⊥) → Accepts admits server dce token draw old answer server old
+  unfolding Judged
+  refused_before e answer last h is ne =
+      let begun : Begins server dce token (Err e) = h.so (λ z. ne (is_err answer e is ∙ ap Err (same_err {A = Request} e Memory z))) in record {
+        verdict = Admitted;
+        request = Err e;
+        begun = begun;
+        gate = refl;
+        outcome = Err e;
+        judged = halts _ _ e _ begun refl;
+        made = ends (Err e) answer server last (is_err answer e is, refl);
+      }
+
+  -- a request that came to the gate: what is judged behind the gate's verdict, and what is made of it
+  pub answered_at_gate : (request : Request) (ask : Ask) (verdict : Verdict) (new : G) (outcome : Result Admission Cause) (answer : Result Accepted Cause) (server' : Kerberos)
+      → awaits_last_word dce server.state ≡ false → Answers (Begins server dce token) (Ok request) → ask ≡ ask_of request draw.moment → admits old ask verdict new
+      → (Passes (refusal verdict) >> Finishes server dce draw request) outcome → Makes server outcome answer server' → Accepts admits server dce token draw old answer server' new
+  unfolding Judged
+  answered_at_gate request ask verdict new outcome answer server' last h asked step judged made =
+      let begun = answered _ _ h in record {
+        verdict = verdict;
+        request = Ok request;
+        begun = begun;
+        gate = subst (λ (q : Ask). admits old q verdict new) asked step;
+        outcome = outcome;
+        judged = follows _ _ request _ begun judged;
+        made = ends outcome answer server' last made;
+      }
+
+  -- an AP-REQ that passes every check is accepted
+  pub completed : (new : G) (answer : Result Accepted Cause) (server' : Kerberos) (admission : Admission) (step : Accepts admits server dce token draw old answer server' new) → step.verdict ≡ Admitted → Judged server dce token draw Admitted (Ok admission)
+      → Makes server (Ok admission) answer server'
+  unfolding Judged
+  completed new answer server' admission step admits_it passes =
+      let begun = goes_on _ _ admission passes in
+      let last = waits server dce token begun.0 begun.1 in
+      let made = subst (λ (b : Bool). Ends b server token step.outcome answer server') last step.made in
+      let e = one_outcome_lem server dce token draw Admitted step.outcome (Ok admission) (subst (λ (v : Verdict). Judged server dce token draw v step.outcome) admits_it step.judged) passes in
+      subst (λ (r : Result Admission Cause). Makes server r answer server') e made
+
+-- ---- no check behind the gate is refused for want of memory
+
+record Refuses {A : Type 0} (checks : Result A Cause → Type 0) : Type 0 where
+  pub not : (e : Cause) → checks (Err e) → e ≡ Memory → ⊥
+
+rest_refuses : {A B : Type 0} (first : Result A Cause → Type 0) (next : A → Result B Cause → Type 0) (m : Result A Cause) (e : Cause) → Refuses first → ((a : A) → Refuses (next a)) → first m → Goes next m (Err e) → e ≡ Memory → ⊥
+rest_refuses first next (Ok a) e one of h k z = (of a).not e k z
+rest_refuses {A} {B} first next (Err d) e one of h k z = one.not d h (sym (same_err {A = B} e d k) ∙ z)
+
+then_refuses : {A B : Type 0} (first : Result A Cause → Type 0) (next : A → Result B Cause → Type 0) → Refuses first → ((a : A) → Refuses (next a)) → Refuses (λ r. Then first next r)
+then_refuses first next one of = record { not = λ e h z. rest_refuses first next h.middle e one of h.held h.rest z }
+
+take_refuses : {A : Type 0} (cause : Cause) (value : Option A) → (cause ≡ Memory → ⊥) → (e : Cause) → Takes cause value (Err e) → e ≡ Memory → ⊥
+take_refuses {A} cause None ne e h z = ne (sym (same_err {A = A} e cause h.is) ∙ z)
+take_refuses cause (Some x) ne e h z = let i = h.is in absurd cc
+
+hold_refuses : (cause : Cause) (test : Bool) → (cause ≡ Memory → ⊥) → (e : Cause) → Holds cause test (Err e) → e ≡ Memory → ⊥
+hold_refuses cause false ne e h z = ne (sym (same_err {A = Unit {0}} e cause h.is) ∙ z)
+hold_refuses cause true ne e h z = let i = h.is in absurd cc
+
+gives_refuses : {A : Type 0} (value : A) → Refuses (λ r. Gives value r)
+gives_refuses value = record { not = λ e h z. let i = h.is in absurd cc }
+
+pub finishes_refuses : (server : Kerberos) (dce : Bool) (draw : Draw) (request : Request) (e : Cause) → Finishes server dce draw request (Err e) → e ≡ Memory → ⊥
+unfolding Finishes Completes
+finishes_refuses server dce draw request =
+    (then_refuses _ _ (then_refuses _ _ (record { not = take_refuses ClientName _ (λ z. cc) }) (λ client. then_refuses _ _ (record { not = hold_refuses ApOptions _ (λ z. cc) })
+    (λ _. then_refuses _ _ (record { not = hold_refuses SubKey _ (λ z. cc) }) (λ _. gives_refuses _)))) (λ client. gives_refuses _)).not

@@ -1,0 +1,88 @@
+-- The acceptor's step: the ordered checks with the gate among them, and what they leave; and the initiator's last word.
+use Rattle.std.specs.Prelude.{◌≡◌, ℕ, Bool, true, false, List, Option, Some, None, Result, Ok, Err}
+use Rattle.krb_replay.specs.declared.ask.Ask.{Ask}
+use Rattle.krb_replay.specs.declared.ask.Verdict.{Verdict}
+use Rattle.krb_replay.specs.declared.ask.Verdict.TheVariants as verdicts
+use Rattle.krb_context.specs.declared.context.Kerberos.{Kerberos}
+use Rattle.krb_context.specs.declared.state.KerberosState.{KerberosState}
+use Rattle.krb_context.specs.declared.state.KerberosState.TheVariants.{TgtExchange, Preauthentication, ApExchange, Final}
+use Rattle.krb_context.specs.States.{is_waiting}
+use Rattle.sspi_core.specs.declared.draw.Draw.{Draw}
+use Rattle.sspi_core.specs.Flags.{has_flag, use_dce_style}
+use Rattle.sspi_core.specs.declared.flags.ServerRequestFlags.{ServerRequestFlags}
+use Rattle.sspi_core.specs.declared.cause.Cause.{Cause}
+use Rattle.sspi_core.specs.declared.cause.Cause.TheVariants.{Sequence, Skew, NotYet, Expired, Replayed}
+use Rattle.sspi_core.specs.Checks.{Holds, Takes, Passes, Gives, ◌>>=◌, ◌>>◌}
+use Rattle.krb_admission.specs.declared.request.Request.{Request}
+use Rattle.krb_admission.specs.declared.admission.Admission.{Admission}
+use Rattle.krb_admission.specs.declared.admission.Accepted.{Accepted}
+use Rattle.krb_admission.specs.Requests.{Requests, ask_of}
+use Rattle.krb_admission.specs.Complete.{Completes}
+use Rattle.krb_admission.specs.Admission.{admission_of, accepted_of, settled}
+use Rattle.krb_admission.specs.ThirdLeg.{Concludes}
+
+-- the caller asks for bare tokens, of which the initiator sends the last: DCE style (MS-KILE, section 3.4.5.1)
+abbrev pub asks_dce_style : ServerRequestFlags → Bool
+asks_dce_style flags = has_flag flags.0 use_dce_style
+
+-- where an acceptor waits for the initiator's last word
+abbrev pub awaits_last_word : Bool → KerberosState → Bool
+awaits_last_word dce TgtExchange = false
+awaits_last_word dce Preauthentication = false
+awaits_last_word dce ApExchange = dce
+awaits_last_word dce Final = false
+
+-- what a gate's verdict refuses
+abbrev pub refusal : Verdict → Option Cause
+refusal verdicts.Admitted = None
+refusal verdicts.Skew = Some Skew
+refusal verdicts.NotYet = Some NotYet
+refusal verdicts.Expired = Some Expired
+refusal verdicts.Replayed = Some Replayed
+
+-- the state in which an AP-REQ may come, and the checks before the gate
+unfoldable pub Begins : Kerberos → Bool → List ℕ → Result Request Cause → Type 0
+Begins server dce token = do
+  Holds Sequence (is_waiting server.state)
+  properties ← Takes Sequence server.server
+  Requests properties dce token
+
+-- the checks behind the gate, and what admission makes
+unfoldable pub Finishes : Kerberos → Bool → Draw → Request → Result Admission Cause → Type 0
+Finishes server dce draw request = do
+  client ← Completes request
+  Gives (admission_of dce server.krb5_user_to_user server.seq_number draw request client)
+
+-- an AP-REQ, judged by the ordered checks, with this verdict of the gate
+unfoldable pub Judged : Kerberos → Bool → List ℕ → Draw → Verdict → Result Admission Cause → Type 0
+Judged server dce token draw verdict = do
+  request ← Begins server dce token
+  Passes (refusal verdict)
+  Finishes server dce draw request
+
+-- the gate takes one step for a request that reaches it, and else stays
+abbrev pub Asks : {G : Type 0} → (G → Ask → Verdict → G → Type 0) → ℕ → G → Result Request Cause → Verdict → G → Type 0
+Asks admits moment old (Ok request) verdict new = admits old (ask_of request moment) verdict new
+Asks admits moment old (Err cause) verdict new = new ≡ old
+
+-- what the caller gets for an AP-REQ, and the context afterwards: a refusal leaves it
+abbrev pub Makes : Kerberos → Result Admission Cause → Result Accepted Cause → Kerberos → Type 0
+Makes server (Ok admission) answer server' = (answer ≡ Ok (accepted_of admission)) × (server' ≡ settled server admission)
+Makes server (Err cause) answer server' = (answer ≡ Err cause) × (server' ≡ server)
+
+-- the last word where it is awaited, and else the outcome of an AP-REQ
+abbrev pub Ends : Bool → Kerberos → List ℕ → Result Admission Cause → Result Accepted Cause → Kerberos → Type 0
+Ends true server token outcome answer server' = Concludes server token answer server'
+Ends false server token outcome answer server' = Makes server outcome answer server'
+
+-- a token at an acceptor, over any gate. Where the last word is awaited no AP-REQ may come: the checks of one end at the
+-- first of them, so that the gate is not asked
+pub record Accepts {G : Type 0} (admits : G → Ask → Verdict → G → Type 0) (server : Kerberos) (dce : Bool) (token : List ℕ) (draw : Draw)
+    (old : G) (answer : Result Accepted Cause) (server' : Kerberos) (new : G) : Type 0 where
+  pub verdict : Verdict
+  pub request : Result Request Cause
+  pub begun : Begins server dce token request
+  pub gate : Asks admits draw.moment old request verdict new
+  pub outcome : Result Admission Cause
+  pub judged : Judged server dce token draw verdict outcome
+  pub made : Ends (awaits_last_word dce server.state) server token outcome answer server'

@@ -1,0 +1,8 @@
+pub mod Opens
+pub mod Tokens
+pub mod Requests
+pub mod Clients
+pub mod Complete
+pub mod Admission
+pub mod ThirdLeg
+pub mod Accepts

@@ -1,0 +1,53 @@
+-- The third leg of DCE style: the initiator's last word, an AP-REP in answer to the acceptor's (MS-KILE, section 3.4.5.1).
+use Rattle.std.specs.Prelude.{◌≡◌, ℕ, ◌==◌, nat_le, false, List, [], length, Result, Ok, Err}
+use Rattle.std.specs.Cmp.Lexicographic.{pointwise}
+use Rattle.krb_messages.specs.Layouts.{ap_rep_layout}
+use Rattle.krb_messages.specs.declared.ap_rep.ApRep.{ApRep}
+use Rattle.krb_context.specs.Params.{suite_of}
+use Rattle.krb_context.specs.declared.context.Kerberos.{Kerberos}
+use Rattle.krb_context.specs.declared.state.KerberosState.TheVariants.{Final}
+use Rattle.krb_replies.specs.Unseals.{IsRead}
+use Rattle.krb_replies.specs.Answered.{TellsNumber}
+use Rattle.krb_admission.specs.Admission.{number_after}
+use Rattle.krb_admission.specs.declared.admission.Accepted.{Accepted}
+use Rattle.krb_admission.specs.declared.admission.Accepted.TheVariants.{Done}
+use Rattle.sspi_core.specs.declared.results.SecurityStatus.TheVariants.{Ok as Complete}
+use Rattle.sspi_core.specs.declared.cause.Cause.{Cause}
+use Rattle.sspi_core.specs.declared.cause.Cause.TheVariants.{Sequence, Shape, Reply, Number}
+use Rattle.sspi_core.specs.Checks.{Finds, Holds, Takes, ◌>>=◌, ◌>>◌}
+
+-- the AP-REP that the token is, bare, of at most 2^24 octets
+unfoldable pub ReadsApRep : List ℕ → Result ApRep Cause → Type 0
+ReadsApRep token = do
+  Holds Shape (nat_le (length token) 16777216)
+  Finds Shape (IsRead ap_rep_layout token)
+
+-- the number in it: what has it is sealed under the session key in the context's suite, with usage 12 (RFC 4120, section
+-- 7.5.1), and nothing is sealed under a key that is not there
+unfoldable pub TellsLast : Kerberos → List ℕ → Result (List ℕ) Cause → Type 0
+TellsLast server token = do
+  message ← ReadsApRep token
+  key ← Takes Reply server.encryption_params.session_key
+  TellsNumber (suite_of server.encryption_params) key message
+
+-- the last word repeats the number of the acceptor's AP-REP, the one after the acceptor's own
+unfoldable pub IsLastWord : Kerberos → List ℕ → Result (Unit {0}) Cause → Type 0
+IsLastWord server token = do
+  properties ← Takes Sequence server.server
+  number ← TellsLast server token
+  Holds Number (pointwise ◌==◌ number (number_after server.seq_number))
+
+-- the context is established, and its sealed messages have 16 octets of filler
+abbrev pub concluded : Kerberos → Kerberos
+concluded server = record server { state = Final; encryption_params = record server.encryption_params { ec = 16 } }
+
+-- what the caller gets, and the context afterwards: a refusal leaves it
+abbrev pub Closes : Kerberos → Result (Unit {0}) Cause → Result Accepted Cause → Kerberos → Type 0
+Closes server (Ok _) answer server' = (answer ≡ Ok (Done Complete [] false)) × (server' ≡ concluded server)
+Closes server (Err cause) answer server' = (answer ≡ Err cause) × (server' ≡ server)
+
+-- a token where the last word is awaited
+pub record Concludes (server : Kerberos) (token : List ℕ) (answer : Result Accepted Cause) (server' : Kerberos) : Type 0 where
+  pub outcome : Result (Unit {0}) Cause
+  pub judged : IsLastWord server token outcome
+  pub closes : Closes server outcome answer server'

@@ -1,0 +1,95 @@
+//! The checks behind the gate, which are made before it is asked.
+
+ghost use Rattle.std.specs.Prelude.{◌≡◌, IfOk};
+ghost use Rattle.sspi_core.specs.declared.cause.Cause.TheVariants as causes;
+ghost use Rattle.sspi_core.specs.Checks.{Holds};
+ghost use Rattle.krb_admission.specs.Clients.{client_of};
+ghost use Rattle.krb_admission.specs.Complete.{is_known_options, is_mutual, has_good_subkey, is_good_key, Completes};
+
+use crate::client::client_of;
+use crate::request::Request;
+use krb_der::{Bits, OutOfMemory};
+use krb_messages::EncryptionKey;
+use krb_replies::suite_of;
+use sspi_core::{Cause, Username, hold, take};
+use std::alloc::Global;
+
+/// Whether there are four octets and no unknown bit.
+fn is_known_options(options: &Bits) -> bool
+    ensures { result ≡ is_known_options options.now }
+{
+    match options.octets.as_slice() {
+        [first, 0, 0, 0] => *first & 0x9f == 0,
+        _ => false,
+    }
+}
+
+/// Whether an AP-REP is asked for.
+pub(crate) fn is_mutual(options: &Bits) -> bool
+    ensures { result ≡ is_mutual options.now }
+{
+    match options.octets.as_slice() {
+        [first, ..] => *first & 0x20 != 0,
+        [] => false,
+    }
+}
+
+/// Whether the key is of a known type, and as long as its type's keys are.
+fn is_good_key(key: &EncryptionKey) -> bool
+    ensures { result ≡ is_good_key key.now }
+{
+    match suite_of(&key.key_type) {
+        Some(suite) => key.key_value.as_slice().len() == suite.key_size(),
+        None => false,
+    }
+}
+
+fn has_good_subkey(request: &Request) -> bool
+    ensures { result ≡ has_good_subkey request.now }
+{
+    if is_mutual(&request.message.ap_options) {
+        return true;
+    }
+    match &request.authenticator.subkey {
+        Some(key) => is_good_key(key),
+        None => true,
+    }
+}
+
+fn check_options(options: &Bits) -> Result<(), Cause>
+    ensures { Holds causes.ApOptions (is_known_options options.now) result }
+{
+    hold(is_known_options(options), Cause::ApOptions)
+}
+
+fn check_subkey(request: &Request) -> Result<(), Cause>
+    ensures { Holds causes.SubKey (has_good_subkey request.now) result }
+{
+    hold(has_good_subkey(request), Cause::SubKey)
+}
+
+/// The checks behind the client's name.
+fn completed(client: Option<Username>, request: &Request) -> Result<Username, Cause>
+    requires { client ≡ client_of request.now.authenticator.cname request.now.authenticator.crealm }
+    ensures { Completes request.now result }
+{
+    let client = take(client, Cause::ClientName)?;
+    check_options(&request.message.ap_options)?;
+    check_subkey(request)?;
+    Ok(client)
+}
+
+/// What the checks behind the gate will answer.
+pub(crate) fn complete(
+    alloc: Global,
+    request: &Request,
+) -> Result<Result<Username, Cause>, OutOfMemory>
+    ensures { IfOk result (Completes request.now) }
+{
+    let client = client_of(
+        alloc,
+        &request.authenticator.cname,
+        &request.authenticator.crealm,
+    )?;
+    Ok(completed(client, request))
+}

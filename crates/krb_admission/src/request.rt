@@ -1,0 +1,134 @@
+//! An AP-REQ, up to the question to the replay gate.
+
+ghost use Rattle.std.specs.Prelude.{◌≡◌, IfOk, MatchResult};
+ghost use Rattle.std.specs.Result.{result_map_both};
+ghost use Rattle.sspi_core.specs.declared.cause.Cause.TheVariants as causes;
+ghost use Rattle.sspi_core.specs.Checks.{Answers, Holds, Takes};
+ghost use Rattle.krb_context.specs.ServiceKeys.{service_key};
+ghost use Rattle.krb_admission.specs.Requests.{is_same_client, OpensTicket, OpensAuthenticator, Requests, ask_of};
+
+use crate::open::open_data;
+use crate::token::receive;
+use krb_context::{KeptKey, ServerProperties};
+use krb_crypto::CipherSuite;
+use krb_der::{Blank, Octets, OutOfMemory, boxed};
+use krb_messages::constants::{AP_REQ_AUTHENTICATOR_USAGE, TICKET_USAGE};
+use krb_messages::{ApReq, Authenticator, EncTicketPart, PrincipalName};
+use krb_replay::{Ask, Record};
+use sspi_core::{Cause, hold};
+use std::alloc::Global;
+use std::mem;
+
+/// An AP-REQ with what is sealed in it.
+#[derive(Drop)]
+pub struct Request {
+    pub message: ApReq,
+    /// What is sealed in the ticket.
+    pub part: EncTicketPart,
+    /// The authenticator's suite.
+    pub suite: CipherSuite,
+    pub authenticator: Authenticator,
+}
+
+fn is_same_client(part: &EncTicketPart, authenticator: &Authenticator) -> bool
+    ensures { result ≡ is_same_client part.now authenticator.now }
+{
+    part.crealm == authenticator.crealm && part.cname == authenticator.cname
+}
+
+fn check_names(part: &EncTicketPart, authenticator: &Authenticator) -> Result<(), Cause>
+    ensures { Holds causes.Names (is_same_client part.now authenticator.now) result }
+{
+    hold(is_same_client(part, authenticator), Cause::Names)
+}
+
+/// The key of the service that a ticket names in the clear.
+fn service_key<'a>(server: &'a ServerProperties, name: &PrincipalName) -> Result<&'a Octets, Cause>
+    ensures { Takes causes.NoServiceKey (service_key server.now name.now.name_string) (result_map_both (λ key. key.now) (λ e. e) result) }
+{
+    match server.ticket_decryption_key_for(name) {
+        Some(key) => Ok(key.as_ref()),
+        None => Err(Cause::NoServiceKey),
+    }
+}
+
+/// What is sealed in the ticket. The keys that open it are kept.
+fn open_ticket(
+    alloc: Global,
+    server: &ServerProperties,
+    kept: &mut KeptKey,
+    message: &ApReq,
+) -> Result<EncTicketPart, Cause>
+    ensures { Answers (OpensTicket server.now message.now) result }
+{
+    let key = service_key(server, &message.ticket.sname)?;
+    let sealed = &message.ticket.enc_part;
+    let (_, part) = open_data::<EncTicketPart>(alloc, kept, key, TICKET_USAGE, sealed)?;
+    Ok(part)
+}
+
+/// The authenticator, of the same client. Its key comes with the ticket, and nothing of it is kept.
+fn open_authenticator(
+    alloc: Global,
+    message: &ApReq,
+    part: &EncTicketPart,
+) -> Result<(CipherSuite, Authenticator), Cause>
+    ensures { Answers (OpensAuthenticator message.now part.now) result }
+{
+    let sealed = open_data::<Authenticator>(
+        alloc,
+        &mut KeptKey::new(),
+        &part.key.key_value,
+        AP_REQ_AUTHENTICATOR_USAGE,
+        &message.authenticator,
+    )?;
+    check_names(part, &sealed.1)?;
+    Ok(sealed)
+}
+
+/// The AP-REQ in a token, with what is sealed in it.
+pub(crate) fn read_request(
+    alloc: Global,
+    server: &ServerProperties,
+    kept: &mut KeptKey,
+    dce: bool,
+    token: &[u8],
+) -> Result<Request, Cause>
+    ensures { Answers (Requests server.now dce token.now) result }
+{
+    let message = boxed(alloc, receive(alloc, dce, token)?)?;
+    let part = boxed(alloc, open_ticket(alloc, server, kept, &message)?)?;
+    let (suite, authenticator) = open_authenticator(alloc, &message, &part)?;
+    Ok(Request {
+        message: Box::into_inner(message),
+        part: Box::into_inner(part),
+        suite,
+        authenticator,
+    })
+}
+
+/// The question to the gate. Nothing is copied: the request is left with blanks.
+pub(crate) fn ask_of(alloc: Global, request: &mut Request, moment: u64) -> Ask
+    ensures { result ≡ ask_of request.old moment }
+{
+    let start = request.part.starttime.unwrap_or(request.part.authtime);
+    let end = request.part.endtime;
+    let authenticator = &mut request.authenticator;
+    let ctime = authenticator.ctime;
+    let cusec = mem::replace(&mut authenticator.cusec, Blank::blank(alloc));
+    let realm = mem::replace(&mut authenticator.crealm, Blank::blank(alloc));
+    let name = mem::replace(&mut authenticator.cname, Blank::blank(alloc));
+    let sname = mem::replace(&mut request.message.ticket.sname, Blank::blank(alloc));
+    Ask {
+        entry: Record {
+            ctime,
+            cusec: Octets::new(cusec.into_inner()),
+            realm,
+            name,
+        },
+        sname,
+        start,
+        end,
+        moment,
+    }
+}

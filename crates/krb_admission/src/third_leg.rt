@@ -1,0 +1,116 @@
+//! The third leg of DCE style: the initiator's last word, an AP-REP in answer to the acceptor's (MS-KILE, section 3.4.5.1).
+
+ghost use Rattle.std.specs.Prelude.{◌≡◌, ◌==◌, Err, Result, [], false};
+ghost use Rattle.std.specs.Result.{result_map_both};
+ghost use Rattle.std.specs.Cmp.Lexicographic.{pointwise};
+ghost use Rattle.sspi_core.specs.declared.cause.Cause.TheVariants as causes;
+ghost use Rattle.sspi_core.specs.Checks.{Answers, Holds, Takes};
+ghost use Rattle.krb_context.specs.Params.{suite_of};
+ghost use Rattle.krb_replies.specs.Answered.{TellsNumber};
+ghost use Rattle.krb_admission.specs.Admission.{number_after};
+ghost use Rattle.krb_admission.specs.ThirdLeg.{ReadsApRep, TellsLast, IsLastWord, concluded, Concludes};
+
+use crate::admission::Accepted;
+use crate::token::check_token_length;
+use krb_context::{Kerberos, KerberosState, ServerProperties};
+use krb_der::Octets;
+use krb_messages::ApRep;
+use krb_replies::{extract_seq_number_from_ap_rep, read_or};
+use sspi_core::{Cause, Secret, SecurityStatus, hold};
+use std::alloc::Global;
+
+/// The filler of sealed messages in DCE style, in octets.
+const EXTRA_COUNT: u16 = 16;
+
+/// The service of an acceptor.
+pub(crate) fn properties(server: &Option<ServerProperties>) -> Result<&ServerProperties, Cause>
+    ensures { Takes causes.Sequence server.now (result_map_both (λ p. p.now) (λ e. e) result) }
+{
+    match server {
+        Some(properties) => Ok(properties),
+        None => Err(Cause::Sequence),
+    }
+}
+
+/// The AP-REP that the token is.
+fn read_ap_rep(alloc: Global, token: &[u8]) -> Result<ApRep, Cause>
+    ensures { Answers (ReadsApRep token.now) result }
+{
+    check_token_length(token)?;
+    read_or(alloc, token, Cause::Shape)
+}
+
+fn session_key(server: &Kerberos) -> Result<&Secret<Octets>, Cause>
+    ensures { Takes causes.Reply server.now.encryption_params.session_key (result_map_both (λ key. key.now) (λ e. e) result) }
+{
+    match &server.encryption_params.session_key {
+        Some(key) => Ok(key),
+        None => Err(Cause::Reply),
+    }
+}
+
+/// The number that is sealed in an AP-REP under the session key.
+fn number_in(
+    alloc: Global,
+    server: &Kerberos,
+    key: &Secret<Octets>,
+    message: &ApRep,
+) -> Result<Octets, Cause>
+    ensures { Answers (TellsNumber (suite_of server.now.encryption_params) key.now message.now) result }
+{
+    match extract_seq_number_from_ap_rep(alloc, message, key, &server.encryption_params) {
+        Ok(number) => Ok(number),
+        Err(error) => Err(error.cause),
+    }
+}
+
+/// The number in the last word.
+fn last_number(alloc: Global, server: &Kerberos, token: &[u8]) -> Result<Octets, Cause>
+    ensures { Answers (TellsLast server.now token.now) result }
+{
+    let message = read_ap_rep(alloc, token)?;
+    let key = session_key(server)?;
+    number_in(alloc, server, key, &message)
+}
+
+fn check_number(own: u32, number: &Octets) -> Result<(), Cause>
+    ensures { Holds causes.Number (pointwise ◌==◌ number.now (number_after own)) result }
+{
+    let awaited = own.wrapping_add(1).to_be_bytes();
+    hold(number.as_slice() == awaited.as_slice(), Cause::Number)
+}
+
+fn check_last_word(alloc: Global, server: &Kerberos, token: &[u8]) -> Result<(), Cause>
+    ensures { Answers (IsLastWord server.now token.now) result }
+{
+    properties(&server.server)?;
+    let number = last_number(alloc, server, token)?;
+    check_number(server.seq_number, &number)
+}
+
+/// The context is established. This cannot fail.
+fn establish(alloc: Global, server: &mut Kerberos) -> Accepted
+    ensures server { server.new ≡ concluded server.old }
+    ensures accepted { result ≡ Accepted.Done SecurityStatus.Ok [] false }
+{
+    server.state = KerberosState::Final;
+    server.encryption_params.ec = EXTRA_COUNT;
+    Accepted::Done {
+        status: SecurityStatus::Ok,
+        token: Octets::new(Vec::new(alloc)),
+        admits: false,
+    }
+}
+
+/// Judges the initiator's last word.
+pub(crate) fn conclude(
+    alloc: Global,
+    server: &mut Kerberos,
+    token: &[u8],
+) -> Result<Accepted, Cause>
+    ensures step { (result ≡ Err causes.Memory → ⊥) → Concludes server.old token.now result server.new }
+    ensures memory { result ≡ Err causes.Memory → server.new ≡ server.old }
+{
+    check_last_word(alloc, server, token)?;
+    Ok(establish(alloc, server))
+}

@@ -1,0 +1,5 @@
+pub mod PartLengths
+pub mod ApRepTokens
+pub mod Numbers
+pub mod ShownLengths
+pub mod Once

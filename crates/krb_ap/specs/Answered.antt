@@ -1,0 +1,103 @@
+-- The answer of the service: an AP-REP (RFC 4120, section 3.2.5; RFC 4121, section 4.1), which DCE style answers in turn
+-- (MS-KILE, section 3.4.5.1).
+use Rattle.std.specs.Prelude.{ℕ, ◌+◌, ◌%◌, ◌^◌, nat_le, Bool, true, false, List, [], ◌∷◌, length, take, Option, Some, None, option_map, Result}
+use Rattle.krb_crypto.specs.declared.suite.CipherSuite.{CipherSuite}
+use Rattle.krb_messages.specs.Frame.{IsFrame}
+use Rattle.krb_messages.specs.Layouts.{ap_rep_layout}
+use Rattle.krb_messages.specs.declared.ap_rep.ApRep.{ApRep}
+use Rattle.krb_messages.specs.declared.ap_rep.EncApRepPart.{EncApRepPart}
+use Rattle.krb_messages.specs.declared.encryption.EncryptionKey.{EncryptionKey}
+use Rattle.krb_context.specs.Params.{suite_of}
+use Rattle.krb_context.specs.declared.context.ContextChange.{ContextChange}
+use Rattle.krb_context.specs.declared.state.KerberosState.TheVariants.{Final}
+use Rattle.sspi_core.specs.declared.results.SecurityStatus.TheVariants.{Ok as Complete}
+use Rattle.sspi_core.specs.declared.draw.Draw.{Draw}
+use Rattle.sspi_core.specs.declared.cause.Cause.{Cause}
+use Rattle.sspi_core.specs.declared.cause.Cause.TheVariants.{Shape, Reply, NoSubKey, NoNumber}
+use Rattle.sspi_core.specs.Checks.{Finds, Gives, Holds, Takes, ◌>>=◌, ◌>>◌}
+use Rattle.krb_replies.specs.Unseals.{IsRead}
+use Rattle.krb_replies.specs.Answered.{OpensApRep}
+use Rattle.krb_requests.specs.Pieces.{spelling}
+use Rattle.krb_as.specs.declared.done.InitDone.{InitDone}
+use Rattle.krb_ap.specs.declared.initiator.Initiator.{Initiator}
+use Rattle.krb_ap.specs.Initiators.{is_bare}
+use Rattle.krb_ap.specs.ApReps.{ap_rep_part, ap_rep}
+
+-- the token is a frame of this AP-REP, whatever mechanism it names
+pub record IsFramedApRep (token : List ℕ) (message : ApRep) : Type 0 where
+  pub oid : List ℕ
+  pub octets : List ℕ
+  pub frame : IsFrame oid (2 ∷ 0 ∷ []) octets token
+  pub read : IsRead ap_rep_layout octets message
+
+-- the token is this AP-REP: bare in DCE style, else framed
+abbrev pub IsApRep : Bool → List ℕ → ApRep → Type 0
+IsApRep true token message = IsRead ap_rep_layout token message
+IsApRep false token message = IsFramedApRep token message
+
+-- the AP-REP in a token, which has at most 2^24 octets
+unfoldable pub ReadsApRep : Bool → List ℕ → Result ApRep Cause → Type 0
+ReadsApRep dce token = do
+  Holds Shape (nat_le (length token) 16777216)
+  Finds Shape (IsApRep dce token)
+
+-- the context is established, with the subkey of the service: all else of it stays
+abbrev pub established : Initiator → List ℕ → ℕ → ℕ → ContextChange
+established initiator subkey ec number = record {
+  state = Final;
+  realm = initiator.realm;
+  encryption_params = record initiator.params { sub_session_key = Some subkey; ec = ec };
+  seq_number = number;
+  krb5_user_to_user = initiator.user_to_user;
+  ticket_decryption_key = None;
+}
+
+-- nothing more is said, and the own number rises by one
+abbrev pub confirmed : Initiator → List ℕ → InitDone
+confirmed initiator subkey = record {
+  status = Complete;
+  token = [];
+  change = established initiator subkey initiator.params.ec ((initiator.number + 1) % 2 ^ 32);
+}
+
+-- the last word: an AP-REP with the number of the service's under the session key; the first 16 random octets are the confounder
+unfoldable pub last_word : CipherSuite → List ℕ → List ℕ → Draw → List ℕ
+last_word suite key number draw = spelling ap_rep_layout (ap_rep suite key (take 16 draw.random) (ap_rep_part number draw.moment))
+
+-- that is the token, the own number stays, and sealed messages have 16 octets of filler
+abbrev pub replied : Initiator → List ℕ → List ℕ → List ℕ → Draw → InitDone
+replied initiator key subkey number draw = record {
+  status = Complete;
+  token = last_word (suite_of initiator.params) key number draw;
+  change = established initiator subkey 16 initiator.number;
+}
+
+-- the subkey that the service chose
+abbrev pub subkey_in : Option EncryptionKey → Option (List ℕ)
+subkey_in subkey = option_map (λ (k : EncryptionKey). k.key_value) subkey
+
+-- without DCE style the subkey is taken
+unfoldable pub Confirms : Initiator → Option EncryptionKey → Result InitDone Cause → Type 0
+Confirms initiator subkey = do
+  key ← Takes NoSubKey (subkey_in subkey)
+  Gives (confirmed initiator key)
+
+-- in DCE style the number too
+unfoldable pub Replies : Initiator → List ℕ → Option EncryptionKey → Option (List ℕ) → Draw → Result InitDone Cause → Type 0
+Replies initiator key subkey number draw = do
+  subkey ← Takes NoSubKey (subkey_in subkey)
+  number ← Takes NoNumber number
+  Gives (replied initiator key subkey number draw)
+
+abbrev pub Finishes : Bool → Initiator → List ℕ → EncApRepPart → Draw → Result InitDone Cause → Type 0
+Finishes true initiator key part draw answer = Replies initiator key part.subkey part.seq_number draw answer
+Finishes false initiator key part draw answer = Confirms initiator part.subkey answer
+
+-- the answer of the service: what has the subkey and the number is sealed under the session key, in the context's suite, and
+-- nothing is sealed under a key that is not there
+unfoldable pub TakesApRep : Initiator → List ℕ → Draw → Result InitDone Cause → Type 0
+TakesApRep initiator token draw = do
+  message ← ReadsApRep (is_bare initiator.flags) token
+  key ← Takes Reply initiator.params.session_key
+  part ← OpensApRep (suite_of initiator.params) key message
+  Finishes (is_bare initiator.flags) initiator key part draw

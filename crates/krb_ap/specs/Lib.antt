@@ -1,0 +1,4 @@
+pub mod Initiators
+pub mod ApReps
+pub mod Answered
+pub mod Shown

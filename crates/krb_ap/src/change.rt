@@ -1,0 +1,46 @@
+//! What the service's answer makes of the context.
+
+ghost use Rattle.std.specs.Prelude.{◌≡◌, IfOk, Some};
+ghost use Rattle.krb_ap.specs.Answered.{established};
+
+use crate::initiator::Initiator;
+use krb_context::{ContextChange, EncryptionParams, KerberosState};
+use krb_der::{Octets, OutOfMemory, TryCopy};
+use sspi_core::Secret;
+use std::alloc::Global;
+
+fn params_with(
+    alloc: Global,
+    params: &EncryptionParams,
+    subkey: Secret<Octets>,
+    ec: u16,
+) -> Result<EncryptionParams, OutOfMemory>
+    ensures { IfOk result (λ made. made ≡ record params.now { sub_session_key = Some subkey; ec = ec }) }
+{
+    let mut made = params.copy(alloc)?;
+    made.sub_session_key = Some(subkey);
+    made.ec = ec;
+    Ok(made)
+}
+
+/// The context is established, with the subkey of the service, this many octets of filler and this own number.
+pub(crate) fn established(
+    alloc: Global,
+    initiator: &Initiator,
+    subkey: Secret<Octets>,
+    ec: u16,
+    number: u32,
+) -> Result<ContextChange, OutOfMemory>
+    ensures { IfOk result (λ change. change ≡ established initiator.now subkey ec number) }
+{
+    let realm = initiator.realm.copy(alloc)?;
+    let encryption_params = params_with(alloc, &initiator.params, subkey, ec)?;
+    Ok(ContextChange {
+        state: KerberosState::Final,
+        realm,
+        encryption_params,
+        seq_number: number,
+        krb5_user_to_user: initiator.user_to_user,
+        ticket_decryption_key: None,
+    })
+}

@@ -1,0 +1,264 @@
+//! The answer of the service: an AP-REP (RFC 4120, section 3.2.5), which DCE style answers in turn (MS-KILE, section 3.4.5.1).
+
+ghost use Rattle.std.specs.Prelude.{◌≡◌, ◌≤◌, ◌^◌, length, nat_le, take, true, false, [], option_map, IfOk, IfSome, Result};
+ghost use Rattle.std.specs.Result.{result_map_both};
+ghost use Rattle.krb_crypto.specs.Suite.{key_size};
+ghost use Rattle.sspi_core.specs.declared.cause.Cause.TheVariants as causes;
+ghost use Rattle.sspi_core.specs.Moments.{last_moment};
+ghost use Rattle.sspi_core.specs.Checks.{Answers, Finds, Gives, Holds, Takes};
+ghost use Rattle.krb_messages.specs.declared.encryption.EncryptionKey.{EncryptionKey};
+ghost use Rattle.krb_context.specs.Params.{suite_of};
+ghost use Rattle.krb_replies.specs.Answered.{OpensApRep};
+ghost use Rattle.krb_ap.specs.Initiators.{is_bare};
+ghost use Rattle.krb_ap.specs.ApReps.{IsSendableNumber};
+ghost use Rattle.krb_ap.specs.Answered.{IsApRep, ReadsApRep, confirmed, replied, last_word, Confirms, Replies, Finishes, TakesApRep};
+
+use crate::ap_rep::seal_ap_rep;
+use crate::change::established;
+use crate::initiator::{Initiator, is_bare};
+use krb_as::InitDone;
+use krb_crypto::CipherSuite;
+use krb_der::{Asn1, IntegerAsn1, Octets, OutOfMemory};
+use krb_messages::constants::{AP_REP_TOKEN_ID, AP_REP_USAGE};
+use krb_messages::{ApRep, EncApRepPart, EncryptionKey, read_framed};
+use krb_replies::{SESSION_KEY, open, read_or};
+use sspi_core::{Cause, Draw, Secret, SecurityStatus, hold};
+use std::alloc::Global;
+
+/// The longest token of the handshake, in octets.
+const MAX_TOKEN: usize = 16_777_216;
+
+/// The filler of sealed messages in DCE style, in octets.
+const EXTRA_COUNT: u16 = 16;
+
+fn check_token_length(token: &[u8]) -> Result<(), Cause>
+    ensures { Holds causes.Shape (nat_le (length token.now) 16777216) result }
+{
+    hold(token.len() <= MAX_TOKEN, Cause::Shape)
+}
+
+/// The AP-REP in a frame.
+fn framed_ap_rep(alloc: Global, token: &[u8]) -> Result<ApRep, Cause>
+    ensures { Answers (Finds causes.Shape (IsApRep false token.now)) result }
+{
+    match read_framed(token, AP_REP_TOKEN_ID) {
+        Ok((_, message)) => read_or(alloc, message, Cause::Shape),
+        Err(_) => Err(Cause::Shape),
+    }
+}
+
+/// The AP-REP that a token is.
+fn ap_rep_in(alloc: Global, dce: bool, token: &[u8]) -> Result<ApRep, Cause>
+    ensures { Answers (Finds causes.Shape (IsApRep dce token.now)) result }
+{
+    if dce {
+        read_or(alloc, token, Cause::Shape)
+    } else {
+        framed_ap_rep(alloc, token)
+    }
+}
+
+/// The AP-REP in a token, no part of which is longer than a token.
+#[tactic(auto, unfolding(crate::specs::Answered::ReadsApRep))]
+fn read_ap_rep(alloc: Global, dce: bool, token: &[u8]) -> Result<ApRep, Cause>
+    ensures step { Answers (ReadsApRep dce token.now) result }
+    ensures short { IfOk result (λ message. length message.enc_part.cipher ≤ 2 ^ 24) }
+{
+    check_token_length(token)?;
+    ap_rep_in(alloc, dce, token)
+}
+
+fn session_key(initiator: &Initiator) -> Result<&Secret<Octets>, Cause>
+    ensures { Takes causes.Reply initiator.now.params.session_key (result_map_both (λ key. key.now) (λ e. e) result) }
+{
+    match &initiator.params.session_key {
+        Some(key) => Ok(key),
+        None => Err(Cause::Reply),
+    }
+}
+
+/// What is sealed in the AP-REP. A number that it has can be sent back.
+#[tactic(auto, unfolding(krb_replies::specs::Answered::OpensApRep))]
+fn open_ap_rep(
+    alloc: Global,
+    suite: CipherSuite,
+    key: &Secret<Octets>,
+    message: &ApRep,
+) -> Result<EncApRepPart, Cause>
+    requires { length message.now.enc_part.cipher ≤ 2 ^ 24 }
+    ensures step { Answers (OpensApRep suite key.now message.now) result }
+    ensures number { IfOk result (λ part. IfSome part.seq_number IsSendableNumber) }
+{
+    let text = message.enc_part.cipher.as_slice();
+    open(
+        alloc,
+        SESSION_KEY,
+        suite,
+        key.as_ref().as_slice(),
+        AP_REP_USAGE,
+        text,
+    )
+}
+
+fn key_in(subkey: Option<EncryptionKey>) -> Result<Secret<Octets>, Cause>
+    ensures { Takes causes.NoSubKey (option_map (λ (k : EncryptionKey). k.key_value) subkey) result }
+{
+    match subkey {
+        Some(subkey) => Ok(Secret::new(subkey.key_value)),
+        None => Err(Cause::NoSubKey),
+    }
+}
+
+fn number_in(number: Option<IntegerAsn1>) -> Result<Octets, Cause>
+    requires { IfSome number IsSendableNumber }
+    ensures step { Takes causes.NoNumber number result }
+    ensures sendable { IfOk result IsSendableNumber }
+{
+    match number {
+        Some(number) => Ok(Octets::new(number.into_inner())),
+        None => Err(Cause::NoNumber),
+    }
+}
+
+/// The end without DCE style.
+fn confirmed(
+    alloc: Global,
+    initiator: &Initiator,
+    subkey: Secret<Octets>,
+) -> Result<InitDone, Cause>
+    ensures { Answers (Gives (confirmed initiator.now subkey)) result }
+{
+    let number = initiator.number.wrapping_add(1);
+    let change = established(alloc, initiator, subkey, initiator.params.ec, number)?;
+    Ok(InitDone {
+        status: SecurityStatus::Ok,
+        token: Octets::new(Vec::new(alloc)),
+        change,
+    })
+}
+
+#[tactic(auto, unfolding(crate::specs::Answered::Confirms))]
+fn confirm(
+    alloc: Global,
+    initiator: &Initiator,
+    subkey: Option<EncryptionKey>,
+) -> Result<InitDone, Cause>
+    ensures { Answers (Confirms initiator.now subkey) result }
+{
+    let subkey = key_in(subkey)?;
+    confirmed(alloc, initiator, subkey)
+}
+
+fn drawn_confounder(draw: &Draw) -> [u8; 16]
+    ensures { result ≡ take 16 draw.now.random }
+{
+    let mut confounder = [0; 16];
+    confounder.copy_from_slice(&draw.random[..16]);
+    confounder
+}
+
+/// The last word, an AP-REP with this number.
+#[tactic(auto, unfolding(crate::specs::Answered::last_word))]
+fn last_word(
+    alloc: Global,
+    suite: CipherSuite,
+    key: &Secret<Octets>,
+    number: Octets,
+    draw: &Draw,
+) -> Result<Octets, OutOfMemory>
+    requires key { length key.now ≡ key_size suite }
+    requires moment { draw.now.moment ≤ last_moment }
+    requires number { IsSendableNumber number }
+    ensures { IfOk result (λ token. token ≡ last_word suite key.now number draw.now) }
+{
+    let confounder = drawn_confounder(draw);
+    let key = key.as_ref().as_slice();
+    let message = seal_ap_rep(alloc, suite, key, number, draw.moment, confounder)?;
+    message.write(alloc)
+}
+
+/// The end in DCE style.
+fn replied(
+    alloc: Global,
+    initiator: &Initiator,
+    key: &Secret<Octets>,
+    subkey: Secret<Octets>,
+    number: Octets,
+    draw: &Draw,
+) -> Result<InitDone, Cause>
+    requires key { length key.now ≡ key_size (suite_of initiator.now.params) }
+    requires moment { draw.now.moment ≤ last_moment }
+    requires number { IsSendableNumber number }
+    ensures { Answers (Gives (replied initiator.now key.now subkey number draw.now)) result }
+{
+    let token = last_word(alloc, initiator.params.suite(), key, number, draw)?;
+    let change = established(alloc, initiator, subkey, EXTRA_COUNT, initiator.number)?;
+    Ok(InitDone {
+        status: SecurityStatus::Ok,
+        token,
+        change,
+    })
+}
+
+#[tactic(auto, unfolding(crate::specs::Answered::Replies))]
+fn reply(
+    alloc: Global,
+    initiator: &Initiator,
+    key: &Secret<Octets>,
+    part: EncApRepPart,
+    draw: &Draw,
+) -> Result<InitDone, Cause>
+    requires key { length key.now ≡ key_size (suite_of initiator.now.params) }
+    requires number { IfSome part.seq_number IsSendableNumber }
+    requires moment { draw.now.moment ≤ last_moment }
+    ensures { Answers (Replies initiator.now key.now part.subkey part.seq_number draw.now) result }
+{
+    let subkey = key_in(part.subkey)?;
+    let number = number_in(part.seq_number)?;
+    replied(alloc, initiator, key, subkey, number, draw)
+}
+
+/// What follows from what was sealed.
+fn finish(
+    alloc: Global,
+    dce: bool,
+    initiator: &Initiator,
+    key: &Secret<Octets>,
+    part: EncApRepPart,
+    draw: &Draw,
+) -> Result<InitDone, Cause>
+    requires key { length key.now ≡ key_size (suite_of initiator.now.params) }
+    requires number { IfSome part.seq_number IsSendableNumber }
+    requires moment { draw.now.moment ≤ last_moment }
+    ensures { Answers (Finishes dce initiator.now key.now part draw.now) result }
+{
+    if dce {
+        reply(alloc, initiator, key, part, draw)
+    } else {
+        confirm(alloc, initiator, part.subkey)
+    }
+}
+
+/// The service's answer at an initiator that awaits it, which is established by it: an AP-REP under the session key, framed, or
+/// bare in DCE style. Its subkey becomes the sub-session key. In DCE style it is answered by an AP-REP with the same number, and
+/// sealed messages have 16 octets of filler; else the own number rises by one and nothing is answered.
+///
+/// Refused, in this order, as `Shape` where the token is no AP-REP or has more than 16,777,216 octets; as `Reply` where nothing
+/// is sealed to it under the session key; as `Inner` where what is sealed is no EncAPRepPart; as `NoSubKey` where it has no subkey;
+/// in DCE style as `NoNumber` where it has no number.
+#[tactic(auto, unfolding(crate::specs::Answered::TakesApRep))]
+pub fn take_ap_rep(
+    alloc: Global,
+    initiator: &Initiator,
+    token: &[u8],
+    draw: &Draw,
+) -> Result<InitDone, Cause>
+    requires moment { draw.now.moment ≤ last_moment }
+    ensures step { Answers (TakesApRep initiator.now token.now draw.now) result }
+{
+    let dce = is_bare(initiator.flags);
+    let message = read_ap_rep(alloc, dce, token)?;
+    let key = session_key(initiator)?;
+    let part = open_ap_rep(alloc, initiator.params.suite(), key, &message)?;
+    finish(alloc, dce, initiator, key, part, draw)
+}

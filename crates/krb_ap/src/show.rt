@@ -1,0 +1,317 @@
+//! The AP-REQ to the service (RFC 4120, sections 3.2.2 and 5.5.1; RFC 4121, section 4.1).
+
+ghost use Rattle.std.specs.Prelude.{◌≡◌, ◌==◌, ◌<◌, ◌≤◌, ◌^◌, length, Some, IfOk};
+ghost use Rattle.sspi_core.specs.Moments.{last_moment};
+ghost use Rattle.sspi_core.specs.declared.cause.Cause.TheVariants as causes;
+ghost use Rattle.sspi_core.specs.Checks.{Answers, Gives, Holds};
+ghost use Rattle.krb_crypto.specs.Suite.{key_size};
+ghost use Rattle.krb_messages.specs.Layouts.{authenticator_layout, ticket_layout, ap_req_layout};
+ghost use Rattle.krb_context.specs.Options.{ap_options_of};
+ghost use Rattle.krb_context.specs.Params.{suite_of};
+ghost use Rattle.krb_requests.specs.Pieces.{Fits};
+ghost use Rattle.krb_authenticators.specs.Authenticators.{IsShortChecksum};
+ghost use Rattle.krb_authenticators.specs.ApRequests.{ap_req, service_usage};
+ghost use Rattle.krb_as.specs.Granted.{IsSendable};
+ghost use Rattle.krb_ap.specs.Initiators.{exchange_flags};
+ghost use Rattle.krb_ap.specs.Shown.{drawn_key, drawn_confounder, gss_checksum, service_authenticator, service_request, message, framed, token_of, change_of, shown, ShowsTicket, CanGo};
+
+use crate::errand::Errand;
+use crate::initiator::{Initiator, exchange_flags, is_bare};
+use bitflags::Flags;
+use krb_authenticators::{
+    ChecksumOptions, ChecksumValues, EncKey, GenerateAuthenticatorOptions, generate_ap_req,
+    generate_authenticator,
+};
+use krb_as::InitDone;
+use krb_context::{ApOptions, ContextChange, EncryptionParams, GssFlags, KerberosState};
+use krb_crypto::CipherSuite;
+use krb_der::{Asn1, Items, Name, Octets, OutOfMemory, Text, TryCopy};
+use krb_exchange::KdcRep;
+use krb_messages::constants::{AP_REQ_TOKEN_ID, GSS_CHECKSUM_TYPE};
+use krb_messages::{ApReq, Authenticator, Oid, Ticket, write_framed};
+use sspi_core::{Cause, ClientRequestFlags, Draw, Secret, SecurityStatus, hold};
+use std::alloc::Global;
+
+/// The key that the client chooses.
+fn drawn_key(alloc: Global, suite: CipherSuite, draw: &Draw) -> Result<Secret<Octets>, OutOfMemory>
+    ensures drawn { IfOk result (λ key. key ≡ drawn_key suite draw.now) }
+    ensures short { IfOk result (λ key. length key ≤ 2 ^ 24) }
+{
+    let key = &draw.random[..suite.key_size()];
+    Ok(Secret::new(Octets::from_slice(alloc, key)?))
+}
+
+fn drawn_confounder(suite: CipherSuite, draw: &Draw) -> [u8; 16]
+    ensures { result ≡ drawn_confounder suite draw.now }
+{
+    let start = suite.key_size();
+    let mut confounder = [0; 16];
+    confounder.copy_from_slice(&draw.random[start..start + 16]);
+    confounder
+}
+
+/// The flags of the context, but never delegation, for which there would have to be a KRB-CRED.
+fn gss_checksum(alloc: Global, flags: ClientRequestFlags) -> Result<ChecksumOptions, OutOfMemory>
+    ensures made { IfOk result (λ made. made ≡ gss_checksum flags.0) }
+    ensures short { IfOk result IsShortChecksum }
+{
+    let asked = GssFlags::from_client_flags(flags);
+    let mut values = ChecksumValues::default();
+    values.set_flags(asked.difference(GssFlags::GSS_C_DELEG_FLAG));
+    let checksum_value = values.into_inner(alloc)?;
+    Ok(ChecksumOptions {
+        checksum_type: Octets::from_slice(alloc, &GSS_CHECKSUM_TYPE)?,
+        checksum_value,
+    })
+}
+
+/// Who asks. The checksum has room for the hash of bindings, so nothing is refused.
+fn service_authenticator(
+    alloc: Global,
+    errand: &Errand,
+    suite: CipherSuite,
+    rep: &KdcRep,
+    draw: &Draw,
+) -> Result<Authenticator, OutOfMemory>
+    requires errand { CanGo errand.now }
+    requires rep { IsSendable rep.now }
+    requires moment { draw.now.moment ≤ last_moment }
+    ensures made { IfOk result (λ made. made ≡ service_authenticator errand.now suite rep.now draw.now) }
+    ensures within { IfOk result (λ made. Fits authenticator_layout (2 ^ 27) made) }
+{
+    let key_value = drawn_key(alloc, suite, draw)?;
+    let checksum = gss_checksum(alloc, errand.initiator.flags)?;
+    let options = GenerateAuthenticatorOptions {
+        kdc_rep: rep,
+        seq_num: Some(errand.initiator.number.wrapping_add(1)),
+        sub_key: Some(EncKey {
+            key_type: suite,
+            key_value,
+        }),
+        checksum: Some(checksum),
+        channel_bindings: errand.bindings.as_ref(),
+        extensions: Items::new(Vec::new(alloc)),
+    };
+    match generate_authenticator(alloc, options, draw.moment) {
+        Ok(authenticator) => Ok(authenticator),
+        Err(_) => Err(OutOfMemory),
+    }
+}
+
+/// Parameters of a suite, without keys.
+fn params_in(suite: CipherSuite) -> EncryptionParams
+    ensures { suite_of result ≡ suite }
+{
+    let mut params = EncryptionParams::default_for_client();
+    params.encryption_type = Some(suite);
+    params
+}
+
+/// The AP-REQ of this authenticator. The session key has its length, so nothing is refused.
+fn ap_req_by(
+    alloc: Global,
+    errand: &Errand,
+    suite: CipherSuite,
+    key: &Secret<Octets>,
+    ticket: Ticket,
+    authenticator: &Authenticator,
+    draw: &Draw,
+) -> Result<ApReq, OutOfMemory>
+    requires ticket { Fits ticket_layout (2 ^ 24) ticket }
+    requires authenticator { Fits authenticator_layout (2 ^ 27) authenticator.now }
+    ensures made { IfOk result (λ made. made ≡ ap_req suite key.now service_usage (drawn_confounder suite draw.now)
+        (ap_options_of (exchange_flags errand.now.initiator)) ticket authenticator.now) }
+    ensures within { IfOk result (λ made. Fits ap_req_layout (2 ^ 28) made) }
+{
+    let options = ApOptions::from_client_flags(exchange_flags(&errand.initiator));
+    let params = params_in(suite);
+    let confounder = drawn_confounder(suite, draw);
+    let made = generate_ap_req(
+        alloc,
+        ticket,
+        key,
+        authenticator,
+        &params,
+        options,
+        confounder,
+    );
+    match made {
+        Ok(made) => Ok(made),
+        Err(_) => Err(OutOfMemory),
+    }
+}
+
+/// The AP-REQ.
+fn service_request(
+    alloc: Global,
+    errand: &Errand,
+    suite: CipherSuite,
+    key: &Secret<Octets>,
+    rep: KdcRep,
+    draw: &Draw,
+) -> Result<ApReq, OutOfMemory>
+    requires errand { CanGo errand.now }
+    requires rep { IsSendable rep }
+    requires moment { draw.now.moment ≤ last_moment }
+    ensures made { IfOk result (λ made. made ≡ service_request errand.now suite key.now rep draw.now) }
+    ensures within { IfOk result (λ made. Fits ap_req_layout (2 ^ 28) made) }
+{
+    let authenticator = service_authenticator(alloc, errand, suite, &rep, draw)?;
+    ap_req_by(alloc, errand, suite, key, rep.ticket, &authenticator, draw)
+}
+
+/// The octets of the AP-REQ.
+#[tactic(auto, unfolding(crate::specs::Shown::message))]
+fn message(
+    alloc: Global,
+    errand: &Errand,
+    suite: CipherSuite,
+    key: &Secret<Octets>,
+    rep: KdcRep,
+    draw: &Draw,
+) -> Result<Octets, OutOfMemory>
+    requires errand { CanGo errand.now }
+    requires rep { IsSendable rep }
+    requires moment { draw.now.moment ≤ last_moment }
+    ensures made { IfOk result (λ octets. octets ≡ message errand.now suite key.now rep draw.now) }
+    ensures short { IfOk result (λ octets. length octets ≤ 2 ^ 28) }
+{
+    let request = service_request(alloc, errand, suite, key, rep, draw)?;
+    request.write(alloc)
+}
+
+/// An AP-REQ in a frame.
+#[tactic(auto, unfolding(crate::specs::Shown::framed))]
+fn framed(alloc: Global, mechanism: &Octets, message: &Octets) -> Result<Octets, OutOfMemory>
+    requires named { 0 < length mechanism.now }
+    requires mechanism { length mechanism.now ≤ 2 ^ 24 }
+    requires message { length message.now ≤ 2 ^ 28 }
+    ensures { IfOk result (λ token. token ≡ framed mechanism.now message.now) }
+{
+    let oid = Oid::from_contents(mechanism.as_slice());
+    write_framed(alloc, oid, AP_REQ_TOKEN_ID, message.as_slice())
+}
+
+/// The AP-REQ as a token.
+fn token_of(alloc: Global, errand: &Errand, message: Octets) -> Result<Octets, OutOfMemory>
+    requires errand { CanGo errand.now }
+    requires message { length message ≤ 2 ^ 28 }
+    ensures { IfOk result (λ token. token ≡ token_of errand.now message) }
+{
+    if is_bare(errand.initiator.flags) {
+        Ok(message)
+    } else {
+        framed(alloc, &errand.mechanism, &message)
+    }
+}
+
+fn params_with(
+    alloc: Global,
+    params: &EncryptionParams,
+    suite: CipherSuite,
+    key: Secret<Octets>,
+) -> Result<EncryptionParams, OutOfMemory>
+    ensures { IfOk result (λ made. made ≡ record params.now { encryption_type = Some suite; session_key = Some key }) }
+{
+    let mut made = params.copy(alloc)?;
+    made.encryption_type = Some(suite);
+    made.session_key = Some(key);
+    Ok(made)
+}
+
+/// What the context becomes: the service's answer is awaited.
+fn change_of(
+    alloc: Global,
+    initiator: &Initiator,
+    suite: CipherSuite,
+    key: Secret<Octets>,
+    home: &Name,
+) -> Result<ContextChange, OutOfMemory>
+    ensures { IfOk result (λ change. change ≡ change_of initiator.now suite key home.now) }
+{
+    let realm = Text::from_str(alloc, home.as_str())?;
+    let encryption_params = params_with(alloc, &initiator.params, suite, key)?;
+    Ok(ContextChange {
+        state: KerberosState::ApExchange,
+        realm: Some(realm),
+        encryption_params,
+        seq_number: initiator.number,
+        krb5_user_to_user: initiator.user_to_user,
+        ticket_decryption_key: None,
+    })
+}
+
+/// What the exchange with the KDCs ends with.
+#[tactic(auto, unfolding(crate::specs::Shown::shown))]
+fn shown(
+    alloc: Global,
+    errand: &Errand,
+    suite: CipherSuite,
+    key: Secret<Octets>,
+    rep: KdcRep,
+    home: &Name,
+    draw: &Draw,
+) -> Result<InitDone, OutOfMemory>
+    requires errand { CanGo errand.now }
+    requires rep { IsSendable rep }
+    requires moment { draw.now.moment ≤ last_moment }
+    ensures { IfOk result (λ done. done ≡ shown errand.now suite key rep home.now draw.now) }
+{
+    let message = message(alloc, errand, suite, &key, rep, draw)?;
+    let token = token_of(alloc, errand, message)?;
+    let change = change_of(alloc, &errand.initiator, suite, key, home)?;
+    Ok(InitDone {
+        status: SecurityStatus::ContinueNeeded,
+        token,
+        change,
+    })
+}
+
+fn check_key(suite: CipherSuite, key: &Secret<Octets>) -> Result<(), Cause>
+    ensures { Holds causes.KeyLength (length key.now == key_size suite) result }
+{
+    let is_sized = key.as_ref().as_slice().len() == suite.key_size();
+    hold(is_sized, Cause::KeyLength)
+}
+
+fn all_shown(
+    alloc: Global,
+    errand: &Errand,
+    suite: CipherSuite,
+    key: Secret<Octets>,
+    rep: KdcRep,
+    home: &Name,
+    draw: &Draw,
+) -> Result<InitDone, Cause>
+    requires errand { CanGo errand.now }
+    requires rep { IsSendable rep }
+    requires moment { draw.now.moment ≤ last_moment }
+    ensures { Answers (Gives (shown errand.now suite key rep home.now draw.now)) result }
+{
+    Ok(shown(alloc, errand, suite, key, rep, home, draw)?)
+}
+
+/// The end of the exchange with the KDCs: the ticket of this reply is shown to the service, whose answer is awaited. The key is the
+/// ticket's session key, `home` the client's own realm.
+///
+/// The AP-REQ has the options that the flags ask for. Its authenticator, under that key, has the number after the context's own,
+/// which stays, a drawn subkey, and a checksum of type 8003 hex with the context's flags and the bindings. It is framed, or bare in
+/// DCE style. Refused as `KeyLength` exactly where the key has not the length of the suite's keys.
+#[tactic(auto, unfolding(crate::specs::Shown::ShowsTicket))]
+pub fn show_ticket(
+    alloc: Global,
+    errand: &Errand,
+    suite: CipherSuite,
+    key: Secret<Octets>,
+    rep: KdcRep,
+    home: &Name,
+    draw: &Draw,
+) -> Result<InitDone, Cause>
+    requires errand { CanGo errand.now }
+    requires rep { IsSendable rep }
+    requires moment { draw.now.moment ≤ last_moment }
+    ensures step { Answers (ShowsTicket errand.now suite key rep home.now draw.now) result }
+{
+    check_key(suite, &key)?;
+    all_shown(alloc, errand, suite, key, rep, home, draw)
+}

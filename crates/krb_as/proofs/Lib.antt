@@ -1,0 +1,15 @@
+mod Chains
+mod Sending
+mod Quiet
+mod Replying
+pub mod Carrying
+pub mod Tasks
+pub mod Refusals
+pub mod Realms
+pub mod Fitting
+pub mod Once
+pub mod Complete
+pub mod ReplyLengths
+pub mod BodyNames
+pub mod FirstRefusals
+pub mod FirstOnce

@@ -1,0 +1,148 @@
+-- Each step of an exchange with a KDC has at most one answer.
+use Rattle.std.proofs.Common.{◌≡◌, ℕ, List, length, get_or, Option, Some, None, Result, refl, sym, ap, ◌∙◌, arith}
+use Rattle.url.specs.Parts.{Parts}
+use Rattle.krb_der.specs.Layout.{Layout, items_layout}
+use Rattle.krb_crypto.specs.declared.suite.CipherSuite.{CipherSuite}
+use Rattle.krb_exchange.specs.Table.{as_rep, krb_error}
+use Rattle.krb_exchange.specs.Layouts.{as_rep_layout, pa_data_layout, etype_info2_entry_layout, enc_as_rep_part_layout}
+use Rattle.krb_exchange.specs.Results.{HasOneResult}
+use Rattle.krb_exchange.specs.declared.kdc_req.KdcReqBody.{KdcReqBody}
+use Rattle.krb_exchange.specs.declared.kdc_rep.AsRep.{AsRep}
+use Rattle.krb_exchange.specs.declared.krb_error.KrbError.{KrbError}
+use Rattle.krb_exchange.specs.declared.pa_data.PaData.{PaData}
+use Rattle.krb_exchange.specs.declared.pa_data.EtypeInfo2Entry.{EtypeInfo2Entry}
+use Rattle.krb_exchange.proofs.Results.{one_result_of}
+use Rattle.krb_exchange.proofs.Spelled.{same_record}
+use Rattle.krb_conf.specs.declared.env.Env.{Env}
+use Rattle.krb_as.specs.Kdcs.{FindsKdc}
+use Rattle.krb_as.specs.Replies.{Replies}
+use Rattle.krb_as.specs.declared.kdc.Kdc.{Kdc}
+use Rattle.krb_as.proofs.Carrying.{unwraps_once}
+use Rattle.krb_replies.specs.Told.{Hands}
+use Rattle.krb_replies.specs.Hints.{etype_info2, IsInfo2}
+use Rattle.krb_replies.specs.Salts.{IsHints, NamesSalt, TellsEtype}
+use Rattle.krb_replies.specs.Keys.{BringsKey}
+use Rattle.krb_replies.proofs.Once.{opens_once}
+use Rattle.sspi_core.proofs.Once.{Once, then_once, finds_once, takes_once, gives_once}
+use Rattle.sspi_core.specs.Protocol.{scheme_of}
+use Rattle.sspi_core.specs.declared.cause.Cause.{Cause}
+use Rattle.sspi_core.specs.declared.draw.Draw.{Draw}
+use Rattle.sspi_core.specs.declared.protocol.NetworkProtocol.{NetworkProtocol}
+use Rattle.sspi_core.specs.declared.protocol.NetworkProtocol.TheVariants.{Tcp, Udp, Http, Https}
+use Rattle.sspi_generator.specs.declared.network.NetFault.{NetFault}
+use Rattle.krb_as.specs.Replied.{WantsPreAuth, Grants}
+use Rattle.krb_as.specs.Asked.{Begins, AsksAgain}
+use Rattle.krb_as.specs.AsExchanges.{AsksFirst, AsksSecond, TakesAsRep, Starts, Next}
+use Rattle.krb_as.specs.declared.asker.Asker.{Asker}
+use Rattle.krb_as.specs.declared.as_exchange.AsPhase.{AsPhase}
+use Rattle.krb_as.specs.declared.as_exchange.AsPhase.TheVariants.{New, AwaitsError, AwaitsAsRep, Over}
+
+pub hands_once : {A : Type 0} (outcome : Result A Cause) → Once (λ r. Hands outcome r)
+hands_once outcome = record { same = λ r s h k. h.is ∙ sym k.is }
+
+-- protocols have different schemes
+same_scheme : (p q : NetworkProtocol) → scheme_of p ≡ scheme_of q → p ≡ q
+same_scheme Tcp Tcp e = refl
+same_scheme Tcp Udp e = absurd (omega (arith, ap (λ (text : List ℕ). get_or text 0 0) e))
+same_scheme Tcp Http e = absurd (omega (arith, ap (λ (text : List ℕ). get_or text 0 0) e))
+same_scheme Tcp Https e = absurd (omega (arith, ap (λ (text : List ℕ). get_or text 0 0) e))
+same_scheme Udp Tcp e = absurd (omega (arith, ap (λ (text : List ℕ). get_or text 0 0) e))
+same_scheme Udp Udp e = refl
+same_scheme Udp Http e = absurd (omega (arith, ap (λ (text : List ℕ). get_or text 0 0) e))
+same_scheme Udp Https e = absurd (omega (arith, ap (λ (text : List ℕ). get_or text 0 0) e))
+same_scheme Http Tcp e = absurd (omega (arith, ap (λ (text : List ℕ). get_or text 0 0) e))
+same_scheme Http Udp e = absurd (omega (arith, ap (λ (text : List ℕ). get_or text 0 0) e))
+same_scheme Http Http e = refl
+same_scheme Http Https e = absurd (omega (arith, ap (length {A = ℕ}) e))
+same_scheme Https Tcp e = absurd (omega (arith, ap (λ (text : List ℕ). get_or text 0 0) e))
+same_scheme Https Udp e = absurd (omega (arith, ap (λ (text : List ℕ). get_or text 0 0) e))
+same_scheme Https Http e = absurd (omega (arith, ap (length {A = ℕ}) e))
+same_scheme Https Https e = refl
+
+-- where a request goes
+pub finds_kdc_once : (own : Option Parts) (env : Env) (realm : List ℕ) → Once (FindsKdc own env realm)
+unfolding FindsKdc
+finds_kdc_once own env realm =
+    then_once _ _ (takes_once _ _) (λ url. then_once _ _ (finds_once _ _ (λ p q s t. same_scheme p q (sym s ∙ t))) (λ protocol. gives_once _))
+
+-- a reply is of one kind
+as_rep_once : HasOneResult as_rep_layout
+unfolding as_rep krb_error
+as_rep_once = one_result_of as_rep_layout (λ e. omega (arith, e))
+
+pub replies_once : {A : Type 0} (protocol : NetworkProtocol) (layout : Layout A) (reply : Result (List ℕ) NetFault) → HasOneResult layout → Once (Replies protocol layout reply)
+unfolding Replies
+replies_once protocol layout reply one = then_once _ _ (unwraps_once protocol reply) (λ message. finds_once _ _ (λ x y s t. one message x y s t))
+
+pub grants_once : {A : Type 0} (protocol : NetworkProtocol) (layout : Layout A) (reply : Result (List ℕ) NetFault) → HasOneResult layout → Once (Grants protocol layout reply)
+unfolding Grants
+grants_once protocol layout reply one = then_once _ _ (replies_once protocol layout reply one) (λ result. hands_once _)
+
+pub grants_as_rep_once : (protocol : NetworkProtocol) (reply : Result (List ℕ) NetFault) → Once (Grants protocol as_rep_layout reply)
+grants_as_rep_once protocol reply = grants_once protocol as_rep_layout reply as_rep_once
+
+-- what a KDC hints at
+same_hints : (e_data : Option (List ℕ)) (x y : List PaData) → IsHints e_data x → IsHints e_data y → x ≡ y
+same_hints None x y s t = s ∙ sym t
+same_hints (Some octets) x y s t = same_record (items_layout pa_data_layout) x y octets s t
+
+same_info2 : (element : Option PaData) (x y : Option (List EtypeInfo2Entry)) → IsInfo2 element x → IsInfo2 element y → x ≡ y
+same_info2 None x y s t = s ∙ sym t
+same_info2 (Some element) None y s t = absurd s
+same_info2 (Some element) (Some x) None s t = absurd t
+same_info2 (Some element) (Some x) (Some y) s t = ap Some (same_record (items_layout etype_info2_entry_layout) x y element.padata_value s t)
+
+names_salt_once : (error : KrbError) → Once (NamesSalt error)
+unfolding NamesSalt
+names_salt_once error =
+    then_once _ _ (finds_once _ _ (same_hints error.e_data)) (λ hints. then_once _ _ (finds_once _ _ (same_info2 (etype_info2 hints))) (λ entries. gives_once _))
+
+pub tells_etype_once : (used : List ℕ) (as_rep : AsRep) → Once (TellsEtype used as_rep)
+unfolding TellsEtype
+tells_etype_once used as_rep =
+    then_once _ _ (finds_once _ _ (same_info2 _)) (λ entries. then_once _ _ (hands_once _) (λ hint. then_once _ _ (takes_once _ _) (λ suite. gives_once _)))
+
+-- the session key that an AS-REP brings
+pub brings_key_once : (suite : CipherSuite) (key : List ℕ) (as_rep : AsRep) → Once (BringsKey suite key as_rep)
+unfolding BringsKey
+brings_key_once suite key as_rep = then_once _ _ (opens_once enc_as_rep_part_layout _ suite key 3 as_rep.0.enc_part.cipher) (λ part. gives_once _)
+
+-- the steps of an AS exchange
+wants_pre_auth_once : (protocol : NetworkProtocol) (default : List ℕ) (reply : Result (List ℕ) NetFault) → Once (WantsPreAuth protocol default reply)
+unfolding WantsPreAuth
+wants_pre_auth_once protocol default reply =
+    then_once _ _ (replies_once protocol as_rep_layout reply as_rep_once)
+    (λ result. then_once _ _ (takes_once _ _) (λ error. then_once _ _ (names_salt_once error) (λ salt. gives_once _)))
+
+pub begins_once : (asker : Asker) (body : KdcReqBody) → Once (Begins asker body)
+unfolding Begins
+begins_once asker body = then_once _ _ (finds_kdc_once asker.kdc_url asker.env asker.realm) (λ kdc. gives_once _)
+
+pub asks_again_once : (asker : Asker) (kdc : Kdc) (body : KdcReqBody) (reply : Result (List ℕ) NetFault) (draw : Draw) → Once (AsksAgain asker kdc body reply draw)
+unfolding AsksAgain
+asks_again_once asker kdc body reply draw =
+    then_once _ _ (wants_pre_auth_once kdc.protocol _ reply) (λ salt. then_once _ _ (takes_once _ _) (λ key. gives_once _))
+
+asks_first_once : (asker : Asker) (body : KdcReqBody) → Once (AsksFirst asker body)
+unfolding AsksFirst
+asks_first_once asker body = then_once _ _ (begins_once asker body) (λ begun. gives_once _)
+
+asks_second_once : (asker : Asker) (kdc : Kdc) (body : KdcReqBody) (reply : Result (List ℕ) NetFault) (draw : Draw) → Once (AsksSecond asker kdc body reply draw)
+unfolding AsksSecond
+asks_second_once asker kdc body reply draw = then_once _ _ (asks_again_once asker kdc body reply draw) (λ again. gives_once _)
+
+takes_as_rep_once : (protocol : NetworkProtocol) (salt : List ℕ) (reply : Result (List ℕ) NetFault) → Once (TakesAsRep protocol salt reply)
+unfolding TakesAsRep
+takes_as_rep_once protocol salt reply = then_once _ _ (grants_as_rep_once protocol reply) (λ as_rep. gives_once _)
+
+pub starts_once : (asker : Asker) (phase : AsPhase) → Once (λ r. Starts asker phase r)
+starts_once asker (New body) = record { same = λ r s h k. (asks_first_once asker body).same r s h k }
+starts_once asker (AwaitsError kdc body) = record { same = λ r s h k. absurd h }
+starts_once asker (AwaitsAsRep kdc salt) = record { same = λ r s h k. absurd h }
+starts_once asker Over = record { same = λ r s h k. absurd h }
+
+pub next_once : (asker : Asker) (phase : AsPhase) (reply : Result (List ℕ) NetFault) (draw : Draw) → Once (λ r. Next asker phase reply draw r)
+next_once asker (New body) reply draw = record { same = λ r s h k. absurd h }
+next_once asker (AwaitsError kdc body) reply draw = record { same = λ r s h k. (asks_second_once asker kdc body reply draw).same r s h k }
+next_once asker (AwaitsAsRep kdc salt) reply draw = record { same = λ r s h k. (takes_as_rep_once kdc.protocol salt reply).same r s h k }
+next_once asker Over reply draw = record { same = λ r s h k. absurd h }

@@ -1,0 +1,156 @@
+-- Which checks refuse because the network failed: none but the first one on a reply.
+use Rattle.std.proofs.Common.{◌≡◌, ℕ, Bool, true, false, List, Option, Some, None, Result, Ok, Err, sym, ◌∙◌}
+use Rattle.sspi_core.specs.declared.cause.Cause.{Cause}
+use Rattle.sspi_core.specs.declared.cause.Cause.TheVariants.{Network, NoKdc, Scheme, ReplyShort, Shape, EarlyAsRep, KeyLength}
+use Rattle.sspi_core.specs.declared.draw.Draw.{Draw}
+use Rattle.sspi_core.specs.declared.protocol.NetworkProtocol.{NetworkProtocol}
+use Rattle.sspi_core.specs.declared.protocol.NetworkProtocol.TheVariants.{Tcp, Udp, Http, Https}
+use Rattle.sspi_core.specs.Checks.{Finds, Takes, Holds, Gives, Goes, Then}
+use Rattle.sspi_core.proofs.Chain.{same_err}
+use Rattle.sspi_generator.specs.declared.network.NetFault.{NetFault}
+use Rattle.sspi_generator.specs.declared.network.NetFault.TheVariants.{Failed, OutOfMemory}
+use Rattle.sspi_generator.specs.Steps.{IsFailure}
+use Rattle.krb_der.specs.Layout.{Layout}
+use Rattle.krb_exchange.specs.declared.result.KrbResult.{KrbResult}
+use Rattle.krb_exchange.specs.declared.result.KrbResult.TheVariants.{Ok as Reply, Err as Refusal}
+use Rattle.krb_exchange.specs.declared.kdc_req.KdcReqBody.{KdcReqBody}
+use Rattle.krb_as.specs.declared.kdc.Kdc.{Kdc}
+use Rattle.krb_as.specs.Kdcs.{FindsKdc}
+use Rattle.krb_as.specs.Replies.{Brings, Unproxies, Strips, Skips, Unpacks, Unwraps, Replies}
+use Rattle.krb_replies.specs.Told.{Hands}
+use Rattle.krb_replies.specs.Salts.{NamesSalt}
+use Rattle.krb_as.specs.declared.asker.Asker.{Asker}
+use Rattle.krb_as.specs.declared.as_exchange.AsPhase.{AsPhase}
+use Rattle.krb_as.specs.declared.as_exchange.AsPhase.TheVariants.{New, AwaitsError, AwaitsAsRep, Over}
+use Rattle.krb_as.specs.Replied.{reply_in, WantsPreAuth, Grants}
+use Rattle.krb_as.specs.Asked.{Begins, AsksAgain}
+use Rattle.krb_as.specs.AsExchanges.{AsksFirst, AsksSecond, TakesAsRep, Starts, Next}
+
+-- the network failed
+abbrev pub IsNetwork : Cause → Type 0
+IsNetwork cause = (code : ℕ) × (cause ≡ Network code)
+
+-- if the checks refuse so, this holds
+pub record Refuses {A : Type 0} (P : Type 0) (checks : Result A Cause → Type 0) : Type 0 where
+  pub not : (e : Cause) → checks (Err e) → IsNetwork e → P
+
+rest_refuses : {A B : Type 0} (P : Type 0) (first : Result A Cause → Type 0) (next : A → Result B Cause → Type 0) (m : Result A Cause) (e : Cause) → Refuses P first → ((a : A) → Refuses P (next a)) → first m → Goes next m (Err e) → IsNetwork e → P
+rest_refuses P first next (Ok a) e one of h k z = (of a).not e k z
+rest_refuses {A} {B} P first next (Err d) e one of h k z = one.not d h (z.0, sym (same_err {A = B} e d k) ∙ z.1)
+
+pub then_refuses : {A B : Type 0} (P : Type 0) (first : Result A Cause → Type 0) (next : A → Result B Cause → Type 0) → Refuses P first → ((a : A) → Refuses P (next a)) → Refuses P (λ r. Then first next r)
+then_refuses P first next one of = record { not = λ e h z. rest_refuses P first next h.middle e one of h.held h.rest z }
+
+pub finds_refuses : {A : Type 0} (P : Type 0) (cause : Cause) (Q : A → Type 0) → (IsNetwork cause → P) → Refuses P (λ r. Finds cause Q r)
+finds_refuses P cause Q never = record { not = λ e h z. never (z.0, sym h.is.0 ∙ z.1) }
+
+take_refuses : {A : Type 0} (P : Type 0) (cause : Cause) (value : Option A) (e : Cause) → (IsNetwork cause → P) → Takes cause value (Err e) → IsNetwork e → P
+take_refuses {A} P cause None e never h z = never (z.0, sym (same_err {A = A} e cause h.is) ∙ z.1)
+take_refuses P cause (Some x) e never h z = let i = h.is in absurd cc
+
+pub takes_refuses : {A : Type 0} (P : Type 0) (cause : Cause) (value : Option A) → (IsNetwork cause → P) → Refuses P (λ r. Takes cause value r)
+takes_refuses P cause value never = record { not = λ e h z. take_refuses P cause value e never h z }
+
+hold_refuses : (P : Type 0) (cause : Cause) (test : Bool) (e : Cause) → (IsNetwork cause → P) → Holds cause test (Err e) → IsNetwork e → P
+hold_refuses P cause false e never h z = never (z.0, sym (same_err {A = Unit {0}} e cause h.is) ∙ z.1)
+hold_refuses P cause true e never h z = let i = h.is in absurd cc
+
+pub holds_refuses : (P : Type 0) (cause : Cause) (test : Bool) → (IsNetwork cause → P) → Refuses P (λ r. Holds cause test r)
+holds_refuses P cause test never = record { not = λ e h z. hold_refuses P cause test e never h z }
+
+pub gives_refuses : {A : Type 0} (P : Type 0) (value : A) → Refuses P (λ r. Gives value r)
+gives_refuses P value = record { not = λ e h z. let i = h.is in absurd cc }
+
+reply_refuses : {A : Type 0} (P : Type 0) (answer : KrbResult A) (e : Cause) → Hands (reply_in answer) (Err e) → IsNetwork e → P
+reply_refuses P (Reply reply) e h z = let i = h.is in absurd cc
+reply_refuses P (Refusal error) e h z = let i = h.is in let j = z.1 in absurd cc
+
+-- the start never does
+pub begins_refuses : (asker : Asker) (body : KdcReqBody) → Refuses ⊥ (Begins asker body)
+unfolding Begins FindsKdc
+begins_refuses asker body =
+    then_refuses ⊥ _ _ (then_refuses ⊥ _ _ (takes_refuses ⊥ NoKdc _ (λ z. let e = z.1 in cc)) (λ url. then_refuses ⊥ _ _ (finds_refuses ⊥ Scheme _ (λ z. let e = z.1 in cc))
+    (λ protocol. gives_refuses ⊥ _))) (λ kdc. gives_refuses ⊥ _)
+
+first_refuses : (asker : Asker) (body : KdcReqBody) → Refuses ⊥ (AsksFirst asker body)
+unfolding AsksFirst
+first_refuses asker body = then_refuses ⊥ _ _ (begins_refuses asker body) (λ begun. gives_refuses ⊥ _)
+
+pub starts_refuse : (asker : Asker) (phase : AsPhase) (e : Cause) → Starts asker phase (Err e) → IsNetwork e → ⊥
+starts_refuse asker (New body) e h z = (first_refuses asker body).not e h z
+starts_refuse asker (AwaitsError kdc body) e h z = h
+starts_refuse asker (AwaitsAsRep kdc salt) e h z = h
+starts_refuse asker Over e h z = h
+
+module _ (P : Type 0) where
+  not_shape : IsNetwork Shape → P
+  not_shape z = let e = z.1 in absurd cc
+
+  not_short : IsNetwork ReplyShort → P
+  not_short z = let e = z.1 in absurd cc
+
+  not_early : IsNetwork EarlyAsRep → P
+  not_early z = let e = z.1 in absurd cc
+
+  not_key : IsNetwork KeyLength → P
+  not_key z = let e = z.1 in absurd cc
+
+  unproxies_refuse : (octets : List ℕ) → Refuses P (Unproxies octets)
+  unfolding Unproxies
+  unproxies_refuse octets = then_refuses P _ _ (holds_refuses P Shape _ not_shape) (λ _. then_refuses P _ _ (finds_refuses P Shape _ not_shape) (λ message. gives_refuses P _))
+
+  strips_refuse : (protocol : NetworkProtocol) (octets : List ℕ) → Refuses P (Strips protocol octets)
+  strips_refuse Tcp octets = record { not = λ e h z. (gives_refuses P octets).not e h z }
+  strips_refuse Udp octets = record { not = λ e h z. (gives_refuses P octets).not e h z }
+  strips_refuse Http octets = record { not = λ e h z. (unproxies_refuse octets).not e h z }
+  strips_refuse Https octets = record { not = λ e h z. (unproxies_refuse octets).not e h z }
+
+  skips_refuse : (octets : List ℕ) → Refuses P (Skips octets)
+  unfolding Skips
+  skips_refuse octets = then_refuses P _ _ (holds_refuses P ReplyShort _ not_short) (λ _. then_refuses P _ _ (holds_refuses P Shape _ not_shape) (λ _. gives_refuses P _))
+
+  unpacks_refuse : (protocol : NetworkProtocol) (octets : List ℕ) → Refuses P (Unpacks protocol octets)
+  unfolding Unpacks
+  unpacks_refuse protocol octets = then_refuses P _ _ (strips_refuse protocol octets) (λ carried. skips_refuse carried)
+
+brought_refuses : (reply : Result (List ℕ) NetFault) (e : Cause) → Brings reply (Err e) → IsNetwork e → IsFailure reply
+brought_refuses (Ok octets) e h z = let i = h.is in absurd cc
+brought_refuses (Err (Failed code)) e h z = tt
+brought_refuses (Err OutOfMemory) e h z = let i = h.is in let j = z.1 in absurd cc
+
+module _ (reply : Result (List ℕ) NetFault) (protocol : NetworkProtocol) where
+  pub replies_refuse : {A : Type 0} (layout : Layout A) → Refuses (IsFailure reply) (Replies protocol layout reply)
+  unfolding Replies Unwraps
+  replies_refuse layout =
+      then_refuses _ _ _ (then_refuses _ _ _ (record { not = brought_refuses reply }) (λ octets. unpacks_refuse _ protocol octets))
+      (λ message. finds_refuses _ Shape _ (not_shape _))
+
+  pub wants_refuse : (default : List ℕ) → Refuses (IsFailure reply) (WantsPreAuth protocol default reply)
+  unfolding WantsPreAuth NamesSalt
+  wants_refuse default =
+      then_refuses _ _ _ (replies_refuse _) (λ result. then_refuses _ _ _ (takes_refuses _ EarlyAsRep _ (not_early _))
+      (λ error. then_refuses _ _ _ (then_refuses _ _ _ (finds_refuses _ Shape _ (not_shape _)) (λ hints. then_refuses _ _ _ (finds_refuses _ Shape _ (not_shape _)) (λ entries. gives_refuses _ _)))
+      (λ salt. gives_refuses _ _)))
+
+  pub grants_refuse : {A : Type 0} (layout : Layout A) → Refuses (IsFailure reply) (Grants protocol layout reply)
+  unfolding Grants
+  grants_refuse layout = then_refuses _ _ _ (replies_refuse layout) (λ result. record { not = reply_refuses _ result })
+
+pub again_refuses : (asker : Asker) (kdc : Kdc) (body : KdcReqBody) (reply : Result (List ℕ) NetFault) (draw : Draw) → Refuses (IsFailure reply) (AsksAgain asker kdc body reply draw)
+unfolding AsksAgain
+again_refuses asker kdc body reply draw =
+    then_refuses _ _ _ (wants_refuse reply kdc.protocol _) (λ salt. then_refuses _ _ _ (takes_refuses _ KeyLength _ (not_key _)) (λ key. gives_refuses _ _))
+
+second_refuses : (asker : Asker) (kdc : Kdc) (body : KdcReqBody) (reply : Result (List ℕ) NetFault) (draw : Draw) → Refuses (IsFailure reply) (AsksSecond asker kdc body reply draw)
+unfolding AsksSecond
+second_refuses asker kdc body reply draw = then_refuses _ _ _ (again_refuses asker kdc body reply draw) (λ again. gives_refuses _ _)
+
+takes_refuse : (protocol : NetworkProtocol) (salt : List ℕ) (reply : Result (List ℕ) NetFault) → Refuses (IsFailure reply) (TakesAsRep protocol salt reply)
+unfolding TakesAsRep
+takes_refuse protocol salt reply = then_refuses _ _ _ (grants_refuse reply protocol _) (λ as_rep. gives_refuses _ _)
+
+pub next_refuses : (asker : Asker) (phase : AsPhase) (reply : Result (List ℕ) NetFault) (draw : Draw) (e : Cause) → Next asker phase reply draw (Err e) → IsNetwork e → IsFailure reply
+next_refuses asker (New body) reply draw e h z = absurd h
+next_refuses asker (AwaitsError kdc body) reply draw e h z = (second_refuses asker kdc body reply draw).not e h z
+next_refuses asker (AwaitsAsRep kdc salt) reply draw e h z = (takes_refuse kdc.protocol salt reply).not e h z
+next_refuses asker Over reply draw e h z = absurd h

@@ -1,0 +1,68 @@
+-- From the checks of a step to the task's step.
+use Rattle.std.proofs.Common.{◌≡◌, ℕ, ◌<◌, Result, Ok, Err, refl, sym, ap, ◌∙◌, subst}
+use Rattle.std.specs.Prelude.{IfOk}
+use Rattle.sspi_core.specs.declared.cause.Cause.{Cause}
+use Rattle.sspi_core.specs.declared.cause.Cause.TheVariants.{Memory, Network}
+use Rattle.sspi_core.specs.declared.error.Error.{Error}
+use Rattle.sspi_core.specs.Kinds.{error_of}
+use Rattle.sspi_core.specs.Checks.{Answers}
+use Rattle.sspi_core.proofs.Chain.{same_err}
+use Rattle.sspi_generator.specs.declared.network.NetworkRequest.{NetworkRequest}
+use Rattle.sspi_generator.specs.declared.task.GeneratorState.{GeneratorState}
+use Rattle.sspi_generator.specs.Steps.{OnSuspended, OnCompleted}
+use Rattle.krb_as.specs.declared.turn.Turn.{Turn}
+use Rattle.krb_as.specs.declared.turn.Turn.TheVariants.{Asks, Ends}
+use Rattle.krb_as.specs.declared.as_exchange.AsPhase.{AsPhase}
+use Rattle.krb_as.specs.declared.as_exchange.AsPhase.TheVariants.{Over}
+use Rattle.krb_as.specs.declared.as_exchange.AsDone.{AsDone}
+use Rattle.krb_as.specs.Turns.{Turns, state_of, phase_of, IsWant, IsFault}
+use Rattle.krb_as.specs.AsExchanges.{GoesDown, IsAwaiting, turns_left}
+use Rattle.krb_as.proofs.Refusals.{IsNetwork}
+
+-- a step is what its checks answer
+pub turns_of : {P O : Type 0} (over : P) (checks : Result (Turn P O) Cause → Type 0) (answer : Result (Turn P O) Cause) (state : GeneratorState NetworkRequest (Result O Error)) (new : P)
+    → Answers checks answer → state ≡ state_of answer → ((answer ≡ Err Memory → ⊥) → new ≡ phase_of over answer) → Turns over checks state new
+turns_of over checks answer state new h is goes = record {
+  so = λ ne. let other : answer ≡ Err Memory → ⊥ = λ z. ne (is ∙ ap state_of z) in (answer, h.so other, is, goes other);
+}
+
+-- a step that asks leaves a phase that awaits, and fewer turns
+awaits : (answer : Result (Turn AsPhase AsDone) Cause) (n : ℕ) (new : AsPhase) → IfOk answer (λ turn. GoesDown n turn) → ((answer ≡ Err Memory → ⊥) → new ≡ phase_of Over answer)
+    → OnSuspended (state_of answer) (λ request. IsAwaiting new × (turns_left new < n))
+awaits (Ok (Asks request phase)) n new down goes =
+    let same : new ≡ phase = goes (λ z. absurd cc) in
+    subst (λ (p : AsPhase). IsAwaiting p × (turns_left p < n)) (sym same) down
+awaits (Ok (Ends value)) n new down goes = tt
+awaits (Err cause) n new down goes = tt
+
+pub awaits_of : (answer : Result (Turn AsPhase AsDone) Cause) (state : GeneratorState NetworkRequest (Result AsDone Error)) (n : ℕ) (new : AsPhase) → state ≡ state_of answer → IfOk answer (λ turn. GoesDown n turn)
+    → ((answer ≡ Err Memory → ⊥) → new ≡ phase_of Over answer) → OnSuspended state (λ request. IsAwaiting new × (turns_left new < n))
+awaits_of answer state n new is down goes =
+    subst (λ (s : GeneratorState NetworkRequest (Result AsDone Error)). OnSuspended s (λ request. IsAwaiting new × (turns_left new < n))) (sym is) (awaits answer n new down goes)
+
+-- an error has its cause
+same_cause : {O : Type 0} (d e : Cause) → ◌≡◌ {A = Result O Error} (Err (error_of d)) (Err (error_of e)) → d ≡ e
+same_cause {O} d e h = ap (λ (x : Error). x.cause) (same_err {A = O} (error_of d) (error_of e) h)
+
+-- where memory ran out nothing was changed
+kept : {P O : Type 0} (answer : Result (Turn P O) Cause) (Q : Type 0) → (answer ≡ Err Memory → Q) → OnCompleted (state_of answer) (λ out. IsWant out → Q)
+kept (Ok (Asks request phase)) Q keeps = tt
+kept (Ok (Ends value)) Q keeps = λ z. absurd cc
+kept {P} {O} (Err cause) Q keeps = λ z. keeps (ap Err (same_cause {O = O} cause Memory z))
+
+pub kept_of : {P O : Type 0} (answer : Result (Turn P O) Cause) (state : GeneratorState NetworkRequest (Result O Error)) (Q : Type 0) → state ≡ state_of answer → (answer ≡ Err Memory → Q) → OnCompleted state (λ out. IsWant out → Q)
+kept_of {P} {O} answer state Q is keeps = subst (λ (s : GeneratorState NetworkRequest (Result O Error)). OnCompleted s (λ out. IsWant out → Q)) (sym is) (kept answer Q keeps)
+
+-- an end because of the network is the answer of checks that refuse so
+faulted : {P O : Type 0} (answer : Result (Turn P O) Cause) (Q : Type 0) → ((cause : Cause) → answer ≡ Err cause → IsNetwork cause → Q) → OnCompleted (state_of answer) (λ out. IsFault out → Q)
+faulted (Ok (Asks request phase)) Q refuses = tt
+faulted (Ok (Ends value)) Q refuses = λ z. let e = z.1 in absurd cc
+faulted {P} {O} (Err cause) Q refuses = λ z. refuses cause refl (z.0, same_cause {O = O} cause (Network z.0) z.1)
+
+pub faulted_of : {P O : Type 0} (answer : Result (Turn P O) Cause) (state : GeneratorState NetworkRequest (Result O Error)) (Q : Type 0) → state ≡ state_of answer → ((cause : Cause) → answer ≡ Err cause → IsNetwork cause → Q) → OnCompleted state (λ out. IsFault out → Q)
+faulted_of {P} {O} answer state Q is refuses = subst (λ (s : GeneratorState NetworkRequest (Result O Error)). OnCompleted s (λ out. IsFault out → Q)) (sym is) (faulted answer Q refuses)
+
+-- checks that were answered so, where that is no want of memory
+pub refused : {A : Type 0} (checks : Result A Cause → Type 0) (answer : Result A Cause) (cause : Cause) → Answers checks answer → answer ≡ Err cause → IsNetwork cause → checks (Err cause)
+refused {A} checks answer cause h is network =
+    subst (λ (r : Result A Cause). checks r) is (h.so (λ z. let e : cause ≡ Memory = same_err {A = A} cause Memory (sym is ∙ z) in let f = network.1 in absurd cc))

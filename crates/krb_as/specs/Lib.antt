@@ -1,0 +1,13 @@
+pub mod Spelling
+pub mod Kdcs
+pub mod Requests
+pub mod Replies
+pub mod Askers
+pub mod Replied
+pub mod Asked
+pub mod Turns
+pub mod AsExchanges
+pub mod Clients
+pub mod FirstBodies
+pub mod ReplyKeys
+pub mod Granted

@@ -1,0 +1,123 @@
+//! Who asks a KDC.
+
+ghost use Rattle.std.specs.Prelude.{◌≡◌, ◌+◌, ◌≤◌, ◌^◌, IfOk, length};
+ghost use Rattle.sspi_core.specs.declared.cause.Cause.TheVariants as causes;
+ghost use Rattle.sspi_core.specs.Checks.{Answers, Takes, Gives};
+ghost use Rattle.krb_requests.specs.Pieces.{name_of};
+ghost use Rattle.krb_as.specs.Clients.{stated, realm_of, NamesClient, IsShort};
+
+use krb_conf::{
+    ClientPrincipalName, Env, get_client_principal_name, get_client_principal_name_type,
+    get_client_principal_realm,
+};
+use krb_der::{Name, OutOfMemory, Text, TryCopy};
+use krb_requests::name_of;
+use sspi_core::{Cause, CredentialsBuffers};
+use std::alloc::Global;
+
+/// The most octets of a name that is sent.
+const MAX_NAME: usize = 16_777_216;
+
+/// The most octets of a realm: behind `krbtgt` it makes a name that can be sent.
+const MAX_REALM: usize = MAX_NAME - 64;
+
+/// A client, as a KDC is told of it.
+#[derive(Drop)]
+pub struct Client {
+    /// Its components are cut at each slash.
+    pub name: Name,
+    /// 1 for an account, 10 for an enterprise name (RFC 4120, section 6.2; RFC 6806, section 5).
+    pub name_type: u8,
+    pub realm: Name,
+    /// The name of its machine.
+    pub host: Name,
+}
+
+/// The name of credentials, and the domain beside it.
+fn stated(credentials: &CredentialsBuffers) -> ClientPrincipalName<'_>
+    ensures name { result.name.now ≡ (stated credentials.entry.now).0 }
+    ensures domain { result.realm_domain.now ≡ (stated credentials.entry.now).1 }
+    ensures name_type { result.name_type ≡ (stated credentials.entry.now).2 }
+{
+    match credentials {
+        CredentialsBuffers::AuthIdentity(identity) => ClientPrincipalName {
+            name: identity.user.as_str(),
+            realm_domain: identity.domain.as_str(),
+            name_type: get_client_principal_name_type(
+                identity.user.as_str(),
+                identity.domain.as_str(),
+            ),
+        },
+        CredentialsBuffers::Keytab(identity) => get_client_principal_name(&identity.principal),
+    }
+}
+
+fn name_in(alloc: Global, credentials: &CredentialsBuffers) -> Result<Name, Cause>
+    ensures { Answers (Takes causes.NotAscii (name_of (stated credentials.now).0)) result }
+{
+    name_of(alloc, stated(credentials).name)
+}
+
+fn realm_in(alloc: Global, env: &Env, credentials: &CredentialsBuffers) -> Result<Name, Cause>
+    ensures { Answers (Takes causes.NotAscii (name_of (realm_of env.now (stated credentials.now)))) result }
+{
+    let stated = stated(credentials);
+    let realm = get_client_principal_realm(alloc, env, stated.name, stated.realm_domain)?;
+    name_of(alloc, realm.as_str())
+}
+
+fn type_in(credentials: &CredentialsBuffers) -> u8
+    ensures { result ≡ (stated credentials.now).2 }
+{
+    stated(credentials).name_type
+}
+
+/// The client with these names, which are not longer than can be sent: a longer one takes more memory than there is.
+fn sendable(name: Name, name_type: u8, realm: Name, host: Name) -> Result<Client, Cause>
+    ensures made { Answers (Gives (record { name = name; name_type = name_type; realm = realm; host = host })) result }
+    ensures short { IfOk result (λ client. IsShort client) }
+{
+    let is_short = name.as_slice().len() <= MAX_NAME
+        && realm.as_slice().len() <= MAX_REALM
+        && host.as_slice().len() <= MAX_NAME;
+    if !is_short {
+        return Err(Cause::Memory);
+    }
+    Ok(Client {
+        name,
+        name_type,
+        realm,
+        host,
+    })
+}
+
+/// The client of credentials on a machine of this name: with a password the user, with a key of a keytab its principal, each
+/// in the realm that `get_client_principal_realm` finds for it.
+///
+/// Refused as `NotAscii` exactly where the name, the realm or the machine's name is past ASCII.
+#[tactic(auto, unfolding(crate::specs::Clients::NamesClient))]
+pub fn client_of(
+    alloc: Global,
+    credentials: &CredentialsBuffers,
+    host: &Text,
+    env: &Env,
+) -> Result<Client, Cause>
+    ensures named { Answers (NamesClient credentials.now host.now env.now) result }
+    ensures short { IfOk result (λ client. IsShort client) }
+{
+    let name = name_in(alloc, credentials)?;
+    let realm = realm_in(alloc, env, credentials)?;
+    let host = name_of(alloc, host.as_str())?;
+    sendable(name, type_in(credentials), realm, host)
+}
+
+/// A copy of a name that is not longer than can be sent: a longer one takes more memory than there is.
+pub fn short_name(alloc: Global, name: &Name) -> Result<Name, OutOfMemory>
+    ensures copied { IfOk result (λ copy. copy ≡ name.now) }
+    ensures short { IfOk result (λ copy. length copy ≤ 2 ^ 24) }
+{
+    if name.as_slice().len() > MAX_NAME {
+        return Err(OutOfMemory);
+    }
+    name.copy(alloc)
+}

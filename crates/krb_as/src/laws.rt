@@ -1,0 +1,39 @@
+//! Laws of requests, replies and the AS exchange, for all values.
+
+ghost use Rattle.std.specs.Prelude.{◌≡◌, ◌≢◌, ◌<◌, ◌≤◌, ◌^◌, ℕ, List, Result, length, Ok, IsTrue};
+ghost use Rattle.sspi_core.specs.declared.cause.Cause.{Cause};
+ghost use Rattle.sspi_core.specs.declared.protocol.NetworkProtocol.{NetworkProtocol};
+ghost use Rattle.sspi_core.specs.declared.protocol.NetworkProtocol.TheVariants as protocols;
+ghost use Rattle.sspi_generator.specs.declared.network.NetFault.{NetFault};
+ghost use Rattle.krb_der.specs.Schema.{is_ascii};
+ghost use Rattle.krb_messages.specs.Frame.{with_length};
+ghost use Rattle.krb_as.specs.Requests.{carried};
+ghost use Rattle.krb_as.specs.Replies.{Unwraps};
+ghost use Rattle.sspi_core.specs.declared.draw.Draw.{Draw};
+ghost use Rattle.krb_as.specs.declared.asker.Asker.{Asker};
+ghost use Rattle.krb_as.specs.declared.as_exchange.AsDone.{AsDone};
+ghost use Rattle.krb_as.specs.declared.as_exchange.AsPhase.{AsPhase};
+ghost use Rattle.krb_as.specs.declared.turn.Turn.{Turn};
+ghost use Rattle.krb_as.specs.AsExchanges.{Starts, Next};
+
+/// A message that is carried as a request is, is unwrapped as a reply to the same message. Over UDP a reply has four octets more
+/// than a request: there, the message behind its length is unwrapped to it.
+pub fn what_is_carried_is_unwrapped()
+    ensures message { (protocol : NetworkProtocol) (realm message : List ℕ) → protocol ≢ protocols.Udp → IsTrue (is_ascii realm)
+        → length message < 2 ^ 23 → length realm < 2 ^ 22 → Unwraps protocol (Ok (carried protocol realm message)) (Ok message) }
+    ensures udp { (message : List ℕ) → length message < 2 ^ 23 → Unwraps protocols.Udp (Ok (with_length message)) (Ok message) }
+{}
+
+/// A reply is unwrapped to one answer.
+pub fn one_answer()
+    ensures { (protocol : NetworkProtocol) (reply : Result (List ℕ) NetFault) (x y : Result (List ℕ) Cause)
+        → Unwraps protocol reply x → Unwraps protocol reply y → x ≡ y }
+{}
+
+/// Each step of an AS exchange has at most one outcome: a request and what awaits its answer, the end, or one refusal. It is
+/// determined by who asks, how far the exchange has come, the reply and the draw.
+pub fn one_outcome()
+    ensures starts { (asker : Asker) (phase : AsPhase) (r s : Result (Turn AsPhase AsDone) Cause) → Starts asker phase r → Starts asker phase s → r ≡ s }
+    ensures resumes { (asker : Asker) (phase : AsPhase) (reply : Result (List ℕ) NetFault) (draw : Draw) (r s : Result (Turn AsPhase AsDone) Cause)
+        → Next asker phase reply draw r → Next asker phase reply draw s → r ≡ s }
+{}

@@ -1,0 +1,42 @@
+//! The AS exchange of a client with a KDC (RFC 4120, section 3.1), and what each exchange with a KDC has in common.
+//!
+//! - [`client_of`] makes the client of credentials, [`asker_of`] who asks for it, and [`first_body`] the body of its AS-REQ for one
+//!   of the two services that answer with a first ticket.
+//! - [`find_kdc`] tells where the requests for a realm go and by which protocol, [`request_to`] gives the octets that are sent
+//!   there, and [`unwrap_reply`] the message that the octets of a reply bring (RFC 4120, section 7.2; MS-KKDCP, section 2.2.2).
+//!   Nothing here sends anything.
+//! - [`begin`] and [`ask_again`] make the two requests, [`granted`] takes a reply, and [`reply_key`] opens an AS-REP with the key of
+//!   the credentials.
+//! - [`AsExchange`] is the whole exchange as a task, and [`go_on`] turns what the checks of a step answer into the step of a task.
+//!
+//! Each step is one chain of ordered checks in `specs/`. That it has one outcome at most is a law in [`laws`].
+#![tactic(auto)]
+
+mod as_exchange;
+mod asker;
+mod body;
+mod client;
+mod done;
+mod granted;
+mod kdc;
+mod key;
+pub mod laws;
+mod receiving;
+mod reply;
+mod request;
+mod sending;
+mod turn;
+
+pub use as_exchange::{AsDone, AsExchange, AsPhase};
+pub use asker::{Asker, asker_of, asker_suite, default_salt, sized_key};
+pub use body::{FirstService, first_body};
+pub use client::{Client, client_of, short_name};
+pub use done::InitDone;
+pub use granted::{granted_as_rep, granted_tgs_rep};
+pub use kdc::{Kdc, find_kdc};
+pub use key::{ReplyKey, reply_key};
+pub use receiving::{MAX_REPLY, read_reply, unwrap_reply};
+pub use reply::{granted, wanted_salt};
+pub use request::{Again, Begun, ask_again, begin};
+pub use sending::request_to;
+pub use turn::{Turn, go_on, is_want};

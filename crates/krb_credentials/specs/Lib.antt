@@ -1,4 +1,0 @@
-pub mod Clients
-pub mod FirstBodies
-pub mod ReplyKeys
-pub mod Granted

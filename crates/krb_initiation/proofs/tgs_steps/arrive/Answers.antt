@@ -1,5 +1,0 @@
-use Rattle.krb_initiation.proofs.Tasks.{fewer}
-use Rattle.krb_initiation.proofs.tgs_steps.arrive.Goals as goal
-
-pub returns-clause-down : goal.returns-clause-down
-returns-clause-down c = fewer _ c.end.result c.end.ensures.down

@@ -1,0 +1,212 @@
+-- The keys of a run's replies are a chain.
+use Rattle.std.proofs.Common.{◌≡◌, ℕ, ◌+◌, Bool, true, false, List, [], ◌∷◌, ◌++◌, length, Option, Some, None, Result, Ok, refl, sym, ap, ◌∙◌, subst, arith, length-append}
+use Rattle.std.specs.Prelude.{◌&&◌, is_some}
+use Rattle.std.specs.List.{list_all}
+use Rattle.krb_crypto.specs.declared.suite.CipherSuite.{CipherSuite}
+use Rattle.krb_exchange.specs.declared.kdc_rep.KdcRep.{KdcRep}
+use Rattle.krb_exchange.specs.declared.kdc_rep.TgsRep.{TgsRep}
+use Rattle.krb_exchange.specs.declared.kdc_req.KdcReqBody.{KdcReqBody}
+use Rattle.sspi_core.specs.declared.cause.Cause.{Cause}
+use Rattle.sspi_core.specs.declared.draw.Draw.{Draw}
+use Rattle.sspi_core.specs.declared.protocol.NetworkProtocol.{NetworkProtocol}
+use Rattle.sspi_core.specs.Checks.{Gives}
+use Rattle.sspi_generator.specs.declared.network.NetworkRequest.{NetworkRequest}
+use Rattle.sspi_generator.specs.declared.network.NetFault.{NetFault}
+use Rattle.krb_as.specs.declared.kdc.Kdc.{Kdc}
+use Rattle.krb_context.proofs.ChainLemmas.{passed, gave}
+use Rattle.krb_replies.specs.Realms.{referral_realm}
+use Rattle.krb_as.specs.declared.turn.Turn.{Turn}
+use Rattle.krb_as.specs.declared.turn.Turn.TheVariants.{Asks, Ends}
+use Rattle.krb_as.specs.declared.done.InitDone.{InitDone}
+use Rattle.krb_as.specs.declared.request.Again.{Again}
+use Rattle.krb_as.specs.Askers.{default_salt}
+use Rattle.krb_as.specs.Asked.{AsksAgain}
+use Rattle.krb_as.specs.Replied.{WantsPreAuth}
+use Rattle.krb_tgs.specs.declared.wanted.Shown.{Shown}
+use Rattle.krb_tgs.specs.Chain.{IsChain}
+use Rattle.krb_tgs.proofs.Chains.{chain_begins, chain_goes_on, taken_as, taken_tgs, TgsTaken}
+use Rattle.krb_ap.specs.Shown.{shown as shown_to, ShowsTicket}
+use Rattle.krb_initiator.specs.declared.seeker.Seeker.{Seeker}
+use Rattle.krb_initiator.specs.declared.seeker.TgsLeg.{TgsLeg}
+use Rattle.krb_initiator.specs.declared.seeker.Initiation.TheVariants.{Seeks}
+use Rattle.krb_initiator.specs.declared.seeker.InitPhase.{InitPhase}
+use Rattle.krb_initiator.specs.declared.seeker.InitPhase.TheVariants.{New, AwaitsError, AwaitsAsRep, AwaitsTgsRep, Over}
+use Rattle.krb_initiator.specs.InitSteps.{body_of, AsksFirst, AsksSecond, leg_of, AsksFirstTgs, TakesFirst, Refers, Arrives, GoesTo, TakesNext}
+use Rattle.krb_initiator.specs.InitRuns.{Starts, Continues, Next}
+use Rattle.krb_initiator.specs.Came.{IsGranted, AreGranted, is_referral, NamesFirst, GrantsFirst, HasChain, CameWithSalt, CameWithKey, Came, IsSession}
+
+-- which turn was given
+asked : (request made : NetworkRequest) (next phase : InitPhase) → ◌≡◌ {A = Turn InitPhase InitDone} (Asks made next) (Asks request phase) → next ≡ phase
+asked request made next phase e = cc
+
+-- behind the start there is no reply
+pub begins : (seeker : Seeker) (draw : Draw) (request : NetworkRequest) (phase : InitPhase) → Starts (Seeks seeker) New draw (Ok (Asks request phase)) → Came seeker [] phase
+unfolding AsksFirst
+begins seeker draw request phase h =
+    let begun = passed _ _ _ h in
+    subst (λ (p : InitPhase). Came seeker [] p) (sym (asked _ request phase _ (gave _ _ begun.rest_held))) refl
+
+module _ (seeker : Seeker) (reply : Result (List ℕ) NetFault) (draw : Draw) where
+  -- the error
+  names : (kdc : Kdc) (body : KdcReqBody) (again : Again) → AsksAgain seeker.asker kdc body reply draw (Ok again) → NamesFirst seeker reply again.salt
+  unfolding AsksAgain
+  names kdc body again h =
+      let salt = passed _ _ _ h in
+      let key = passed _ _ _ salt.rest_held in
+      record {
+        protocol = kdc.protocol;
+        named =
+            subst (λ (s : List ℕ). WantsPreAuth kdc.protocol (default_salt seeker.asker.credentials) reply (Ok s)) (sym (ap (λ (a : Again). a.salt) (gave _ _ key.rest_held)))
+            salt.first_held;
+      }
+
+  second : (kdc : Kdc) (body : KdcReqBody) (replies : List (Result (List ℕ) NetFault)) (request : NetworkRequest) (next : InitPhase) → replies ≡ []
+      → AsksSecond seeker.asker kdc body reply draw (Ok (Asks request next)) → Came seeker (replies ++ (reply ∷ [])) next
+  unfolding AsksSecond
+  second kdc body replies request next none h =
+      let again = passed _ _ _ h in
+      subst (λ (p : InitPhase). Came seeker (replies ++ (reply ∷ [])) p) (sym (asked _ request next _ (gave _ _ again.rest_held)))
+      (record { error = reply; are = ap (λ (r : List (Result (List ℕ) NetFault)). r ++ (reply ∷ [])) none; names = names kdc body again.found again.first_held })
+
+  -- the AS-REP
+  first : (protocol : NetworkProtocol) (salt : List ℕ) (replies : List (Result (List ℕ) NetFault)) (request : NetworkRequest) (next : InitPhase) → CameWithSalt seeker replies salt
+      → TakesFirst seeker protocol salt reply draw (Ok (Asks request next)) → Came seeker (replies ++ (reply ∷ [])) next
+  unfolding TakesFirst AsksFirstTgs
+  first protocol salt replies request next came h =
+      let shown = passed _ _ _ h in
+      let begun = passed _ _ _ shown.rest_held in
+      let taken = taken_as seeker.asker.credentials protocol salt reply shown.found shown.first_held in
+      subst (λ (p : InitPhase). Came seeker (replies ++ (reply ∷ [])) p) (sym (asked _ request next _ (gave _ _ begun.rest_held)))
+      (record {
+        reps = [];
+        has = record {
+          error = came.error;
+          first = reply;
+          rest = [];
+          are = ap (λ (r : List (Result (List ℕ) NetFault)). r ++ (reply ∷ [])) came.are;
+          salt = salt;
+          names = came.names;
+          as_rep = taken.rep;
+          grants = record { protocol = protocol; granted = taken.granted };
+          granted = tt;
+          chain = chain_begins seeker.asker.credentials salt taken.rep shown.found.suite shown.found.key taken.opened;
+        };
+        referrals = refl;
+        count = refl;
+      })
+
+  -- one more TGS-REP
+  more_granted : (replies : List (Result (List ℕ) NetFault)) (reps : List TgsRep) (rep : TgsRep) → AreGranted replies reps → IsGranted reply rep → AreGranted (replies ++ (reply ∷ [])) (reps ++ (rep ∷ []))
+  more_granted [] [] rep h one = (one, tt)
+  more_granted [] (x ∷ reps) rep h one = absurd h
+  more_granted (x ∷ replies) [] rep h one = absurd h
+  more_granted (x ∷ replies) (y ∷ reps) rep h one = (h.0, more_granted replies reps rep h.1 one)
+
+  more_referrals : (reps : List TgsRep) (rep : TgsRep) → list_all is_referral reps ≡ true → is_referral rep ≡ true → list_all is_referral (reps ++ (rep ∷ [])) ≡ true
+  more_referrals [] rep h one = rw one refl
+  more_referrals (x ∷ reps) rep h one = step (is_referral x) (list_all is_referral reps) (list_all is_referral (reps ++ (rep ∷ []))) h (λ all. more_referrals reps rep all one)
+    where
+      step : (a b c : Bool) → (a && b) ≡ true → (b ≡ true → c ≡ true) → (a && c) ≡ true
+      step true b c h goes = goes h
+      step false b c h goes = h
+
+  module _ (leg : TgsLeg) (replies : List (Result (List ℕ) NetFault)) (shown : Shown) (came : CameWithKey seeker replies leg)
+      (taken : TgsTaken leg.kdc.protocol leg.suite leg.key reply shown) where
+    one_more : HasChain seeker (replies ++ (reply ∷ [])) shown.suite (came.reps ++ (taken.rep ∷ [])) shown.key
+    one_more = record {
+      error = came.has.error;
+      first = came.has.first;
+      rest = came.has.rest ++ (reply ∷ []);
+      are = ap (λ (r : List (Result (List ℕ) NetFault)). r ++ (reply ∷ [])) came.has.are;
+      salt = came.has.salt;
+      names = came.has.names;
+      as_rep = came.has.as_rep;
+      grants = came.has.grants;
+      granted = more_granted came.has.rest came.reps taken.rep came.has.granted (record { protocol = leg.kdc.protocol; granted = taken.granted });
+      chain =
+          subst (λ (s : CipherSuite). IsChain seeker.asker.credentials came.has.salt came.has.as_rep s (came.reps ++ (taken.rep ∷ [])) shown.key) (sym taken.same)
+          (chain_goes_on seeker.asker.credentials came.has.salt came.has.as_rep leg.suite came.reps taken.rep leg.key shown.key came.has.chain taken.opened);
+    }
+
+    -- whether it is a referral
+    named_so : (referral : Option (List ℕ)) → referral_realm shown.rep.ticket.sname ≡ referral → is_referral taken.rep ≡ is_some referral
+    named_so referral e = ap (λ (r : KdcRep). is_some (referral_realm r.ticket.sname)) (sym taken.brought) ∙ ap is_some e
+
+    refers : (request : NetworkRequest) (next : InitPhase) (realm : List ℕ) → referral_realm shown.rep.ticket.sname ≡ Some realm → Refers seeker leg realm shown draw (Ok (Asks request next))
+        → Came seeker (replies ++ (reply ∷ [])) next
+    unfolding Refers
+    refers request next realm e h =
+        let begun = passed _ _ _ h in
+        subst (λ (p : InitPhase). Came seeker (replies ++ (reply ∷ [])) p) (sym (asked _ request next _ (gave _ _ begun.rest_held)))
+        (record {
+          reps = came.reps ++ (taken.rep ∷ []);
+          has = one_more;
+          referrals = more_referrals came.reps taken.rep came.referrals (named_so (Some realm) e);
+          count = length-append came.reps (taken.rep ∷ []) ∙ ap (λ (n : ℕ). n + 1) came.count;
+        })
+
+    arrives : (done : InitDone) → referral_realm shown.rep.ticket.sname ≡ None → Arrives seeker leg shown draw (Ok (Ends done)) → IsSession seeker (replies ++ (reply ∷ [])) done
+    unfolding Arrives ShowsTicket shown_to
+    arrives done e h =
+        let made = passed _ _ _ h in
+        let key = passed _ _ _ made.first_held in
+        let is : done ≡ made.found = ended _ _ (gave _ _ made.rest_held) in
+        let end_is : made.found ≡ shown_to seeker.errand shown.suite shown.key shown.rep leg.home draw = gave _ _ key.rest_held in
+        record {
+          suite = shown.suite;
+          key = shown.key;
+          referrals = came.reps;
+          last = taken.rep;
+          has = one_more;
+          are_referrals = came.referrals;
+          is_service = named_so None e;
+          session_key = ap (λ (d : InitDone). d.change.encryption_params.session_key) (is ∙ end_is);
+          encryption_type = ap (λ (d : InitDone). d.change.encryption_params.encryption_type) (is ∙ end_is);
+        }
+      where
+        ended : (x y : InitDone) → ◌≡◌ {A = Turn InitPhase InitDone} (Ends x) (Ends y) → x ≡ y
+        ended x y e = cc
+
+    goes : (referral : Option (List ℕ)) (request : NetworkRequest) (next : InitPhase) → referral_realm shown.rep.ticket.sname ≡ referral → GoesTo referral seeker leg shown draw (Ok (Asks request next))
+        → Came seeker (replies ++ (reply ∷ [])) next
+    unfolding Arrives
+    goes None request next e h = let made = passed _ _ _ h in let f = gave _ _ made.rest_held in absurd cc
+    goes (Some realm) request next e h = refers request next realm e h
+
+    ends_at : (referral : Option (List ℕ)) (done : InitDone) → referral_realm shown.rep.ticket.sname ≡ referral → GoesTo referral seeker leg shown draw (Ok (Ends done))
+        → IsSession seeker (replies ++ (reply ∷ [])) done
+    unfolding Refers
+    ends_at None done e h = arrives done e h
+    ends_at (Some realm) done e h = let begun = passed _ _ _ h in let f = gave _ _ begun.rest_held in absurd cc
+
+  next_goes : (leg : TgsLeg) (replies : List (Result (List ℕ) NetFault)) (request : NetworkRequest) (next : InitPhase) → CameWithKey seeker replies leg
+      → TakesNext seeker leg reply draw (Ok (Asks request next)) → Came seeker (replies ++ (reply ∷ [])) next
+  unfolding TakesNext
+  next_goes leg replies request next came h =
+      let shown = passed _ _ _ h in
+      goes leg replies shown.found came (taken_tgs leg.kdc.protocol leg.suite leg.key reply shown.found shown.first_held) _ request next refl shown.rest_held
+
+  next_ends : (leg : TgsLeg) (replies : List (Result (List ℕ) NetFault)) (done : InitDone) → CameWithKey seeker replies leg → TakesNext seeker leg reply draw (Ok (Ends done))
+      → IsSession seeker (replies ++ (reply ∷ [])) done
+  unfolding TakesNext
+  next_ends leg replies done came h =
+      let shown = passed _ _ _ h in
+      ends_at leg replies shown.found came (taken_tgs leg.kdc.protocol leg.suite leg.key reply shown.found shown.first_held) _ done refl shown.rest_held
+
+pub goes_on : (seeker : Seeker) (replies : List (Result (List ℕ) NetFault)) (phase : InitPhase) (reply : Result (List ℕ) NetFault) (draw : Draw) (request : NetworkRequest) (next : InitPhase)
+    → Came seeker replies phase → Next (Seeks seeker) phase reply draw (Ok (Asks request next)) → Came seeker (replies ++ (reply ∷ [])) next
+goes_on seeker replies New reply draw request next came h = absurd h
+goes_on seeker replies (AwaitsError kdc body) reply draw request next came h = second seeker reply draw kdc body replies request next came h
+goes_on seeker replies (AwaitsAsRep kdc salt) reply draw request next came h = first seeker reply draw kdc.protocol salt replies request next came h
+goes_on seeker replies (AwaitsTgsRep leg) reply draw request next came h = next_goes seeker reply draw leg replies request next came h
+goes_on seeker replies Over reply draw request next came h = absurd h
+
+pub ends : (seeker : Seeker) (replies : List (Result (List ℕ) NetFault)) (phase : InitPhase) (reply : Result (List ℕ) NetFault) (draw : Draw) (done : InitDone)
+    → Came seeker replies phase → Next (Seeks seeker) phase reply draw (Ok (Ends done)) → IsSession seeker (replies ++ (reply ∷ [])) done
+unfolding AsksSecond TakesFirst AsksFirstTgs
+ends seeker replies New reply draw done came h = absurd h
+ends seeker replies (AwaitsError kdc body) reply draw done came h = let again = passed _ _ _ h in let f = gave _ _ again.rest_held in absurd cc
+ends seeker replies (AwaitsAsRep kdc salt) reply draw done came h =
+    let shown = passed _ _ _ h in let begun = passed _ _ _ shown.rest_held in let f = gave _ _ begun.rest_held in absurd cc
+ends seeker replies (AwaitsTgsRep leg) reply draw done came h = next_ends seeker reply draw leg replies done came h
+ends seeker replies Over reply draw done came h = absurd h

@@ -1,0 +1,236 @@
+//! An initiation as a task.
+
+ghost use Rattle.std.specs.Prelude.{◌≡◌, ◌≤◌, true, IfOk, Err, Result};
+ghost use Rattle.sspi_core.specs.declared.cause.Cause.{Cause};
+ghost use Rattle.sspi_core.specs.declared.cause.Cause.TheVariants as causes;
+ghost use Rattle.sspi_core.specs.Moments.{last_moment};
+ghost use Rattle.sspi_core.specs.Kinds.{error_of};
+ghost use Rattle.sspi_core.specs.Checks.{Answers};
+ghost use Rattle.krb_as.specs.Turns.{is_want};
+ghost use Rattle.krb_initiator.specs.declared.seeker.Initiation.{Initiation};
+ghost use Rattle.krb_initiator.specs.declared.seeker.InitPhase.TheVariants as phases;
+ghost use Rattle.krb_initiator.specs.Seekers.{CanSeek, CanBegin};
+ghost use Rattle.krb_initiator.specs.Beginnings.{Begins};
+ghost use Rattle.krb_initiator.specs.InitSteps.{body_of, AsksFirst};
+ghost use Rattle.krb_initiator.specs.InitRuns.{StartsNew, Starts, Continues, Next, IsNewPhase, IsAwaiting, CanWait, IsNew, turns_left, GoesDown, MayAsk, StartsAt, ResumesAt, BeginsSo};
+
+use crate::as_steps::{ask_first, ask_second, body_of};
+use crate::begin::begin;
+use crate::options::InitOptions;
+use crate::seeker::{InitPhase, Initiation, Seeker};
+use crate::service_steps::{hear_answer, request};
+use crate::tgs_steps::{take_first, take_next};
+use krb_as::{InitDone, Turn, go_on, is_want};
+use krb_context::Kerberos;
+use krb_der::Octets;
+use sspi_core::{Cause, Draw, Error};
+use sspi_generator::{Generator, GeneratorState, NetFault, NetworkRequest, Resumable, Task};
+use std::alloc::Global;
+
+/// What an initiator does when it is called: it asks a service for the service's own ticket, or fetches a ticket from KDCs and shows
+/// it to the service, or hears the service's answer.
+#[derive(Drop)]
+pub struct InitRun {
+    alloc: Global,
+    initiation: Initiation,
+    phase: InitPhase,
+}
+
+/// What runs it.
+pub type GeneratorInitSecurityContext = Generator<InitRun>;
+
+impl InitRun {
+    /// The task that does this.
+    pub fn new(alloc: Global, initiation: Initiation) -> InitRun
+        requires { CanBegin initiation }
+        ensures new { IsNew result }
+        ensures initiation { result.initiation ≡ initiation }
+        ensures phase { result.phase ≡ phases.New }
+        ensures turns { turns_left result.phase ≡ 12 }
+    {
+        InitRun {
+            alloc,
+            initiation,
+            phase: InitPhase::New,
+        }
+    }
+}
+
+/// Begins what an initiator does next, by its state: before the exchange it fetches a ticket for the target and shows it to the
+/// service, or with `USE_SESSION_KEY` first asks the service for its own ticket; when it has shown one, it hears the answer.
+///
+/// Refused, in this order, as OutOfSequence Sequence where the exchange is over; before the exchange as NoCredentials NoTarget where
+/// there is no target, as InvalidParameter Target where it has not the form of a service and its host; and then, unless the service
+/// is asked first, as InvalidToken Shape where there is a token that is no TGT-REP, as WrongCredentialHandle NoIdentity where there
+/// are no credentials, as InternalError NotAscii where the name of the client, its realm or the name of its machine is past ASCII.
+pub fn initialize_security_context(
+    alloc: Global,
+    client: &Kerberos,
+    options: InitOptions,
+) -> Result<InitRun, Error>
+    ensures begun { (result ≡ Err (error_of causes.Memory) → ⊥)
+        → (answer : Result Initiation Cause) × Begins client.now options answer × BeginsSo answer result }
+    ensures new { IfOk result (λ run. IsNew run) }
+    ensures turns { IfOk result (λ run. turns_left run.phase ≡ 12) }
+{
+    match begin(alloc, client, &options) {
+        Ok(initiation) => Ok(InitRun::new(alloc, initiation)),
+        Err(cause) => Err(Error::from(cause)),
+    }
+}
+
+/// The start of one that fetches a ticket.
+fn start_seeking(
+    alloc: Global,
+    seeker: &Seeker,
+    draw: &Draw,
+) -> Result<Turn<InitPhase, InitDone>, Cause>
+    requires seeker { CanSeek seeker.now }
+    requires moment { draw.now.moment ≤ last_moment }
+    ensures step { Answers (AsksFirst seeker.now.asker (body_of seeker.now draw.now)) result }
+    ensures down { IfOk result (λ turn. GoesDown 12 turn) }
+{
+    let body = body_of(alloc, seeker, draw)?;
+    ask_first(alloc, &seeker.asker, body)
+}
+
+/// What the start leads to.
+fn start_new(
+    alloc: Global,
+    initiation: &Initiation,
+    draw: &Draw,
+) -> Result<Turn<InitPhase, InitDone>, Cause>
+    requires initiation { CanBegin initiation.now }
+    requires moment { draw.now.moment ≤ last_moment }
+    ensures step { Answers (StartsNew initiation.now draw.now) result }
+    ensures down { IfOk result (λ turn. GoesDown 12 turn) }
+    ensures may { IfOk result (λ turn. MayAsk initiation.now turn) }
+{
+    match initiation {
+        Initiation::Requests(initiator, token) => request(alloc, initiator, token),
+        Initiation::Seeks(seeker) => start_seeking(alloc, seeker, draw),
+        Initiation::Hears(initiator, token) => hear_answer(alloc, initiator, token, draw),
+    }
+}
+
+/// What the start leads to in a phase that is new.
+fn started(
+    alloc: Global,
+    initiation: &Initiation,
+    phase: &InitPhase,
+    draw: &Draw,
+) -> Result<Turn<InitPhase, InitDone>, Cause>
+    requires new { IsNewPhase phase.now }
+    requires initiation { CanBegin initiation.now }
+    requires moment { draw.now.moment ≤ last_moment }
+    ensures step { Answers (Starts initiation.now phase.now draw.now) result }
+    ensures down { IfOk result (λ turn. GoesDown (turns_left phase.now) turn) }
+    ensures may { IfOk result (λ turn. MayAsk initiation.now turn) }
+{
+    match phase {
+        InitPhase::New => start_new(alloc, initiation, draw),
+        InitPhase::AwaitsError(_, _)
+        | InitPhase::AwaitsAsRep(_, _)
+        | InitPhase::AwaitsTgsRep(_)
+        | InitPhase::Over => unreachable!(),
+    }
+}
+
+/// What an answer leads to in a phase that awaits one.
+fn in_phase(
+    alloc: Global,
+    seeker: &Seeker,
+    phase: &InitPhase,
+    reply: Result<Octets, NetFault>,
+    draw: &Draw,
+) -> Result<Turn<InitPhase, InitDone>, Cause>
+    requires seeker { CanSeek seeker.now }
+    requires awaiting { IsAwaiting phase.now }
+    requires moment { draw.now.moment ≤ last_moment }
+    ensures step { Answers (Continues seeker.now phase.now reply draw.now) result }
+    ensures down { IfOk result (λ turn. GoesDown (turns_left phase.now) turn) }
+{
+    match phase {
+        InitPhase::AwaitsError(kdc, body) => {
+            ask_second(alloc, &seeker.asker, kdc, body, reply, draw)
+        }
+        InitPhase::AwaitsAsRep(kdc, salt) => {
+            take_first(alloc, seeker, kdc.protocol, salt, reply, draw)
+        }
+        InitPhase::AwaitsTgsRep(leg) => take_next(alloc, seeker, leg, reply, draw),
+        InitPhase::New | InitPhase::Over => unreachable!(),
+    }
+}
+
+/// What an answer leads to. Where whoever sends wanted for memory, so does the step.
+fn next(
+    alloc: Global,
+    initiation: &Initiation,
+    phase: &InitPhase,
+    reply: Result<Octets, NetFault>,
+    draw: &Draw,
+) -> Result<Turn<InitPhase, InitDone>, Cause>
+    requires initiation { CanWait initiation.now }
+    requires awaiting { IsAwaiting phase.now }
+    requires moment { draw.now.moment ≤ last_moment }
+    ensures step { Answers (Next initiation.now phase.now reply draw.now) result }
+    ensures down { IfOk result (λ turn. GoesDown (turns_left phase.now) turn) }
+    ensures memory { is_want reply ≡ true → result ≡ Err causes.Memory }
+{
+    if is_want(&reply) {
+        return Err(Cause::Memory);
+    }
+    match initiation {
+        Initiation::Seeks(seeker) => in_phase(alloc, seeker, phase, reply, draw),
+        Initiation::Requests(_, _) | Initiation::Hears(_, _) => unreachable!(),
+    }
+}
+
+impl Task for InitRun {
+    ghost use Rattle.krb_as.specs.Turns.{IsWant, IsFault};
+    ghost use Rattle.krb_initiator.specs.InitRuns.{IsNew, IsWaiting, StartsAt, turns_left};
+
+    type Out = Result<InitDone, Error>;
+
+    ghost turns = { λ run. turns_left run.phase };
+
+    ghost is_new = { IsNew };
+
+    ghost is_waiting = { IsWaiting };
+
+    ghost starts = { StartsAt };
+
+    ghost is_want = { IsWant };
+
+    ghost is_fault = { IsFault };
+
+    fn start(&mut self, draw: &Draw) -> GeneratorState<NetworkRequest, Result<InitDone, Error>> {
+        let answer = started(self.alloc, &self.initiation, &self.phase, draw);
+        go_on(&mut self.phase, InitPhase::Over, answer)
+    }
+
+    fn turns(&self) -> u32 {
+        match &self.phase {
+            InitPhase::New => 12,
+            InitPhase::AwaitsError(_, _) => 11,
+            InitPhase::AwaitsAsRep(_, _) => 10,
+            InitPhase::AwaitsTgsRep(leg) => u32::from(9u8.saturating_sub(leg.hops)),
+            InitPhase::Over => 0,
+        }
+    }
+}
+
+impl Resumable for InitRun {
+    ghost use Rattle.krb_initiator.specs.InitRuns.{ResumesAt};
+
+    ghost resumes = { ResumesAt };
+
+    fn resume(
+        &mut self,
+        reply: Result<Octets, NetFault>,
+        draw: &Draw,
+    ) -> GeneratorState<NetworkRequest, Result<InitDone, Error>> {
+        let answer = next(self.alloc, &self.initiation, &self.phase, reply, draw);
+        go_on(&mut self.phase, InitPhase::Over, answer)
+    }
+}

@@ -1,0 +1,49 @@
+//! Laws of an initiation, for all values.
+
+ghost use Rattle.std.specs.Prelude.{◌≡◌, ℕ, List, [], ◌∷◌, ◌++◌, Result, Ok};
+ghost use Rattle.krb_context.specs.declared.context.Kerberos.{Kerberos};
+ghost use Rattle.sspi_core.specs.declared.cause.Cause.{Cause};
+ghost use Rattle.sspi_core.specs.declared.draw.Draw.{Draw};
+ghost use Rattle.sspi_core.specs.declared.error.Error.{Error};
+ghost use Rattle.sspi_generator.specs.declared.network.NetworkRequest.{NetworkRequest};
+ghost use Rattle.sspi_generator.specs.declared.network.NetFault.{NetFault};
+ghost use Rattle.krb_as.specs.declared.done.InitDone.{InitDone};
+ghost use Rattle.krb_as.specs.declared.turn.Turn.{Turn};
+ghost use Rattle.krb_as.specs.declared.turn.Turn.TheVariants.{Asks, Ends};
+ghost use Rattle.krb_initiator.specs.declared.options.InitOptions.{InitOptions};
+ghost use Rattle.krb_initiator.specs.declared.init_run.InitRun.{InitRun};
+ghost use Rattle.krb_initiator.specs.declared.seeker.Seeker.{Seeker};
+ghost use Rattle.krb_initiator.specs.declared.seeker.Initiation.{Initiation};
+ghost use Rattle.krb_initiator.specs.declared.seeker.Initiation.TheVariants.{Seeks};
+ghost use Rattle.krb_initiator.specs.declared.seeker.InitPhase.{InitPhase};
+ghost use Rattle.krb_initiator.specs.declared.seeker.InitPhase.TheVariants.{New};
+ghost use Rattle.krb_initiator.specs.Beginnings.{Begins};
+ghost use Rattle.krb_initiator.specs.InitRuns.{Starts, Next, BeginsSo};
+ghost use Rattle.krb_initiator.specs.Came.{Came, IsSession};
+
+/// The session key is the last key of a chain of the run's own replies that begins with the credentials' key: no reply is behind the
+/// start; what brought a run to a phase brings it, with the next reply, to the next phase; and to its end, with the session key.
+pub fn the_keys_of_the_replies_are_a_chain()
+    ensures begins { (seeker : Seeker) (draw : Draw) (request : NetworkRequest) (phase : InitPhase)
+        → Starts (Seeks seeker) New draw (Ok (Asks request phase)) → Came seeker [] phase }
+    ensures goes_on { (seeker : Seeker) (replies : List (Result (List ℕ) NetFault)) (phase : InitPhase) (reply : Result (List ℕ) NetFault) (draw : Draw)
+        (request : NetworkRequest) (next : InitPhase)
+        → Came seeker replies phase → Next (Seeks seeker) phase reply draw (Ok (Asks request next)) → Came seeker (replies ++ (reply ∷ [])) next }
+    ensures ends { (seeker : Seeker) (replies : List (Result (List ℕ) NetFault)) (phase : InitPhase) (reply : Result (List ℕ) NetFault) (draw : Draw)
+        (done : InitDone)
+        → Came seeker replies phase → Next (Seeks seeker) phase reply draw (Ok (Ends done)) → IsSession seeker (replies ++ (reply ∷ [])) done }
+{}
+
+/// What an initiator begins is one, by its context and what its caller asks for, and so is the run or the refusal that it is handed
+/// back as; and each step of that run has at most one outcome, determined by what is to be done, how far the run has come, the reply
+/// and the draw.
+pub fn one_outcome()
+    ensures begins { (context : Kerberos) (options : InitOptions) (r s : Result Initiation Cause) → Begins context options r
+        → Begins context options s → r ≡ s }
+    ensures runs { (answer : Result Initiation Cause) (r s : Result InitRun Error) → BeginsSo answer r → BeginsSo answer s → r ≡ s }
+    ensures starts { (initiation : Initiation) (phase : InitPhase) (draw : Draw) (r s : Result (Turn InitPhase InitDone) Cause)
+        → Starts initiation phase draw r → Starts initiation phase draw s → r ≡ s }
+    ensures resumes { (initiation : Initiation) (phase : InitPhase) (reply : Result (List ℕ) NetFault) (draw : Draw)
+        (r s : Result (Turn InitPhase InitDone) Cause)
+        → Next initiation phase reply draw r → Next initiation phase reply draw s → r ≡ s }
+{}

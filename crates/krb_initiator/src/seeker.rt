@@ -1,0 +1,66 @@
+//! An initiator on its way to the ticket of a service.
+
+use krb_as::Asker;
+use krb_as::Client;
+use krb_crypto::CipherSuite;
+use krb_der::{Name, Octets, Text};
+use krb_exchange::KdcReqBody;
+use krb_ap::{Errand, Initiator};
+use krb_messages::Ticket;
+use krb_as::Kdc;
+use krb_tgs::Wanted;
+use sspi_core::Secret;
+
+/// An initiator on its way to the ticket of a service. A step never changes it.
+#[derive(Drop)]
+pub struct Seeker {
+    pub asker: Asker,
+    /// Who asks.
+    pub client: Client,
+    /// What is asked for.
+    pub wanted: Wanted,
+    /// The service's own ticket, which goes into the first request to a ticket-granting service.
+    pub tgt: Option<Ticket>,
+    /// With what it goes to the service.
+    pub errand: Errand,
+}
+
+/// What an initiator is to do. A step never changes it.
+#[derive(Drop)]
+pub enum Initiation {
+    /// It asks the service for the service's own ticket, by this token.
+    Requests(Initiator, Octets),
+    /// It fetches a ticket, and shows it to the service.
+    Seeks(Seeker),
+    /// It hears the service's answer, this token.
+    Hears(Initiator, Octets),
+}
+
+/// A request to a ticket-granting service whose reply is awaited.
+#[derive(Drop)]
+pub struct TgsLeg {
+    /// Where it was sent. Its realm is the one that was asked.
+    pub kdc: Kdc,
+    /// The suite of the whole exchange.
+    pub suite: CipherSuite,
+    /// The key that the reply is to be sealed under.
+    pub key: Secret<Octets>,
+    /// The client's own realm, by the AS-REP.
+    pub home: Name,
+    /// How many referrals were followed.
+    pub hops: u8,
+}
+
+/// How far an initiation has come.
+#[derive(Drop)]
+pub enum InitPhase {
+    /// It is not started.
+    New,
+    /// The first request was sent there.
+    AwaitsError(Kdc, KdcReqBody),
+    /// The second one was sent there, under a key with this salt.
+    AwaitsAsRep(Kdc, Text),
+    /// A ticket-granting service was asked.
+    AwaitsTgsRep(TgsLeg),
+    Over,
+}

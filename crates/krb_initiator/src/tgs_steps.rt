@@ -1,0 +1,247 @@
+//! The way of an initiator from one ticket-granting service to the next, and to the service.
+
+ghost use Rattle.std.specs.Prelude.{◌≡◌, ◌+◌, ◌-◌, ◌<◌, ◌≤◌, ◌^◌, length, IfOk, IfSome, List, ℕ};
+ghost use Rattle.sspi_core.specs.Moments.{last_moment};
+ghost use Rattle.sspi_core.specs.Checks.{Answers, Gives};
+ghost use Rattle.krb_authenticators.specs.TgsRequests.{AreShortTickets};
+ghost use Rattle.krb_replies.specs.Realms.{referral_realm};
+ghost use Rattle.krb_as.specs.declared.turn.Turn.TheVariants as turns;
+ghost use Rattle.krb_as.specs.Granted.{IsSendable};
+ghost use Rattle.krb_tgs.specs.TgsAsked.{AsksTgs};
+ghost use Rattle.krb_initiator.specs.declared.seeker.InitPhase.TheVariants as phases;
+ghost use Rattle.krb_initiator.specs.Tgts.{first_tickets};
+ghost use Rattle.krb_initiator.specs.Seekers.{CanSeek};
+ghost use Rattle.krb_initiator.specs.InitSteps.{leg_of, AsksFirstTgs, TakesFirst, Refers, Arrives, GoesTo, TakesNext};
+ghost use Rattle.krb_initiator.specs.InitRuns.{GoesDown};
+
+use crate::seeker::{InitPhase, Seeker, TgsLeg};
+use crate::service_steps::end;
+use krb_as::{Begun, InitDone, Turn};
+use krb_as::short_name;
+use krb_der::{Items, Name, Octets, OutOfMemory, Text, TryCopy, boxed};
+use krb_exchange::KdcRep;
+use krb_ap::show_ticket;
+use krb_messages::Ticket;
+use krb_replies::referral_target_realm;
+use krb_tgs::{Shown, ask_tgs, follow, take_as_rep, take_tgs_rep};
+use sspi_core::{Cause, Draw, NetworkProtocol};
+use sspi_generator::NetFault;
+use std::alloc::Global;
+
+/// The service's own ticket, for the first request.
+fn first_tickets(alloc: Global, tgt: &Option<Ticket>) -> Result<Option<Items<Ticket>>, OutOfMemory>
+    ensures { IfOk result (λ tickets. tickets ≡ first_tickets tgt.now) }
+{
+    match tgt {
+        None => Ok(None),
+        Some(ticket) => {
+            let mut tickets = Vec::new(alloc);
+            tickets.push(ticket.copy(alloc)?)?;
+            Ok(Some(Items::new(tickets)))
+        }
+    }
+}
+
+/// The request to the first ticket-granting service.
+fn begin_tgs(alloc: Global, seeker: &Seeker, shown: &Shown, draw: &Draw) -> Result<Begun, Cause>
+    requires seeker { CanSeek seeker.now }
+    requires rep { IsSendable shown.now.rep }
+    requires moment { draw.now.moment ≤ last_moment }
+    ensures { Answers (AsksTgs seeker.now.asker seeker.now.wanted shown.now shown.now.rep.crealm shown.now.rep.crealm
+        (first_tickets seeker.now.tgt) draw.now) result }
+{
+    let tickets = first_tickets(alloc, &seeker.tgt)?;
+    let realm = &shown.rep.crealm;
+    ask_tgs(
+        alloc,
+        &seeker.asker,
+        &seeker.wanted,
+        shown,
+        realm,
+        realm,
+        tickets,
+        draw,
+    )
+}
+
+/// The phase behind the first request to a ticket-granting service.
+fn sent_first_tgs(begun: Begun, shown: Shown) -> Result<Turn<InitPhase, InitDone>, Cause>
+    ensures step { Answers (Gives (turns.Asks begun.request (phases.AwaitsTgsRep (leg_of begun.kdc shown shown.rep.crealm 0)))) result }
+    ensures down { IfOk result (λ turn. GoesDown 10 turn) }
+{
+    let Begun { request, kdc } = begun;
+    let Shown { suite, key, rep } = shown;
+    let leg = TgsLeg {
+        kdc,
+        suite,
+        key,
+        home: rep.crealm,
+        hops: 0,
+    };
+    Ok(Turn::Asks(request, InitPhase::AwaitsTgsRep(leg)))
+}
+
+/// What follows the AS-REP that was opened.
+#[tactic(auto, unfolding(crate::specs::InitSteps::AsksFirstTgs))]
+fn ask_first_tgs(
+    alloc: Global,
+    seeker: &Seeker,
+    shown: Shown,
+    draw: &Draw,
+) -> Result<Turn<InitPhase, InitDone>, Cause>
+    requires seeker { CanSeek seeker.now }
+    requires rep { IsSendable shown.rep }
+    requires moment { draw.now.moment ≤ last_moment }
+    ensures step { Answers (AsksFirstTgs seeker.now shown draw.now) result }
+    ensures down { IfOk result (λ turn. GoesDown 10 turn) }
+{
+    let begun = begin_tgs(alloc, seeker, &shown, draw)?;
+    sent_first_tgs(begun, shown)
+}
+
+/// What follows the second reply.
+#[tactic(auto, unfolding(crate::specs::InitSteps::TakesFirst))]
+pub(crate) fn take_first(
+    alloc: Global,
+    seeker: &Seeker,
+    protocol: NetworkProtocol,
+    salt: &Text,
+    reply: Result<Octets, NetFault>,
+    draw: &Draw,
+) -> Result<Turn<InitPhase, InitDone>, Cause>
+    requires seeker { CanSeek seeker.now }
+    requires moment { draw.now.moment ≤ last_moment }
+    ensures step { Answers (TakesFirst seeker.now protocol salt.now reply draw.now) result }
+    ensures down { IfOk result (λ turn. GoesDown 10 turn) }
+{
+    let shown = take_as_rep(alloc, &seeker.asker, protocol, salt, reply)?;
+    ask_first_tgs(alloc, seeker, shown, draw)
+}
+
+/// The phase behind a request that follows a referral.
+fn sent_next_tgs(
+    alloc: Global,
+    begun: Begun,
+    shown: Shown,
+    leg: &TgsLeg,
+) -> Result<Turn<InitPhase, InitDone>, Cause>
+    requires few { leg.now.hops < 9 }
+    ensures step { Answers (Gives (turns.Asks begun.request (phases.AwaitsTgsRep (leg_of begun.kdc shown leg.now.home (leg.now.hops + 1))))) result }
+    ensures down { IfOk result (λ turn. GoesDown (9 - leg.now.hops) turn) }
+{
+    let shown = boxed(alloc, shown)?;
+    let home = leg.home.copy(alloc)?;
+    let Begun { request, kdc } = begun;
+    let Shown { suite, key, rep } = Box::into_inner(shown);
+    drop(rep);
+    let next = TgsLeg {
+        kdc,
+        suite,
+        key,
+        home,
+        hops: leg.hops + 1,
+    };
+    Ok(Turn::Asks(request, InitPhase::AwaitsTgsRep(next)))
+}
+
+/// A referral to this realm is followed.
+#[tactic(auto, unfolding(crate::specs::InitSteps::Refers))]
+fn refer(
+    alloc: Global,
+    seeker: &Seeker,
+    leg: &TgsLeg,
+    realm: &Name,
+    shown: Shown,
+    draw: &Draw,
+) -> Result<Turn<InitPhase, InitDone>, Cause>
+    requires seeker { CanSeek seeker.now }
+    requires realm { length realm.now ≤ 2 ^ 24 }
+    requires rep { IsSendable shown.rep }
+    requires moment { draw.now.moment ≤ last_moment }
+    ensures step { Answers (Refers seeker.now leg.now realm.now shown draw.now) result }
+    ensures down { IfOk result (λ turn. GoesDown (9 - leg.now.hops) turn) }
+{
+    let asked = &leg.kdc.realm;
+    let begun = follow(
+        alloc,
+        &seeker.asker,
+        &seeker.wanted,
+        &shown,
+        leg.hops,
+        &leg.home,
+        asked,
+        realm,
+        draw,
+    )?;
+    sent_next_tgs(alloc, begun, shown, leg)
+}
+
+/// The service's ticket is shown to the service.
+#[tactic(auto, unfolding(crate::specs::InitSteps::Arrives))]
+fn arrive(
+    alloc: Global,
+    seeker: &Seeker,
+    leg: &TgsLeg,
+    shown: Shown,
+    draw: &Draw,
+) -> Result<Turn<InitPhase, InitDone>, Cause>
+    requires seeker { CanSeek seeker.now }
+    requires rep { IsSendable shown.rep }
+    requires moment { draw.now.moment ≤ last_moment }
+    ensures step { Answers (Arrives seeker.now leg.now shown draw.now) result }
+    ensures down { IfOk result (λ turn. GoesDown (9 - leg.now.hops) turn) }
+{
+    let Shown { suite, key, rep } = shown;
+    let done = show_ticket(alloc, &seeker.errand, suite, key, rep, &leg.home, draw)?;
+    end(done)
+}
+
+/// The realm of a referral; None where the ticket is the service's.
+fn referral_in(alloc: Global, rep: &KdcRep) -> Result<Option<Name>, OutOfMemory>
+    ensures realm { IfOk result (λ realm. realm ≡ referral_realm rep.now.ticket.sname) }
+    ensures short { IfOk result (λ realm. IfSome realm (λ (r : List ℕ). length r ≤ 2 ^ 24)) }
+{
+    match referral_target_realm(&rep.ticket.sname) {
+        None => Ok(None),
+        Some(realm) => Ok(Some(short_name(alloc, realm)?)),
+    }
+}
+
+/// What follows the TGS-REP that was opened.
+fn go_to(
+    alloc: Global,
+    seeker: &Seeker,
+    leg: &TgsLeg,
+    shown: Shown,
+    draw: &Draw,
+) -> Result<Turn<InitPhase, InitDone>, Cause>
+    requires seeker { CanSeek seeker.now }
+    requires rep { IsSendable shown.rep }
+    requires moment { draw.now.moment ≤ last_moment }
+    ensures step { Answers (GoesTo (referral_realm shown.rep.ticket.sname) seeker.now leg.now shown draw.now) result }
+    ensures down { IfOk result (λ turn. GoesDown (9 - leg.now.hops) turn) }
+{
+    let referral = referral_in(alloc, &shown.rep)?;
+    match referral {
+        None => arrive(alloc, seeker, leg, shown, draw),
+        Some(realm) => refer(alloc, seeker, leg, &realm, shown, draw),
+    }
+}
+
+/// What follows a reply of a ticket-granting service.
+#[tactic(auto, unfolding(crate::specs::InitSteps::TakesNext))]
+pub(crate) fn take_next(
+    alloc: Global,
+    seeker: &Seeker,
+    leg: &TgsLeg,
+    reply: Result<Octets, NetFault>,
+    draw: &Draw,
+) -> Result<Turn<InitPhase, InitDone>, Cause>
+    requires seeker { CanSeek seeker.now }
+    requires moment { draw.now.moment ≤ last_moment }
+    ensures step { Answers (TakesNext seeker.now leg.now reply draw.now) result }
+    ensures down { IfOk result (λ turn. GoesDown (9 - leg.now.hops) turn) }
+{
+    let shown = take_tgs_rep(alloc, leg.kdc.protocol, leg.suite, &leg.key, reply)?;
+    go_to(alloc, seeker, leg, shown, draw)
+}

@@ -1,0 +1,101 @@
+-- When an event admits its peer, and what it is answered then (RFC 4120, sections 3.2.3 and 3.2.4). Nothing here decrypts.
+use Rattle.std.specs.Prelude.{◌≡◌, ◌≤◌, ◌^◌, ℕ, Bool, true, List, [], length, Some, Ok, if◌then◌else◌}
+use Rattle.std.specs.Ordering.{nat_cmp}
+use Rattle.std.specs.BTreeMap.{is_at}
+use Rattle.std.specs.Map.{set_value}
+use Rattle.krb_der.specs.Layout.{Layout}
+use Rattle.krb_crypto.specs.Suite.{key_size}
+use Rattle.krb_crypto.specs.Sealed.{IsSealed}
+use Rattle.krb_crypto.specs.declared.suite.CipherSuite.{CipherSuite}
+use Rattle.krb_messages.specs.Layouts.{enc_ticket_part_layout, authenticator_layout}
+use Rattle.krb_messages.specs.declared.encryption.EncryptedData.{EncryptedData}
+use Rattle.krb_context.specs.ServiceKeys.{service_key}
+use Rattle.krb_context.specs.States.{is_waiting}
+use Rattle.krb_context.specs.declared.server.ServerProperties.{ServerProperties}
+use Rattle.krb_replay.specs.History.{History, verdict_of, history_after}
+use Rattle.krb_replay.specs.declared.ask.Verdict.TheVariants.{Admitted}
+use Rattle.krb_replies.specs.Unseals.{suite_of, IsRead}
+use Rattle.krb_admission.specs.Accepts.{asks_dce_style}
+use Rattle.krb_admission.specs.Admission.{reply_message, token_with, state_behind, status_in, admission_of, settled}
+use Rattle.krb_admission.specs.declared.admission.Admission.{Admission}
+use Rattle.krb_admission.specs.Clients.{client_of}
+use Rattle.krb_admission.specs.Complete.{is_known_options, is_mutual, has_good_subkey}
+use Rattle.krb_admission.specs.Requests.{is_same_client, ask_of}
+use Rattle.krb_admission.specs.Tokens.{IsApReq}
+use Rattle.krb_admission.specs.declared.request.Request.{Request}
+use Rattle.krb_script.specs.declared.item.Event.{Event}
+use Rattle.krb_machine.specs.Policy.{State, reached, server_flags, draw_of}
+use Rattle.krb_machine.specs.declared.connection.Connection.{Connection}
+use Rattle.krb_machine.specs.declared.reply.Reply.{Reply}
+use Rattle.krb_machine.specs.declared.reply.Reply.TheVariants.{Done}
+use Rattle.sspi_core.specs.Usernames.{UserName}
+use Rattle.sspi_core.specs.declared.draw.Draw.{Draw}
+use Rattle.sspi_core.specs.declared.results.SecurityStatus.TheVariants.{Ok as Complete}
+
+-- a cipher is the encryption of this record, under this key, for this use, in the suite that its type names
+pub record IsEncryptionOf {A : Type 0} (layout : Layout A) (suite : CipherSuite) (key : List ℕ) (usage : ℕ) (value : A) (part : EncryptedData) : Type 0 where
+  pub suite_is : suite_of part.etype ≡ Some suite
+  pub key_fits : length key ≡ key_size suite
+  pub plain : List ℕ
+  pub read : IsRead layout plain value
+  pub sealed : IsSealed suite key usage part.cipher plain
+
+-- a token is an AP-REQ: its ticket is encrypted under the key of the service that it names, with usage 2, its authenticator under the
+-- key inside the ticket, with usage 11, and both speak of one client
+pub record IsGenuine (server : ServerProperties) (dce : Bool) (token : List ℕ) (request : Request) : Type 0 where
+  pub short : length token ≤ 2 ^ 24
+  pub is_ap_req : IsApReq dce token request.message
+  pub key : List ℕ
+  pub has_key : service_key server request.message.ticket.sname.name_string ≡ Some key
+  pub ticket_suite : CipherSuite
+  pub ticket : IsEncryptionOf enc_ticket_part_layout ticket_suite key 2 request.part request.message.ticket.enc_part
+  pub authenticator : IsEncryptionOf authenticator_layout request.suite request.part.key.key_value 11 request.authenticator request.message.authenticator
+  pub same_client : is_same_client request.part request.authenticator ≡ true
+
+-- its client has a name that is known here, its options are known, and a subkey that is to be taken fits its type
+pub record IsInOrder (request : Request) : Type 0 where
+  pub client : UserName
+  pub named : client_of request.authenticator.cname request.authenticator.crealm ≡ Some client
+  pub options : is_known_options request.message.ap_options ≡ true
+  pub subkey : has_good_subkey request ≡ true
+
+-- an event is to be admitted: the first checks let its token through to an acceptor that waits for one, the token is a genuine AP-REQ,
+-- the gate that never forgets says Admitted, and the request is in order
+pub record IsAdmissible (skew : ℕ) (state : State History) (event : Event) : Type 0 where
+  pub connection : Connection
+  pub token : List ℕ
+  pub reaches : reached state.connections event ≡ Ok (connection, token)
+  pub waits : is_waiting connection.context.state ≡ true
+  pub server : ServerProperties
+  pub has : connection.context.server ≡ Some server
+  pub request : Request
+  pub genuine : IsGenuine server (asks_dce_style (server_flags event.flags)) token request
+  pub verdict : verdict_of skew state.gate (ask_of request event.moment) ≡ Admitted
+  pub in_order : IsInOrder request
+
+-- an AP-REP where the request asks for one, and else nothing but that the client is admitted
+abbrev pub admitted_reply : Bool → Bool → ℕ → Draw → Request → Reply
+admitted_reply dce user_to_user number draw request =
+    if is_mutual request.message.ap_options then Done (status_in (state_behind dce)) (token_with dce user_to_user (reply_message number draw request)) true
+    else Done Complete [] true
+
+abbrev pub reply_to : {skew : ℕ} {state : State History} {event : Event} → IsAdmissible skew state event → Reply
+reply_to {skew} {state} {event} admissible =
+    let context = admissible.connection.context in
+    admitted_reply (asks_dce_style (server_flags event.flags)) context.krb5_user_to_user context.seq_number (draw_of event) admissible.request
+
+-- what the admission makes: the client, the suite and the keys, the number and the state that the options of the request ask for
+abbrev pub admission_to : {skew : ℕ} {state : State History} {event : Event} → IsAdmissible skew state event → Admission
+admission_to {skew} {state} {event} admissible =
+    let context = admissible.connection.context in
+    admission_of (asks_dce_style (server_flags event.flags)) context.krb5_user_to_user context.seq_number (draw_of event) admissible.request admissible.in_order.client
+
+-- the service then: the client is admitted at the connection, the gate has the record, and all else stays
+abbrev pub service_behind : {skew : ℕ} {state : State History} {event : Event} → IsAdmissible skew state event → State History
+service_behind {skew} {state} {event} admissible =
+    let connection = admissible.connection in record {
+      connections =
+          set_value (is_at (nat_cmp event.connection)) state.connections (record connection { context = settled connection.context (admission_to admissible) });
+      env = state.env;
+      gate = history_after skew state.gate (ask_of admissible.request event.moment);
+    }

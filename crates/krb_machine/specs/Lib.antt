@@ -1,0 +1,17 @@
+pub mod Runs
+pub mod Waiting
+pub mod Steps
+pub mod Reply
+pub mod MessageCalls
+pub mod Exchanges
+pub mod Initiations
+pub mod Policy
+pub mod Described
+pub mod Left
+pub mod Admitted
+pub mod Text
+pub mod Progress
+pub mod Closing
+pub mod Serve
+pub mod Halts
+pub mod Demo

@@ -1,0 +1,45 @@
+//! One connection of a service.
+ghost use Rattle.std.specs.Prelude.{◌≡◌, IfOk};
+
+use krb_context::Kerberos;
+use krb_der::{Name, OutOfMemory};
+use crate::exchange::Exchange;
+use std::alloc::Global;
+use std::marker::Model;
+
+/// A connection of a service: an acceptor, or an initiator with the name of whom it speaks to.
+#[derive(Drop)]
+pub struct Connection {
+    /// Its end of the Kerberos exchange, with its keys and numbers.
+    pub context: Kerberos,
+    /// The name of an initiator's peer. An acceptor has none.
+    pub target: Option<Name>,
+    /// The exchange whose KDC it waits for, if it does. The context is as it was before that began.
+    pub exchange: Option<Exchange>,
+}
+
+/// A connection that stands on the heap: a map keeps more places than it has entries, so they are small. Contracts see the
+/// connection.
+#[derive(Drop)]
+pub struct HeldConnection {
+    pub(crate) connection: Box<Connection>,
+}
+
+impl Model for HeldConnection {
+    ghost use Rattle.krb_machine.specs.declared.connection.Connection.{Connection};
+
+    ghost Value = { Connection };
+
+    ghost view = { λ held. held.connection.value };
+}
+
+impl HeldConnection {
+    /// Puts a connection on the heap.
+    pub fn new(alloc: Global, connection: Connection) -> Result<HeldConnection, OutOfMemory>
+        ensures { IfOk result (λ held. held ≡ connection) }
+    {
+        Ok(HeldConnection {
+            connection: Box::new(alloc, connection)?,
+        })
+    }
+}

@@ -1,0 +1,157 @@
+//! Laws of the service, for all values.
+
+ghost use Rattle.std.specs.Prelude.{◌≡◌, ℕ, List, Result, ◌≢◌, ◌↔◌, ◌⊎◌, ◌++◌, length, true, Some, None, Ok, Err};
+ghost use Rattle.sspi_core.specs.declared.cause.Cause.{Cause};
+ghost use Rattle.sspi_core.specs.declared.draw.Draw.{Draw};
+ghost use Rattle.sspi_generator.specs.declared.network.NetFault.{NetFault};
+ghost use Rattle.krb_context.specs.declared.context.Kerberos.{Kerberos};
+ghost use Rattle.krb_initiator.specs.Beginnings.{Begins as BeginsInitiation};
+ghost use Rattle.krb_initiator.specs.declared.options.InitOptions.{InitOptions};
+ghost use Rattle.krb_initiator.specs.declared.seeker.Initiation.{Initiation};
+ghost use Rattle.krb_machine.specs.Steps.{Begins, GoesOn};
+ghost use Rattle.krb_machine.specs.declared.exchange.Step.{Step};
+ghost use Rattle.krb_machine.specs.declared.run.Run.{Run};
+ghost use Rattle.krb_replay.specs.Book.{Book, Follows, StandsFor};
+ghost use Rattle.krb_replay.specs.Clock.{clock_refusal};
+ghost use Rattle.krb_replay.specs.History.{History, verdict_of};
+ghost use Rattle.krb_replay.specs.Records.{IsDistinct};
+ghost use Rattle.krb_replay.specs.declared.ask.Verdict.{Verdict};
+ghost use Rattle.krb_replay.specs.declared.ask.Verdict.TheVariants.{Admitted};
+ghost use Rattle.krb_admission.specs.Accepts.{asks_dce_style, refusal, Begins, Finishes};
+ghost use Rattle.krb_admission.specs.Admission.{accepted_of};
+ghost use Rattle.krb_admission.specs.Requests.{ask_of};
+ghost use Rattle.krb_admission.specs.declared.request.Request.{Request};
+ghost use Rattle.krb_admission.specs.declared.admission.Admission.{Admission};
+ghost use Rattle.krb_script.specs.declared.item.Event.{Event};
+ghost use Rattle.krb_machine.specs.declared.connection.Connection.{Connection};
+ghost use Rattle.krb_machine.specs.declared.reply.Reply.{Reply};
+ghost use Rattle.krb_machine.specs.Policy.{State, Steps, Runs, Says, Brings, reached, reply_of, server_flags, draw_of};
+ghost use Rattle.krb_machine.specs.Described.{Remembers, with_gate};
+ghost use Rattle.krb_machine.specs.Left.{record_left, records_left};
+ghost use Rattle.krb_machine.specs.Admitted.{IsAdmissible, reply_to, service_behind};
+ghost use Rattle.krb_machine.specs.Reply.{admits_peer};
+ghost use Rattle.krb_machine.specs.Serve.{Written, end_of};
+ghost use Rattle.krb_text.specs.declared.status.Status.{Status};
+ghost use Rattle.krb_text.specs.declared.status.Status.TheVariants.{Done, BadWords, ReadFault, WriteFault, OutOfMemory};
+ghost use Rattle.krb_machine.specs.Text.{IsText};
+
+use krb_replay::ReplayGate;
+
+/// An initiator is called to at most one beginning, and each step of an exchange has at most one outcome, determined by its run, what
+/// the network brought and the draw.
+pub fn one_outcome()
+    ensures initiations { (context : Kerberos) (options : InitOptions) (r s : Result Initiation Cause)
+        → BeginsInitiation context options r → BeginsInitiation context options s → r ≡ s }
+    ensures begins { (run : Run) (draw : Draw) (r s : Step) → Begins run draw r → Begins run draw s → r ≡ s }
+    ensures goes_on { (run : Run) (answer : Result (List ℕ) NetFault) (draw : Draw) (r s : Step)
+        → GoesOn run answer draw r → GoesOn run answer draw s → r ≡ s }
+{}
+
+/// Each service, event and verdict of the gate has at most one reply, and one next service.
+pub fn one_reply<G>()
+    ensures { (verdict : Verdict) (state a b : State G) (event : Event) (r s : Reply)
+        → Steps (Says verdict) state event r a → Steps (Says verdict) state event s b → (r ≡ s) × (a ≡ b) }
+{}
+
+/// Over any gate, a run has one reply an event.
+pub fn one_reply_an_event<G: ReplayGate>()
+    ensures { (state after : State G) (events : List Event) (replies : List Reply)
+        → Runs G.admits state events replies after → length replies ≡ length events }
+{}
+
+/// Each input has at most one text.
+pub fn one_text()
+    ensures { (input a b : List ℕ) → IsText input a → IsText input b → a ≡ b }
+{}
+
+/// Over the gate that never forgets, no record is left by two events of a run, on whichever connections they are, nor by an
+/// event where the gate has it already; and each event that admits its peer leaves one.
+pub fn records_are_left_once()
+    ensures once { (skew : ℕ) (state after : State History) (events : List Event) (replies : List Reply)
+        (runs : Runs (Remembers skew) state events replies after) → IsDistinct state.gate.admitted
+        → IsDistinct (state.gate.admitted ++ records_left (Remembers skew) state events replies after runs) }
+    ensures done { (skew : ℕ) (state after : State History) (event : Event) (reply : Reply) (step : Steps (Remembers skew) state event reply after)
+        → admits_peer reply ≡ true → length (record_left (Remembers skew) state event reply after step) ≡ 1 }
+{}
+
+/// An event admits its peer exactly where it is admissible: its token came to an acceptor that waits for one and is an AP-REQ, whose
+/// ticket is encrypted under the service's key, whose authenticator is encrypted under the ticket's, whose record no event left before,
+/// and which is in time and in order. It is answered by the AP-REP that its options ask for, and makes what they ask for of the connection.
+pub fn admitted_exactly_where()
+    ensures exactly { (skew : ℕ) (state after : State History) (event : Event) (reply : Reply)
+        → Steps (Remembers skew) state event reply after → (admits_peer reply ≡ true) ↔ IsAdmissible skew state event }
+    ensures answer { (skew : ℕ) (state after : State History) (event : Event) (reply : Reply)
+        → Steps (Remembers skew) state event reply after → (admissible : IsAdmissible skew state event) → reply ≡ reply_to admissible }
+    ensures service { (skew : ℕ) (state after : State History) (event : Event) (reply : Reply)
+        → Steps (Remembers skew) state event reply after → (admissible : IsAdmissible skew state event) → after ≡ service_behind admissible }
+    ensures book { (before after : State Book) (h : History) (event : Event) (reply : Reply) → StandsFor before.gate h
+        → Steps (Follows StandsFor) before event reply after
+        → (admits_peer reply ≡ true) ↔ IsAdmissible before.gate.skew (with_gate before h) event }
+    ensures book_answer { (before after : State Book) (h : History) (event : Event) (reply : Reply) → StandsFor before.gate h
+        → Steps (Follows StandsFor) before event reply after
+        → (admissible : IsAdmissible before.gate.skew (with_gate before h) event) → reply ≡ reply_to admissible }
+{}
+
+/// An event in time, at an acceptor that waits for a token, whose AP-REQ passes every check and is admitted by the gate that
+/// never forgets, is answered Done.
+pub fn completeness()
+    ensures { (skew : ℕ) (state after : State History) (event : Event) (reply : Reply) (connection : Connection) (token : List ℕ)
+        (request : Request) (admission : Admission)
+        → Steps (Remembers skew) state event reply after → reached state.connections event ≡ Ok (connection, token)
+        → Begins connection.context (asks_dce_style (server_flags event.flags)) token (Ok request)
+        → verdict_of skew state.gate (ask_of request event.moment) ≡ Admitted
+        → Finishes connection.context (asks_dce_style (server_flags event.flags)) (draw_of event) request (Ok admission)
+        → reply ≡ reply_of (Ok (accepted_of admission)) }
+{}
+
+/// A run over a replay book is a run over the gate that never forgets, for each history that the book stands for: with the
+/// same replies and connections, and the book stands for the history behind it.
+pub fn runs_never_forget()
+    ensures { (before after : State Book) (events : List Event) (replies : List Reply) (h : History)
+        → StandsFor before.gate h → Runs (Follows StandsFor) before events replies after
+        → (later : History) × Runs (Remembers before.gate.skew) (with_gate before h) events replies (with_gate after later)
+        × StandsFor after.gate later }
+{}
+
+/// Over a replay book, no record is left by two events of a run, on whichever connections they are, nor by an event where the
+/// book admitted it before; and each event that admits its peer leaves one. So no two admitted events share a record.
+pub fn books_admit_a_record_once()
+    ensures once { (before after : State Book) (events : List Event) (replies : List Reply) (h : History)
+        (runs : Runs (Follows StandsFor) before events replies after) → StandsFor before.gate h
+        → IsDistinct (h.admitted ++ records_left (Follows StandsFor) before events replies after runs) }
+    ensures done { (before after : State Book) (event : Event) (reply : Reply) (step : Steps (Follows StandsFor) before event reply after)
+        → admits_peer reply ≡ true → length (record_left (Follows StandsFor) before event reply after step) ≡ 1 }
+{}
+
+/// Over a replay book, an event in time, at an acceptor that waits for a token, whose AP-REQ passes every check and has a
+/// record that the book never admitted, is answered Done.
+pub fn completeness_over_a_book()
+    ensures { (before after : State Book) (h : History) (event : Event) (reply : Reply) (connection : Connection) (token : List ℕ)
+        (request : Request) (admission : Admission) → StandsFor before.gate h
+        → Steps (Follows StandsFor) before event reply after → reached before.connections event ≡ Ok (connection, token)
+        → Begins connection.context (asks_dce_style (server_flags event.flags)) token (Ok request)
+        → verdict_of before.gate.skew h (ask_of request event.moment) ≡ Admitted
+        → Finishes connection.context (asks_dce_style (server_flags event.flags)) (draw_of event) request (Ok admission)
+        → reply ≡ reply_of (Ok (accepted_of admission)) }
+{}
+
+/// Whatever the gate, from what every gate owes alone: a request that reaches it is refused for the first of the clock's
+/// refusals at the moment that the gate judges by, where there is one; where it admits its peer there is none; and a run
+/// leaves the skew.
+pub fn gates_refuse_by_the_clock<G: ReplayGate>()
+    ensures refused { (state after : State G) (event : Event) (reply : Reply) (request : Request) (verdict : Verdict) (cause : Cause)
+        → Steps G.admits state event reply after → Brings state.connections event request
+        → clock_refusal (G.skew state.gate) (G.moment after.gate) (ask_of request event.moment) ≡ Some verdict
+        → refusal verdict ≡ Some cause → reply ≡ reply_of (Err cause) }
+    ensures done { (state after : State G) (event : Event) (reply : Reply) (request : Request)
+        → Steps G.admits state event reply after → Brings state.connections event request → admits_peer reply ≡ true
+        → clock_refusal (G.skew state.gate) (G.moment after.gate) (ask_of request event.moment) ≡ None }
+    ensures skew { (state after : State G) (events : List Event) (replies : List Reply)
+        → Runs G.admits state events replies after → G.skew after.gate ≡ G.skew state.gate }
+{}
+
+/// An input with no bad and no long line is answered whole, or a read or a write fails, or memory runs out.
+pub fn inputs_are_answered()
+    ensures { (input taken written : List ℕ) (status : Status) → end_of input ≡ Done → Written input taken status written → status ≢ BadWords
+        → (status ≡ Done) ⊎ ((status ≡ ReadFault) ⊎ ((status ≡ WriteFault) ⊎ (status ≡ OutOfMemory))) }
+{}

@@ -1,0 +1,148 @@
+//! What an event asks of a connection's context beside its exchange: messages and MIC tokens.
+
+ghost use Rattle.std.specs.Prelude.{◌≡◌, ◌≢◌, true, take, Err, IfOk, IfErr, OnErr};
+ghost use Rattle.sspi_core.specs.Kinds.{error_of};
+ghost use Rattle.sspi_core.specs.declared.cause.Cause.TheVariants as causes;
+ghost use Rattle.krb_machine.specs.MessageCalls.{is_call, Seals, Opens, Signs, Verifies, Calls};
+ghost use Rattle.krb_machine.specs.declared.reply.Reply.TheVariants.{Refused};
+
+use crate::reply::Reply;
+use krb_context::Kerberos;
+use krb_der::{Items, Octets, OutOfMemory};
+use crate::connection_exchange::is_memory;
+use krb_script::Input;
+use sspi_core::{BufferType, Error, Message, SecurityBufferRef};
+use std::alloc::Global;
+
+/// Whether an event asks so.
+pub(crate) fn is_call(input: &Input) -> bool
+    ensures { result ≡ is_call input.now }
+{
+    match input {
+        Input::Wrap(_) | Input::Unwrap(_) | Input::MakeMic(_) | Input::VerifyMic { .. } => true,
+        Input::Token(_) | Input::Start | Input::KdcReply(_) | Input::KdcFault(_) => false,
+    }
+}
+
+fn copy_buffer(alloc: Global, buffer: &SecurityBufferRef) -> Result<SecurityBufferRef, OutOfMemory>
+    ensures { IfOk result (λ copy. copy ≡ buffer.now) }
+{
+    let octets = Octets::from_slice(alloc, buffer.data())?;
+    let limit = buffer.limit();
+    let copy = match buffer.kind() {
+        BufferType::Token => SecurityBufferRef::token_buf(octets, limit),
+        BufferType::Data => SecurityBufferRef::data_buf(octets, limit),
+        BufferType::Stream => SecurityBufferRef::stream_buf(octets, limit),
+    };
+    Ok(copy.with_flags(buffer.flags()))
+}
+
+fn copy_buffers(
+    alloc: Global,
+    buffers: &[SecurityBufferRef],
+) -> Result<Items<SecurityBufferRef>, OutOfMemory>
+    ensures { IfOk result (λ copies. copies ≡ buffers.now) }
+{
+    let mut copies = Vec::with_capacity(alloc, buffers.len())?;
+    for buffer in buffers {
+        copies.push(copy_buffer(alloc, buffer)?)?;
+    }
+    Ok(Items::new(copies))
+}
+
+/// The message of an event is lent: what is answered is a copy.
+fn copy_message(alloc: Global, message: &Message) -> Result<Message, OutOfMemory>
+    ensures { IfOk result (λ copy. copy ≡ message.now) }
+{
+    let copies = copy_buffers(alloc, message.buffers())?;
+    // A copy has each part once, as the message has.
+    match Message::new(copies) {
+        Ok(copy) => Ok(copy),
+        Err(_) => Err(OutOfMemory),
+    }
+}
+
+/// A refusal, unless memory ran out.
+pub(crate) fn refused(error: Error) -> Result<Reply, OutOfMemory>
+    ensures refused { IfOk result (λ reply. (reply ≡ Refused error) × (error ≢ error_of causes.Memory)) }
+{
+    if is_memory(&error) {
+        Err(OutOfMemory)
+    } else {
+        Ok(Reply::Refused(error))
+    }
+}
+
+fn confounder_of(random: &[u8; 64]) -> [u8; 16]
+    ensures { result ≡ take 16 random.now }
+{
+    let mut confounder = [0; 16];
+    confounder.copy_from_slice(&random[..16]);
+    confounder
+}
+
+fn seal(
+    alloc: Global,
+    context: &mut Kerberos,
+    random: &[u8; 64],
+    message: &Message,
+) -> Result<Reply, OutOfMemory>
+    ensures seals { IfOk result (λ reply. Seals context.old random.now message.now reply context.new) }
+    ensures err { OnErr result (context.new ≡ context.old) }
+{
+    let mut sealed = copy_message(alloc, message)?;
+    match context.encrypt_message(alloc, &mut sealed, confounder_of(random)) {
+        Ok(_) => Ok(Reply::Buffers(sealed)),
+        Err(error) => refused(error),
+    }
+}
+
+fn open(alloc: Global, context: &mut Kerberos, message: &Message) -> Result<Reply, OutOfMemory>
+    ensures opens { IfOk result (λ reply. Opens context.old message.now reply context.new) }
+    ensures err { OnErr result (context.new ≡ context.old) }
+{
+    let mut opened = copy_message(alloc, message)?;
+    match context.decrypt_message(alloc, &mut opened) {
+        Ok(()) => Ok(Reply::Buffers(opened)),
+        Err(error) => refused(error),
+    }
+}
+
+fn sign(alloc: Global, context: &mut Kerberos, payload: &Octets) -> Result<Reply, OutOfMemory>
+    ensures signs { IfOk result (λ reply. Signs context.old payload.now reply context.new) }
+    ensures err { OnErr result (context.new ≡ context.old) }
+{
+    match context.generate_mic_token(alloc, payload.as_slice()) {
+        Ok(token) => Ok(Reply::Mic(token)),
+        Err(error) => refused(error),
+    }
+}
+
+fn verify(context: &Kerberos, token: &Octets, payload: &Octets) -> Reply
+    ensures { Verifies context.now token.now payload.now result context.now }
+{
+    match context.verify_mic_token(token.as_slice(), payload.as_slice()) {
+        Ok(()) => Reply::Verified,
+        Err(error) => Reply::Refused(error),
+    }
+}
+
+/// The call that an event asks for, at its connection's context.
+pub(crate) fn call(
+    alloc: Global,
+    context: &mut Kerberos,
+    random: &[u8; 64],
+    input: &Input,
+) -> Result<Reply, OutOfMemory>
+    requires { is_call input.now ≡ true }
+    ensures calls { IfOk result (λ reply. Calls input.now context.old random.now reply context.new) }
+    ensures err { OnErr result (context.new ≡ context.old) }
+{
+    match input {
+        Input::Wrap(message) => seal(alloc, context, random, message),
+        Input::Unwrap(message) => open(alloc, context, message),
+        Input::MakeMic(payload) => sign(alloc, context, payload),
+        Input::VerifyMic { token, payload } => Ok(verify(context, token, payload)),
+        Input::Token(_) | Input::Start | Input::KdcReply(_) | Input::KdcFault(_) => unreachable!(),
+    }
+}

@@ -1,5 +1,0 @@
-mod Chains
-mod Sending
-mod Quiet
-mod Replying
-pub mod Carrying

@@ -1,5 +1,0 @@
-use Rattle.krb_sending.proofs.Carrying.{unwrapped, unwrapped_udp}
-use Rattle.krb_sending.proofs.laws.what_is_carried_is_unwrapped.Goals as goal
-
-pub returns : goal.returns
-returns c = record { message = unwrapped; udp = unwrapped_udp }

@@ -1,4 +1,0 @@
-pub mod Spelling
-pub mod Kdcs
-pub mod Requests
-pub mod Replies

@@ -1,5 +1,0 @@
-use Rattle.krb_server.proofs.Once.{concludes_once}
-use Rattle.krb_server.proofs.laws.one_last_word.Goals as goal
-
-pub returns : goal.returns
-returns c = concludes_once

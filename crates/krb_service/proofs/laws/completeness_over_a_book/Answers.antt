@@ -1,5 +1,0 @@
-use Rattle.krb_service.proofs.BookLemmas.{book-passing-done}
-use Rattle.krb_service.proofs.laws.completeness_over_a_book.Goals as goal
-
-pub returns : goal.returns
-returns c = book-passing-done

@@ -1,0 +1,441 @@
+//! What an initiator sends, is answered and becomes, call by call.
+
+ghost use Rattle.std.specs.Prelude.{◌≡◌, IfOk};
+ghost use Rattle.sspi_generator.specs.Draws.{IsInRange, AreInRange};
+ghost use Rattle.krb_initiator.specs.InitRuns.{IsNew, turns_left};
+
+mod ap_reps;
+mod as_replies;
+mod beginnings;
+mod established;
+mod protocols;
+mod recorded;
+mod referrals;
+mod tgs_replies;
+mod user_to_user;
+mod wrong_replies;
+
+use crate::clients::Initiator;
+use crate::kdc::Kdc;
+use crate::octets::{are_octets, octets};
+use crate::script::Script;
+use bitflags::Flags;
+use krb_as::InitDone;
+use krb_conf::Env;
+use krb_context::Kerberos;
+use krb_der::Octets;
+use krb_initiator::{GeneratorInitSecurityContext, InitOptions, initialize_security_context};
+use sspi_core::{Cause, ClientRequestFlags, Draw, Error, MAX_MOMENT, SecurityStatus};
+use sspi_generator::{Generator, MemClient, NetFault, NetworkClient};
+use std::alloc::{AllocError, Global};
+use std::collections::VecDeque;
+use std::process::Abort;
+use std::test::Fail;
+
+/// What a step is given where its script says nothing: 1700000000 s, and the octets 0 to 63.
+const CHANCE: &str = "1700000000000000 \
+     000102030405060708090a0b0c0d0e0f101112131415161718191a1b1c1d1e1f202122232425262728292a2b2c2d2e2f303132333435363738393a3b3\
+     c3d3e3f";
+
+/// What a step is given: a moment, and random octets.
+fn draw_of(chance: &str) -> Draw
+    ensures { IsInRange result }
+{
+    let mut random = [0; 64];
+    let (moment, digits) = chance.split_once(' ').unwrap_or(("", ""));
+    let _is_read = hex::decode_to_slice(digits, &mut random).is_ok();
+    let moment: u64 = moment.parse().unwrap_or(0);
+    Draw {
+        moment: moment.min(MAX_MOMENT),
+        random,
+    }
+}
+
+/// What a line `chance` says.
+fn next_draw(script: &mut Script) -> Draw
+    ensures { IsInRange result }
+{
+    draw_of(script.take("chance").unwrap_or(CHANCE))
+}
+
+/// What the steps of a call are given: only the first four have lines of their own.
+fn draws_of(script: &mut Script) -> [Draw; 13]
+    ensures { AreInRange result }
+{
+    let first = next_draw(script);
+    let second = next_draw(script);
+    let third = next_draw(script);
+    let fourth = next_draw(script);
+    let next = draw_of(CHANCE);
+    [
+        first, second, third, fourth, next, next, next, next, next, next, next, next, next,
+    ]
+}
+
+/// The flag of a letter, as `krb_run` reads it.
+fn flag_of(letter: char) -> ClientRequestFlags {
+    match letter {
+        'C' => ClientRequestFlags::CONFIDENTIALITY,
+        'D' => ClientRequestFlags::DELEGATE,
+        'E' => ClientRequestFlags::USE_DCE_STYLE,
+        'I' => ClientRequestFlags::INTEGRITY,
+        'K' => ClientRequestFlags::USE_SESSION_KEY,
+        'M' => ClientRequestFlags::MUTUAL_AUTH,
+        'N' => ClientRequestFlags::NO_INTEGRITY,
+        'R' => ClientRequestFlags::REPLAY_DETECT,
+        'S' => ClientRequestFlags::SEQUENCE_DETECT,
+        _ => ClientRequestFlags::empty(),
+    }
+}
+
+fn flags_of(letters: &str) -> ClientRequestFlags {
+    let mut all = ClientRequestFlags::empty();
+    for letter in letters.chars() {
+        all = all.union(flag_of(letter));
+    }
+    all
+}
+
+/// What a caller asks for that has these flags alone.
+fn options_with(alloc: Global, flags: ClientRequestFlags) -> InitOptions {
+    InitOptions {
+        flags,
+        target: None,
+        token: Octets::new(Vec::new(alloc)),
+        credentials: None,
+        channel_bindings: None,
+        env: Env::new(alloc),
+    }
+}
+
+/// The initiator's own options, and the token of the service.
+fn fill(
+    alloc: Global,
+    options: &mut InitOptions,
+    initiator: &Initiator,
+    token: &'static str,
+) -> Result<(), Fail> {
+    options.target = initiator.target(alloc)?;
+    options.token = octets(alloc, token)?;
+    options.credentials = initiator.credentials(alloc)?;
+    options.env = initiator.env(alloc)?;
+    Ok(())
+}
+
+/// What its caller asks for: a line `call` has the flags, and the token of the service.
+fn options_of(
+    alloc: Global,
+    initiator: &Initiator,
+    call: &'static str,
+) -> Result<InitOptions, Fail> {
+    let (flags, token) = call.split_once(' ').unwrap_or((call, "-"));
+    let mut options = options_with(alloc, flags_of(flags));
+    fill(alloc, &mut options, initiator, token)?;
+    Ok(options)
+}
+
+/// What a call begins.
+fn run_of(
+    alloc: Global,
+    client: &Kerberos,
+    options: InitOptions,
+) -> Result<Box<GeneratorInitSecurityContext>, Error>
+    ensures new { IfOk result (λ run. IsNew run.value) }
+    ensures turns { IfOk result (λ run. turns_left run.value.phase ≡ 12) }
+{
+    match initialize_security_context(alloc, client, options) {
+        Ok(run) => Ok(Box::new(alloc, Generator::new(run))?),
+        Err(error) => Err(error),
+    }
+}
+
+/// What a run ends with over a network.
+fn end_over(
+    run: Box<GeneratorInitSecurityContext>,
+    network: &mut dyn NetworkClient,
+    draws: &[Draw; 13],
+) -> Result<InitDone, Error>
+    requires new { IsNew run.value }
+    requires turns { turns_left run.value.phase ≡ 12 }
+    requires moments { AreInRange draws.now }
+{
+    let mut run = run;
+    run.resolve_with_client(network, draws)
+}
+
+/// What a call ends with over a network.
+fn end_of(
+    alloc: Global,
+    client: &Kerberos,
+    options: InitOptions,
+    network: &mut dyn NetworkClient,
+    draws: &[Draw; 13],
+) -> Result<InitDone, Error>
+    requires { AreInRange draws.now }
+{
+    match run_of(alloc, client, options) {
+        Ok(run) => end_over(run, network, draws),
+        Err(error) => Err(error),
+    }
+}
+
+fn has_key(alloc: Global, client: &Kerberos, word: &'static str) -> bool {
+    match client.encryption_params.key() {
+        Some(key) => are_octets(alloc, key.as_slice(), word),
+        None => word == "-",
+    }
+}
+
+/// The state of a context, its number, its realm, whether its service uses a session key, and how many octets of filler its sealed
+/// messages have.
+fn printed(alloc: Global, client: &Kerberos) -> Result<String, AllocError> {
+    let realm = match &client.realm {
+        Some(realm) => realm.as_str(),
+        None => "-",
+    };
+    let peer = if client.krb5_user_to_user {
+        "user-to-user"
+    } else {
+        "-"
+    };
+    let filler = client.encryption_params.ec;
+    format!(in alloc;
+        "{:?} {} {realm} {peer} {filler}",
+        client.state, client.seq_number
+    )
+}
+
+/// Whether the context is as the lines `context` and `key` say. The key is the subkey where there is one, else the session key.
+fn is_as(alloc: Global, client: &Kerberos, script: &mut Script) -> bool {
+    let context = script.take("context").unwrap_or("");
+    let key = script.take("key").unwrap_or("");
+    match printed(alloc, client) {
+        Ok(text) => text.as_str() == context && has_key(alloc, client, key),
+        Err(_) => false,
+    }
+}
+
+/// Whether that is handed out, a line `ok` or `continue` with the token, and the context is so once it is settled.
+fn settles_so(alloc: Global, client: &mut Kerberos, done: InitDone, script: &mut Script) -> bool {
+    let word = match done.status {
+        SecurityStatus::Ok => "ok",
+        SecurityStatus::ContinueNeeded => "continue",
+    };
+    let token = script.take(word).unwrap_or("");
+    let is_token = !token.is_empty() && are_octets(alloc, done.token.as_slice(), token);
+    client.settle(done.change);
+    is_token && is_as(alloc, client, script)
+}
+
+/// Whether a line `refused` prints the refusal.
+pub fn is_refused(alloc: Global, error: &Error, script: &mut Script) -> bool {
+    let wanted = script.take("refused").unwrap_or("");
+    match format!(in alloc; "{error}") {
+        Ok(text) => text.as_str() == wanted,
+        Err(_) => false,
+    }
+}
+
+fn ends_so(
+    alloc: Global,
+    client: &mut Kerberos,
+    end: Result<InitDone, Error>,
+    script: &mut Script,
+) -> bool {
+    match end {
+        Ok(done) => settles_so(alloc, client, done, script),
+        Err(error) => is_refused(alloc, &error, script),
+    }
+}
+
+/// Whether a call with these options asks for what the script says, and ends so.
+fn goes_with(
+    alloc: Global,
+    client: &mut Kerberos,
+    options: InitOptions,
+    draws: &[Draw; 13],
+    script: &mut Script,
+) -> bool
+    requires { AreInRange draws.now }
+{
+    let mut kdc = Kdc::new(alloc, *script);
+    let end = end_of(alloc, client, options, &mut kdc, draws);
+    *script = kdc.script();
+    ends_so(alloc, client, end, script) && kdc.is_asked_so()
+}
+
+/// Whether the next call does.
+fn goes_so(
+    alloc: Global,
+    client: &mut Kerberos,
+    initiator: &Initiator,
+    script: &mut Script,
+) -> Result<bool, Fail> {
+    let _note = script.take("note");
+    let call = script.take("call").unwrap_or("");
+    let draws = draws_of(script);
+    match options_of(alloc, initiator, call) {
+        Ok(options) => Ok(goes_with(alloc, client, options, &draws, script)),
+        Err(fail) => Err(fail),
+    }
+}
+
+/// What is left of the script where a call goes otherwise: nothing where all go so.
+fn left_of(
+    alloc: Global,
+    client: &mut Kerberos,
+    initiator: &Initiator,
+    script: &mut Script,
+) -> Result<&'static str, Fail> {
+    for _ in 0..script.rest().len() {
+        let rest = script.rest();
+        if rest.is_empty() || !goes_so(alloc, client, initiator, script)? {
+            return Ok(rest);
+        }
+    }
+    Ok("")
+}
+
+/// The same of a text that begins with its initiator.
+fn left(alloc: Global, text: &'static str) -> Result<&'static str, Fail> {
+    let mut script = Script::new(text);
+    let initiator = Initiator::next(&mut script);
+    let mut client = initiator.client(alloc)?;
+    left_of(alloc, &mut client, &initiator, &mut script)
+}
+
+fn assert_all(rt: &(impl Abort + AllocGlobal), sessions: &[&'static str]) -> Result<(), Fail> {
+    for session in sessions {
+        assert_eq!(rt; left(rt.alloc(), session)?, "");
+    }
+    Ok(())
+}
+
+#[test]
+fn an_initiator_gets_a_ticket_and_is_established(rt: HostRuntime) -> Result<(), Fail> {
+    assert_all(&rt, &established::SESSIONS)
+}
+
+#[test]
+fn kdcs_of_others_are_understood(rt: HostRuntime) -> Result<(), Fail> {
+    assert_all(&rt, &recorded::SESSIONS)
+}
+
+#[test]
+fn a_referral_is_followed_nine_times(rt: HostRuntime) -> Result<(), Fail> {
+    assert_all(&rt, &referrals::SESSIONS)
+}
+
+#[test]
+fn what_cannot_be_asked_for_is_refused(rt: HostRuntime) -> Result<(), Fail> {
+    assert_all(&rt, &beginnings::SESSIONS)
+}
+
+#[test]
+fn a_request_goes_over_the_protocol_of_its_url(rt: HostRuntime) -> Result<(), Fail> {
+    assert_all(&rt, &protocols::SESSIONS)
+}
+
+#[test]
+fn a_reply_of_an_authentication_service_is_taken_or_refused(rt: HostRuntime) -> Result<(), Fail> {
+    assert_all(&rt, &as_replies::SESSIONS)
+}
+
+#[test]
+fn a_reply_of_a_ticket_granting_service_is_taken_or_refused(rt: HostRuntime) -> Result<(), Fail> {
+    assert_all(&rt, &tgs_replies::SESSIONS)
+}
+
+#[test]
+fn what_was_not_asked_for_is_refused(rt: HostRuntime) -> Result<(), Fail> {
+    assert_all(&rt, &wrong_replies::SESSIONS)
+}
+
+#[test]
+fn an_answer_is_taken_or_refused(rt: HostRuntime) -> Result<(), Fail> {
+    assert_all(&rt, &ap_reps::SESSIONS)
+}
+
+#[test]
+fn an_initiator_shows_the_ticket_of_the_service(rt: HostRuntime) -> Result<(), Fail> {
+    assert_all(&rt, &user_to_user::SESSIONS)
+}
+
+/// A beginning of alice, who has a key.
+const ALICE: &str = "\
+     initiator 7 pc host/server.example.com\n\
+     kdc tcp://kdc.example:88\n\
+     keytab EXAMPLE.COM\\alice 18 72e14c8e96dfba330802c689e06448591bc19da4f18500d9d63671d6ce24d52d";
+
+fn alice() -> Initiator {
+    Initiator::next(&mut Script::new(ALICE))
+}
+
+/// What a run ends with that sends nothing.
+fn end_unsent(run: Box<GeneratorInitSecurityContext>) -> Result<InitDone, Error>
+    requires { IsNew run.value }
+{
+    let mut run = run;
+    run.resolve_to_result(&draw_of(CHANCE))
+}
+
+fn is_error(end: &Result<InitDone, Error>, cause: Cause) -> bool {
+    match end {
+        Ok(_) => false,
+        Err(error) => *error == Error::from(cause),
+    }
+}
+
+fn is_suspended_with(alloc: Global, client: &Kerberos, options: InitOptions) -> bool {
+    match run_of(alloc, client, options) {
+        Ok(run) => is_error(&end_unsent(run), Cause::Suspended),
+        Err(_) => false,
+    }
+}
+
+/// Whether a call of which nothing is sent ends as Suspended.
+fn is_suspended(alloc: Global) -> Result<bool, Fail> {
+    let client = alice().client(alloc)?;
+    match options_of(alloc, &alice(), "M -") {
+        Ok(options) => Ok(is_suspended_with(alloc, &client, options)),
+        Err(fail) => Err(fail),
+    }
+}
+
+#[test]
+fn an_initialization_sends_nothing_itself(rt: HostRuntime) -> Result<(), Fail> {
+    assert!(rt; is_suspended(rt.alloc())?);
+    Ok(())
+}
+
+fn fails_with(
+    alloc: Global,
+    client: &Kerberos,
+    options: InitOptions,
+    network: &mut MemClient,
+) -> bool {
+    let draws = draws_of(&mut Script::new(""));
+    let end = end_of(alloc, client, options, network, &draws);
+    is_error(&end, Cause::Network(5))
+}
+
+fn fails_over(alloc: Global, network: &mut MemClient) -> Result<bool, Fail> {
+    let client = alice().client(alloc)?;
+    match options_of(alloc, &alice(), "M -") {
+        Ok(options) => Ok(fails_with(alloc, &client, options, network)),
+        Err(fail) => Err(fail),
+    }
+}
+
+/// Whether a call over a network that fails with the code 5 ends with it.
+fn fails_at_once(alloc: Global) -> Result<bool, Fail> {
+    let mut answers = VecDeque::new(alloc);
+    answers.push_back(Err(NetFault::Failed(5)))?;
+    fails_over(alloc, &mut MemClient::new(answers))
+}
+
+#[test]
+fn a_failure_of_the_network_is_told(rt: HostRuntime) -> Result<(), Fail> {
+    assert!(rt; fails_at_once(rt.alloc())?);
+    Ok(())
+}

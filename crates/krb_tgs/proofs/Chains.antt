@@ -1,0 +1,88 @@
+-- A chain of replies goes on by one at its end, with what a reply brought.
+use Rattle.std.proofs.Common.{◌≡◌, refl, sym, subst, ap, ℕ, List, [], ◌∷◌, ◌++◌, Ok, Result}
+use Rattle.krb_crypto.specs.declared.suite.CipherSuite.{CipherSuite}
+use Rattle.krb_exchange.specs.declared.kdc_rep.AsRep.{AsRep}
+use Rattle.krb_exchange.specs.declared.kdc_rep.TgsRep.{TgsRep}
+use Rattle.sspi_core.specs.declared.protocol.NetworkProtocol.{NetworkProtocol}
+use Rattle.sspi_core.specs.Checks.{Gives}
+use Rattle.sspi_generator.specs.declared.network.NetFault.{NetFault}
+use Rattle.sspi_core.specs.declared.identity.CredentialsBuffers.{CredentialsBuffers}
+use Rattle.krb_replies.specs.Keys.{HandsOnKey}
+use Rattle.krb_context.proofs.ChainLemmas.{passed, gave}
+use Rattle.krb_exchange.specs.Layouts.{as_rep_layout, tgs_rep_layout}
+use Rattle.krb_as.specs.Replied.{Grants}
+use Rattle.krb_as.specs.declared.key.ReplyKey.{ReplyKey}
+use Rattle.krb_as.specs.ReplyKeys.{TakesReplyKey}
+use Rattle.krb_tgs.specs.declared.wanted.Shown.{Shown}
+use Rattle.krb_tgs.specs.Taken.{TakesAsRep, TakesTgsRep}
+use Rattle.krb_tgs.specs.Chain.{HandsOn, IsChain}
+
+module _ (suite : CipherSuite) (reply : TgsRep) (middle last : List ℕ) (opened : HandsOnKey suite middle reply (Ok last)) where
+  pub one_more : (key : List ℕ) (replies : List TgsRep) → HandsOn suite key replies middle → HandsOn suite key (replies ++ (reply ∷ [])) last
+  one_more key [] h = (last, subst (λ (k : List ℕ). HandsOnKey suite k reply (Ok last)) (sym h) opened, refl)
+  one_more key (first ∷ replies) h = (h.0, h.1, one_more h.0 replies h.2)
+
+-- the key of an AS-REP is a chain without TGS-REPs
+pub chain_begins : (credentials : CredentialsBuffers) (used : List ℕ) (as_rep : AsRep) (suite : CipherSuite) (key : List ℕ)
+    → TakesReplyKey credentials used as_rep (Ok (record { suite = suite; key = key })) → IsChain credentials used as_rep suite [] key
+chain_begins credentials used as_rep suite key h = record { start = key; begins = h; hands_on = refl }
+
+-- and goes on with each TGS-REP that is opened under its last key
+pub chain_goes_on : (credentials : CredentialsBuffers) (used : List ℕ) (as_rep : AsRep) (suite : CipherSuite) (replies : List TgsRep) (reply : TgsRep) (middle last : List ℕ)
+    → IsChain credentials used as_rep suite replies middle → HandsOnKey suite middle reply (Ok last)
+    → IsChain credentials used as_rep suite (replies ++ (reply ∷ [])) last
+chain_goes_on credentials used as_rep suite replies reply middle last chain opened =
+    record { start = chain.start; begins = chain.begins; hands_on = one_more suite reply middle last opened chain.start replies chain.hands_on }
+
+-- what was taken from an AS-REP
+pub record AsTaken (credentials : CredentialsBuffers) (protocol : NetworkProtocol) (used : List ℕ) (reply : Result (List ℕ) NetFault) (shown : Shown) : Type 0 where
+  pub rep : AsRep
+  pub granted : Grants protocol as_rep_layout reply (Ok rep)
+  pub opened : TakesReplyKey credentials used rep (Ok (record { suite = shown.suite; key = shown.key }))
+  pub brought : shown.rep ≡ rep.0
+
+as_given : (rep : AsRep) (taken : ReplyKey) (shown : Shown) → Gives (record { suite = taken.suite; key = taken.key; rep = rep.0 }) (Ok shown)
+    → shown ≡ record { suite = taken.suite; key = taken.key; rep = rep.0 }
+as_given rep taken shown h = gave _ _ h
+
+pub taken_as : (credentials : CredentialsBuffers) (protocol : NetworkProtocol) (used : List ℕ) (reply : Result (List ℕ) NetFault) (shown : Shown)
+    → TakesAsRep credentials protocol used reply (Ok shown) → AsTaken credentials protocol used reply shown
+unfolding TakesAsRep
+taken_as credentials protocol used reply shown h =
+    let rep = passed _ _ _ h in
+    let taken = passed _ _ _ rep.rest_held in
+    let is = as_given rep.found taken.found shown taken.rest_held in
+    record {
+      rep = rep.found;
+      granted = rep.first_held;
+      opened =
+          subst (λ (s : Shown). TakesReplyKey credentials used rep.found (Ok (record { suite = s.suite; key = s.key }))) (sym is) taken.first_held;
+      brought = ap (λ (s : Shown). s.rep) is;
+    }
+
+-- what was taken from a TGS-REP: the key that it hands on
+pub record TgsTaken (protocol : NetworkProtocol) (suite : CipherSuite) (key : List ℕ) (reply : Result (List ℕ) NetFault) (shown : Shown) : Type 0 where
+  pub rep : TgsRep
+  pub granted : Grants protocol tgs_rep_layout reply (Ok rep)
+  pub opened : HandsOnKey suite key rep (Ok shown.key)
+  pub brought : shown.rep ≡ rep.0
+  pub same : shown.suite ≡ suite
+
+tgs_given : (suite : CipherSuite) (key : List ℕ) (rep : TgsRep) (shown : Shown) → Gives (record { suite = suite; key = key; rep = rep.0 }) (Ok shown)
+    → shown ≡ record { suite = suite; key = key; rep = rep.0 }
+tgs_given suite key rep shown h = gave _ _ h
+
+pub taken_tgs : (protocol : NetworkProtocol) (suite : CipherSuite) (key : List ℕ) (reply : Result (List ℕ) NetFault) (shown : Shown)
+    → TakesTgsRep protocol suite key reply (Ok shown) → TgsTaken protocol suite key reply shown
+unfolding TakesTgsRep
+taken_tgs protocol suite key reply shown h =
+    let rep = passed _ _ _ h in
+    let next = passed _ _ _ rep.rest_held in
+    let is = tgs_given suite next.found rep.found shown next.rest_held in
+    record {
+      rep = rep.found;
+      granted = rep.first_held;
+      opened = subst (λ (k : List ℕ). HandsOnKey suite key rep.found (Ok k)) (sym (ap (λ (s : Shown). s.key) is)) next.first_held;
+      brought = ap (λ (s : Shown). s.rep) is;
+      same = ap (λ (s : Shown). s.suite) is;
+    }

@@ -1,0 +1,52 @@
+-- What is asked of a ticket-granting service, and what a KDC's reply brings, have one answer at most.
+use Rattle.std.proofs.Common.{ℕ, List, Option, None, Result, arith}
+use Rattle.krb_crypto.specs.declared.suite.CipherSuite.{CipherSuite}
+use Rattle.krb_messages.specs.declared.ticket.Ticket.{Ticket}
+use Rattle.krb_exchange.specs.Table.{tgs_rep, krb_error}
+use Rattle.krb_exchange.specs.Layouts.{tgs_rep_layout, enc_tgs_rep_part_layout}
+use Rattle.krb_exchange.specs.Results.{HasOneResult}
+use Rattle.krb_exchange.specs.declared.kdc_rep.TgsRep.{TgsRep}
+use Rattle.krb_exchange.proofs.Results.{one_result_of}
+use Rattle.sspi_core.proofs.Once.{Once, then_once, holds_once, gives_once}
+use Rattle.sspi_core.specs.declared.draw.Draw.{Draw}
+use Rattle.sspi_core.specs.declared.identity.CredentialsBuffers.{CredentialsBuffers}
+use Rattle.sspi_core.specs.declared.protocol.NetworkProtocol.{NetworkProtocol}
+use Rattle.sspi_generator.specs.declared.network.NetFault.{NetFault}
+use Rattle.krb_replies.specs.Keys.{HandsOnKey}
+use Rattle.krb_replies.proofs.Once.{opens_once}
+use Rattle.krb_as.proofs.Once.{finds_kdc_once, grants_once, grants_as_rep_once}
+use Rattle.krb_as.specs.declared.asker.Asker.{Asker}
+use Rattle.krb_as.proofs.FirstOnce.{takes_reply_key_once}
+use Rattle.krb_tgs.specs.declared.wanted.Wanted.{Wanted}
+use Rattle.krb_tgs.specs.declared.wanted.Shown.{Shown}
+use Rattle.krb_tgs.specs.TgsAsked.{AsksTgs, Follows}
+use Rattle.krb_tgs.specs.Taken.{TakesAsRep, TakesTgsRep}
+
+pub asks_tgs_once : (asker : Asker) (wanted : Wanted) (shown : Shown) (home realm : List ℕ) (tickets : Option (List Ticket)) (draw : Draw) → Once (AsksTgs asker wanted shown home realm tickets draw)
+unfolding AsksTgs
+asks_tgs_once asker wanted shown home realm tickets draw =
+    then_once _ _ (holds_once _ _) (λ _. then_once _ _ (finds_kdc_once _ asker.env realm) (λ kdc. gives_once _))
+
+pub follows_once : (asker : Asker) (wanted : Wanted) (shown : Shown) (hops : ℕ) (home asked realm : List ℕ) (draw : Draw) → Once (Follows asker wanted shown hops home asked realm draw)
+unfolding Follows
+follows_once asker wanted shown hops home asked realm draw =
+    then_once _ _ (holds_once _ _) (λ _. then_once _ _ (holds_once _ _) (λ _. asks_tgs_once asker wanted shown home realm None draw))
+
+pub takes_as_rep_once : (credentials : CredentialsBuffers) (protocol : NetworkProtocol) (used : List ℕ) (reply : Result (List ℕ) NetFault) → Once (TakesAsRep credentials protocol used reply)
+unfolding TakesAsRep
+takes_as_rep_once credentials protocol used reply =
+    then_once _ _ (grants_as_rep_once protocol reply) (λ as_rep. then_once _ _ (takes_reply_key_once credentials used as_rep) (λ taken. gives_once _))
+
+-- a reply is of one kind
+tgs_rep_once : HasOneResult tgs_rep_layout
+unfolding tgs_rep krb_error
+tgs_rep_once = one_result_of tgs_rep_layout (λ e. omega (arith, e))
+
+hands_on_key_once : (suite : CipherSuite) (key : List ℕ) (tgs_rep : TgsRep) → Once (HandsOnKey suite key tgs_rep)
+unfolding HandsOnKey
+hands_on_key_once suite key tgs_rep = then_once _ _ (opens_once enc_tgs_rep_part_layout _ suite key 8 tgs_rep.0.enc_part.cipher) (λ part. gives_once _)
+
+pub takes_tgs_rep_once : (protocol : NetworkProtocol) (suite : CipherSuite) (key : List ℕ) (reply : Result (List ℕ) NetFault) → Once (TakesTgsRep protocol suite key reply)
+unfolding TakesTgsRep
+takes_tgs_rep_once protocol suite key reply =
+    then_once _ _ (grants_once protocol tgs_rep_layout reply tgs_rep_once) (λ tgs_rep. then_once _ _ (hands_on_key_once suite key tgs_rep) (λ next. gives_once _))

@@ -1,0 +1,20 @@
+-- The keys that replies hand on, one behind the other (RFC 4120, sections 3.1.5 and 3.3.4).
+use Rattle.std.specs.Prelude.{◌≡◌, ℕ, List, [], ◌∷◌, Ok}
+use Rattle.krb_crypto.specs.declared.suite.CipherSuite.{CipherSuite}
+use Rattle.krb_exchange.specs.declared.kdc_rep.AsRep.{AsRep}
+use Rattle.krb_exchange.specs.declared.kdc_rep.TgsRep.{TgsRep}
+use Rattle.sspi_core.specs.declared.identity.CredentialsBuffers.{CredentialsBuffers}
+use Rattle.krb_replies.specs.Keys.{HandsOnKey}
+use Rattle.krb_as.specs.ReplyKeys.{TakesReplyKey}
+
+-- these replies, in their order, lead from a key to the last one: each is sealed under the key before it and brings the next
+abbrev pub HandsOn : CipherSuite → List ℕ → List TgsRep → List ℕ → Type 0
+HandsOn suite key [] last = key ≡ last
+HandsOn suite key (reply ∷ replies) last = (next : List ℕ) × HandsOnKey suite key reply (Ok next) × HandsOn suite next replies last
+
+-- a key that began with the credentials: the AS-REP is sealed under theirs, and the TGS-REPs lead from its key to this one
+pub record IsChain (credentials : CredentialsBuffers) (used : List ℕ) (as_rep : AsRep) (suite : CipherSuite) (replies : List TgsRep)
+    (last : List ℕ) : Type 0 where
+  pub start : List ℕ
+  pub begins : TakesReplyKey credentials used as_rep (Ok (record { suite = suite; key = start }))
+  pub hands_on : HandsOn suite start replies last
