@@ -9,7 +9,7 @@ ghost use Rattle.krb_machine.specs.declared.reply.Reply.TheVariants.{Refused};
 use crate::reply::Reply;
 use krb_context::Kerberos;
 use krb_der::{Items, Octets, OutOfMemory};
-use crate::connection_exchange::is_memory;
+use crate::exchange::is_memory;
 use krb_script::Input;
 use sspi_core::{BufferType, Error, Message, SecurityBufferRef};
 use std::alloc::Global;

@@ -17,7 +17,7 @@ use krb_server::{Accepted, accept_security_context};
 use krb_conf::Env;
 use krb_context::Kerberos;
 use krb_der::{Items, Name, Octets, OutOfMemory};
-use crate::connection_exchange::is_memory;
+use crate::exchange::is_memory;
 use crate::run::Run;
 use krb_replay::ReplayGate;
 use krb_script::{Event, Input};
