@@ -8,7 +8,7 @@ ghost use Rattle.krb_context.specs.declared.context.Kerberos.{Kerberos};
 ghost use Rattle.krb_initiator.specs.Beginnings.{Begins as BeginsInitiation};
 ghost use Rattle.krb_initiator.specs.declared.options.InitOptions.{InitOptions};
 ghost use Rattle.krb_initiator.specs.declared.seeker.Initiation.{Initiation};
-ghost use Rattle.krb_machine.specs.Steps.{Begins, GoesOn};
+ghost use Rattle.krb_machine.specs.Steps.{Begins as BeginsRun, GoesOn};
 ghost use Rattle.krb_machine.specs.declared.exchange.Step.{Step};
 ghost use Rattle.krb_machine.specs.declared.run.Run.{Run};
 ghost use Rattle.krb_replay.specs.Book.{Book, Follows, StandsFor};
@@ -42,7 +42,7 @@ use krb_replay::ReplayGate;
 pub fn one_outcome()
     ensures initiations { (context : Kerberos) (options : InitOptions) (r s : Result Initiation Cause)
         → BeginsInitiation context options r → BeginsInitiation context options s → r ≡ s }
-    ensures begins { (run : Run) (draw : Draw) (r s : Step) → Begins run draw r → Begins run draw s → r ≡ s }
+    ensures begins { (run : Run) (draw : Draw) (r s : Step) → BeginsRun run draw r → BeginsRun run draw s → r ≡ s }
     ensures goes_on { (run : Run) (answer : Result (List ℕ) NetFault) (draw : Draw) (r s : Step)
         → GoesOn run answer draw r → GoesOn run answer draw s → r ≡ s }
 {}
