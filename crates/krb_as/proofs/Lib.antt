@@ -1,5 +1,5 @@
 mod Chains
-mod Sending
+mod ProxyLengths
 mod Quiet
 mod Replying
 pub mod Carrying

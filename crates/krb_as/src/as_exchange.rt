@@ -13,6 +13,7 @@ ghost use Rattle.krb_as.specs.Turns.{is_want};
 ghost use Rattle.krb_as.specs.AsExchanges.{AsksFirst, AsksSecond, TakesAsRep, Starts, Next, IsNewPhase, IsAwaiting, turns_left, GoesDown, IsNew, StartsAt, ResumesAt};
 
 use crate::asker::Asker;
+use crate::kdc::Kdc;
 use crate::reply::granted;
 use crate::request::{ask_again, begin};
 use crate::turn::{Turn, go_on, is_want};
@@ -20,7 +21,6 @@ use krb_conf::Env;
 use krb_context::Kerberos;
 use krb_der::{Name, Octets, OutOfMemory, Text, TryCopy};
 use krb_exchange::{AsRep, KdcReqBody};
-use crate::kdc::Kdc;
 use sspi_core::{Cause, CredentialsBuffers, Draw, Error, NetworkProtocol};
 use sspi_generator::{GeneratorState, NetFault, NetworkRequest, Resumable, Task};
 use std::alloc::Global;

@@ -8,10 +8,10 @@ ghost use Rattle.krb_as.specs.Askers.{default_salt};
 ghost use Rattle.krb_as.specs.Replied.{error_in, reply_in, WantsPreAuth, Grants};
 
 use crate::asker::default_salt;
+use crate::receiving::read_reply;
 use krb_der::{Asn1, Octets, Text};
 use krb_exchange::{AsRep, KrbError, KrbResult};
 use krb_replies::named_salt;
-use crate::receiving::read_reply;
 use sspi_core::{Cause, CredentialsBuffers, NetworkProtocol};
 use sspi_generator::NetFault;
 use std::alloc::Global;

@@ -12,13 +12,13 @@ ghost use Rattle.krb_as.specs.Askers.{asker_suite};
 ghost use Rattle.krb_as.specs.Asked.{asks, first_request, second_request, Begins, AsksAgain};
 
 use crate::asker::{Asker, asker_suite, sized_key};
+use crate::kdc::{Kdc, find_kdc};
 use crate::reply::wanted_salt;
+use crate::sending::request_to;
 use krb_crypto::CipherSuite;
 use krb_der::{Asn1, Items, Octets, OutOfMemory, Text, TryCopy};
 use krb_exchange::{KdcReqBody, PaData};
 use krb_requests::{generate_as_req, plain_pa_datas, timed_pa_datas};
-use crate::kdc::{Kdc, find_kdc};
-use crate::sending::request_to;
 use sspi_core::{Cause, Draw};
 use sspi_generator::{NetFault, NetworkRequest};
 use std::alloc::Global;

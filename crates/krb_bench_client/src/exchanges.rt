@@ -10,12 +10,12 @@ use crate::alice::{MOMENT, config, context, draws, network, with_key, with_passw
 use crate::replies::{AS_REP, KRB_ERROR};
 use crate::report::{report, sum};
 use anyhow::Result;
-use krb_as::{AsDone, AsExchange};
+use krb_as::{
+    AsDone, AsExchange, Client, FirstService, asker_of, client_of, first_body, reply_key,
+    short_name,
+};
 use krb_conf::Env;
 use krb_context::Kerberos;
-use krb_as::{
-    Client, FirstService, asker_of, client_of, first_body, reply_key, short_name,
-};
 use krb_der::{OutOfMemory, TryCopy};
 use krb_exchange::KdcReqBody;
 use sspi_core::{ClientRequestFlags, CredentialsBuffers, Error};

@@ -12,11 +12,9 @@ ghost use Rattle.krb_initiator.specs.InitSteps.{body_of, AsksFirst, AsksSecond};
 ghost use Rattle.krb_initiator.specs.InitRuns.{GoesDown};
 
 use crate::seeker::{InitPhase, Seeker};
-use krb_as::{Asker, InitDone, Turn, ask_again, begin};
-use krb_as::{FirstService, first_body};
+use krb_as::{Asker, FirstService, InitDone, Kdc, Turn, ask_again, begin, first_body};
 use krb_der::{Octets, OutOfMemory, Text, TryCopy};
 use krb_exchange::KdcReqBody;
-use krb_as::Kdc;
 use sspi_core::{Cause, Draw};
 use sspi_generator::{NetFault, NetworkRequest};
 use std::alloc::Global;

@@ -1,13 +1,11 @@
 //! An initiator on its way to the ticket of a service.
 
-use krb_as::Asker;
-use krb_as::Client;
+use krb_ap::{Errand, Initiator};
+use krb_as::{Asker, Client, Kdc};
 use krb_crypto::CipherSuite;
 use krb_der::{Name, Octets, Text};
 use krb_exchange::KdcReqBody;
-use krb_ap::{Errand, Initiator};
 use krb_messages::Ticket;
-use krb_as::Kdc;
 use krb_tgs::Wanted;
 use sspi_core::Secret;
 

@@ -9,10 +9,10 @@ ghost use Rattle.krb_initiator.specs.InitSteps.{requested, HearsAnswer};
 ghost use Rattle.krb_initiator.specs.InitRuns.{GoesDown};
 
 use crate::seeker::InitPhase;
+use krb_ap::{Initiator, take_ap_rep};
 use krb_as::{InitDone, Turn};
 use krb_context::{ContextChange, KerberosState};
 use krb_der::{Octets, OutOfMemory, TryCopy};
-use krb_ap::{Initiator, take_ap_rep};
 use sspi_core::{Cause, Draw, SecurityStatus};
 use std::alloc::Global;
 

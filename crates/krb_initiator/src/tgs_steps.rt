@@ -16,11 +16,10 @@ ghost use Rattle.krb_initiator.specs.InitRuns.{GoesDown};
 
 use crate::seeker::{InitPhase, Seeker, TgsLeg};
 use crate::service_steps::end;
-use krb_as::{Begun, InitDone, Turn};
-use krb_as::short_name;
+use krb_ap::show_ticket;
+use krb_as::{Begun, InitDone, Turn, short_name};
 use krb_der::{Items, Name, Octets, OutOfMemory, Text, TryCopy, boxed};
 use krb_exchange::KdcRep;
-use krb_ap::show_ticket;
 use krb_messages::Ticket;
 use krb_replies::referral_target_realm;
 use krb_tgs::{Shown, ask_tgs, follow, take_as_rep, take_tgs_rep};

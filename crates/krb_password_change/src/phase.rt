@@ -1,9 +1,9 @@
 //! How far a change of a password has come.
 
+use krb_as::Kdc;
 use krb_crypto::CipherSuite;
 use krb_der::{Name, Octets, Text};
 use krb_exchange::KdcReqBody;
-use krb_as::Kdc;
 use sspi_core::{NetworkProtocol, Secret};
 
 /// The answer of the service that changes passwords, as it is awaited.

@@ -12,6 +12,7 @@ ghost use Rattle.krb_password_change.specs.Changes.{IsReady};
 ghost use Rattle.krb_password_change.specs.Requested.{drawn_key, first_confounder, second_confounder, number_after, change_authenticator, message_by, change_message, written, change_request};
 
 use crate::change::Changer;
+use krb_as::{Kdc, request_to};
 use krb_authenticators::{
     EncKey, GenerateAuthenticatorOptions, generate_authenticator, generate_krb_priv_request,
 };
@@ -20,7 +21,6 @@ use krb_crypto::CipherSuite;
 use krb_der::{Items, Octets, OutOfMemory, TryCopy, boxed};
 use krb_exchange::{KdcRep, KrbPrivMessage};
 use krb_messages::{Authenticator, Ticket};
-use krb_as::{Kdc, request_to};
 use sspi_core::{Draw, Secret};
 use sspi_generator::NetworkRequest;
 use std::alloc::Global;

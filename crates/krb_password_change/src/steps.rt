@@ -21,12 +21,13 @@ use crate::phase::{AnswerLeg, ChangePhase};
 use crate::port::password_kdc;
 use crate::request::{change_request, drawn_key};
 use bitflags::Flags;
-use krb_as::{Asker, Turn, ask_again, begin};
+use krb_as::{
+    Asker, Client, FirstService, Kdc, ReplyKey, Turn, ask_again, begin, first_body, granted_as_rep,
+    reply_key,
+};
 use krb_context::ContextChange;
-use krb_as::{Client, FirstService, ReplyKey, first_body, granted_as_rep, reply_key};
 use krb_der::{Octets, OutOfMemory, Text, TryCopy, boxed};
 use krb_exchange::{AsRep, KdcRep, KdcReqBody};
-use krb_as::Kdc;
 use sspi_core::{Cause, ClientRequestFlags, Draw, hold};
 use sspi_generator::{NetFault, NetworkRequest};
 use std::alloc::Global;

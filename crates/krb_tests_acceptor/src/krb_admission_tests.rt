@@ -10,11 +10,11 @@ mod states;
 mod third_leg;
 
 use bitflags::Flags;
+use krb_admission::{Accepted, accept_security_context};
 use krb_conf::{Env, KerberosConfig};
 use krb_context::{Kerberos, ServerProperties};
 use krb_der::{Items, Octets, Text};
 use krb_replay::{ReplayBook, ReplayGate};
-use krb_admission::{Accepted, accept_security_context};
 use sspi_core::{Cause, Draw, Error, Secret, ServerRequestFlags};
 use std::alloc::Global;
 use std::test::Fail;

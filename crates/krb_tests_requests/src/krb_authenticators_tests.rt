@@ -15,13 +15,13 @@ ghost use Rattle.krb_authenticators.specs.TgsRequests.{AreShortTickets};
 
 use crate::rows::{ends, is_row, owned};
 use bitflags::Flags;
+use krb_as::{granted_as_rep, granted_tgs_rep};
 use krb_authenticators::{
     ChecksumOptions, ChecksumValues, EncKey, GenerateAuthenticatorOptions, GenerateTgsReqOptions,
     bindings_hash, generate_ap_req, generate_authenticator, generate_krb_priv_request,
     generate_tgs_ap_req, generate_tgs_req,
 };
 use krb_context::{ApOptions, EncryptionParams, GssFlags};
-use krb_as::{granted_as_rep, granted_tgs_rep};
 use krb_crypto::CipherSuite;
 use krb_der::{Asn1, Items, Octets, OutOfMemory, TryCopy};
 use krb_exchange::{AsRep, KdcRep, KrbPrivMessage, TgsRep, TgsReq};

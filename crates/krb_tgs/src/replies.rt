@@ -7,8 +7,7 @@ ghost use Rattle.krb_as.specs.Granted.{IsSendable};
 ghost use Rattle.krb_tgs.specs.Taken.{TakesAsRep, TakesTgsRep};
 
 use crate::wanted::Shown;
-use krb_as::Asker;
-use krb_as::{ReplyKey, granted_as_rep, granted_tgs_rep, reply_key};
+use krb_as::{Asker, ReplyKey, granted_as_rep, granted_tgs_rep, reply_key};
 use krb_crypto::CipherSuite;
 use krb_der::{Octets, Text};
 use krb_exchange::{AsRep, TgsRep};

@@ -16,16 +16,15 @@ ghost use Rattle.krb_as.specs.Granted.{IsSendable};
 ghost use Rattle.krb_tgs.specs.TgsAsked.{drawn_number, drawn_nonce, drawn_confounder, tgs_authenticator, tgs_req_for, tgs_request, url_for, AsksTgs, is_same_realm, Follows};
 
 use crate::wanted::{Shown, Wanted};
+use krb_as::{Asker, Begun, Kdc, find_kdc, request_to};
 use krb_authenticators::{
     GenerateAuthenticatorOptions, GenerateTgsReqOptions, generate_authenticator, generate_tgs_req,
 };
-use krb_as::{Asker, Begun};
 use krb_context::EncryptionParams;
 use krb_crypto::CipherSuite;
 use krb_der::{Asn1, Items, Name, OutOfMemory, TryCopy};
 use krb_exchange::{KdcRep, TgsReq};
 use krb_messages::{Authenticator, Ticket};
-use krb_as::{Kdc, find_kdc, request_to};
 use sspi_core::{Cause, Draw, hold};
 use sspi_generator::NetworkRequest;
 use std::alloc::Global;

@@ -9,10 +9,9 @@ ghost use Rattle.krb_as.specs.Askers.{asker_of};
 ghost use Rattle.krb_as.specs.Clients.{IsShort};
 ghost use Rattle.krb_user_to_user.specs.TgtRequests.{is_bare, is_own, has_password, acceptor_of, RequestsTgt, CanBegin};
 
-use krb_as::Asker;
+use krb_as::{Asker, Client, client_of};
 use krb_conf::Env;
 use krb_context::{EncryptionParams, Kerberos};
-use krb_as::{Client, client_of};
 use krb_der::{OutOfMemory, TryCopy};
 use krb_exchange::TgtReq;
 use krb_messages::PrincipalName;

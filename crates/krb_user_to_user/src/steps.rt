@@ -15,13 +15,14 @@ ghost use Rattle.krb_user_to_user.specs.AcceptRuns.{GoesDown};
 use crate::request::Acceptor;
 use crate::tgt_rep::token_of;
 use bitflags::Flags;
-use krb_as::{Asker, InitDone, Turn, ask_again, begin};
+use krb_as::{
+    Asker, Client, FirstService, InitDone, Kdc, ReplyKey, Turn, ask_again, begin, first_body,
+    granted_as_rep, reply_key,
+};
 use krb_context::{ContextChange, EncryptionParams, KerberosState};
-use krb_as::{Client, FirstService, ReplyKey, first_body, granted_as_rep, reply_key};
 use krb_crypto::CipherSuite;
 use krb_der::{Name, Octets, OutOfMemory, Text, TryCopy};
 use krb_exchange::{AsRep, KdcRep, KdcReqBody};
-use krb_as::Kdc;
 use sspi_core::{Cause, ClientRequestFlags, Draw, NetworkProtocol, SecurityStatus};
 use sspi_generator::{NetFault, NetworkRequest};
 use std::alloc::Global;
