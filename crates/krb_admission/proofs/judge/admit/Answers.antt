@@ -2,7 +2,7 @@ use Rattle.std.proofs.Common.{ap, Ok, Err, refl, sym, ◌∙◌}
 use Rattle.sspi_core.proofs.Chain.{halts, follows, is_err, same_err}
 use Rattle.krb_admission.proofs.Begun.{begun, begun_answerable}
 use Rattle.krb_admission.proofs.Steps.{answered, refused_before, answered_at_gate, finishes_refuses}
-use Rattle.krb_admission.proofs.accept.admit.Goals as goal
+use Rattle.krb_admission.proofs.judge.admit.Goals as goal
 
 pub returns-in_err-request-clause-step : goal.returns-in_err-request-clause-step
 returns-in_err-request-clause-step g c =
@@ -32,4 +32,4 @@ pub returns-clause-step : goal.returns-clause-step
 returns-clause-step g c =
     λ ne. answered_at_gate g.G.ReplayGate.admits c.args.server.now c.args.dce c.args.token.now c.args.draw.now c.args.gate.now c.in_ok-request.request c.ask_of-ask.result c.in_ok-verdict.verdict c.admit.new.self
     (Ok c.in_ok-admission.admission) (Ok c.settle.result) c.settle.new.server c.requires c.in_ok-request.ensures.begins (rw (c.deref_mut.ensures.value ∙ c.in_ok-held.ensures) at c.ask_of-ask.ensures) c.in_ok-verdict.ensures.step
-    (follows _ _ _ _ (rw c.refusal.ensures at c.in_ok-pass.ensures) (rw (c.deref.ensures ∙ c.in_ok-held.ensures) at (rw c.in_ok-request.ensures.stays at (rw c.in_ok-admission.was at c.in_ok-outcome.ensures)))) (ap Ok c.settle.ensures.accepted, rw c.in_ok-request.ensures.stays at c.settle.ensures.server)
+    (follows _ _ _ _ (rw c.refusal.ensures at c.in_ok-pass.ensures) (rw (c.deref.ensures ∙ c.in_ok-held.ensures) at (rw c.in_ok-request.ensures.stays at (rw c.in_ok-admission.was at c.in_ok-outcome.ensures)))) (ap Ok c.settle.ensures.answer, rw c.in_ok-request.ensures.stays at c.settle.ensures.server)

@@ -10,11 +10,11 @@ mod states;
 mod third_leg;
 
 use bitflags::Flags;
-use krb_admission::{Accepted, accept_security_context};
 use krb_conf::{Env, KerberosConfig};
 use krb_context::{Kerberos, ServerProperties};
 use krb_der::{Items, Octets, Text};
 use krb_replay::{ReplayBook, ReplayGate};
+use krb_server::{Accepted, accept_security_context};
 use sspi_core::{Cause, Draw, Error, Secret, ServerRequestFlags};
 use std::alloc::Global;
 use std::test::Fail;
@@ -91,6 +91,8 @@ fn answer_at<G: ReplayGate>(
 ) -> Result<Octets, Cause> {
     match accept_security_context(alloc, server, gate, token, flags, &no_env(alloc), &draw()) {
         Ok(Accepted::Done { token, .. }) => Ok(token),
+        // The service is no user, so no token begins an exchange.
+        Ok(Accepted::Run(_)) => Err(Cause::Credentials),
         Err(error) => Err(error.cause),
     }
 }

@@ -1,9 +1,9 @@
 //! Names of clients, by their type.
 
 use super::cause_of;
-use krb_admission::client_upn;
 use krb_der::{IntegerAsn1, Items, Name};
 use krb_messages::PrincipalName;
+use krb_server::client_upn;
 use sspi_core::{Cause, Username};
 use std::alloc::{AllocError, Global};
 use std::test::Fail;

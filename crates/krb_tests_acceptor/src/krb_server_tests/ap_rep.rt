@@ -2,10 +2,10 @@
 
 ghost use Rattle.std.specs.Prelude.{◌≤◌, ◌^◌, length, IfOk, IfSome};
 
-use krb_admission::generate_ap_rep;
 use krb_context::EncryptionParams;
 use krb_der::{Asn1, IntegerAsn1, Octets, Time};
 use krb_messages::ApRep;
+use krb_server::generate_ap_rep;
 use sspi_core::{Cause, Error, Secret};
 use std::alloc::Global;
 use std::test::Fail;

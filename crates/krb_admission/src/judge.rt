@@ -1,26 +1,20 @@
-//! The acceptor's step.
+//! The acceptor's step: an AP-REQ, or the initiator's last word.
 
 ghost use Rattle.std.specs.Prelude.{◌≡◌, false, IfOk, Err, Result};
-ghost use Rattle.sspi_core.specs.declared.cause.Cause.{Cause};
 ghost use Rattle.sspi_core.specs.declared.cause.Cause.TheVariants as causes;
-ghost use Rattle.sspi_core.specs.declared.error.Place.TheVariants as places;
-ghost use Rattle.sspi_core.specs.Kinds.{error_of};
-ghost use Rattle.sspi_core.specs.Checks.{Answers, Holds, Passes, told};
-ghost use Rattle.krb_admission.specs.declared.admission.Accepted.{Accepted};
+ghost use Rattle.sspi_core.specs.Checks.{Answers, Holds, Passes};
 ghost use Rattle.krb_admission.specs.Admission.{IsAnswerable};
 ghost use Rattle.krb_context.specs.States.{is_waiting};
-ghost use Rattle.krb_admission.specs.Accepts.{awaits_last_word, asks_dce_style, refusal, Begins, Finishes, Accepts};
+ghost use Rattle.krb_admission.specs.Accepts.{awaits_last_word, refusal, Begins, Finishes, Accepts};
 
-use crate::admission::{Accepted, Acceptor, Admission, admission_of, settle};
+use crate::admission::{Answer, Acceptor, Admission, admission_of, settle};
 use crate::complete::complete;
 use crate::request::{Request, ask_of, read_request};
 use crate::third_leg::{conclude, properties};
-use bitflags::Flags;
-use krb_conf::Env;
 use krb_context::{Kerberos, KerberosState};
 use krb_der::{OutOfMemory, boxed};
 use krb_replay::{ReplayGate, Verdict};
-use sspi_core::{Cause, Draw, Error, ServerRequestFlags, hold, pass};
+use sspi_core::{Cause, Draw, hold, pass};
 use std::alloc::Global;
 
 fn awaits_last_word(dce: bool, state: KerberosState) -> bool
@@ -95,7 +89,7 @@ fn admit<G: ReplayGate>(
     dce: bool,
     token: &[u8],
     draw: &Draw,
-) -> Result<Accepted, Cause>
+) -> Result<Answer, Cause>
     requires { awaits_last_word dce server.old.state ≡ false }
     ensures step { (result ≡ Err causes.Memory → ⊥) → Accepts G.admits server.old dce token.now draw.now gate.old result server.new gate.new }
     ensures memory { result ≡ Err causes.Memory → (server.new ≡ server.old) × G.is_same gate.old gate.new }
@@ -110,28 +104,10 @@ fn admit<G: ReplayGate>(
     Ok(settle(server, admission))
 }
 
-/// Judges a token: the initiator's last word where it is awaited, and else an AP-REQ.
-fn accept<G: ReplayGate>(
-    alloc: Global,
-    server: &mut Kerberos,
-    gate: &mut G,
-    dce: bool,
-    token: &[u8],
-    draw: &Draw,
-) -> Result<Accepted, Cause>
-    ensures step { (result ≡ Err causes.Memory → ⊥) → Accepts G.admits server.old dce token.now draw.now gate.old result server.new gate.new }
-    ensures memory { result ≡ Err causes.Memory → (server.new ≡ server.old) × G.is_same gate.old gate.new }
-{
-    if awaits_last_word(dce, server.state) {
-        conclude(alloc, server, token)
-    } else {
-        admit(alloc, server, gate, dce, token, draw)
-    }
-}
-
-/// Admits the client whose AP-REQ the token is, or refuses it by the first check that it fails.
+/// Judges a token: the initiator's last word where it is awaited, and else an AP-REQ, whose client is admitted, or refused by
+/// the first check that it fails. This is what `accept_security_context` of `krb_server` does of every token but a TGT-REQ.
 ///
-/// With `USE_DCE_STYLE` tokens are bare, and else framed. An AP-REP in DCE style is not the end: the context then awaits the
+/// In DCE style tokens are bare, and else framed. An AP-REP in DCE style is not the end: the context then awaits the
 /// initiator's last word, an AP-REP with the same number, at which the gate is not asked; its messages have 16 octets of
 /// filler from there on (MS-KILE, section 3.4.5.1).
 ///
@@ -139,29 +115,25 @@ fn accept<G: ReplayGate>(
 /// AP-REP, the first random octets of `draw` become the sub-session key, as many as the suite's key has, and the 16 behind
 /// them the AP-REP's confounder.
 ///
-/// The refusals of an AP-REQ, in their order: OutOfSequence Sequence where the context waits for no token; those of the checks
-/// of RFC 4120, section 3.2.3, as `specs/Requests` has them, the gate's, and those of `specs/Complete`. A TGT-REQ is no AP-REQ:
-/// InvalidToken Shape; `krb_server` takes it, and reads the environment for it. The refusals of the last word are those of
-/// `specs/ThirdLeg`: InvalidToken Shape, DecryptFailure Reply, InvalidToken Inner, NoNumber, Number.
-pub fn accept_security_context<G: ReplayGate>(
+/// The refusals of an AP-REQ, in their order: Sequence where the context waits for no token; those of the checks of RFC 4120,
+/// section 3.2.3, as `specs/Requests` has them, the gate's, and those of `specs/Complete`. A TGT-REQ is no AP-REQ: Shape. The
+/// refusals of the last word are those of `specs/ThirdLeg`: Shape, Reply, Inner, NoNumber, Number.
+pub fn judge_token<G: ReplayGate>(
     alloc: Global,
     server: &mut Kerberos,
     gate: &mut G,
+    dce: bool,
     token: &[u8],
-    flags: ServerRequestFlags,
-    _env: &Env,
     draw: &Draw,
-) -> Result<Accepted, Error>
-    // Anything but want of memory is what the ordered checks and the gate answer.
-    ensures step { (result ≡ Err (error_of causes.Memory) → ⊥)
-        → (answer : Result Accepted Cause) × (result ≡ told places.Elsewhere answer)
-        × Accepts G.admits server.old (asks_dce_style flags) token.now draw.now gate.old answer server.new gate.new }
+) -> Result<Answer, Cause>
+    // Anything but memory that runs out is what the ordered checks and the gate answer.
+    ensures step { (result ≡ Err causes.Memory → ⊥) → Accepts G.admits server.old dce token.now draw.now gate.old result server.new gate.new }
     // Where memory runs out, context and gate are as before.
-    ensures memory { result ≡ Err (error_of causes.Memory) → (server.new ≡ server.old) × G.is_same gate.old gate.new }
+    ensures memory { result ≡ Err causes.Memory → (server.new ≡ server.old) × G.is_same gate.old gate.new }
 {
-    let dce = flags.contains(ServerRequestFlags::USE_DCE_STYLE);
-    match accept(alloc, server, gate, dce, token, draw) {
-        Ok(accepted) => Ok(accepted),
-        Err(cause) => Err(Error::from(cause)),
+    if awaits_last_word(dce, server.state) {
+        conclude(alloc, server, token)
+    } else {
+        admit(alloc, server, gate, dce, token, draw)
     }
 }
