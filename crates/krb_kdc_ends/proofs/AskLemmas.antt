@@ -7,7 +7,7 @@ use Rattle.std.proofs.lemmas.Int.{ints}
 use Rattle.krb_aes.proofs.InjectiveLemmas.{none_octets, more_octets, IsOctets-append}
 use Rattle.krb_crypto.proofs.CtsInjective.{IsOctets-take}
 use Rattle.krb_der.specs.Moment.{IsTime, time_octets}
-use Rattle.krb_der.specs.Schema.{IsSound, is_ascii}
+use Rattle.krb_der.specs.Schema.{IsSound}
 use Rattle.krb_messages.specs.Layouts.{authenticator_layout, authenticator_row, checksum_row, principal_name_layout, principal_name_row}
 use Rattle.krb_messages.specs.Table.{authenticator as authenticator_kind, checksum as checksum_kind, principal_name}
 use Rattle.krb_messages.specs.declared.authenticator.Authenticator.{Authenticator}
@@ -38,7 +38,7 @@ use Rattle.krb_kdc_ends.specs.Fetching.{body_at}
 use Rattle.krb_kdc_ends.specs.Granting.{IsSoundClient}
 use Rattle.krb_kdc_ends.specs.Showing.{IsHolder, AsksNext}
 use Rattle.krb_kdc_ends.proofs.ErrorLemmas.{ascii_octets}
-use Rattle.krb_kdc_ends.proofs.FirstLemmas.{AreNames}
+use Rattle.krb_kdc_ends.proofs.NameLemmas.{AreNames, target_names}
 
 -- no session key of another ticket is asked for
 asks_alone : (flags : ℕ) → has_flag flags use_session_key ≡ false → has_key_bit (to_be_bytes w32 (tgs_options flags)) ≡ false
@@ -48,11 +48,11 @@ asks_alone flags unset =
     let both : (d : Bool) → P (with_options d false) = λ d. elim d as (λ v. P (with_options v false)) [ true ↦ refl | false ↦ refl ] in
     subst (λ u. P (with_options (has_flag flags delegate) u)) (sym unset) (both (has_flag flags delegate))
 
-pub asks_next : (kdc : Kdc) (wanted : Wanted) (own : Draw) (target : Target) → has_flag wanted.flags.0 use_session_key ≡ false → AreNames (service_of wanted.target)
-    → is_ascii kdc.realm ≡ true → IsDraw own → target_of kdc (Some (name_with 2 (service_of wanted.target))) ≡ Some target
+pub asks_next : (kdc : Kdc) (wanted : Wanted) (own : Draw) (target : Target) → has_flag wanted.flags.0 use_session_key ≡ false → IsDraw own → target_of kdc (Some (name_with 2 (service_of wanted.target))) ≡ Some target
     → AsksNext kdc own.moment (body_at wanted kdc.realm own) target
 unfolding kdc_req_body kdc_req_body_row principal_name principal_name_row
-asks_next kdc wanted own target unset names ascii d served =
+asks_next kdc wanted own target unset d served =
+    let names : AreNames (service_of wanted.target) = target_names kdc (service_of wanted.target) target served in
     let till : IsTime (pos (own.moment / 1000000 + 259200)) = (omega (arith, ints), omega (arith, ints, d.moment)) in
     let some : 0 < length (drawn_nonce own) = omega (arith, length-take 4 (drop 4 own.random), length-drop 4 own.random, d.size) in record {
       realm = refl;
@@ -62,7 +62,7 @@ asks_next kdc wanted own target unset names ascii d served =
       served = served;
       sound = (
         lit≤ tt,
-        (tt, (ascii, ((lit< tt, ((names.0, (names.1.0, tt)), tt)), (tt, (till, (tt, (some, ((lit< tt, (lit< tt, tt)), (tt, (tt, (tt, tt))))))))))),
+        (tt, (kdc.realm_ascii, ((lit< tt, ((names.0, (names.1.0, tt)), tt)), (tt, (till, (tt, (some, ((lit< tt, (lit< tt, tt)), (tt, (tt, (tt, tt))))))))))),
       );
     }
 

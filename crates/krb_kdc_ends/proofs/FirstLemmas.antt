@@ -1,8 +1,6 @@
 -- The body of a client's AS-REQ asks a KDC that has the client.
-use Rattle.std.proofs.Common.{◌≡◌, ℕ, ◌+◌, ◌/◌, ◌<◌, ◌≤◌, pos, Bool, true, false, List, [], ◌∷◌, length, Some, refl, ap, arith, lit<, lit≤, nat_lt, cond}
-use Rattle.std.specs.Prelude.{◌==◌, codes}
-use Rattle.std.specs.List.{AllByRecursion, onto_first}
-use Rattle.std.proofs.lemmas.Bool.{and_from}
+use Rattle.std.proofs.Common.{◌≡◌, ℕ, ◌+◌, ◌/◌, ◌<◌, ◌≤◌, pos, true, List, [], ◌∷◌, length, Some, refl, sym, subst, ap, arith, lit<, lit≤}
+use Rattle.std.specs.Prelude.{codes}
 use Rattle.std.proofs.lemmas.Int.{ints}
 use Rattle.krb_der.specs.Moment.{IsTime}
 use Rattle.krb_der.specs.Schema.{is_ascii}
@@ -20,31 +18,15 @@ use Rattle.krb_kdc.specs.declared.kdc.Kdc.{Kdc}
 use Rattle.krb_kdc.specs.declared.kdc.Principal.{Principal}
 use Rattle.krb_kdc.specs.Registers.{principal_with}
 use Rattle.krb_kdc_ends.specs.Asking.{AsksFirst}
-use Rattle.krb_kdc_ends.proofs.ErrorLemmas.{and_first, and_second}
-
-abbrev pub AreNames : List (List ℕ) → Type 0
-AreNames components = AllByRecursion (λ component. is_ascii component ≡ true) components
-
-onto_ascii : (x : ℕ) (components : List (List ℕ)) → nat_lt x 128 ≡ true → AreNames components → AreNames (onto_first x components)
-onto_ascii x [] small h = (and_from (nat_lt x 128) true small refl, tt)
-onto_ascii x (component ∷ components) small h = (and_from (nat_lt x 128) (is_ascii component) small h.0, h.1)
-
-cut_or_go : (b : Bool) (x : ℕ) (components : List (List ℕ)) → nat_lt x 128 ≡ true → AreNames components → AreNames (cond b ([] ∷ components) (onto_first x components))
-cut_or_go true x components small h = (refl, h)
-cut_or_go false x components small h = onto_ascii x components small h
-
--- the parts of an ASCII name are ASCII
-cut_ascii : (text : List ℕ) → is_ascii text ≡ true → AreNames (user_components text)
-cut_ascii [] e = (refl, tt)
-cut_ascii (x ∷ text) e =
-    cut_or_go (x == 0x2f) x (user_components text) (and_first (nat_lt x 128) (is_ascii text) e) (cut_ascii text (and_second (nat_lt x 128) (is_ascii text) e))
+use Rattle.krb_kdc_ends.proofs.NameLemmas.{principal_names}
 
 pub asks_first : (kdc : Kdc) (client : Client) (principal : Principal) (flags : ℕ) (nonce : List ℕ) (moment : ℕ) → client.realm ≡ kdc.realm
-    → principal_with (user_components client.name) kdc.principals ≡ Some principal → is_ascii client.name ≡ true → is_ascii client.realm ≡ true → 0 < length nonce
+    → principal_with (user_components client.name) kdc.principals ≡ Some principal → 0 < length nonce
     → moment ≤ last_moment
     → AsksFirst kdc (name_with client.name_type (user_components client.name)) principal moment (first_body client TicketGranting flags nonce moment)
 unfolding first_body kdc_req_body kdc_req_body_row principal_name principal_name_row host_address host_address_row
-asks_first kdc client principal flags nonce moment realm known name_ascii realm_ascii some in_range =
+asks_first kdc client principal flags nonce moment realm known some in_range =
+    let realm_ascii : is_ascii client.realm ≡ true = subst (λ (r : List ℕ). is_ascii r ≡ true) (sym realm) kdc.realm_ascii in
     let till : IsTime (pos (moment / 1000000 + 259200)) = (omega (arith, ints), omega (arith, ints, in_range)) in
     record {
       realm = realm;
@@ -56,7 +38,7 @@ asks_first kdc client principal flags nonce moment realm known name_ascii realm_
       sound = (
         lit≤ tt,
         (
-          (lit< tt, (cut_ascii client.name name_ascii, tt)),
+          (lit< tt, (principal_names kdc (user_components client.name) principal known, tt)),
           (
             realm_ascii,
             (

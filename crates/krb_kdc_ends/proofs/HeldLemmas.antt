@@ -6,13 +6,12 @@ use Rattle.krb_crypto.proofs.CtsInjective.{IsOctets-take}
 use Rattle.krb_crypto.specs.Suite.{key_size}
 use Rattle.krb_crypto.specs.declared.suite.CipherSuite.{CipherSuite}
 use Rattle.krb_der.specs.Moment.{IsTime}
-use Rattle.krb_der.specs.Schema.{IsSound, is_ascii}
-use Rattle.krb_messages.specs.Layouts.{ticket_layout}
+use Rattle.krb_der.specs.Schema.{IsSound}
+use Rattle.krb_messages.specs.Layouts.{principal_name_layout, ticket_layout}
 use Rattle.krb_messages.specs.Frame.{with_length}
 use Rattle.krb_messages.specs.declared.enc_ticket_part.EncTicketPart.{EncTicketPart}
 use Rattle.krb_messages.specs.declared.ticket.Ticket.{Ticket}
 use Rattle.krb_exchange.specs.Layouts.{tgs_req_layout, tgs_rep_layout}
-use Rattle.krb_exchange.specs.declared.kdc_req.KdcReqBody.{KdcReqBody}
 use Rattle.sspi_core.specs.declared.draw.Draw.{Draw}
 use Rattle.sspi_core.specs.Flags.{has_flag, use_session_key}
 use Rattle.krb_requests.specs.Pieces.{spelling, principal as name_with, three_days_after}
@@ -30,11 +29,10 @@ use Rattle.krb_kdc.specs.TgsChecks.{ticket_key, target_of}
 use Rattle.krb_kdc_ends.specs.Asking.{AreNear, IsFairSkew}
 use Rattle.krb_kdc_ends.specs.Fetching.{IsTimely, Held, shown_of, body_at, granted, given, held_next}
 use Rattle.krb_kdc_ends.specs.Granting.{IsSoundGrant, IsSoundClient, IsSoundName}
-use Rattle.krb_kdc_ends.specs.Showing.{Opens}
+use Rattle.krb_kdc_ends.specs.Showing.{Opens, IsHolder, AsksNext}
 use Rattle.krb_kdc_ends.proofs.AskLemmas.{asks_next, is_holder}
-use Rattle.krb_kdc_ends.proofs.FirstLemmas.{AreNames}
 use Rattle.krb_kdc_ends.proofs.RepLemmas.{ticket_sound}
-use Rattle.krb_kdc_ends.proofs.TgsLemmas.{served}
+use Rattle.krb_kdc_ends.proofs.TgsLemmas.{served, sname_short}
 use Rattle.krb_kdc_ends.proofs.TicketLemmas.{opens, lives}
 
 -- ---- how long a ticket lives
@@ -93,41 +91,70 @@ pub record IsHeld (suite : CipherSuite) (start : ℕ) (held : Held) : Type 0 whe
   pub fits : length held.grant.key ≡ key_size suite
   pub sound : IsSound ticket_layout.kind (ticket_layout.view (ticket suite held.realm held.draw held.grant))
 
-module _ (start span : ℕ) (wanted : Wanted) (unset : has_flag wanted.flags.0 use_session_key ≡ false) (names : AreNames (service_of wanted.target)) (kdc : Kdc)
-    (held : Held) (own draw : Draw) (target : Target) (t : IsTimely start span own) (u : IsTimely start span draw) (ascii : is_ascii kdc.realm ≡ true)
+module _ (start span : ℕ) (wanted : Wanted) (unset : has_flag wanted.flags.0 use_session_key ≡ false) (kdc : Kdc)
+    (held : Held) (own draw : Draw) (target : Target) (t : IsTimely start span own) (u : IsTimely start span draw)
     (fair : IsFairSkew kdc.skew) (least : span ≤ kdc.skew) where
-  -- the reply of a KDC that knows the ticket's key, and what it is asked for
-  replied_here : target_of kdc (Some (name_with 2 (service_of wanted.target))) ≡ Some target → (reply : List ℕ) → IsHeld kdc.suite start held
-      → ticket_key kdc (ticket kdc.suite held.realm held.draw held.grant) ≡ Some held.grant.key
-      → length (spelling tgs_req_layout (tgs_req_for wanted (shown_of kdc.suite held) kdc.realm None own)) + 4 ≤ 2 ^ 24
-      → Answers kdc (with_length (spelling tgs_req_layout (tgs_req_for wanted (shown_of kdc.suite held) kdc.realm None own))) draw reply
-      → reply ≡ with_length (spelling tgs_rep_layout (given kdc.suite wanted kdc held target own draw))
-  unfolding tgs_req_for ticket_part
-  replied_here served_there reply h known short answers =
-      let part : EncTicketPart = ticket_part kdc.suite held.draw held.grant in
-      let living = h.living in
-      let there : Opens kdc draw.moment (ticket kdc.suite held.realm held.draw held.grant) part =
-      opens kdc.suite held.realm held.draw h.d held.grant h.client h.auth (living_time start held.grant.endtime h.living) h.fits kdc draw.moment refl known
-      (lives start span kdc.skew draw.moment living.second held.grant.endtime living.is living.after u.upto least) h.sound in
-      let shown : Opens kdc draw.moment held.rep.ticket part = subst (λ (x : Ticket). Opens kdc draw.moment x part) (sym h.ticket_is) there in
-      let client : IsSoundClient held.rep.crealm held.rep.cname =
-      subst (λ r. IsSoundClient r held.rep.cname) (sym h.crealm_is) (subst (λ n. IsSoundClient held.grant.crealm n) (sym h.cname_is) h.client) in
-      let body : KdcReqBody = body_at wanted kdc.realm own in
-      served kdc held.rep.ticket part own.moment body (tgs_authenticator wanted held.rep own) (drawn_confounder own) target draw shown
-      (is_holder wanted held.rep own body client t.is part h.crealm_is h.cname_is) (asks_next kdc wanted own target unset names ascii t.is served_there) fair
-      (near start span kdc.skew own draw t u least) short reply answers
+  -- a KDC that knows the ticket's key, and what it is asked for
+  module _ (served_there : target_of kdc (Some (name_with 2 (service_of wanted.target))) ≡ Some target) (h : IsHeld kdc.suite start held)
+      (known : ticket_key kdc (ticket kdc.suite held.realm held.draw held.grant) ≡ Some held.grant.key)
+      (short : length (spelling tgs_req_layout (tgs_req_for wanted (shown_of kdc.suite held) kdc.realm None own)) + 4 ≤ 2 ^ 24) where
+    abbrev part : EncTicketPart
+    part = ticket_part kdc.suite held.draw held.grant
 
-  pub replied : target_of kdc (Some (name_with 2 (service_of wanted.target))) ≡ Some target → (suite : CipherSuite) → kdc.suite ≡ suite → (reply : List ℕ) → IsHeld suite start held
+    opens_it : Opens kdc draw.moment held.rep.ticket part
+    unfolding ticket_part
+    opens_it =
+        let living = h.living in
+        let there : Opens kdc draw.moment (ticket kdc.suite held.realm held.draw held.grant) part =
+        opens kdc.suite held.realm held.draw h.d held.grant h.client h.auth (living_time start held.grant.endtime h.living) h.fits kdc draw.moment refl known
+        (lives start span kdc.skew draw.moment living.second held.grant.endtime living.is living.after u.upto least) h.sound in
+        subst (λ (x : Ticket). Opens kdc draw.moment x part) (sym h.ticket_is) there
+
+    holds_it : IsHolder part own.moment (body_at wanted kdc.realm own) (tgs_authenticator wanted held.rep own) (drawn_confounder own)
+    unfolding ticket_part
+    holds_it =
+        let client : IsSoundClient held.rep.crealm held.rep.cname =
+        subst (λ r. IsSoundClient r held.rep.cname) (sym h.crealm_is) (subst (λ n. IsSoundClient held.grant.crealm n) (sym h.cname_is) h.client) in
+        is_holder wanted held.rep own (body_at wanted kdc.realm own) client t.is part h.crealm_is h.cname_is
+
+    asks_it : AsksNext kdc own.moment (body_at wanted kdc.realm own) target
+    asks_it = asks_next kdc wanted own target unset t.is served_there
+
+    replied_here : (reply : List ℕ) → Answers kdc (with_length (spelling tgs_req_layout (tgs_req_for wanted (shown_of kdc.suite held) kdc.realm None own))) draw reply
+        → reply ≡ with_length (spelling tgs_rep_layout (given kdc.suite wanted kdc held target own draw))
+    unfolding tgs_req_for ticket_part
+    replied_here reply answers =
+        served kdc held.rep.ticket part own.moment (body_at wanted kdc.realm own) (tgs_authenticator wanted held.rep own) (drawn_confounder own) target draw opens_it holds_it asks_it fair
+        (near start span kdc.skew own draw t u least) short reply answers
+
+    short_here : length (spelling principal_name_layout (name_with 2 (service_of wanted.target))) ≤ 2 ^ 24
+    unfolding tgs_req_for ticket_part
+    short_here =
+        sname_short kdc held.rep.ticket part own.moment (body_at wanted kdc.realm own) (tgs_authenticator wanted held.rep own) (drawn_confounder own) target draw opens_it holds_it asks_it fair
+        (near start span kdc.skew own draw t u least) short (name_with 2 (service_of wanted.target)) refl
+
+  pub replied : target_of kdc (Some (name_with 2 (service_of wanted.target))) ≡ Some target → (suite : CipherSuite) → kdc.suite ≡ suite → IsHeld suite start held
       → ticket_key kdc (ticket suite held.realm held.draw held.grant) ≡ Some held.grant.key
       → length (spelling tgs_req_layout (tgs_req_for wanted (shown_of suite held) kdc.realm None own)) + 4 ≤ 2 ^ 24
-      → Answers kdc (with_length (spelling tgs_req_layout (tgs_req_for wanted (shown_of suite held) kdc.realm None own))) draw reply
+      → (reply : List ℕ) → Answers kdc (with_length (spelling tgs_req_layout (tgs_req_for wanted (shown_of suite held) kdc.realm None own))) draw reply
       → reply ≡ with_length (spelling tgs_rep_layout (given suite wanted kdc held target own draw))
   replied served_there suite is =
-      subst (λ (s : CipherSuite). (reply : List ℕ) → IsHeld s start held
+      subst (λ (s : CipherSuite). IsHeld s start held
       → ticket_key kdc (ticket s held.realm held.draw held.grant) ≡ Some held.grant.key
       → length (spelling tgs_req_layout (tgs_req_for wanted (shown_of s held) kdc.realm None own)) + 4 ≤ 2 ^ 24
-      → Answers kdc (with_length (spelling tgs_req_layout (tgs_req_for wanted (shown_of s held) kdc.realm None own))) draw reply
+      → (reply : List ℕ) → Answers kdc (with_length (spelling tgs_req_layout (tgs_req_for wanted (shown_of s held) kdc.realm None own))) draw reply
       → reply ≡ with_length (spelling tgs_rep_layout (given s wanted kdc held target own draw))) is (replied_here served_there)
+
+  -- the service's name is no longer than the request
+  pub service_short : target_of kdc (Some (name_with 2 (service_of wanted.target))) ≡ Some target → (suite : CipherSuite) → kdc.suite ≡ suite → IsHeld suite start held
+      → ticket_key kdc (ticket suite held.realm held.draw held.grant) ≡ Some held.grant.key
+      → length (spelling tgs_req_layout (tgs_req_for wanted (shown_of suite held) kdc.realm None own)) + 4 ≤ 2 ^ 24
+      → length (spelling principal_name_layout (name_with 2 (service_of wanted.target))) ≤ 2 ^ 24
+  service_short served_there suite is =
+      subst (λ (s : CipherSuite). IsHeld s start held
+      → ticket_key kdc (ticket s held.realm held.draw held.grant) ≡ Some held.grant.key
+      → length (spelling tgs_req_layout (tgs_req_for wanted (shown_of s held) kdc.realm None own)) + 4 ≤ 2 ^ 24
+      → length (spelling principal_name_layout (name_with 2 (service_of wanted.target))) ≤ 2 ^ 24) is (short_here served_there)
 
   module _ (suite : CipherSuite) (h : IsHeld suite start held) (named : IsSoundName target.name) where
     next_lives : IsLiving start (granted suite wanted kdc held target own draw).endtime
@@ -141,7 +168,7 @@ module _ (start span : ℕ) (wanted : Wanted) (unset : has_flag wanted.flags.0 u
     next_sound =
         let size : length (drawn_nonce own) ≡ 4 = omega (arith, length-take 4 (drop 4 own.random), length-drop 4 own.random, t.is.size) in
         let living : IsLiving start (granted suite wanted kdc held target own draw).endtime = next_lives in record {
-          realm_ascii = ascii;
+          realm_ascii = kdc.realm_ascii;
           realm_short = kdc.realm_short;
           crealm = h.client.ascii;
           cname = h.client.cname_sound;

@@ -34,7 +34,7 @@ use Rattle.krb_kdc_ends.proofs.RepLemmas.{short-time, data_sound, confounder_siz
 use Rattle.krb_kdc_ends.proofs.TicketLemmas.{is_service_ticket}
 
 module _ (suite : CipherSuite) (realm : List ℕ) (draw : Draw) (d : IsDraw draw) (nonce : List ℕ) (grant : Grant) (g : IsSoundGrant realm nonce grant) where
-  short-part : IsShort (2 ^ 27) (spelling enc_tgs_rep_part_layout (record { 0 = reply_part suite realm draw nonce grant }))
+  pub short-part : IsShort (2 ^ 27) (spelling enc_tgs_rep_part_layout (record { 0 = reply_part suite realm draw nonce grant }))
   unfolding enc_tgs_rep_part enc_tgs_rep_part_row enc_kdc_rep_part enc_kdc_rep_part_row last_req_entry last_req_entry_row reply_part
   short-part =
       let now = short-time _ (now_is_time suite realm draw d) in

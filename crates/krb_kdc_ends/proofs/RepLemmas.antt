@@ -84,7 +84,7 @@ module _ (suite : CipherSuite) (realm : List ℕ) (draw : Draw) (d : IsDraw draw
   }
 
   module _ (nonce : List ℕ) (grant : Grant) (g : IsSoundGrant realm nonce grant) where
-    short-part : IsShort (2 ^ 27) (spelling enc_as_rep_part_layout (record { 0 = reply_part suite realm draw nonce grant }))
+    pub short-part : IsShort (2 ^ 27) (spelling enc_as_rep_part_layout (record { 0 = reply_part suite realm draw nonce grant }))
     unfolding enc_as_rep_part enc_as_rep_part_row enc_kdc_rep_part enc_kdc_rep_part_row last_req_entry last_req_entry_row reply_part
     short-part =
         let last = short-append _ _ _ _ (short-field 1 0xa0 0x02 (0 ∷ []) (lit< tt) (lit< tt) (lit< tt) (short-octet 0 (lit< tt)))

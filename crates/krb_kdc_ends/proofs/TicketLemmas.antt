@@ -1,9 +1,8 @@
 -- The ticket that a KDC gives is opened: at itself, at the realm that it refers to, and at the service.
 use Rattle.std.proofs.Common.{◌≡◌, ℕ, ◌+◌, ◌*◌, ◌/◌, ◌≤◌, ◌^◌, ℤ, pos, Bool, true, false, List, [], ◌∷◌, length, drop, replicate, Some, None, refl, sym, subst, ap, ◌∙◌, arith, lit<, lit≤, length-drop}
-use Rattle.std.specs.Prelude.{◌==◌, if◌then◌else◌}
-use Rattle.std.specs.Cmp.Lexicographic.{pointwise}
+use Rattle.std.specs.Prelude.{if◌then◌else◌}
 use Rattle.std.specs.Str.{str_to_ascii_lowercase}
-use Rattle.std.proofs.lemmas.Bool.{le-ltb, eqb-true}
+use Rattle.std.proofs.lemmas.Bool.{le-ltb}
 use Rattle.std.proofs.lemmas.List.{length-take}
 use Rattle.krb_aes.specs.Octets.{IsOctets}
 use Rattle.krb_aes.proofs.InjectiveLemmas.{IsOctets-append}
@@ -32,10 +31,11 @@ use Rattle.krb_kdc.specs.Opened.{IsOpened}
 use Rattle.krb_kdc.specs.Registers.{same_text, trust_in}
 use Rattle.krb_kdc.specs.Requests.{granting, is_granting}
 use Rattle.krb_kdc.specs.TgsChecks.{trust_key, key_from, ticket_key}
+use Rattle.krb_kdc.proofs.AsciiLemmas.{same_is}
 use Rattle.krb_kdc_ends.specs.Granting.{IsSoundClient}
 use Rattle.krb_kdc_ends.specs.Showing.{Opens}
 use Rattle.krb_kdc_ends.proofs.AsLemmas.{spells_itself, suite_of-number, same_octets, granting_is}
-use Rattle.krb_kdc_ends.proofs.ErrorLemmas.{ascii_octets, short-octet, and_first, and_second}
+use Rattle.krb_kdc_ends.proofs.ErrorLemmas.{ascii_octets, short-octet}
 use Rattle.krb_kdc_ends.proofs.RepLemmas.{size_le, short-time, drawn_fits, now_is_time, short-key, short-flags}
 
 module _ (suite : CipherSuite) (realm : List ℕ) (draw : Draw) (d : IsDraw draw) (grant : Grant) (client : IsSoundClient grant.crealm grant.cname)
@@ -46,14 +46,14 @@ module _ (suite : CipherSuite) (realm : List ℕ) (draw : Draw) (d : IsDraw draw
   abbrev given : Ticket
   given = ticket suite realm draw grant
 
-  confounder_size : length (ticket_confounder suite draw) ≡ 16
+  pub confounder_size : length (ticket_confounder suite draw) ≡ 16
   confounder_size =
       omega (arith, length-take 16 (drop (key_size suite) draw.random), length-drop (key_size suite) draw.random, d.size, size_le suite)
 
-  confounder_octets : IsOctets (ticket_confounder suite draw)
+  pub confounder_octets : IsOctets (ticket_confounder suite draw)
   confounder_octets = IsOctets-take 16 _ (IsOctets-drop (key_size suite) draw.random d.octets)
 
-  short-part : IsShort (2 ^ 27) (spelling enc_ticket_part_layout part)
+  pub short-part : IsShort (2 ^ 27) (spelling enc_ticket_part_layout part)
   unfolding enc_ticket_part enc_ticket_part_row transited_encoding transited_encoding_row ticket_part
   short-part =
       let transited = short-append _ _ _ _ (short-field 1 0xa0 0x02 (1 ∷ []) (lit< tt) (lit< tt) (lit< tt) (short-octet 1 (lit< tt)))
@@ -125,13 +125,6 @@ next_key next shown back named other trusted =
     ap (λ (b : Bool). if b then key_from next shown.realm else None) (ap (is_granting next.realm) named ∙ granting_is next.realm)
     ∙ (ap (λ (b : Bool). if b then Some next.tgt_key else trust_key (trust_in shown.realm next.trusts)) other ∙ ap trust_key trusted)
 
-texts_are : (xs ys : List ℕ) → pointwise ◌==◌ xs ys ≡ true → xs ≡ ys
-texts_are [] [] e = refl
-texts_are [] (y ∷ ys) e = absurd cc
-texts_are (x ∷ xs) [] e = absurd cc
-texts_are (x ∷ xs) (y ∷ ys) e =
-    ap (λ (z : ℕ). z ∷ xs) (eqb-true x y (and_first (x == y) (pointwise ◌==◌ xs ys) e)) ∙ ap (λ (zs : List ℕ). y ∷ zs) (texts_are xs ys (and_second (x == y) (pointwise ◌==◌ xs ys) e))
-
 -- realms that differ in letters of either case differ
 pub differ : (x y : List ℕ) → is_same_realm x y ≡ false → same_text x y ≡ false
 differ x y other = go (same_text x y) refl
@@ -139,7 +132,7 @@ differ x y other = go (same_text x y) refl
     go : (b : Bool) → same_text x y ≡ b → b ≡ false
     go false e = refl
     go true e =
-        let same : is_same_realm x y ≡ true = subst (λ (z : List ℕ). is_same_realm x z ≡ true) (texts_are x y e) (same_octets (str_to_ascii_lowercase x)) in
+        let same : is_same_realm x y ≡ true = subst (λ (z : List ℕ). is_same_realm x z ≡ true) (same_is x y e) (same_octets (str_to_ascii_lowercase x)) in
         absurd cc
 
 -- ---- it has not ended

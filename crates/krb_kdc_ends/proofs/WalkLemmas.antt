@@ -1,12 +1,12 @@
 -- KDCs that lead to a service bring a run to its end, by induction on the referrals.
-use Rattle.std.proofs.Common.{◌≡◌, ℕ, suc, ◌+◌, ◌<◌, ◌≤◌, false, List, [], ◌∷◌, length, Option, Some, None, refl, sym, subst, ap, ◌∙◌, arith, lit<, Result, Ok, Err}
+use Rattle.std.proofs.Common.{◌≡◌, ℕ, suc, ◌+◌, ◌<◌, ◌≤◌, ◌^◌, false, List, [], ◌∷◌, length, Option, Some, None, refl, sym, subst, ap, ◌∙◌, arith, lit<, Result, Ok, Err}
 use Rattle.std.specs.Prelude.{option_map}
 use Rattle.url.specs.Parts.{Parts}
 use Rattle.krb_aes.specs.Octets.{IsOctets}
 use Rattle.krb_crypto.specs.Suite.{key_size}
 use Rattle.krb_crypto.specs.declared.suite.CipherSuite.{CipherSuite}
 use Rattle.krb_messages.specs.Table.{principal_name}
-use Rattle.krb_messages.specs.Layouts.{principal_name_row}
+use Rattle.krb_messages.specs.Layouts.{principal_name_row, principal_name_layout}
 use Rattle.krb_messages.specs.Frame.{with_length}
 use Rattle.krb_messages.specs.declared.enc_ticket_part.EncTicketPart.{EncTicketPart}
 use Rattle.krb_messages.specs.declared.principal_name.PrincipalName.{PrincipalName}
@@ -55,8 +55,8 @@ use Rattle.krb_kdc_ends.specs.Fetching.{IsTimely, AreTimely, Held, shown_of, gra
 use Rattle.krb_kdc_ends.specs.Granting.{AreAscii, IsSoundGrant, IsSoundName}
 use Rattle.krb_kdc_ends.proofs.AddressLemmas.{address_realm}
 use Rattle.krb_kdc_ends.proofs.ErrorLemmas.{short-sname}
-use Rattle.krb_kdc_ends.proofs.FirstLemmas.{AreNames}
-use Rattle.krb_kdc_ends.proofs.HeldLemmas.{IsHeld, replied, next_sound, next_held}
+use Rattle.krb_kdc_ends.proofs.NameLemmas.{AreNames, principal_names, name_sound, name_octets}
+use Rattle.krb_kdc_ends.proofs.HeldLemmas.{IsHeld, replied, service_short, next_sound, next_held}
 use Rattle.krb_kdc_ends.proofs.NextLemmas.{refers_on, serves}
 use Rattle.krb_kdc_ends.proofs.RepLemmas.{drawn_fits}
 use Rattle.krb_kdc_ends.proofs.TicketLemmas.{differ, next_key}
@@ -107,8 +107,8 @@ pub record IsReferred (seeker : Seeker) (suite : CipherSuite) (home : List ℕ) 
   pub turned : IsTurned seeker (Ok (Asks request (AwaitsTgsRep (leg seeker suite next_known home (hops + 1))))) state next
 
 module _ (seeker : Seeker) (pairs : List (List ℕ × Kdc)) (suite : CipherSuite) (home service_key : List ℕ) (start span : ℕ)
-    (unset : has_flag seeker.wanted.flags.0 use_session_key ≡ false) (names : AreNames (service_of seeker.wanted.target))
-    (no_referral : referral_realm (name_with 2 (service_of seeker.wanted.target)) ≡ None) (service_sound : IsSoundName (name_with 2 (service_of seeker.wanted.target)))
+    (unset : has_flag seeker.wanted.flags.0 use_session_key ≡ false)
+    (no_referral : referral_realm (name_with 2 (service_of seeker.wanted.target)) ≡ None)
     (out : Result InitDone Error) (run' : InitRun) (net' : Net) (wanting : IsWant out → ⊥) where
   abbrev known_of : Held → Address → Known
   known_of held address = record { key = drawn_key suite held.draw; kdc = address }
@@ -156,13 +156,19 @@ module _ (seeker : Seeker) (pairs : List (List ℕ × Kdc)) (suite : CipherSuite
         let rep : TgsRep = given suite seeker.wanted kdc held target own draw in
         let message : List ℕ = with_length (spelling tgs_rep_layout rep) in
         let reply_is : reply ≡ message =
-        replied start span seeker.wanted unset names kdc held own draw target t u stands.realm_ascii stands.fair stands.least (has_target service service_key kdc has) suite stands.suite_is
-        reply h knows sizes.request answers.0 in
+        replied start span seeker.wanted unset kdc held own draw target t u stands.fair stands.least (has_target service service_key kdc has) suite stands.suite_is
+        h knows sizes.request reply answers.0 in
         let octets : IsOctets message = subst IsOctets reply_is answers.1 in
         let fits : length service_key ≡ key_size suite =
         sym (ap length has.key_is) ∙ (key_of kdc.suite has.principal (principal_found kdc.suite service kdc.principals has.principal kdc.principals_fit has.known) ∙ ap key_size stands.suite_is) in
+        let short : length (spelling principal_name_layout (name_with 2 service)) ≤ 2 ^ 24 =
+        service_short start span seeker.wanted unset kdc held own draw target t u stands.fair stands.least (has_target service service_key kdc has) suite stands.suite_is
+        h knows sizes.request in
+        let names : AreNames service = principal_names kdc service has.principal has.known in
+        let service_sound : IsSoundName (name_with 2 service) =
+        record { sound = name_sound 2 service names; octets = name_octets 2 (lit< tt) service names short; short = omega (arith, short) } in
         let sound : IsSoundGrant kdc.realm (drawn_nonce own) grant =
-        next_sound start span seeker.wanted unset names kdc held own draw target t u stands.realm_ascii stands.fair stands.least suite h service_sound in
+        next_sound start span seeker.wanted unset kdc held own draw target t u stands.fair stands.least suite h service_sound in
         let part : EncTicketPart = ticket_part suite draw grant in
         let served : Serves seeker.wanted.target suite service_key known message rep part =
         serves suite kdc.realm draw u.is (drawn_nonce own) grant sound known stands.tcp octets sizes.reply seeker.wanted.target h.client fits refl no_referral in
@@ -194,14 +200,14 @@ module _ (seeker : Seeker) (pairs : List (List ℕ × Kdc)) (suite : CipherSuite
       named : IsSoundName (target_at to).name
       named =
           subst (λ (r : List ℕ). IsSoundName (name_with 2 (granting r))) (sym to.to)
-          (granting_sound next_kdc.realm draw suite (record { realm_ascii = next_stands.realm_ascii; realm_short = next_kdc.realm_short; salt_ascii = tt; salt_short = refl }) u.is.moment)
+          (granting_sound next_kdc.realm draw suite (record { realm_ascii = next_kdc.realm_ascii; realm_short = next_kdc.realm_short; salt_ascii = tt; salt_short = refl }) u.is.moment)
 
       sound : IsSoundGrant kdc.realm (drawn_nonce own) grant
-      sound = next_sound start span seeker.wanted unset names kdc held own draw (target_at to) t u stands.realm_ascii stands.fair stands.least suite h named
+      sound = next_sound start span seeker.wanted unset kdc held own draw (target_at to) t u stands.fair stands.least suite h named
 
       then_held : IsHeld suite start held_then
       then_held =
-          next_held start span seeker.wanted unset names kdc held own draw (target_at to) t u stands.realm_ascii stands.fair stands.least suite h named
+          next_held start span seeker.wanted unset kdc held own draw (target_at to) t u stands.fair stands.least suite h named
           (trust_found kdc.suite to.route.realm kdc.trusts to.trust kdc.trusts_fit to.trusts ∙ ap key_size stands.suite_is)
 
       then_knows : ticket_key next_kdc (ticket suite held_then.realm held_then.draw held_then.grant) ≡ Some held_then.grant.key
@@ -227,8 +233,8 @@ module _ (seeker : Seeker) (pairs : List (List ℕ × Kdc)) (suite : CipherSuite
       refer_turn (Err fault) answers resumes ends = absurd (no_memory seeker out run' net' wanting run next fault next_own state after owns is answers resumes wants ends)
       refer_turn (Ok reply) answers resumes ends =
           let reply_is : reply ≡ message =
-          replied start span seeker.wanted unset names kdc held own draw (target_at to) t u stands.realm_ascii stands.fair stands.least
-          (refers_target (service_of seeker.wanted.target) kdc next_kdc to) suite stands.suite_is reply h knows sizes.request answers.0 in
+          replied start span seeker.wanted unset kdc held own draw (target_at to) t u stands.fair stands.least
+          (refers_target (service_of seeker.wanted.target) kdc next_kdc to) suite stands.suite_is h knows sizes.request reply answers.0 in
           let octets : IsOctets message = subst IsOctets reply_is answers.1 in
           let referred : Refers seeker.asker home suite known message (known_of held_then next_stands.address) =
           refers_on suite kdc.realm draw u.is (drawn_nonce own) grant sound known stands.tcp octets sizes.reply seeker.asker home next_stands.address

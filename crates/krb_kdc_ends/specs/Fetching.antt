@@ -1,10 +1,9 @@
 -- A client and the KDCs that lead it to a service: what each is asked, with which draws, and what it gives.
-use Rattle.std.specs.Prelude.{◌≡◌, ℕ, ◌+◌, ◌*◌, ◌≤◌, ◌^◌, false, true, List, [], ◌∷◌, length, take, Option, Some, None, Result, Ok, unwrap_or}
+use Rattle.std.specs.Prelude.{◌≡◌, ℕ, ◌+◌, ◌*◌, ◌≤◌, ◌^◌, false, List, [], ◌∷◌, length, take, Option, Some, None, Result, Ok, unwrap_or}
 use Rattle.std.specs.List.{AllByRecursion}
 use Rattle.url.specs.Parts.{Parts, serialize}
 use Rattle.krb_crypto.specs.declared.suite.CipherSuite.{CipherSuite}
 use Rattle.krb_conf.specs.Names.{target_parts}
-use Rattle.krb_der.specs.Schema.{is_ascii}
 use Rattle.krb_messages.specs.declared.enc_ticket_part.EncTicketPart.{EncTicketPart}
 use Rattle.krb_messages.specs.declared.principal_name.PrincipalName.{PrincipalName}
 use Rattle.krb_exchange.specs.declared.kdc_rep.KdcRep.{KdcRep}
@@ -51,7 +50,6 @@ use Rattle.krb_kdc.specs.Refusals.{hint, refusal}
 use Rattle.krb_kdc.specs.Registers.{principal_with, trust_in, route_to}
 use Rattle.krb_kdc.specs.TgsChecks.{referral_to}
 use Rattle.krb_kdc_ends.specs.Asking.{IsFairSkew, client_with}
-use Rattle.krb_kdc_ends.specs.Granting.{AreAscii, IsSoundClient, IsSoundName}
 
 -- ---- draws
 
@@ -63,10 +61,6 @@ pub record IsTimely (start span : ℕ) (draw : Draw) : Type 0 where
 
 abbrev pub AreTimely : ℕ → ℕ → List Draw → Type 0
 AreTimely start span draws = AllByRecursion (IsTimely start span) draws
-
--- names whose parts can be written
-abbrev pub AreAsciiNames : List (List ℕ) → Type 0
-AreAsciiNames parts = AllByRecursion (λ part. is_ascii part ≡ true) parts
 
 -- ---- a ticket, and what is asked with it
 
@@ -117,7 +111,6 @@ pub record StandsAt (asker : Asker) (own : Option Parts) (suite : CipherSuite) (
   pub text : List ℕ
   pub there : kdc_at (serialize address.url) pairs ≡ Some (text, kdc)
   pub realm_is : kdc.realm ≡ realm
-  pub realm_ascii : is_ascii kdc.realm ≡ true
   pub suite_is : kdc.suite ≡ suite
   pub fair : IsFairSkew kdc.skew
   pub least : span ≤ kdc.skew
@@ -208,38 +201,46 @@ of_client draws = draws.start ∷ draws.second ∷ draws.third ∷ draws.owns
 abbrev pub of_kdcs : Draws → List Draw
 of_kdcs draws = draws.error ∷ draws.first ∷ draws.rest
 
--- the premises: an initiator that asks for mutual authentication, whose client the KDC of its realm has, and KDCs that lead to the service
-pub record CanFetch (seeker : Seeker) (pairs : List (List ℕ × Kdc)) (draws : Draws) (service_key : List ℕ) (user : UserName) : Type 0 where
-  pub start : ℕ
-  pub span : ℕ
-  pub timely : AreTimely start span (of_client draws)
-  pub kdcs_timely : AreTimely start span (of_kdcs draws)
-  pub asks : AsksMutual seeker
-  pub alone : seeker.tgt ≡ None
-  pub no_session_key : has_flag seeker.wanted.flags.0 use_session_key ≡ false
-  pub name_ascii : is_ascii seeker.client.name ≡ true
-  pub realm_ascii : is_ascii seeker.client.realm ≡ true
-  pub target_sound : IsSoundName (name_with 2 (service_of seeker.wanted.target))
-  pub target_ascii : AreAsciiNames (service_of seeker.wanted.target)
-  pub kdc : Kdc
+-- an initiator that asks for mutual authentication by a service: not under the session key of another ticket, and without a ticket of
+-- the service's own. The service is not called as the ticket-granting service is, in letters of either case, since its ticket would be
+-- followed as a referral
+pub record AsksForService (seeker : Seeker) : Type 0 where
+  pub asks_mutual : AsksMutual seeker
+  pub under_its_own_key : has_flag seeker.wanted.flags.0 use_session_key ≡ false
+  pub without_tgt : seeker.tgt ≡ None
+  pub no_referral : referral_realm (name_with 2 (service_of seeker.wanted.target)) ≡ None
+
+-- a KDC of the client's realm has the client, whose key is that of the credentials: with the salt that the KDC tells, or else with the
+-- default one. Services know the client by a name
+pub record HasClient (seeker : Seeker) (kdc : Kdc) (user : UserName) : Type 0 where
   pub realm_is : seeker.client.realm ≡ kdc.realm
-  pub stands : StandsAt seeker.asker seeker.asker.kdc_url (asker_suite seeker.asker) span pairs seeker.asker.realm kdc
   pub client : Principal
   pub known : principal_with (user_components seeker.client.name) kdc.principals ≡ Some client
-  -- its key is that of the credentials under its salt, or under the default one where it has none
   pub keyed : sized_key seeker.asker (unwrap_or client.salt (default_salt seeker.asker.credentials)) ≡ Some client.key
-  pub salted : AreAscii kdc.realm client.salt
-  pub client_sound : IsSoundClient kdc.realm (name_of seeker)
   pub user_named : client_of (name_of seeker) kdc.realm ≡ Some user
-  -- the service is not called as the ticket-granting service is, in letters of either case: the client would follow its ticket as a referral
-  pub no_referral : referral_realm (name_with 2 (service_of seeker.wanted.target)) ≡ None
-  pub sizes : AreFirstSizes seeker kdc client draws.start draws.second draws.error draws.first
+
+-- all draws of both ends lie within so many seconds, less one
+pub record AreDrawnWithin (span : ℕ) (draws : Draws) : Type 0 where
+  pub start : ℕ
+  pub by_client : AreTimely start span (of_client draws)
+  pub by_kdcs : AreTimely start span (of_kdcs draws)
+
+-- the premises: an initiator that asks for a service, whose KDC has its client, and KDCs that lead from that one to the service, over
+-- nine routes at most. All draws lie within the least skew of these KDCs, less one second, and no message is too long
+pub record CanFetch (seeker : Seeker) (pairs : List (List ℕ × Kdc)) (draws : Draws) (service_key : List ℕ) (user : UserName) : Type 0 where
+  pub asks : AsksForService seeker
+  pub span : ℕ
+  pub drawn : AreDrawnWithin span draws
+  pub kdc : Kdc
+  pub stands : StandsAt seeker.asker seeker.asker.kdc_url (asker_suite seeker.asker) span pairs seeker.asker.realm kdc
+  pub has : HasClient seeker kdc user
+  pub sizes : AreFirstSizes seeker kdc has.client draws.start draws.second draws.error draws.first
   pub kdcs : List Kdc
   pub few : length kdcs ≤ 9
   pub leads : LeadsTo seeker.asker seeker.wanted kdc.realm (asker_suite seeker.asker) span pairs service_key
-      (held_first seeker kdc client draws.start draws.first) kdc kdcs draws.third draws.owns draws.rest
+      (held_first seeker kdc has.client draws.start draws.first) kdc kdcs draws.third draws.owns draws.rest
 
--- a run that ended, with the ticket of the service that honest KDCs gave: `krb_ends::laws::both_ends_reach_one_context` takes it from here
+-- a run that ended, with the ticket of the service that honest KDCs gave: from here both ends reach one context
 pub record HasFetched (context : Kerberos) (seeker : Seeker) (draw : Draw) (service_key : List ℕ) (user : UserName) (out : Result InitDone Error) : Type 0 where
   pub answers : Answers
   pub rep : TgsRep

@@ -1,6 +1,6 @@
 //! Laws of a client and its KDCs, for all values.
 
-ghost use Rattle.std.specs.Prelude.{◌≡◌, ◌+◌, ◌≤◌, ◌<◌, ◌^◌, true, ℕ, List, length, Option, Some, unwrap_or, Result, None, false, pos};
+ghost use Rattle.std.specs.Prelude.{◌≡◌, ◌+◌, ◌≤◌, ◌<◌, ◌^◌, ℕ, List, length, Some, unwrap_or, Result, None, false, pos};
 ghost use Rattle.krb_aes.specs.Octets.{IsOctets};
 ghost use Rattle.krb_crypto.specs.declared.suite.CipherSuite.{CipherSuite};
 ghost use Rattle.krb_messages.specs.declared.principal_name.PrincipalName.{PrincipalName};
@@ -22,7 +22,6 @@ ghost use Rattle.krb_kdc.specs.Answering.{Answers, first_grant, next_grant};
 ghost use Rattle.krb_kdc.specs.Grants.{as_rep, tgs_rep, drawn_key, ticket_part, ticket};
 ghost use Rattle.krb_kdc.specs.Refusals.{hint, refusal};
 ghost use Rattle.krb_authenticators.specs.TgsRequests.{tgs_req};
-ghost use Rattle.krb_der.specs.Schema.{is_ascii};
 ghost use Rattle.krb_as.specs.declared.client.Client.{Client as Credentialed};
 ghost use Rattle.krb_as.specs.declared.body.FirstService.TheVariants.{TicketGranting};
 ghost use Rattle.krb_as.specs.FirstBodies.{first_body};
@@ -36,7 +35,7 @@ ghost use Rattle.krb_kdc.specs.declared.grant.Grant.{Grant};
 ghost use Rattle.krb_as.specs.Askers.{default_salt};
 ghost use Rattle.krb_ends.specs.Answers.{IsDraw, AdmitsOnly, AreNew, EndsWellIn};
 ghost use Rattle.krb_ends.specs.HonestKdc.{AnswersError, GrantsFirst, Known, HasKdc, Refers, Serves, service_of};
-ghost use Rattle.krb_kdc_ends.specs.Granting.{AreAscii, IsSoundGrant, IsSoundClient};
+ghost use Rattle.krb_kdc_ends.specs.Granting.{IsSoundGrant, IsSoundClient};
 ghost use Rattle.krb_kdc_ends.specs.Showing.{Opens, IsHolder, AsksNext};
 ghost use Rattle.sspi_core.specs.declared.cause.Cause.{Cause};
 ghost use Rattle.sspi_core.specs.declared.error.Error.{Error};
@@ -71,7 +70,10 @@ ghost use Rattle.krb_kdc.specs.declared.kdc.Trust.{Trust};
 ghost use Rattle.krb_kdc.specs.Nets.{Net};
 ghost use Rattle.krb_kdc.specs.Requests.{granting};
 ghost use Rattle.krb_kdc.specs.TgsChecks.{target_of};
-ghost use Rattle.krb_kdc_ends.specs.Fetching.{body_at, AreAsciiNames, Draws, of_client, of_kdcs, CanFetch, HasFetched, SendsTo};
+ghost use Rattle.krb_kdc_ends.specs.Example.{example_seeker, example_pairs, example_draws, service_octets, example_user};
+ghost use Rattle.std.proofs.Common.{Global};
+ghost use Rattle.sspi_generator.specs.Draws.{AreInRange};
+ghost use Rattle.krb_kdc_ends.specs.Fetching.{body_at, Draws, of_client, of_kdcs, CanFetch, HasFetched, SendsTo};
 
 use krb_replay::ReplayGate;
 
@@ -106,11 +108,13 @@ pub fn holders_of_tickets_are_served()
         (tgs_rep kdc.suite kdc.realm draw body.nonce part.key.key_value (next_grant draw.moment body part target))) }
 {}
 
-/// The reply that asks a client for its key is, over TCP, an honest KDC's error that names the client's salt.
-pub fn refusals_for_want_of_a_key_are_honest()
-    ensures { (suite : CipherSuite) (realm : List ℕ) (draw : Draw) (salt : Option (List ℕ)) (asker : Asker) → AreAscii realm salt → draw.moment ≤ last_moment
-        → length (refusal realm draw 25 (Some (hint suite salt))) ≤ 2 ^ 23
-        → AnswersError asker Tcp (with_length (refusal realm draw 25 (Some (hint suite salt)))) (unwrap_or salt (default_salt asker.credentials)) }
+/// The reply by which a KDC asks a client that it has for its key is, over TCP, an honest KDC's error that names the client's salt.
+pub fn requests_for_a_key_are_honest()
+    ensures { (kdc : Kdc) (components : List (List ℕ)) (principal : Principal) (draw : Draw) (asker : Asker)
+        → principal_with components kdc.principals ≡ Some principal → draw.moment ≤ last_moment
+        → length (refusal kdc.realm draw 25 (Some (hint kdc.suite principal.salt))) ≤ 2 ^ 23
+        → AnswersError asker Tcp (with_length (refusal kdc.realm draw 25 (Some (hint kdc.suite principal.salt))))
+        (unwrap_or principal.salt (default_salt asker.credentials)) }
 {}
 
 /// The AS-REP that grants a client its first ticket is, over TCP, an honest KDC's to a client with that key.
@@ -126,7 +130,7 @@ pub fn first_replies_are_honest()
 /// The body that credentials make of their AS-REQ asks the KDC of their realm, where that KDC has them.
 pub fn credentials_ask_their_kdc()
     ensures { (kdc : Kdc) (client : Credentialed) (principal : Principal) (flags : ℕ) (nonce : List ℕ) (moment : ℕ) → client.realm ≡ kdc.realm
-        → principal_with (user_components client.name) kdc.principals ≡ Some principal → is_ascii client.name ≡ true → is_ascii client.realm ≡ true
+        → principal_with (user_components client.name) kdc.principals ≡ Some principal
         → 0 < length nonce → moment ≤ last_moment
         → AsksFirst kdc (name_with client.name_type (user_components client.name)) principal moment (first_body client TicketGranting flags nonce moment) }
 {}
@@ -135,7 +139,7 @@ pub fn credentials_ask_their_kdc()
 /// reply before it brought.
 pub fn tgs_requests_ask_their_kdc()
     ensures asks { (kdc : Kdc) (wanted : Wanted) (own : Draw) (target : Target) → has_flag wanted.flags.0 use_session_key ≡ false
-        → AreAsciiNames (service_of wanted.target) → is_ascii kdc.realm ≡ true → IsDraw own
+        → IsDraw own
         → target_of kdc (Some (name_with 2 (service_of wanted.target))) ≡ Some target
         → AsksNext kdc own.moment (body_at wanted kdc.realm own) target }
     ensures shows { (wanted : Wanted) (rep : KdcRep) (own : Draw) (body : KdcReqBody) (part : EncTicketPart) → IsSoundClient rep.crealm rep.cname → IsDraw own
@@ -176,13 +180,21 @@ pub fn tickets_are_opened()
         → Opens next now (ticket next.suite kdc.realm draw grant) (ticket_part next.suite draw grant) }
 {}
 
-/// A run over a network of KDCs that lead to a service ends for want of memory or with the service's ticket: the KDCs' replies are
+/// A run over a network of KDCs that lead to a service ends out of memory or with the service's ticket: the KDCs' replies are
 /// honest, and the run ends with the token of an honest offer.
 pub fn runs_over_kdcs_fetch_their_ticket()
     ensures { (context : Kerberos) (seeker : Seeker) (net net' : Net) (draws : Draws) (service_key : List ℕ) (user : UserName) (run run' : InitRun)
         (out : Result InitDone Error) → context.server ≡ None → CanFetch seeker net.pairs draws service_key user → net.draws ≡ of_kdcs draws
         → run.initiation ≡ Seeks seeker → run.phase ≡ New → Resolves StartsAt ResumesAt SendsTo run net (of_client draws) out run' net'
         → (IsWant out → ⊥) → HasFetched context seeker draws.start service_key user out }
+{}
+
+/// There is a client with all that this needs: alice of EXAMPLE.COM, who asks the KDC of her realm for the ticket of host/b, and has a
+/// draw for each turn of her run.
+pub fn some_client_can_fetch()
+    ensures can { (alloc : Global) → CanFetch example_seeker (example_pairs alloc) example_draws service_octets example_user }
+    ensures enough { 12 < length (of_client example_draws) }
+    ensures moments { AreInRange (of_client example_draws) }
 {}
 
 /// The token that such a run ends with is taken by an acceptor that holds the service's key, where its gate admits the client, and both

@@ -17,8 +17,8 @@ use krb_kdc::KdcNet;
 use sspi_core::{Draw, Error};
 use sspi_generator::Generator;
 
-/// Runs it. Over KDCs that lead to the service, and with a draw for each turn of either end, it fetches the service's ticket, unless
-/// memory runs out.
+/// Runs an initiation over a network of KDCs. Where these lead to the service, and there is a draw for each turn of either end, it
+/// fetches the service's ticket, unless memory runs out.
 pub fn fetch(
     run: &mut Generator<InitRun>,
     net: &mut KdcNet,
@@ -32,5 +32,5 @@ pub fn fetch(
         → run.old.initiation ≡ Seeks seeker → run.old.phase ≡ New → (IsWant result → ⊥)
         → HasFetched context seeker used.start service_key user result }
 {
-    run.resolve_with(net, draws)
+    run.resolve_with_client(net, draws)
 }
