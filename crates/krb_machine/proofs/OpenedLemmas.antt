@@ -1,5 +1,5 @@
 -- Each event keeps the lists of places for which the windows of the connections stand.
-use Rattle.std.proofs.Common.{◌≡◌, ℕ, ◌^◌, ◌<◌, not, Bool, true, false, List, [], ◌∷◌, ◌++◌, Option, Some, None, Result, Ok, Err, refl, sym, ap, ◌∙◌, subst}
+use Rattle.std.proofs.Common.{◌≡◌, ℕ, ◌^◌, ◌<◌, not, Bool, true, false, List, [], ◌∷◌, ◌++◌, Option, Some, None, Result, Ok, Err, inl, inr, refl, sym, ap, ◌∙◌, subst}
 use Rattle.std.specs.Prelude.{◌==◌, ℤ, pos, ◌-ℤ◌, int_lt, nat_le, is_some, ◌||◌, if◌then◌else◌}
 use Rattle.std.specs.Cmp.{int_eq_equiv}
 use Rattle.std.specs.List.{IsDistinct, list_any}
@@ -50,10 +50,10 @@ use Rattle.krb_machine.specs.declared.connection.Connection.{Connection}
 use Rattle.krb_machine.specs.declared.exchange.Step.{Step}
 use Rattle.krb_machine.specs.declared.exchange.Step.TheVariants.{Asks, Ends as EndsStep, Refused as RefusesStep}
 use Rattle.krb_machine.specs.declared.reply.Reply.{Reply}
-use Rattle.krb_machine.specs.declared.reply.Reply.TheVariants.{Done, Ask, Buffers, Mic, Verified, Refused}
+use Rattle.krb_machine.specs.declared.reply.Reply.TheVariants.{Done, Ask as Asked, Buffers, Mic, Verified, Refused}
 use Rattle.krb_machine.specs.declared.run.Run.{Run}
 use Rattle.krb_machine.proofs.SetLemmas.{set-there, set-apart, ready-found, awaited-found, heard-found, reached-found}
-use Rattle.krb_machine.proofs.WindowLemmas.{TellsAge, old, repeated, opened_is_fresh, refused_by_age, aged_old, aged_repeated, message_number-lt}
+use Rattle.krb_machine.proofs.WindowLemmas.{TellsAge, no_age, opened_is_fresh, refused_by_age, aged_old, aged_repeated, message_number-lt}
 
 -- ---- the window of a connection
 
@@ -117,9 +117,9 @@ refused_kept : (places : List ℤ) (window : Window) (number : ℕ) (cause : Cau
 refused_kept places window number cause stands tells =
     let same : judged window number ≡ verdict_of places number = judged_is window places number stands in (
       λ e. let is = cause_is cause causes.Old e in
-          sym same ∙ aged_old (judged window number) (tells (subst TellsAge (sym is) old) ∙ ap Some is),
+          sym same ∙ aged_old (judged window number) (tells (inl is) ∙ ap Some is),
       λ e. let is = cause_is cause causes.Repeated e in
-          sym same ∙ aged_repeated (judged window number) (tells (subst TellsAge (sym is) repeated) ∙ ap Some is),
+          sym same ∙ aged_repeated (judged window number) (tells (inr is) ∙ ap Some is),
     )
 
 answered_as : (places : List ℤ) (message : List Buffer) (window : Window) (made reply : Reply) → reply ≡ made → Keeps places (Unwrap message) made window → Keeps places (Unwrap message) reply window
@@ -185,12 +185,12 @@ other_cause x y e other age = other (subst TellsAge (sym (same_refusal x y e)) a
 
 waits_quiet : (connection : Connection) (waits : Option Run) (cause : Cause) → (check causes.Sequence (not (is_some waits)) >>= (λ u. Ok connection)) ≡ Err cause → TellsAge cause → ⊥
 waits_quiet connection None cause e age = absurd (cc)
-waits_quiet connection (Some run) cause e age = other_cause causes.Sequence cause e (λ a. elim a [ ]) age
+waits_quiet connection (Some run) cause e age = other_cause causes.Sequence cause e (no_age causes.Sequence (λ z. cc) (λ z. cc)) age
 
 checks_quiet : (in_range : Bool) (found : Option Connection) (cause : Cause)
     → (check causes.Moment in_range >>= (λ u. ok_or causes.Connection found) >>= (λ c. check causes.Sequence (not (awaits c)) >>= (λ u. Ok c))) ≡ Err cause → TellsAge cause → ⊥
-checks_quiet false found cause e age = other_cause causes.Moment cause e (λ a. elim a [ ]) age
-checks_quiet true None cause e age = other_cause causes.Connection cause e (λ a. elim a [ ]) age
+checks_quiet false found cause e age = other_cause causes.Moment cause e (no_age causes.Moment (λ z. cc) (λ z. cc)) age
+checks_quiet true None cause e age = other_cause causes.Connection cause e (no_age causes.Connection (λ z. cc) (λ z. cc)) age
 checks_quiet true (Some connection) cause e age = waits_quiet connection connection.exchange cause e age
 
 ready_quiet : (connections : List (ℕ × Connection)) (event : Event) (cause : Cause) → ready connections event ≡ Err cause → TellsAge cause → ⊥
@@ -205,30 +205,42 @@ refusal_keeps places (KdcFault code) cause quiet = (tt, refl)
 refusal_keeps places (Wrap message) cause quiet = (tt, refl)
 refusal_keeps places (Unwrap message) cause quiet = (
   (
-    λ e. absurd (quiet (subst TellsAge (sym (cause_is cause causes.Old e)) old)),
-    λ e. absurd (quiet (subst TellsAge (sym (cause_is cause causes.Repeated e)) repeated)),
+    λ e. absurd (quiet (inl (cause_is cause causes.Old e))),
+    λ e. absurd (quiet (inr (cause_is cause causes.Repeated e))),
   ),
   refl,
 )
 refusal_keeps places (MakeMic payload) cause quiet = (tt, refl)
 refusal_keeps places (VerifyMic token payload) cause quiet = (tt, refl)
 
+-- an event that is no call leaves the list
+quiet_list : (reply : Reply) (input : Input) → is_call input ≡ false → (places : List ℤ) → IsJudgedBy places input reply × (list_after places input reply ≡ places)
+quiet_list reply (Token octets) e places = (tt, refl)
+quiet_list reply Start e places = (tt, refl)
+quiet_list reply (KdcReply octets) e places = (tt, refl)
+quiet_list reply (KdcFault code) e places = (tt, refl)
+quiet_list reply (Wrap message) e places = absurd (cc)
+quiet_list reply (Unwrap message) e places = absurd (cc)
+quiet_list reply (MakeMic payload) e places = absurd (cc)
+quiet_list reply (VerifyMic token payload) e places = absurd (cc)
+
 -- ---- one event
 
 some_same : (x y : Connection) (o : Option Connection) → o ≡ Some x → o ≡ Some y → x ≡ y
 some_same x y o p q = let e : Some x ≡ Some y = sym p ∙ q in cc
+
+module _ (lists : Lists) (event : Event) where
+  after_apart : (reply : Reply) (id : ℕ) → (event.connection == id) ≡ false → lists id ≡ lists_after lists event reply id
+  after_apart reply id e = rw e refl
+
+  after_there : (reply : Reply) (id : ℕ) → (event.connection == id) ≡ true → list_after (lists id) event.input reply ≡ lists_after lists event reply id
+  after_there reply id e = rw e refl
 
 module _ {G : Type 0} (lists : Lists) (event : Event) where
   -- what an event says by the lists, and the lists for which the windows stand then
   record Follows (reply : Reply) (after : State G) : Type 0 where
     judged : IsJudgedBy (lists event.connection) event.input reply
     stand : StandFor after (lists_after lists event reply)
-
-  after_apart : (reply : Reply) (id : ℕ) → (event.connection == id) ≡ false → lists id ≡ lists_after lists event reply id
-  after_apart reply id e = rw e refl
-
-  after_there : (reply : Reply) (id : ℕ) → (event.connection == id) ≡ true → list_after (lists id) event.input reply ≡ lists_after lists event reply id
-  after_there reply id e = rw e refl
 
   module _ (state after : State G) (reply : Reply) (stand : StandFor state lists) where
     -- the event's connection is set, and keeps its list
@@ -238,14 +250,14 @@ module _ {G : Type 0} (lists : Lists) (event : Event) where
     put_at connection next there put stands id other true e at =
         let here : event.connection ≡ id = eqb-true event.connection id e in
         let at_next : at_id id after.connections ≡ Some next =
-        ap (at_id id) put ∙ subst (λ (n : ℕ). at_id n (set_value (is_at (nat_cmp event.connection)) state.connections next) ≡ Some next) here (set-there state.connections event.connection connection next there) in
+        ap (λ (c : List (ℕ × Connection)). at_id id c) put ∙ subst (λ (n : ℕ). at_id n (set_value (is_at (nat_cmp event.connection)) state.connections next) ≡ Some next) here (set-there state.connections event.connection connection next there) in
         let is : next ≡ other = some_same next other (at_id id after.connections) at_next at in
         let stands_here : StandsFor next.context.window (list_after (lists id) event.input reply) = subst (λ (n : ℕ). StandsFor next.context.window (list_after (lists n) event.input reply)) here stands in
         subst (λ (c : Connection). StandsFor c.context.window (lists_after lists event reply id)) is
-        (subst (λ (places : List ℤ). StandsFor next.context.window places) (after_there reply id e) stands_here)
+        (subst (λ (places : List ℤ). StandsFor next.context.window places) (after_there lists event reply id e) stands_here)
     put_at connection next there put stands id other false e at =
-        let before : at_id id state.connections ≡ Some other = sym (ap (at_id id) put ∙ set-apart state.connections event.connection id next e) ∙ at in
-        subst (λ (places : List ℤ). StandsFor other.context.window places) (after_apart reply id e) (stand id other before)
+        let before : at_id id state.connections ≡ Some other = sym (ap (λ (c : List (ℕ × Connection)). at_id id c) put ∙ set-apart state.connections event.connection id next e) ∙ at in
+        subst (λ (places : List ℤ). StandsFor other.context.window places) (after_apart lists event reply id e) (stand id other before)
 
     put_follows : (connection next : Connection) → at_id event.connection state.connections ≡ Some connection → after.connections ≡ set_value (is_at (nat_cmp event.connection)) state.connections next
         → Keeps (lists event.connection) event.input reply next.context.window → Follows reply after
@@ -260,9 +272,9 @@ module _ {G : Type 0} (lists : Lists) (event : Event) where
     same_at is list id other true e at =
         let here : event.connection ≡ id = eqb-true event.connection id e in
         let list_here : list_after (lists id) event.input reply ≡ lists id = subst (λ (n : ℕ). list_after (lists n) event.input reply ≡ lists n) here list in
-        subst (λ (places : List ℤ). StandsFor other.context.window places) (sym list_here ∙ after_there reply id e) (stand id other (ap (λ (s : State G). at_id id s.connections) (sym is) ∙ at))
+        subst (λ (places : List ℤ). StandsFor other.context.window places) (sym list_here ∙ after_there lists event reply id e) (stand id other (ap (λ (s : State G). at_id id s.connections) (sym is) ∙ at))
     same_at is list id other false e at =
-        subst (λ (places : List ℤ). StandsFor other.context.window places) (after_apart reply id e) (stand id other (ap (λ (s : State G). at_id id s.connections) (sym is) ∙ at))
+        subst (λ (places : List ℤ). StandsFor other.context.window places) (after_apart lists event reply id e) (stand id other (ap (λ (s : State G). at_id id s.connections) (sym is) ∙ at))
 
     same_follows : after ≡ state → IsJudgedBy (lists event.connection) event.input reply → list_after (lists event.connection) event.input reply ≡ lists event.connection → Follows reply after
     same_follows is judged list = record { judged = judged; stand = λ id other at. same_at is list id other (event.connection == id) refl at }
@@ -273,18 +285,8 @@ module _ {G : Type 0} (lists : Lists) (event : Event) where
         same_follows h.1 (subst (λ (r : Reply). IsJudgedBy (lists event.connection) event.input r) (sym h.0) keeps.0)
         (ap (λ (r : Reply). list_after (lists event.connection) event.input r) h.0 ∙ keeps.1)
 
-    quiet_list : (input : Input) → is_call input ≡ false → (places : List ℤ) → IsJudgedBy places input reply × (list_after places input reply ≡ places)
-    quiet_list (Token octets) e places = (tt, refl)
-    quiet_list Start e places = (tt, refl)
-    quiet_list (KdcReply octets) e places = (tt, refl)
-    quiet_list (KdcFault code) e places = (tt, refl)
-    quiet_list (Wrap message) e places = absurd (cc)
-    quiet_list (Unwrap message) e places = absurd (cc)
-    quiet_list (MakeMic payload) e places = absurd (cc)
-    quiet_list (VerifyMic token payload) e places = absurd (cc)
-
     stays_follows : is_call event.input ≡ false → after ≡ state → Follows reply after
-    stays_follows e is = let quiet = quiet_list event.input e (lists event.connection) in same_follows is quiet.0 quiet.1
+    stays_follows e is = let quiet = quiet_list reply event.input e (lists event.connection) in same_follows is quiet.0 quiet.1
 
     quiet_follows : is_call event.input ≡ false → (connection next : Connection) → at_id event.connection state.connections ≡ Some connection
         → after.connections ≡ set_value (is_at (nat_cmp event.connection)) state.connections next → window_of next ≡ window_of connection → Follows reply after
@@ -381,7 +383,7 @@ answered_distinct : (places : List ℤ) (message : List Buffer) (reply : Reply) 
 answered_distinct places message (Buffers text) h distinct = opened_distinct places (message_number message) h distinct
 answered_distinct places message (Refused error) h distinct = distinct
 answered_distinct places message (Done status token admits) h distinct = absurd h
-answered_distinct places message (Ask request) h distinct = absurd h
+answered_distinct places message (Asked request) h distinct = absurd h
 answered_distinct places message (Mic token) h distinct = absurd h
 answered_distinct places message Verified h distinct = absurd h
 

@@ -1,10 +1,11 @@
 -- What an event makes of its connection is the policy machine's step.
-use Rattle.std.proofs.Common.{◌≡◌, ℕ, ◌<◌, ◌≤◌, nat_le, not, Bool, true, false, List, Option, None, Some, is_some, is_none, Result, Ok, Err, refl, sym, ap, ◌∙◌, subst, arith}
+use Rattle.std.proofs.Common.{◌≡◌, ℕ, ◌<◌, ◌≤◌, nat_le, not, Bool, true, false, List, Option, None, Some, is_some, is_none, Result, Ok, Err, IfOk, refl, sym, ap, ◌∙◌, subst, arith}
 use Rattle.std.specs.Ordering.{nat_cmp}
 use Rattle.std.specs.BTreeMap.{is_at}
 use Rattle.std.specs.Map.{set_value}
 use Rattle.std.proofs.lemmas.Bool.Decides.{nat_tests}
 use Rattle.krb_context.specs.Contexts.{is_acceptor}
+use Rattle.krb_der.specs.declared.memory.OutOfMemory.{OutOfMemory}
 use Rattle.krb_context.specs.declared.server.ServerProperties.{ServerProperties}
 use Rattle.krb_replay.specs.declared.ask.Ask.{Ask}
 use Rattle.krb_replay.specs.declared.ask.Verdict.{Verdict}
@@ -19,6 +20,7 @@ use Rattle.sspi_core.specs.Moments.{last_moment}
 use Rattle.sspi_core.specs.declared.cause.Cause.{Cause}
 use Rattle.sspi_core.specs.declared.cause.Cause.TheVariants as causes
 use Rattle.sspi_generator.specs.declared.network.NetFault.{NetFault}
+use Rattle.krb_machine.proofs.ExchangeLemmas.{same_state}
 use Rattle.krb_machine.specs.MessageCalls.{is_call}
 use Rattle.krb_machine.specs.Exchanges.{answer_of}
 use Rattle.krb_machine.specs.Initiations.{token_heard}
@@ -192,3 +194,14 @@ module _ {G : Type 0} (admits : G → Ask → Verdict → G → Type 0) (state :
 
     pub step-there : called state.connections event ≡ Ok connection → StepsThere admits state.env connection state.gate event reply next gate → Steps admits state event reply after
     step-there found h = by-there found (is_call event.input) refl h
+
+module _ {G : Type 0} (admits : G → Ask → Verdict → G → Type 0) where
+  -- what a connection makes of an event in time is a step of its service
+  pub step-taken : (state after : State G) (event : Event) (connection next : Connection) (made : Result Reply OutOfMemory) → event.moment ≤ last_moment
+      → at_id event.connection state.connections ≡ Some connection → after.connections ≡ set_value (is_at (nat_cmp event.connection)) state.connections next → after.env ≡ state.env
+      → IfOk made (λ reply. StepsThere admits state.env connection state.gate event reply next after.gate) → IfOk made (λ reply. Steps admits state event reply after)
+  step-taken state after event connection next (Ok reply) in_time stands put env h =
+      let there : State G = record { connections = set_value (is_at (nat_cmp event.connection)) state.connections next; env = state.env; gate = after.gate } in
+      let found = called-in_time state.connections event in_time ∙ ap (λ (o : Option Connection). ok_or causes.Connection o) stands in
+      subst (λ (s : State G). Steps admits state event reply s) (sym (same_state after there put env refl)) (step-there admits state event connection reply next after.gate stands found h)
+  step-taken state after event connection next (Err memory) in_time stands put env h = tt

@@ -1,6 +1,6 @@
 -- What the checks of a message say of its number and the window.
-use Rattle.std.proofs.Common.{◌≡◌, ℕ, ◌^◌, ◌<◌, Bool, true, false, List, [], ◌∷◌, take, Option, Some, None, Result, Ok, Err, refl, sym, ap, ◌∙◌, subst, arith}
-use Rattle.std.specs.Prelude.{◌&&◌, nat_le, length, slice_index, if◌then◌else◌}
+use Rattle.std.proofs.Common.{◌≡◌, ℕ, ◌^◌, ◌<◌, Bool, true, false, List, [], ◌∷◌, take, Option, Some, None, Result, Ok, Err, inl, inr, refl, sym, ap, ◌∙◌, subst, arith}
+use Rattle.std.specs.Prelude.{◌⊎◌, ◌&&◌, nat_le, length, slice_index, if◌then◌else◌}
 use Rattle.std.specs.Int.{from_be_bytes, w32}
 use Rattle.std.proofs.lemmas.List.{get_or-take}
 use Rattle.krb_aes.specs.Octets.{IsOctets}
@@ -19,9 +19,12 @@ use Rattle.sspi_core.specs.declared.cause.Cause.{Cause}
 use Rattle.sspi_core.specs.declared.cause.Cause.TheVariants as causes
 
 -- the causes that tell a message's age
-pub data TellsAge : Cause → Type 0 where
-  pub old : TellsAge causes.Old
-  pub repeated : TellsAge causes.Repeated
+abbrev pub TellsAge : Cause → Type 0
+TellsAge cause = (cause ≡ causes.Old) ⊎ (cause ≡ causes.Repeated)
+
+pub no_age : (cause : Cause) → (cause ≡ causes.Old → ⊥) → (cause ≡ causes.Repeated → ⊥) → TellsAge cause → ⊥
+no_age cause p q (inl e) = p e
+no_age cause p q (inr e) = q e
 
 -- checks that never tell it
 record NoAge {A : Type 0} (checks : Result A Cause → Type 0) : Type 0 where
@@ -85,16 +88,16 @@ then_no_age first next one more = record {
 heads_no_age : (params : EncryptionParams) (key : List ℕ) (peer : Bool) (text : List ℕ) → NoAge (λ r. Heads params key peer text r)
 unfolding Heads
 heads_no_age params key peer text =
-    then_no_age _ _ (takes_no_age causes.Header _ (λ age. elim age [ ]))
-    (λ header. then_no_age _ _ (holds_no_age causes.Direction _ (λ age. elim age [ ]))
-    (λ a. then_no_age _ _ (holds_no_age causes.ExtraCount _ (λ age. elim age [ ]))
-    (λ b. then_no_age _ _ (holds_no_age causes.KeyLength _ (λ age. elim age [ ])) (λ c. gives_no_age header))))
+    then_no_age _ _ (takes_no_age causes.Header _ (no_age causes.Header (λ e. cc) (λ e. cc)))
+    (λ header. then_no_age _ _ (holds_no_age causes.Direction _ (no_age causes.Direction (λ e. cc) (λ e. cc)))
+    (λ a. then_no_age _ _ (holds_no_age causes.ExtraCount _ (no_age causes.ExtraCount (λ e. cc) (λ e. cc)))
+    (λ b. then_no_age _ _ (holds_no_age causes.KeyLength _ (no_age causes.KeyLength (λ e. cc) (λ e. cc))) (λ c. gives_no_age header))))
 
 opens_no_age : (params : EncryptionParams) (key : List ℕ) (peer : Bool) (buffers : List Buffer) (plain : Buffer) (text header : List ℕ) → NoAge (λ r. Opens params key peer buffers plain text header r)
 unfolding Opens
 opens_no_age params key peer buffers plain text header =
-    then_no_age _ _ (holds_no_age causes.Short _ (λ age. elim age [ ]))
-    (λ a. then_no_age _ _ (holds_no_age causes.Room _ (λ age. elim age [ ])) (λ b. finds_no_age causes.Altered _ (λ age. elim age [ ])))
+    then_no_age _ _ (holds_no_age causes.Short _ (no_age causes.Short (λ e. cc) (λ e. cc)))
+    (λ a. then_no_age _ _ (holds_no_age causes.Room _ (no_age causes.Room (λ e. cc) (λ e. cc))) (λ b. finds_no_age causes.Altered _ (no_age causes.Altered (λ e. cc) (λ e. cc))))
 
 -- the header that was found is the front of the text
 front_of : (text header : List ℕ) (test : Bool) → ◌≡◌ {A = Result (List ℕ) Cause} (Ok header) (ok_or causes.Header (if test then Some (take 16 text) else None)) → header ≡ take 16 text
@@ -152,8 +155,8 @@ opened_is_fresh context message text h =
 pub refused_by_age : (context : Kerberos) (message : List Buffer) (cause : Cause) → TellsAge cause → Unwraps context message (Err cause) → aged (judged context.window (message_number message)) ≡ Some cause
 unfolding Receives
 refused_by_age context message cause age h =
-    let a = behind _ _ cause (takes_no_age causes.Sequence _ (λ age. elim age [ ])) age h in
-    let b = behind _ _ cause (takes_no_age causes.Buffers _ (λ age. elim age [ ])) age a.rest in
+    let a = behind _ _ cause (takes_no_age causes.Sequence _ (no_age causes.Sequence (λ e. cc) (λ e. cc))) age h in
+    let b = behind _ _ cause (takes_no_age causes.Buffers _ (no_age causes.Buffers (λ e. cc) (λ e. cc))) age a.rest in
     let c = behind _ _ cause (heads_no_age context.encryption_params a.found (is_peer_acceptor context) (spelled message)) age b.rest in
     let d = behind _ _ cause (opens_no_age context.encryption_params a.found (is_peer_acceptor context) message b.found (spelled message) c.found) age c.rest in
     let front = heads_front context.encryption_params a.found (is_peer_acceptor context) (spelled message) c.found c.held in

@@ -4,13 +4,12 @@ ghost use Rattle.std.specs.Prelude.{◌≡◌, IfOk};
 ghost use Rattle.krb_machine.specs.Initiations.{is_before, options_of};
 
 use crate::connection::Connection;
-use crate::described::{copied_credentials, copied_target};
 use crate::message_calls::refused;
 use crate::reply::Reply;
 use crate::run::Run;
 use krb_conf::Env;
 use krb_context::KerberosState;
-use krb_der::{Octets, OutOfMemory, TryCopy};
+use krb_der::{Copier, Octets, OutOfMemory};
 use krb_initiator::{InitOptions, initialize_security_context};
 use sspi_core::{ClientRequestFlags, Draw};
 use std::alloc::Global;
@@ -25,15 +24,6 @@ pub(crate) fn is_before(state: KerberosState) -> bool
     }
 }
 
-fn copied_env(alloc: Global, env: &Env) -> Result<Env, OutOfMemory>
-    ensures { IfOk result (λ copy. copy ≡ env.now) }
-{
-    Ok(Env {
-        vars: env.vars.copy(alloc)?,
-        files: env.files.copy(alloc)?,
-    })
-}
-
 /// What an initiator asks for: all is copied, since the run keeps it.
 fn options_of(
     alloc: Global,
@@ -44,18 +34,20 @@ fn options_of(
 ) -> Result<InitOptions, OutOfMemory>
     ensures { IfOk result (λ options. options ≡ options_of connection.now env.now flags token.now) }
 {
-    let target = copied_target(alloc, &connection.target)?;
     let token = Octets::from_slice(alloc, token)?;
-    let credentials = copied_credentials(alloc, &connection.context.auth_identity)?;
-    let env = copied_env(alloc, env)?;
-    Ok(InitOptions {
+    let mut copier = Copier::new(alloc);
+    let options = InitOptions {
         flags,
-        target,
+        target: copier.copy(&connection.target),
         token,
-        credentials,
+        credentials: copier.copy(&connection.context.auth_identity),
         channel_bindings: None,
-        env,
-    })
+        env: Env {
+            vars: copier.copy(&env.vars),
+            files: copier.copy(&env.files),
+        },
+    };
+    copier.finish(options)
 }
 
 impl Connection {

@@ -42,8 +42,6 @@ pub struct Stopped {
 
 impl<G: ReplayGate> Service<G> {
     ghost use Rattle.std.specs.Prelude.{◌≡◌, ◌<◌, [], length, take, not, None, option_map, IfOk, IfErr, OnOk, OnErr};
-    ghost use Rattle.sspi_core.specs.Kinds.{error_of};
-    ghost use Rattle.sspi_core.specs.declared.cause.Cause.TheVariants as causes;
     ghost use Rattle.krb_context.specs.Contexts.{is_acceptor};
     ghost use Rattle.krb_script.specs.Script.{at_id};
     ghost use Rattle.krb_machine.specs.Described.{no_env};
@@ -88,14 +86,22 @@ impl<G: ReplayGate> Service<G> {
         self.env = env;
     }
 
+    /// Puts a connection that stands on the heap where its number stands, in the place of one that has it.
+    fn insert(&mut self, id: u32, held: HeldConnection) -> Result<(), OutOfMemory>
+        ensures put { OnOk result (self.new ≡ with_connection self.old id held) }
+        ensures err { OnErr result (self.new ≡ self.old) }
+    {
+        self.connections.insert(id, held)?;
+        Ok(())
+    }
+
     /// Puts a connection where its number stands, in the place of one that has it.
     pub(crate) fn put(&mut self, id: u32, connection: Connection) -> Result<(), OutOfMemory>
         ensures put { OnOk result (self.new ≡ with_connection self.old id connection) }
         ensures err { OnErr result (self.new ≡ self.old) }
     {
         let held = HeldConnection::new(self.alloc, connection)?;
-        self.connections.insert(id, held)?;
-        Ok(())
+        self.insert(id, held)
     }
 
     /// Adds an acceptor in its own context. A refusal leaves the service: `Connection` where the number is taken, and then
@@ -105,10 +111,13 @@ impl<G: ReplayGate> Service<G> {
         ensures refused { IsRefusedFor (refusal_to_add (is_taken id self.old.connections) (is_acceptor server)) result }
         ensures err { OnErr result (self.new ≡ self.old) }
     {
-        match self.refusal(id, !server.is_client()) {
-            Some(cause) => Err(Error::from(cause)),
-            None => self.place(id, server, None),
-        }
+        let fits = !server.is_client();
+        let connection = Connection {
+            context: server,
+            target: None,
+            exchange: None,
+        };
+        self.add(id, fits, connection)
     }
 
     /// Adds an initiator in its own context, and whom it is to speak to. A refusal leaves the service: `Connection` where the
@@ -123,24 +132,28 @@ impl<G: ReplayGate> Service<G> {
         ensures refused { IsRefusedFor (refusal_to_add (is_taken id self.old.connections) (not (is_acceptor client))) result }
         ensures err { OnErr result (self.new ≡ self.old) }
     {
-        match self.refusal(id, client.is_client()) {
-            Some(cause) => Err(Error::from(cause)),
-            None => self.place(id, client, target),
-        }
-    }
-
-    /// A new connection, which only memory can refuse.
-    fn place(&mut self, id: u32, context: Kerberos, target: Option<Name>) -> Result<(), Error>
-        ensures placed { OnOk result (self.new ≡ with_connection self.old id (record { context = context; target = target; exchange = None })) }
-        ensures memory { IfErr result (λ e. e ≡ error_of causes.Memory) }
-        ensures err { OnErr result (self.new ≡ self.old) }
-    {
+        let fits = client.is_client();
         let connection = Connection {
-            context,
+            context: client,
             target,
             exchange: None,
         };
-        Ok(self.put(id, connection)?)
+        self.add(id, fits, connection)
+    }
+
+    /// Adds a connection, whose context fits its role or does not.
+    fn add(&mut self, id: u32, fits: bool, connection: Connection) -> Result<(), Error>
+        ensures added { OnOk result (self.new ≡ with_connection self.old id connection) }
+        ensures refused { IsRefusedFor (refusal_to_add (is_taken id self.old.connections) fits) result }
+        ensures err { OnErr result (self.new ≡ self.old) }
+    {
+        let refusal = self.refusal(id, fits);
+        // It stands on the heap first, refused or not. A refusal is told before out of memory is.
+        let held = HeldConnection::new(self.alloc, connection);
+        match refusal {
+            Some(cause) => Err(Error::from(cause)),
+            None => Ok(self.insert(id, held?)?),
+        }
     }
 
     /// Why a connection is not added.

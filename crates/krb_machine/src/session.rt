@@ -139,10 +139,12 @@ impl Session {
         ensures lines { self.new.lines ≡ self.old.lines }
     {
         if self.service.is_some() {
-            return Err(FieldError::Bad);
+            drop(declaration);
+            Err(FieldError::Bad)
+        } else {
+            self.script.set_up(declaration)?;
+            Ok(String::new(alloc))
         }
-        self.script.set_up(declaration)?;
-        Ok(String::new(alloc))
     }
 
     fn take_content(&mut self, alloc: Global, line: &[u8]) -> Result<String, FieldError>
