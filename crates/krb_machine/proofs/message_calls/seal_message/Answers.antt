@@ -5,7 +5,7 @@ use Rattle.sspi_core.specs.declared.error.Place.TheVariants.{Elsewhere}
 use Rattle.krb_context.specs.Refusals.{Refuses}
 use Rattle.krb_context.specs.Wraps.{Wraps}
 use Rattle.krb_machine.proofs.MessageLemmas.{seals-refused}
-use Rattle.krb_machine.proofs.message_calls.seal.Goals as goal
+use Rattle.krb_machine.proofs.message_calls.seal_message.Goals as goal
 
 pub returns-in-Ok-clause-seals : goal.returns-in-Ok-clause-seals
 returns-in-Ok-clause-seals c =

@@ -1,7 +1,7 @@
 use Rattle.std.proofs.Common.{◌≡◌}
 use Rattle.krb_machine.specs.Closing.{closing}
 use Rattle.krb_machine.proofs.CloseLemmas.{serves-closed, serves-front}
-use Rattle.krb_machine.proofs.command.serve.Goals as goal
+use Rattle.krb_machine.proofs.command.serve_lines.Goals as goal
 
 pub returns-in-Ok-clause-text : goal.returns-in-Ok-clause-text
 returns-in-Ok-clause-text g c =
