@@ -22,10 +22,10 @@ use Rattle.krb_replay.specs.declared.ask.Verdict.{Verdict}
 use Rattle.krb_admission.specs.Accepts.{Makes, Ends, awaits_last_word}
 use Rattle.krb_admission.specs.Admission.{settled as admitted}
 use Rattle.krb_admission.specs.ThirdLeg.{Closes}
-use Rattle.krb_admission.specs.declared.admission.Accepted.{Accepted}
+use Rattle.krb_admission.specs.declared.admission.Answer.{Answer}
 use Rattle.krb_admission.specs.declared.admission.Admission.{Admission}
 use Rattle.krb_server.specs.Whole.{Makes as MakesWhole}
-use Rattle.krb_server.specs.declared.accept.Accepted.{Accepted as Taken}
+use Rattle.krb_server.specs.declared.accept.Accepted.{Accepted}
 use Rattle.krb_server.specs.declared.accept.Accepted.TheVariants as taken
 use Rattle.krb_initiator.specs.declared.seeker.Initiation.{Initiation}
 use Rattle.krb_script.specs.Script.{at_id}
@@ -69,7 +69,7 @@ sets_out_window : (connection : Connection) (draw : Draw) (answer : Result Initi
 sets_out_window connection draw (Ok initiation) reply next h = leads_window connection h.3.step reply next h.3.leads
 sets_out_window connection draw (Err cause) reply next h = ap window_of h.1
 
-settles_window : (draw : Draw) (connection : Connection) (answer : Result Taken Error) (reply : Reply) (next : Connection) → Settles draw connection answer reply next → window_of next ≡ window_of connection
+settles_window : (draw : Draw) (connection : Connection) (answer : Result Accepted Error) (reply : Reply) (next : Connection) → Settles draw connection answer reply next → window_of next ≡ window_of connection
 settles_window draw connection (Ok (taken.Done status token admits)) reply next h = ap window_of h.1
 settles_window draw connection (Ok (taken.Run run)) reply next h = leads_window connection h.step reply next h.leads
 settles_window draw connection (Err error) reply next h = ap window_of h.1
@@ -79,21 +79,21 @@ admitted_window : (server : Kerberos) (admission : Admission) → (admitted serv
 unfolding admitted
 admitted_window server admission = refl
 
-makes_window : (server : Kerberos) (outcome : Result Admission Cause) (answer : Result Accepted Cause) (after : Kerberos) → Makes server outcome answer after → after.window ≡ server.window
+makes_window : (server : Kerberos) (outcome : Result Admission Cause) (answer : Result Answer Cause) (after : Kerberos) → Makes server outcome answer after → after.window ≡ server.window
 makes_window server (Ok admission) answer after h = ap (λ (k : Kerberos). k.window) h.1 ∙ admitted_window server admission
 makes_window server (Err cause) answer after h = ap (λ (k : Kerberos). k.window) h.1
 
-closes_window : (server : Kerberos) (outcome : Result (Unit {0}) Cause) (answer : Result Accepted Cause) (after : Kerberos) → Closes server outcome answer after → after.window ≡ server.window
+closes_window : (server : Kerberos) (outcome : Result (Unit {0}) Cause) (answer : Result Answer Cause) (after : Kerberos) → Closes server outcome answer after → after.window ≡ server.window
 closes_window server (Ok u) answer after h = ap (λ (k : Kerberos). k.window) h.1
 closes_window server (Err cause) answer after h = ap (λ (k : Kerberos). k.window) h.1
 
-ends_window : (last : Bool) (server : Kerberos) (token : List ℕ) (outcome : Result Admission Cause) (answer : Result Accepted Cause) (after : Kerberos)
+ends_window : (last : Bool) (server : Kerberos) (token : List ℕ) (outcome : Result Admission Cause) (answer : Result Answer Cause) (after : Kerberos)
     → Ends last server token outcome answer after → after.window ≡ server.window
 ends_window true server token outcome answer after h = closes_window server h.outcome answer after h.closes
 ends_window false server token outcome answer after h = makes_window server outcome answer after h
 
 made_window : {G : Type 0} (admits : G → Ask → Verdict → G → Type 0) (server : Kerberos) (dce : Bool) (token : List ℕ) (env : Env) (draw : Draw) (old : G) (found : Option TgtReq)
-    (answer : Result Taken Cause) (after : Kerberos) (new : G) → MakesWhole admits server dce token env draw old found answer after new → after.window ≡ server.window
+    (answer : Result Accepted Cause) (after : Kerberos) (new : G) → MakesWhole admits server dce token env draw old found answer after new → after.window ≡ server.window
 made_window admits server dce token env draw old (Some tgt_req) answer after new h = ap (λ (k : Kerberos). k.window) h.1
 made_window admits server dce token env draw old None answer after new h =
     ends_window (awaits_last_word dce server.state) server token h.accepts.outcome h.judged after h.accepts.made

@@ -6,7 +6,7 @@ use Rattle.krb_replay.specs.declared.ask.Ask.{Ask}
 use Rattle.krb_replay.specs.declared.ask.Verdict.{Verdict}
 use Rattle.krb_admission.specs.Accepts.{asks_dce_style}
 use Rattle.krb_server.specs.Whole.{AcceptsWhole}
-use Rattle.krb_server.specs.declared.accept.Accepted.{Accepted as Taken}
+use Rattle.krb_server.specs.declared.accept.Accepted.{Accepted}
 use Rattle.krb_script.specs.declared.item.Event.{Event}
 use Rattle.sspi_core.specs.Checks.{told}
 use Rattle.sspi_core.specs.Kinds.{error_of}
@@ -47,7 +47,7 @@ InitiatesThere connection env flags (Err cause) draw reply next = Refuses cause 
 module _ {G : Type 0} (admits : G → Ask → Verdict → G → Type 0) (env : Env) (connection : Connection) (old : G) where
   -- an acceptor judges a token
   pub record JudgesThere (flags : ClientRequestFlags) (token : List ℕ) (draw : Draw) (reply : Reply) (next : Connection) (new : G) : Type 0 where
-    pub answer : Result Taken Cause
+    pub answer : Result Accepted Cause
     pub server : Kerberos
     pub accepts : AcceptsWhole admits connection.context (asks_dce_style (server_flags flags)) token env draw old answer server new
     pub settles : Settles draw (record connection { context = server }) (told Elsewhere answer) reply next

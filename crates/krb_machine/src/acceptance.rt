@@ -80,8 +80,15 @@ impl Connection {
         ensures err { OnErr result ((self.new ≡ self.old) × G.is_same gate.old gate.new) }
     {
         let flags = server_flags(flags);
-        let answer =
-            accept_security_context(alloc, &mut self.context, gate, token, flags, env, draw);
+        let answer = accept_security_context(
+            alloc,
+            &mut self.context,
+            gate,
+            token,
+            flags,
+            env,
+            draw,
+        );
         self.settle(alloc, answer, draw)
     }
 }
