@@ -19,7 +19,7 @@ use Rattle.krb_exchange.proofs.Spelled.{same_record}
 use Rattle.krb_as.specs.Spelling.{spelling}
 use Rattle.krb_as.specs.Requests.{proxied, carried}
 use Rattle.krb_as.specs.Replies.{Unproxies, Strips, Skips, Unpacks, Unwraps}
-use Rattle.krb_as.proofs.Sending.{with_length_le, proxied_le}
+use Rattle.krb_as.proofs.ProxyLengths.{with_length_le, proxied_le}
 
 holds : (cause : Cause) (test : Bool) → test ≡ true → Holds cause test (Ok tt)
 holds cause test e = record { is = subst (λ (b : Bool). ◌≡◌ {A = Result (Unit {0}) Cause} (Ok tt) (if b then Ok tt else Err cause)) (sym e) refl }

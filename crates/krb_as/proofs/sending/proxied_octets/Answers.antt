@@ -1,4 +1,4 @@
-use Rattle.krb_as.proofs.Sending.{proxied_complete, proxied_below}
+use Rattle.krb_as.proofs.ProxyLengths.{proxied_complete, proxied_below}
 use Rattle.krb_as.proofs.sending.proxied_octets.Goals as goal
 
 pub write-requires-clause-complete : goal.write-requires-clause-complete
