@@ -1,5 +1,5 @@
 -- From the checks of a step to the task's step.
-use Rattle.std.proofs.Common.{◌≡◌, ℕ, ◌<◌, Result, Ok, Err, refl, sym, ap, ◌∙◌, subst}
+use Rattle.std.proofs.Common.{◌≡◌, ℕ, ◌<◌, ◌≤◌, Result, Ok, Err, refl, sym, ap, ◌∙◌, subst, arith}
 use Rattle.std.specs.Prelude.{IfOk}
 use Rattle.sspi_core.specs.declared.cause.Cause.{Cause}
 use Rattle.sspi_core.specs.declared.cause.Cause.TheVariants.{Memory, Network}
@@ -36,6 +36,16 @@ module _ {P O : Type 0} (waits : P → Type 0) (left : P → ℕ) (R : P → Typ
       → IfOk answer (λ turn. GoesDown waits left n turn) → ((answer ≡ Err Memory → ⊥) → new ≡ phase_of over answer) → OnSuspended state (λ request. R new × (left new < n))
   awaits_of answer state n new is down goes =
       subst (λ (s : GeneratorState NetworkRequest (Result O Error)). OnSuspended s (λ request. R new × (left new < n))) (sym is) (awaits answer n new down goes)
+
+-- a step that leaves few turns leaves no more than that
+module _ {P O : Type 0} (waits R : P → Type 0) (left : P → ℕ) (m n : ℕ) (leads : (phase : P) → waits phase → R phase) (few : m ≤ n) where
+  turn_down : (turn : Turn P O) → GoesDown waits left m turn → GoesDown R left n turn
+  turn_down (Asks request phase) down = (leads phase down.0, let h = down.1 in omega (arith, h, few))
+  turn_down (Ends value) down = tt
+
+  pub down_as : (answer : Result (Turn P O) Cause) → IfOk answer (λ turn. GoesDown waits left m turn) → IfOk answer (λ turn. GoesDown R left n turn)
+  down_as (Ok turn) down = turn_down turn down
+  down_as (Err cause) down = tt
 
 -- an error has its cause
 same_cause : {O : Type 0} (d e : Cause) → ◌≡◌ {A = Result O Error} (Err (error_of d)) (Err (error_of e)) → d ≡ e

@@ -47,7 +47,8 @@ impl AsPhase {
 
     /// How often the exchange may still ask.
     pub fn turns(&self) -> u32
-        ensures { result ≡ turns_left self.now }
+        ensures left { result ≡ turns_left self.now }
+        ensures few { result ≤ 1 }
     {
         match self {
             AsPhase::AwaitsError(_, _) => 1,

@@ -6,10 +6,9 @@ ghost use Rattle.krb_as.specs.Askers.{asker_of};
 ghost use Rattle.krb_as.specs.Clients.{IsShort};
 ghost use Rattle.krb_password_change.specs.Changes.{credentials_of, changer_of, BeginsChange, IsReady};
 
-use krb_as::Asker;
+use krb_as::{Asker, Client, client_of};
 use krb_conf::Env;
 use krb_context::{EncryptionParams, Kerberos, KerberosState};
-use krb_as::{Client, client_of};
 use krb_der::{OutOfMemory, Text, TryCopy};
 use sspi_core::{AuthIdentityBuffers, Cause, CredentialsBuffers, Secret};
 use std::alloc::Global;

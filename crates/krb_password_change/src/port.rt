@@ -5,8 +5,8 @@ ghost use Rattle.sspi_core.specs.declared.cause.Cause.TheVariants as causes;
 ghost use Rattle.sspi_core.specs.Checks.{Answers, Takes};
 ghost use Rattle.krb_password_change.specs.Ports.{at_port, password_url, password_kdc};
 
-use krb_der::TryCopy;
 use krb_as::Kdc;
+use krb_der::TryCopy;
 use sspi_core::{Cause, NetworkProtocol};
 use std::alloc::Global;
 use url::{ParseError, Url};
