@@ -18,11 +18,11 @@ ghost use Rattle.krb_ap.specs.Shown.{drawn_key, drawn_confounder, gss_checksum, 
 use crate::errand::Errand;
 use crate::initiator::{Initiator, exchange_flags, is_bare};
 use bitflags::Flags;
+use krb_as::InitDone;
 use krb_authenticators::{
     ChecksumOptions, ChecksumValues, EncKey, GenerateAuthenticatorOptions, generate_ap_req,
     generate_authenticator,
 };
-use krb_as::InitDone;
 use krb_context::{ApOptions, ContextChange, EncryptionParams, GssFlags, KerberosState};
 use krb_crypto::CipherSuite;
 use krb_der::{Asn1, Items, Name, Octets, OutOfMemory, Text, TryCopy};

@@ -5,7 +5,7 @@ use Rattle.std.specs.Ordering.{nat_cmp}
 use Rattle.std.specs.BTreeMap.{is_at}
 use Rattle.std.specs.Map.{set_value}
 use Rattle.krb_server.specs.Whole.{AcceptsWhole}
-use Rattle.krb_server.specs.declared.accept.Accepted.{Accepted as Taken}
+use Rattle.krb_server.specs.declared.accept.Accepted.{Accepted}
 use Rattle.krb_context.specs.Contexts.{is_acceptor}
 use Rattle.krb_context.specs.declared.context.Kerberos.{Kerberos}
 use Rattle.krb_der.specs.declared.memory.OutOfMemory.{OutOfMemory}
@@ -113,22 +113,22 @@ module _ {G : Type 0} where
 
 module _ {G : Type 0} (admits : G → Ask → Verdict → G → Type 0) where
   -- what a token is answered
-  taken_by : (state after : State G) (event : Event) (connection : Connection) (token : List ℕ) (result : Result Taken Error) (server : Kerberos) (next : Connection) (reply : Reply)
+  taken_by : (state after : State G) (event : Event) (connection : Connection) (token : List ℕ) (result : Result Accepted Error) (server : Kerberos) (next : Connection) (reply : Reply)
       → reached state.connections event ≡ Ok (connection, token) → (result ≡ Err (error_of causes.Memory) → ⊥)
-      → ((result ≡ Err (error_of causes.Memory) → ⊥) → (answer : Result Taken Cause) × (result ≡ told Elsewhere answer)
+      → ((result ≡ Err (error_of causes.Memory) → ⊥) → (answer : Result Accepted Cause) × (result ≡ told Elsewhere answer)
       × AcceptsWhole admits connection.context (asks_dce_style (server_flags event.flags)) token state.env (draw_of event) state.gate answer server after.gate)
       → Settles (draw_of event) (record connection { context = server }) result reply next
       → after.connections ≡ set_value (is_at (nat_cmp event.connection)) state.connections next → after.env ≡ state.env → TakesToken admits state event reply after
   taken_by state after event connection token result server next reply reaches other step settles put env =
       let s = step other in
-      let S : Result Taken Error → Type 0 = λ r. Settles (draw_of event) (record connection { context = server }) r reply next in
+      let S : Result Accepted Error → Type 0 = λ r. Settles (draw_of event) (record connection { context = server }) r reply next in
       let B : Result (Connection × List ℕ) Cause → Type 0 = λ f. Behind admits state event f reply after in
       let judges : Judges admits state event connection token reply after = record { answer = s.0; server = server; accepts = s.2; next = next; settles = subst S s.1 settles; connections = put; env = env } in
       subst B (sym reaches) judges
 
-  pub token-taken : (state after : State G) (event : Event) (connection : Connection) (token : List ℕ) (result : Result Taken Error) (server : Kerberos) (next : Connection) (made : Result Reply OutOfMemory)
+  pub token-taken : (state after : State G) (event : Event) (connection : Connection) (token : List ℕ) (result : Result Accepted Error) (server : Kerberos) (next : Connection) (made : Result Reply OutOfMemory)
       → at_id event.connection state.connections ≡ Some connection → token_reached state.connections event ≡ Ok token
-      → ((result ≡ Err (error_of causes.Memory) → ⊥) → (answer : Result Taken Cause) × (result ≡ told Elsewhere answer)
+      → ((result ≡ Err (error_of causes.Memory) → ⊥) → (answer : Result Accepted Cause) × (result ≡ told Elsewhere answer)
       × AcceptsWhole admits connection.context (asks_dce_style (server_flags event.flags)) token state.env (draw_of event) state.gate answer server after.gate)
       → IfOk made (λ _. result ≡ Err (error_of causes.Memory) → ⊥) → IfOk made (λ reply. Settles (draw_of event) (record connection { context = server }) result reply next)
       → after.connections ≡ set_value (is_at (nat_cmp event.connection)) state.connections next → after.env ≡ state.env → IfOk made (λ reply. TakesToken admits state event reply after)

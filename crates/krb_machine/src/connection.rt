@@ -1,9 +1,9 @@
 //! One connection of a service.
 ghost use Rattle.std.specs.Prelude.{◌≡◌, IfOk};
 
+use crate::exchange::Exchange;
 use krb_context::Kerberos;
 use krb_der::{Name, OutOfMemory};
-use crate::exchange::Exchange;
 use std::alloc::Global;
 use std::marker::Model;
 

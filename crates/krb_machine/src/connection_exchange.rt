@@ -6,10 +6,10 @@ ghost use Rattle.sspi_core.specs.Moments.{last_moment};
 ghost use Rattle.krb_machine.specs.Exchanges.{answer_of, LeadsTo, Opens, GoesOn};
 
 use crate::connection::Connection;
-use crate::reply::Reply;
-use krb_der::{Octets, OutOfMemory, TryCopy};
 use crate::exchange::{Exchange, Step, begin_exchange, continue_exchange};
+use crate::reply::Reply;
 use crate::run::Run;
+use krb_der::{Octets, OutOfMemory, TryCopy};
 use krb_script::Input;
 use sspi_core::Draw;
 use sspi_generator::NetFault;

@@ -6,14 +6,14 @@ ghost use Rattle.sspi_core.specs.Moments.{last_moment};
 ghost use Rattle.krb_machine.specs.Initiations.{is_before, token_heard, options_of, Undertakes};
 
 use crate::connection::Connection;
-use crate::described::{copied_credentials, copied_target};
 use crate::connection_exchange::open;
+use crate::described::{copied_credentials, copied_target};
 use crate::message_calls::refused;
 use crate::reply::Reply;
+use crate::run::Run;
 use krb_conf::Env;
 use krb_context::KerberosState;
 use krb_der::{Octets, OutOfMemory, TryCopy};
-use crate::run::Run;
 use krb_initiator::{InitOptions, initialize_security_context};
 use krb_script::Input;
 use sspi_core::{Cause, ClientRequestFlags, Draw};

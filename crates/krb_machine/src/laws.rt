@@ -8,7 +8,7 @@ ghost use Rattle.krb_context.specs.declared.context.Kerberos.{Kerberos};
 ghost use Rattle.krb_initiator.specs.Beginnings.{Begins as BeginsInitiation};
 ghost use Rattle.krb_initiator.specs.declared.options.InitOptions.{InitOptions};
 ghost use Rattle.krb_initiator.specs.declared.seeker.Initiation.{Initiation};
-ghost use Rattle.krb_machine.specs.Steps.{Begins, GoesOn};
+ghost use Rattle.krb_machine.specs.Steps.{Begins as BeginsRun, GoesOn};
 ghost use Rattle.krb_machine.specs.declared.exchange.Step.{Step};
 ghost use Rattle.krb_machine.specs.declared.run.Run.{Run};
 ghost use Rattle.krb_replay.specs.Book.{Book, Follows, StandsFor};
@@ -18,7 +18,7 @@ ghost use Rattle.krb_replay.specs.Records.{IsDistinct};
 ghost use Rattle.krb_replay.specs.declared.ask.Verdict.{Verdict};
 ghost use Rattle.krb_replay.specs.declared.ask.Verdict.TheVariants.{Admitted};
 ghost use Rattle.krb_admission.specs.Accepts.{asks_dce_style, refusal, Begins, Finishes};
-ghost use Rattle.krb_admission.specs.Admission.{accepted_of};
+ghost use Rattle.krb_admission.specs.Admission.{answer_for};
 ghost use Rattle.krb_admission.specs.Requests.{ask_of};
 ghost use Rattle.krb_admission.specs.declared.request.Request.{Request};
 ghost use Rattle.krb_admission.specs.declared.admission.Admission.{Admission};
@@ -42,7 +42,7 @@ use krb_replay::ReplayGate;
 pub fn one_outcome()
     ensures initiations { (context : Kerberos) (options : InitOptions) (r s : Result Initiation Cause)
         → BeginsInitiation context options r → BeginsInitiation context options s → r ≡ s }
-    ensures begins { (run : Run) (draw : Draw) (r s : Step) → Begins run draw r → Begins run draw s → r ≡ s }
+    ensures begins { (run : Run) (draw : Draw) (r s : Step) → BeginsRun run draw r → BeginsRun run draw s → r ≡ s }
     ensures goes_on { (run : Run) (answer : Result (List ℕ) NetFault) (draw : Draw) (r s : Step)
         → GoesOn run answer draw r → GoesOn run answer draw s → r ≡ s }
 {}
@@ -101,7 +101,7 @@ pub fn completeness()
         → Begins connection.context (asks_dce_style (server_flags event.flags)) token (Ok request)
         → verdict_of skew state.gate (ask_of request event.moment) ≡ Admitted
         → Finishes connection.context (asks_dce_style (server_flags event.flags)) (draw_of event) request (Ok admission)
-        → reply ≡ reply_of (Ok (accepted_of admission)) }
+        → reply ≡ reply_of (Ok (answer_for admission)) }
 {}
 
 /// A run over a replay book is a run over the gate that never forgets, for each history that the book stands for: with the
@@ -132,7 +132,7 @@ pub fn completeness_over_a_book()
         → Begins connection.context (asks_dce_style (server_flags event.flags)) token (Ok request)
         → verdict_of before.gate.skew h (ask_of request event.moment) ≡ Admitted
         → Finishes connection.context (asks_dce_style (server_flags event.flags)) (draw_of event) request (Ok admission)
-        → reply ≡ reply_of (Ok (accepted_of admission)) }
+        → reply ≡ reply_of (Ok (answer_for admission)) }
 {}
 
 /// Whatever the gate, from what every gate owes alone: a request that reaches it is refused for the first of the clock's

@@ -6,10 +6,10 @@ ghost use Rattle.sspi_core.specs.declared.cause.Cause.TheVariants as causes;
 ghost use Rattle.krb_machine.specs.MessageCalls.{is_call, Seals, Opens, Signs, Verifies, Calls};
 ghost use Rattle.krb_machine.specs.declared.reply.Reply.TheVariants.{Refused};
 
+use crate::exchange::is_memory;
 use crate::reply::Reply;
 use krb_context::Kerberos;
 use krb_der::{Items, Octets, OutOfMemory};
-use crate::connection_exchange::is_memory;
 use krb_script::Input;
 use sspi_core::{BufferType, Error, Message, SecurityBufferRef};
 use std::alloc::Global;

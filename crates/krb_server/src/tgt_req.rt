@@ -3,12 +3,12 @@
 ghost use Rattle.std.specs.Prelude.{◌≡◌, true, false, IfOk};
 ghost use Rattle.krb_server.specs.TgtReqs.{Found, IsTgtReq, is_first, may_begin, Begins};
 
+use krb_admission::MAX_TOKEN;
 use krb_context::KerberosState;
 use krb_der::{Asn1, Fault, OutOfMemory};
 use krb_exchange::TgtReq;
 use krb_messages::constants::TGT_REQ_TOKEN_ID;
 use krb_messages::read_framed;
-use krb_admission::MAX_TOKEN;
 use std::alloc::Global;
 
 /// The TGT-REQ that the octets are.

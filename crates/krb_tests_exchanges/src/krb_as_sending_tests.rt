@@ -1,11 +1,11 @@
 //! Where messages go, the octets that are sent, and what the octets of replies bring.
 
 use crate::rows::octets;
+use krb_as::{Kdc, find_kdc, read_reply, request_to, unwrap_reply};
 use krb_conf::Env;
 use krb_der::{Octets, OutOfMemory};
 use krb_exchange::{AsRep, KrbResult};
 use krb_requests::name_of;
-use krb_as::{Kdc, find_kdc, read_reply, request_to, unwrap_reply};
 use sspi_core::{Cause, NetworkProtocol};
 use sspi_generator::{NetFault, NetworkRequest};
 use std::alloc::Global;

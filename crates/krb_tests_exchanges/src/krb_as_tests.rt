@@ -14,12 +14,12 @@ ghost use Rattle.krb_as.specs.Clients.{IsShort};
 
 use crate::rows::{is_row, octets};
 use exchanges::{ALICE, ALICE_IN_A_KEYTAB, FIRST, SECOND};
-use krb_as::{AsDone, AsExchange, Asker};
+use krb_as::{
+    AsDone, AsExchange, Asker, Client, FirstService, ReplyKey, client_of, first_body, reply_key,
+    short_name,
+};
 use krb_conf::{Env, KerberosConfig};
 use krb_context::Kerberos;
-use krb_as::{
-    Client, FirstService, ReplyKey, client_of, first_body, reply_key, short_name,
-};
 use krb_crypto::CipherSuite;
 use krb_der::{Octets, OutOfMemory, Text};
 use krb_exchange::KdcReqBody;

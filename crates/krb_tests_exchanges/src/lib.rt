@@ -4,10 +4,10 @@
 #![tactic(auto)]
 
 #[cfg(test)]
+mod krb_as_sending_tests;
+#[cfg(test)]
 mod krb_as_tests;
 #[cfg(test)]
 mod krb_replies_tests;
-#[cfg(test)]
-mod krb_as_sending_tests;
 #[cfg(test)]
 mod rows;

@@ -7,10 +7,10 @@ mod user_to_user;
 
 use crate::rows::is_hex;
 use crate::services::{Service, acceptor_of, draw, flags_of};
-use krb_server::{Accepted, accept_security_context};
 use krb_conf::Env;
 use krb_context::Kerberos;
 use krb_replay::ReplayBook;
+use krb_server::{Accepted, accept_security_context};
 use sspi_core::{Cause, Error, SecurityStatus};
 use std::alloc::Global;
 use std::test::Fail;

@@ -7,9 +7,9 @@
 #[cfg(test)]
 mod kdc;
 #[cfg(test)]
-mod krb_server_tests;
-#[cfg(test)]
 mod krb_as_credentials_tests;
+#[cfg(test)]
+mod krb_server_tests;
 #[cfg(test)]
 mod krb_user_to_user_tests;
 #[cfg(test)]

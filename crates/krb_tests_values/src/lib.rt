@@ -8,12 +8,12 @@ mod krb_aes_tests;
 #[cfg(test)]
 mod krb_conf_tests;
 #[cfg(test)]
+mod krb_context_options_tests;
+#[cfg(test)]
 mod krb_crypto_tests;
 #[cfg(test)]
 mod krb_demo_tests;
 #[cfg(test)]
 mod krb_der_tests;
-#[cfg(test)]
-mod krb_context_options_tests;
 #[cfg(test)]
 mod sspi_core_tests;

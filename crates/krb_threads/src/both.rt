@@ -4,8 +4,8 @@ ghost use Rattle.std.specs.Prelude.{◌≡◌, slice_get, IsSomeAnd};
 ghost use Rattle.krb_threads.specs.Runs.{EndsAs};
 
 use crate::part::Part;
-use krb_replay::ReplayGate;
 use krb_machine::Stopped;
+use krb_replay::ReplayGate;
 use std::alloc::Global;
 use std::thread::{Threads, join_mut};
 

@@ -9,9 +9,9 @@ ghost use Rattle.krb_threads.specs.Journaled.{connections_of};
 
 use krb_conf::Env;
 use krb_der::{OutOfMemory, TryCopy};
+use krb_machine::{HeldConnection, Service, connection_of};
 use krb_replay::ReplayGate;
 use krb_script::Endpoint;
-use krb_machine::{HeldConnection, Service, connection_of};
 use std::alloc::Global;
 use std::collections::BTreeMap;
 use std::thread::{Threads, join};

@@ -3,8 +3,8 @@
 ghost use Rattle.std.specs.Prelude.{◌≡◌};
 ghost use Rattle.krb_threads.specs.Runs.{EndsAs};
 
-use krb_replay::ReplayGate;
 use krb_machine::{Event, Reply, Service, Stopped};
+use krb_replay::ReplayGate;
 use std::alloc::Global;
 
 /// A service, its events, and the replies to those that it has taken.

@@ -7,8 +7,8 @@ ghost use Rattle.krb_threads.specs.Answers.{worker_line, worker_text, verdict_na
 
 use crate::workers::Answers;
 use krb_der::OutOfMemory;
-use krb_replay::Verdict;
 use krb_machine::{Reply, end_line};
+use krb_replay::Verdict;
 use krb_shared::Entry;
 use std::alloc::Global;
 use std::thread::{Threads, join};

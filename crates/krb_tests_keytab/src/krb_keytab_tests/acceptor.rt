@@ -8,7 +8,7 @@ use krb_context::{Kerberos, ServerProperties};
 use krb_der::{Items, Octets, Text};
 use krb_keytab::Keytab;
 use krb_replay::ReplayBook;
-use krb_admission::accept_security_context;
+use krb_server::accept_security_context;
 use sspi_core::{Cause, Draw, Message, Part, SecurityBufferRef, ServerRequestFlags};
 use std::alloc::{AllocError, Global};
 use std::test::Fail;

@@ -2,8 +2,8 @@
 
 use super::{acceptor, config};
 use krb_context::Kerberos;
-use krb_replay::ReplayBook;
 use krb_machine::Service;
+use krb_replay::ReplayBook;
 use sspi_core::{Cause, Error};
 use std::alloc::Global;
 use std::test::Fail;

@@ -4,8 +4,8 @@ ghost use Rattle.krb_replay.specs.Book.{Follows, StandsFor, IsUnchanged, IsUncha
 
 use super::{acceptor, event};
 use krb_der::OutOfMemory;
-use krb_replay::{Ask, ReplayBook, ReplayGate, Verdict};
 use krb_machine::{Event, Reply, Service, Stopped};
+use krb_replay::{Ask, ReplayBook, ReplayGate, Verdict};
 use std::alloc::{AllocError, Global};
 use std::test::Fail;
 

@@ -2,9 +2,8 @@
 
 use crate::rows::is_hex;
 use crate::services::{user_with_key, user_with_password};
-use krb_as::Asker;
+use krb_as::{Asker, ReplyKey, reply_key};
 use krb_conf::Env;
-use krb_as::{ReplyKey, reply_key};
 use krb_crypto::CipherSuite;
 use krb_der::{Asn1, Name, Text};
 use krb_exchange::AsRep;
