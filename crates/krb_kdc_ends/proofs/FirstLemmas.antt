@@ -1,6 +1,6 @@
 -- The body of a client's AS-REQ asks a KDC that has the client.
 use Rattle.std.proofs.Common.{◌≡◌, ℕ, ◌+◌, ◌/◌, ◌<◌, ◌≤◌, pos, Bool, true, false, List, [], ◌∷◌, length, Some, refl, ap, arith, lit<, lit≤, nat_lt, cond}
-use Rattle.std.specs.Prelude.{◌==◌, codes}
+use Rattle.std.specs.Prelude.{◌==◌, codes, take}
 use Rattle.std.specs.List.{AllByRecursion, onto_first}
 use Rattle.std.proofs.lemmas.Bool.{and_from}
 use Rattle.std.proofs.lemmas.Int.{ints}
@@ -11,6 +11,7 @@ use Rattle.krb_messages.specs.Layouts.{principal_name_row, host_address_row}
 use Rattle.krb_exchange.specs.Table.{kdc_req_body}
 use Rattle.krb_exchange.specs.Layouts.{kdc_req_body_row}
 use Rattle.sspi_core.specs.Moments.{last_moment}
+use Rattle.sspi_core.specs.declared.draw.Draw.{Draw}
 use Rattle.krb_requests.specs.Bodies.{user_components}
 use Rattle.krb_requests.specs.Pieces.{principal as name_with}
 use Rattle.krb_as.specs.declared.client.Client.{Client}
@@ -39,13 +40,13 @@ cut_ascii [] e = (refl, tt)
 cut_ascii (x ∷ text) e =
     cut_or_go (x == 0x2f) x (user_components text) (and_first (nat_lt x 128) (is_ascii text) e) (cut_ascii text (and_second (nat_lt x 128) (is_ascii text) e))
 
-pub asks_first : (kdc : Kdc) (client : Client) (principal : Principal) (flags : ℕ) (nonce : List ℕ) (moment : ℕ) → client.realm ≡ kdc.realm
-    → principal_with (user_components client.name) kdc.principals ≡ Some principal → is_ascii client.name ≡ true → is_ascii client.realm ≡ true → 0 < length nonce
-    → moment ≤ last_moment
-    → AsksFirst kdc (name_with client.name_type (user_components client.name)) principal moment (first_body client TicketGranting flags nonce moment)
+pub asks_first : (kdc : Kdc) (client : Client) (principal : Principal) (flags : ℕ) (draw : Draw) → client.realm ≡ kdc.realm
+    → principal_with (user_components client.name) kdc.principals ≡ Some principal → is_ascii client.name ≡ true → is_ascii client.realm ≡ true → 0 < length (take 4 draw.random)
+    → draw.moment ≤ last_moment
+    → AsksFirst kdc (name_with client.name_type (user_components client.name)) principal draw.moment (first_body client TicketGranting flags draw)
 unfolding first_body kdc_req_body kdc_req_body_row principal_name principal_name_row host_address host_address_row
-asks_first kdc client principal flags nonce moment realm known name_ascii realm_ascii some in_range =
-    let till : IsTime (pos (moment / 1000000 + 259200)) = (omega (arith, ints), omega (arith, ints, in_range)) in
+asks_first kdc client principal flags draw realm known name_ascii realm_ascii some in_range =
+    let till : IsTime (pos (draw.moment / 1000000 + 259200)) = (omega (arith, ints), omega (arith, ints, in_range)) in
     record {
       realm = realm;
       named = refl;

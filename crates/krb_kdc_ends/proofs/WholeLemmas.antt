@@ -37,16 +37,18 @@ use Rattle.krb_requests.specs.Pieces.{spelling, three_days_after}
 use Rattle.krb_as.specs.declared.done.InitDone.{InitDone}
 use Rattle.krb_as.specs.declared.turn.Turn.TheVariants.{Asks}
 use Rattle.krb_as.specs.Asked.{first_request, second_request}
-use Rattle.krb_as.specs.Askers.{asker_suite, default_salt, key_for}
+use Rattle.krb_as.specs.AsPhases.{sealed_time}
+use Rattle.krb_as.specs.Askers.{asker_suite, client_key, default_salt, key_for}
+use Rattle.krb_as.specs.declared.as_phase.AsPhase.TheVariants.{AwaitsError, AwaitsAsRep}
+use Rattle.krb_as.specs.declared.key.SealedTime.{SealedTime}
 use Rattle.krb_as.specs.Turns.{IsWant}
 use Rattle.krb_as.specs.FirstBodies.{first_body}
-use Rattle.krb_as.specs.ReplyKeys.{client_key}
 use Rattle.krb_tgs.specs.TgsAsked.{url_for, tgs_request}
 use Rattle.krb_initiator.specs.declared.init_run.InitRun.{InitRun}
 use Rattle.krb_initiator.specs.declared.seeker.Seeker.{Seeker}
 use Rattle.krb_initiator.specs.declared.seeker.Initiation.TheVariants.{Seeks}
 use Rattle.krb_initiator.specs.declared.seeker.InitPhase.{InitPhase}
-use Rattle.krb_initiator.specs.declared.seeker.InitPhase.TheVariants.{New, AwaitsError, AwaitsAsRep, AwaitsTgsRep}
+use Rattle.krb_initiator.specs.declared.seeker.InitPhase.TheVariants.{New, InAsExchange, AwaitsTgsRep}
 use Rattle.krb_initiator.specs.InitRuns.{Starts, Next, StartsAt, ResumesAt}
 use Rattle.krb_initiator.specs.InitSteps.{body_of}
 use Rattle.krb_initiator.specs.Tgts.{first_tickets}
@@ -74,7 +76,7 @@ use Rattle.krb_kdc_ends.proofs.FirstLemmas.{asks_first}
 use Rattle.krb_kdc_ends.proofs.HeldLemmas.{IsHeld, IsLiving, living_time, earlier_lives, three_days_live, ten_hours_live, near}
 use Rattle.krb_kdc_ends.proofs.RepLemmas.{ticket_sound, grants_first}
 use Rattle.krb_kdc_ends.proofs.TicketLemmas.{own_key}
-use Rattle.krb_kdc_ends.proofs.TurnLemmas.{IsTurned, Runs, started, resumed, no_memory, second_wants, first_wants, IsAnswered, answered}
+use Rattle.krb_kdc_ends.proofs.TurnLemmas.{IsTurned, Runs, started, resumed, no_memory, as_wants, IsAnswered, answered}
 use Rattle.krb_kdc_ends.proofs.WalkLemmas.{granting_sound, Comes, walk}
 
 some_is : {A : Type 0} (x y : A) → Some x ≡ Some y → x ≡ y
@@ -93,10 +95,10 @@ own_url : (own : Option Parts) (realm : List ℕ) → url_for own realm realm �
 own_url own realm = ap (λ (b : Bool). if b then own else None) (same_octets realm)
 
 -- the second reply, and where it leads
-record IsGiven (seeker : Seeker) (suite : CipherSuite) (address : Address) (salt message : List ℕ) (rep : AsRep) (known : Known) (own : Draw)
+record IsGiven (seeker : Seeker) (suite : CipherSuite) (sealed : SealedTime) (message : List ℕ) (rep : AsRep) (known : Known) (own : Draw)
     (request : NetworkRequest) (state : GeneratorState NetworkRequest (Result InitDone Error)) (next : InitRun) : Type 0 where
-  grants : GrantsFirst seeker.asker suite address.protocol salt message rep known.key
-  leads : Next (Seeks seeker) (AwaitsAsRep address salt) (Ok message) own (Ok (Asks request (AwaitsTgsRep (leg seeker suite known rep.0.crealm 0))))
+  grants : GrantsFirst seeker.asker suite sealed.kdc.protocol sealed.salt message rep known.key
+  leads : Next (Seeks seeker) (InAsExchange (AwaitsAsRep sealed)) (Ok message) own (Ok (Asks request (AwaitsTgsRep (leg seeker suite known rep.0.crealm 0))))
   turned : IsTurned seeker (Ok (Asks request (AwaitsTgsRep (leg seeker suite known rep.0.crealm 0)))) state next
 
 module _ (seeker : Seeker) (pairs : List (List ℕ × Kdc)) (draws : Draws) (service_key : List ℕ) (user : UserName) (c : CanFetch seeker pairs draws service_key user)
@@ -115,6 +117,9 @@ module _ (seeker : Seeker) (pairs : List (List ℕ × Kdc)) (draws : Draws) (ser
 
   abbrev salt : List ℕ
   salt = unwrap_or c.client.salt (default_salt seeker.asker.credentials)
+
+  abbrev sealed : SealedTime
+  sealed = sealed_time seeker.asker address salt c.client.key
 
   abbrev plain_message : List ℕ
   plain_message = spelling as_req_layout (as_req_with plain_pa_datas body)
@@ -153,13 +158,12 @@ module _ (seeker : Seeker) (pairs : List (List ℕ × Kdc)) (draws : Draws) (ser
   first_timely = c.kdcs_timely.1.0
 
   nonce_size : length body.nonce ≡ 4
-  unfolding body_of first_body
+  unfolding first_body
   nonce_size = omega (arith, length-take 4 draws.start.random, starts_timely.is.size)
 
   asks : AsksFirst kdc (name_of seeker) c.client draws.start.moment body
-  unfolding body_of
   asks =
-      asks_first kdc seeker.client c.client seeker.wanted.flags.0 (take 4 draws.start.random) draws.start.moment c.realm_is c.known c.name_ascii c.realm_ascii
+      asks_first kdc seeker.client c.client seeker.wanted.flags.0 draws.start c.realm_is c.known c.name_ascii c.realm_ascii
       (omega (arith, length-take 4 draws.start.random, starts_timely.is.size)) starts_timely.is.moment
 
   error_replied : (reply : List ℕ) → Answers kdc (with_length plain_message) draws.error reply → reply ≡ error_message suite
@@ -188,13 +192,13 @@ module _ (seeker : Seeker) (pairs : List (List ℕ × Kdc)) (draws : Draws) (ser
   -- ---- the first ticket
 
   first_lives : IsLiving c.start grant.endtime
-  unfolding body_of first_body
+  unfolding first_body
   first_lives =
       earlier_lives c.start (three_days_after draws.start.moment) (ten_hours_after draws.first.moment) (three_days_live c.start c.span draws.start starts_timely)
       (ten_hours_live c.start c.span draws.first first_timely)
 
   sound : IsSoundGrant kdc.realm body.nonce grant
-  unfolding body_of first_body
+  unfolding first_body
   sound =
       let named = granting_sound kdc.realm draws.first suite
       (record { realm_ascii = c.stands.realm_ascii; realm_short = kdc.realm_short; salt_ascii = tt; salt_short = refl }) first_timely.is.moment in
@@ -270,38 +274,38 @@ module _ (seeker : Seeker) (pairs : List (List ℕ × Kdc)) (draws : Draws) (ser
       second_payload p q sends
 
   module _ (run next : InitRun) (state : GeneratorState NetworkRequest (Result InitDone Error)) (after : Net) (owns : List Draw) (is : run.initiation ≡ Seeks seeker) where
-    asks_again : Next (Seeks seeker) (AwaitsError address body) (Ok (error_message suite)) draws.second
-        (Ok (Asks (second_request suite c.client.key draws.second address body) (AwaitsAsRep address salt)))
+    asks_again : Next (Seeks seeker) (InAsExchange (AwaitsError address body)) (Ok (error_message suite)) draws.second
+        (Ok (Asks (second_request suite c.client.key draws.second address body) (InAsExchange (AwaitsAsRep sealed))))
     asks_again = asks_second seeker suite address body (record { reply = error_message suite; draw = draws.second }) salt c.client.key error_is c.keyed
 
-    first_turn : run.phase ≡ AwaitsError address body → (reply : Result (List ℕ) NetFault) → AnswersWith kdc (with_length plain_message) (of_kdcs draws) reply
+    first_turn : run.phase ≡ InAsExchange (AwaitsError address body) → (reply : Result (List ℕ) NetFault) → AnswersWith kdc (with_length plain_message) (of_kdcs draws) reply
         → ResumesAt run reply draws.second state next → Runs seeker out run' net' wanting state next after owns
-        → IsTurned seeker (Ok (Asks (second_request suite c.client.key draws.second address body) (AwaitsAsRep address salt))) state next
+        → IsTurned seeker (Ok (Asks (second_request suite c.client.key draws.second address body) (InAsExchange (AwaitsAsRep sealed)))) state next
     first_turn phase (Err fault) answers resumes ends =
         absurd (no_memory seeker out run' net' wanting run next fault draws.second state after owns is answers resumes
-        (subst (λ (p : InitPhase). Next (Seeks seeker) p (Err OutOfMemory) draws.second (Err Memory)) (sym phase) (second_wants seeker address body draws.second)) ends)
+        (subst (λ (p : InitPhase). Next (Seeks seeker) p (Err OutOfMemory) draws.second (Err Memory)) (sym phase) (as_wants seeker (AwaitsError address body) draws.second)) ends)
     first_turn phase (Ok reply) answers resumes ends =
         resumed seeker out run' net' wanting run next (Ok (error_message suite)) draws.second state _ after owns is
         (subst (λ (r : List ℕ). ResumesAt run (Ok r) draws.second state next) (error_replied reply answers.0) resumes)
         (subst (λ (p : InitPhase). Next (Seeks seeker) p (Ok (error_message suite)) draws.second
-        (Ok (Asks (second_request suite c.client.key draws.second address body) (AwaitsAsRep address salt)))) (sym phase) asks_again) ends
+        (Ok (Asks (second_request suite c.client.key draws.second address body) (InAsExchange (AwaitsAsRep sealed))))) (sym phase) asks_again) ends
 
-    second_turn : run.phase ≡ AwaitsAsRep address salt → (reply : Result (List ℕ) NetFault) → AnswersWith kdc (with_length (timed_message suite)) (draws.first ∷ draws.rest) reply
+    second_turn : run.phase ≡ InAsExchange (AwaitsAsRep sealed) → (reply : Result (List ℕ) NetFault) → AnswersWith kdc (with_length (timed_message suite)) (draws.first ∷ draws.rest) reply
         → ResumesAt run reply draws.third state next → Runs seeker out run' net' wanting state next after owns
-        → IsGiven seeker suite address salt (rep_message suite) (rep_in suite) known draws.third tgs_request_first state next
+        → IsGiven seeker suite sealed (rep_message suite) (rep_in suite) known draws.third tgs_request_first state next
     unfolding as_rep
     second_turn phase (Err fault) answers resumes ends =
         absurd (no_memory seeker out run' net' wanting run next fault draws.third state after owns is answers resumes
-        (subst (λ (p : InitPhase). Next (Seeks seeker) p (Err OutOfMemory) draws.third (Err Memory)) (sym phase) (first_wants seeker address.protocol salt draws.third)) ends)
+        (subst (λ (p : InitPhase). Next (Seeks seeker) p (Err OutOfMemory) draws.third (Err Memory)) (sym phase) (as_wants seeker (AwaitsAsRep sealed) draws.third)) ends)
     second_turn phase (Ok reply) answers resumes ends =
         let reply_is : reply ≡ rep_message suite = rep_replied suite c.stands.suite_is reply c.sizes.again answers.0 in
         let granted : GrantsFirst seeker.asker suite address.protocol salt (rep_message suite) (rep_in suite) known.key = first_grants (subst IsOctets reply_is answers.1) in
         let step : Step = record { reply = rep_message suite; draw = draws.third } in
-        let taken : Next (Seeks seeker) (AwaitsAsRep address salt) (Ok (rep_message suite)) draws.third
+        let taken : Next (Seeks seeker) (InAsExchange (AwaitsAsRep sealed)) (Ok (rep_message suite)) draws.third
         (Ok (Asks tgs_request_first (AwaitsTgsRep (leg seeker suite known kdc.realm 0)))) =
-        subst (λ (tickets : Option (List Ticket)). Next (Seeks seeker) (AwaitsAsRep address salt) (Ok (rep_message suite)) draws.third
+        subst (λ (tickets : Option (List Ticket)). Next (Seeks seeker) (InAsExchange (AwaitsAsRep sealed)) (Ok (rep_message suite)) draws.third
         (Ok (Asks (tgs_request seeker.wanted (shown_of suite held) tickets draws.third address) (AwaitsTgsRep (leg seeker suite known kdc.realm 0))))) (ap first_tickets c.alone)
-        (takes_first seeker suite address salt step (rep_in suite) known granted found) in
+        (takes_first seeker suite sealed step (rep_in suite) known granted found) in
         record {
           grants = granted;
           leads = taken;
@@ -316,10 +320,10 @@ module _ (seeker : Seeker) (pairs : List (List ℕ × Kdc)) (draws : Draws) (ser
       → Resolves StartsAt ResumesAt SendsTo run net (of_client draws) out run' net' → HasFetched context seeker draws.start service_key user out
   unfolding as_rep
   fetched context role run net is phase p q resolves =
-      let began : Starts (Seeks seeker) New draws.start (Ok (Asks (first_request address body) (AwaitsError address body))) =
+      let began : Starts (Seeks seeker) New draws.start (Ok (Asks (first_request address body) (InAsExchange (AwaitsError address body)))) =
       starts seeker suite address draws.start c.stands.found in
       let start_turn = started seeker out run' net' wanting run resolves.1 draws.start resolves.0 _ net (draws.second ∷ draws.third ∷ draws.owns) is resolves.2
-      (subst (λ (p : InitPhase). Starts (Seeks seeker) p draws.start (Ok (Asks (first_request address body) (AwaitsError address body)))) (sym phase) began) resolves.3 in
+      (subst (λ (p : InitPhase). Starts (Seeks seeker) p draws.start (Ok (Asks (first_request address body) (InAsExchange (AwaitsError address body))))) (sym phase) began) resolves.3 in
       let one : Runs seeker out run' net' wanting (Suspended (first_request address body)) resolves.1 net (draws.second ∷ draws.third ∷ draws.owns) =
       subst (λ (s : GeneratorState NetworkRequest (Result InitDone Error)). Runs seeker out run' net' wanting s resolves.1 net (draws.second ∷ draws.third ∷ draws.owns))
       start_turn.state_is resolves.3 in
@@ -359,11 +363,11 @@ module _ (seeker : Seeker) (pairs : List (List ℕ × Kdc)) (draws : Draws) (ser
       ends_with_offer seeker suite service_key draws.start all comes.rep comes.part honest c.asks comes.last_is context role in
       let fetches : Fetches seeker draws.start all comes.done = record {
         request = first_request address body;
-        phase = AwaitsError address body;
+        phase = InAsExchange (AwaitsError address body);
         starts = began;
         leads = (
           second_request suite c.client.key draws.second address body,
-          AwaitsAsRep address salt,
+          InAsExchange (AwaitsAsRep sealed),
           asks_again resolves.1 one.3 one.2 one.1 (draws.third ∷ draws.owns) start_turn.stays,
           (tgs_request_first, AwaitsTgsRep (leg seeker suite known kdc.realm 0), two_turn.leads, comes.leads),
         );

@@ -1,6 +1,6 @@
 //! Laws of a client and its KDCs, for all values.
 
-ghost use Rattle.std.specs.Prelude.{◌≡◌, ◌+◌, ◌≤◌, ◌<◌, ◌^◌, true, ℕ, List, length, Option, Some, unwrap_or, Result, None, false, pos};
+ghost use Rattle.std.specs.Prelude.{◌≡◌, ◌+◌, ◌≤◌, ◌<◌, ◌^◌, true, ℕ, List, length, take, Option, Some, unwrap_or, Result, None, false, pos};
 ghost use Rattle.krb_aes.specs.Octets.{IsOctets};
 ghost use Rattle.krb_crypto.specs.declared.suite.CipherSuite.{CipherSuite};
 ghost use Rattle.krb_messages.specs.declared.principal_name.PrincipalName.{PrincipalName};
@@ -31,9 +31,8 @@ ghost use Rattle.krb_kdc_ends.specs.Asking.{AsksFirst, AreNear, IsFairSkew, clie
 ghost use Rattle.sspi_core.specs.declared.protocol.NetworkProtocol.TheVariants.{Tcp};
 ghost use Rattle.krb_as.specs.declared.asker.Asker.{Asker};
 ghost use Rattle.krb_crypto.specs.Suite.{key_size};
-ghost use Rattle.krb_as.specs.ReplyKeys.{client_key};
 ghost use Rattle.krb_kdc.specs.declared.grant.Grant.{Grant};
-ghost use Rattle.krb_as.specs.Askers.{default_salt};
+ghost use Rattle.krb_as.specs.Askers.{client_key, default_salt};
 ghost use Rattle.krb_ends.specs.Answers.{IsDraw, AdmitsOnly, AreNew, EndsWellIn};
 ghost use Rattle.krb_ends.specs.HonestKdc.{AnswersError, GrantsFirst, Known, HasKdc, Refers, Serves, service_of};
 ghost use Rattle.krb_kdc_ends.specs.Granting.{AreAscii, IsSoundGrant, IsSoundClient};
@@ -125,10 +124,10 @@ pub fn first_replies_are_honest()
 
 /// The body that credentials make of their AS-REQ asks the KDC of their realm, where that KDC has them.
 pub fn credentials_ask_their_kdc()
-    ensures { (kdc : Kdc) (client : Credentialed) (principal : Principal) (flags : ℕ) (nonce : List ℕ) (moment : ℕ) → client.realm ≡ kdc.realm
+    ensures { (kdc : Kdc) (client : Credentialed) (principal : Principal) (flags : ℕ) (draw : Draw) → client.realm ≡ kdc.realm
         → principal_with (user_components client.name) kdc.principals ≡ Some principal → is_ascii client.name ≡ true → is_ascii client.realm ≡ true
-        → 0 < length nonce → moment ≤ last_moment
-        → AsksFirst kdc (name_with client.name_type (user_components client.name)) principal moment (first_body client TicketGranting flags nonce moment) }
+        → 0 < length (take 4 draw.random) → draw.moment ≤ last_moment
+        → AsksFirst kdc (name_with client.name_type (user_components client.name)) principal draw.moment (first_body client TicketGranting flags draw) }
 {}
 
 /// A client's TGS-REQ asks the KDC of a realm that gives the ticket, and its authenticator is that of the holder of the ticket that the
