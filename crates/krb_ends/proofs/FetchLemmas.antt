@@ -215,7 +215,7 @@ module _ (seeker : Seeker) (suite : CipherSuite) where
 
   -- the start
   pub starts : (home : Kdc) (draw : Draw) → FindsKdc seeker.asker.kdc_url seeker.asker.env seeker.asker.realm (Ok home)
-      → BeginsWithin InAsExchange seeker.asker (body_of seeker draw) (Ok (Asks (first_request home (body_of seeker draw)) (InAsExchange (AwaitsError home (body_of seeker draw)))))
+      → BeginsWithin {O = InitDone} InAsExchange seeker.asker (body_of seeker draw) (Ok (Asks (first_request home (body_of seeker draw)) (InAsExchange (AwaitsError home (body_of seeker draw)))))
   unfolding BeginsWithin BeginsExchange
   starts home draw found =
       follows _ _ (first_request home (body_of seeker draw), AwaitsError home (body_of seeker draw)) _ (follows _ _ home _ found (gives _)) (gives _)
