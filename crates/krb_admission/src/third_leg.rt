@@ -103,11 +103,7 @@ fn establish(alloc: Global, server: &mut Kerberos) -> Answer
 }
 
 /// Judges the initiator's last word.
-pub(crate) fn conclude(
-    alloc: Global,
-    server: &mut Kerberos,
-    token: &[u8],
-) -> Result<Answer, Cause>
+pub(crate) fn conclude(alloc: Global, server: &mut Kerberos, token: &[u8]) -> Result<Answer, Cause>
     ensures step { (result ≡ Err causes.Memory → ⊥) → Concludes server.old token.now result server.new }
     ensures memory { result ≡ Err causes.Memory → server.new ≡ server.old }
 {
