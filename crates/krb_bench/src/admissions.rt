@@ -3,12 +3,12 @@
 
 use anyhow::{Context, Result};
 use bitflags::Flags;
-use krb_admission::accept_security_context;
 use krb_conf::{Env, KerberosConfig};
 use krb_context::{Kerberos, KerberosState, ServerProperties};
 use krb_demo::DemoClient;
 use krb_der::{Items, Octets, Text, Time};
 use krb_replay::ReplayBook;
+use krb_server::accept_security_context;
 use sspi_core::{Draw, Error, Secret, ServerRequestFlags};
 use std::alloc::Global;
 use std::rt::Clock;
