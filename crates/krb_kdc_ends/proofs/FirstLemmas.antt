@@ -9,6 +9,7 @@ use Rattle.krb_messages.specs.Layouts.{principal_name_row, host_address_row}
 use Rattle.krb_exchange.specs.Table.{kdc_req_body}
 use Rattle.krb_exchange.specs.Layouts.{kdc_req_body_row}
 use Rattle.sspi_core.specs.Moments.{last_moment}
+use Rattle.sspi_core.specs.declared.draw.Draw.{Draw}
 use Rattle.krb_requests.specs.Bodies.{user_components}
 use Rattle.krb_requests.specs.Pieces.{principal as name_with}
 use Rattle.krb_as.specs.declared.client.Client.{Client}

@@ -25,7 +25,7 @@ use Rattle.krb_context.proofs.ChainLemmas.{takes_some}
 use Rattle.krb_replies.specs.Unseals.{suite_of}
 use Rattle.krb_replies.specs.Salts.{TellsEtype}
 use Rattle.krb_as.specs.declared.asker.Asker.{Asker}
-use Rattle.krb_as.specs.ReplyKeys.{client_key}
+use Rattle.krb_as.specs.Askers.{client_key}
 use Rattle.krb_requests.specs.Pieces.{spelling, sealed_data, encryption_key}
 use Rattle.krb_ends.proofs.HonestLemmas.{spells_itself, suite_of-number}
 use Rattle.krb_ends.proofs.RepLemmas.{short-number}

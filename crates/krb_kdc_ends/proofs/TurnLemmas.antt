@@ -16,24 +16,24 @@ use Rattle.sspi_generator.specs.declared.network.NetworkRequest.{NetworkRequest}
 use Rattle.sspi_generator.specs.declared.task.GeneratorState.{GeneratorState}
 use Rattle.sspi_generator.specs.declared.task.GeneratorState.TheVariants.{Completed}
 use Rattle.sspi_generator.specs.Runs.{Finishes}
-use Rattle.krb_as.specs.declared.kdc.Kdc.{Kdc as Address}
 use Rattle.krb_as.specs.Replies.{Unwraps, Replies}
 use Rattle.krb_as.specs.declared.done.InitDone.{InitDone}
 use Rattle.krb_as.specs.declared.turn.Turn.{Turn}
 use Rattle.krb_as.specs.Replied.{WantsPreAuth, Grants}
-use Rattle.krb_as.specs.Asked.{AsksAgain}
+use Rattle.krb_as.specs.AsPhases.{AsksSecond, SealsTime, TakesAsRep, TakesReplyWithin}
+use Rattle.krb_as.specs.declared.as_phase.AsPhase.{AsPhase}
+use Rattle.krb_as.specs.declared.as_phase.AsPhase.TheVariants.{AwaitsError, AwaitsAsRep}
 use Rattle.krb_as.specs.Turns.{IsWant, state_of, phase_of}
-use Rattle.krb_tgs.specs.Taken.{TakesAsRep, TakesTgsRep}
-use Rattle.krb_exchange.specs.declared.kdc_req.KdcReqBody.{KdcReqBody}
+use Rattle.krb_tgs.specs.Taken.{TakesTgsRep}
 use Rattle.krb_initiator.specs.declared.init_run.InitRun.{InitRun}
 use Rattle.krb_initiator.specs.declared.seeker.Seeker.{Seeker}
 use Rattle.krb_initiator.specs.declared.seeker.TgsLeg.{TgsLeg}
 use Rattle.krb_initiator.specs.declared.seeker.Initiation.{Initiation}
 use Rattle.krb_initiator.specs.declared.seeker.Initiation.TheVariants.{Seeks}
 use Rattle.krb_initiator.specs.declared.seeker.InitPhase.{InitPhase}
-use Rattle.krb_initiator.specs.declared.seeker.InitPhase.TheVariants.{Over}
+use Rattle.krb_initiator.specs.declared.seeker.InitPhase.TheVariants.{InAsExchange, Over}
 use Rattle.krb_initiator.specs.InitRuns.{Starts, Next, StartsAt, ResumesAt}
-use Rattle.krb_initiator.specs.InitSteps.{AsksSecond, TakesFirst, TakesNext}
+use Rattle.krb_initiator.specs.InitSteps.{TakesNext}
 use Rattle.krb_initiator.proofs.Once.{starts_once, next_once}
 use Rattle.krb_kdc.specs.declared.kdc.Kdc.{Kdc}
 use Rattle.krb_kdc.specs.Nets.{Net, kdc_at, AnswersWith, AnswersAt, rest_of}
@@ -91,13 +91,11 @@ wants_want : (protocol : NetworkProtocol) (default : List ℕ) → WantsPreAuth 
 unfolding WantsPreAuth Replies Unwraps
 wants_want protocol default = halts _ _ Memory _ (halts _ _ Memory _ (halts _ _ Memory _ (record { is = refl }) refl) refl) refl
 
-pub second_wants : (seeker : Seeker) (address : Address) (body : KdcReqBody) (draw : Draw) → AsksSecond seeker.asker address body (Err OutOfMemory) draw (Err Memory)
-unfolding AsksSecond AsksAgain
-second_wants seeker address body draw = halts _ _ Memory _ (halts _ _ Memory _ (wants_want address.protocol _) refl) refl
-
-pub first_wants : (seeker : Seeker) (protocol : NetworkProtocol) (used : List ℕ) (draw : Draw) → TakesFirst seeker protocol used (Err OutOfMemory) draw (Err Memory)
-unfolding TakesFirst TakesAsRep
-first_wants seeker protocol used draw = halts _ _ Memory _ (halts _ _ Memory _ (grants_want as_rep_layout protocol) refl) refl
+pub as_wants : (seeker : Seeker) (phase : AsPhase) (draw : Draw) → Next (Seeks seeker) (InAsExchange phase) (Err OutOfMemory) draw (Err Memory)
+unfolding TakesReplyWithin AsksSecond SealsTime TakesAsRep
+as_wants seeker (AwaitsError address body) draw =
+    halts _ _ Memory _ (halts _ _ Memory _ (halts _ _ Memory _ (wants_want address.protocol _) refl) refl) refl
+as_wants seeker (AwaitsAsRep sealed) draw = halts _ _ Memory _ (halts _ _ Memory _ (grants_want as_rep_layout sealed.kdc.protocol) refl) refl
 
 pub next_wants : (seeker : Seeker) (leg : TgsLeg) (draw : Draw) → TakesNext seeker leg (Err OutOfMemory) draw (Err Memory)
 unfolding TakesNext TakesTgsRep

@@ -38,7 +38,10 @@ use Rattle.krb_requests.specs.Pieces.{spelling}
 use Rattle.krb_as.specs.declared.done.InitDone.{InitDone}
 use Rattle.krb_as.specs.declared.turn.Turn.TheVariants.{Asks}
 use Rattle.krb_as.specs.Asked.{first_request, second_request}
-use Rattle.krb_as.specs.Askers.{asker_suite, default_salt, key_for}
+use Rattle.krb_as.specs.AsPhases.{sealed_time}
+use Rattle.krb_as.specs.Askers.{asker_suite, client_key, default_salt, key_for}
+use Rattle.krb_as.specs.declared.as_phase.AsPhase.TheVariants.{AwaitsError, AwaitsAsRep}
+use Rattle.krb_as.specs.declared.key.SealedTime.{SealedTime}
 use Rattle.krb_as.specs.Turns.{IsWant}
 use Rattle.krb_as.specs.ReplyKeys.{client_key}
 use Rattle.krb_tgs.specs.TgsAsked.{url_for, tgs_request}
@@ -46,7 +49,7 @@ use Rattle.krb_initiator.specs.declared.init_run.InitRun.{InitRun}
 use Rattle.krb_initiator.specs.declared.seeker.Seeker.{Seeker}
 use Rattle.krb_initiator.specs.declared.seeker.Initiation.TheVariants.{Seeks}
 use Rattle.krb_initiator.specs.declared.seeker.InitPhase.{InitPhase}
-use Rattle.krb_initiator.specs.declared.seeker.InitPhase.TheVariants.{New, AwaitsError, AwaitsAsRep, AwaitsTgsRep}
+use Rattle.krb_initiator.specs.declared.seeker.InitPhase.TheVariants.{New, InAsExchange, AwaitsTgsRep}
 use Rattle.krb_initiator.specs.InitRuns.{Starts, Next, StartsAt, ResumesAt}
 use Rattle.krb_initiator.specs.InitSteps.{body_of}
 use Rattle.krb_initiator.specs.Tgts.{first_tickets}
@@ -97,10 +100,10 @@ own_url : (own : Option Parts) (realm : List ℕ) → url_for own realm realm �
 own_url own realm = ap (λ (b : Bool). if b then own else None) (same_octets realm)
 
 -- the second reply, and where it leads
-record IsGiven (seeker : Seeker) (suite : CipherSuite) (address : Address) (salt message : List ℕ) (rep : AsRep) (known : Known) (own : Draw)
+record IsGiven (seeker : Seeker) (suite : CipherSuite) (sealed : SealedTime) (message : List ℕ) (rep : AsRep) (known : Known) (own : Draw)
     (request : NetworkRequest) (state : GeneratorState NetworkRequest (Result InitDone Error)) (next : InitRun) : Type 0 where
-  grants : GrantsFirst seeker.asker suite address.protocol salt message rep known.key
-  leads : Next (Seeks seeker) (AwaitsAsRep address salt) (Ok message) own (Ok (Asks request (AwaitsTgsRep (leg seeker suite known rep.0.crealm 0))))
+  grants : GrantsFirst seeker.asker suite sealed.kdc.protocol sealed.salt message rep known.key
+  leads : Next (Seeks seeker) (InAsExchange (AwaitsAsRep sealed)) (Ok message) own (Ok (Asks request (AwaitsTgsRep (leg seeker suite known rep.0.crealm 0))))
   turned : IsTurned seeker (Ok (Asks request (AwaitsTgsRep (leg seeker suite known rep.0.crealm 0)))) state next
 
 module _ (seeker : Seeker) (pairs : List (List ℕ × Kdc)) (draws : Draws) (service_key : List ℕ) (user : UserName) (c : CanFetch seeker pairs draws service_key user)
@@ -119,6 +122,9 @@ module _ (seeker : Seeker) (pairs : List (List ℕ × Kdc)) (draws : Draws) (ser
 
   abbrev salt : List ℕ
   salt = unwrap_or c.has.client.salt (default_salt seeker.asker.credentials)
+
+  abbrev sealed : SealedTime
+  sealed = sealed_time seeker.asker address salt c.client.key
 
   abbrev plain_message : List ℕ
   plain_message = spelling as_req_layout (as_req_with plain_pa_datas body)
@@ -248,30 +254,30 @@ module _ (seeker : Seeker) (pairs : List (List ℕ × Kdc)) (draws : Draws) (ser
         (Ok (Asks (second_request suite c.has.client.key draws.second address body) (AwaitsAsRep address salt)))
     asks_again = asks_second seeker suite address body (record { reply = error_message suite; draw = draws.second }) salt c.has.client.key error_is c.has.keyed
 
-    first_turn : run.phase ≡ AwaitsError address body → (reply : Result (List ℕ) NetFault) → AnswersWith kdc (with_length plain_message) (of_kdcs draws) reply
+    first_turn : run.phase ≡ InAsExchange (AwaitsError address body) → (reply : Result (List ℕ) NetFault) → AnswersWith kdc (with_length plain_message) (of_kdcs draws) reply
         → ResumesAt run reply draws.second state next → Runs seeker out run' net' wanting state next after owns
         → IsTurned seeker (Ok (Asks (second_request suite c.has.client.key draws.second address body) (AwaitsAsRep address salt))) state next
     first_turn phase (Err fault) answers resumes ends =
         absurd (no_memory seeker out run' net' wanting run next fault draws.second state after owns is answers resumes
-        (subst (λ (p : InitPhase). Next (Seeks seeker) p (Err OutOfMemory) draws.second (Err Memory)) (sym phase) (second_wants seeker address body draws.second)) ends)
+        (subst (λ (p : InitPhase). Next (Seeks seeker) p (Err OutOfMemory) draws.second (Err Memory)) (sym phase) (as_wants seeker (AwaitsError address body) draws.second)) ends)
     first_turn phase (Ok reply) answers resumes ends =
         resumed seeker out run' net' wanting run next (Ok (error_message suite)) draws.second state _ after owns is
         (subst (λ (r : List ℕ). ResumesAt run (Ok r) draws.second state next) (error_replied reply answers.0) resumes)
         (subst (λ (p : InitPhase). Next (Seeks seeker) p (Ok (error_message suite)) draws.second
         (Ok (Asks (second_request suite c.has.client.key draws.second address body) (AwaitsAsRep address salt)))) (sym phase) asks_again) ends
 
-    second_turn : run.phase ≡ AwaitsAsRep address salt → (reply : Result (List ℕ) NetFault) → AnswersWith kdc (with_length (timed_message suite)) (draws.first ∷ draws.rest) reply
+    second_turn : run.phase ≡ InAsExchange (AwaitsAsRep sealed) → (reply : Result (List ℕ) NetFault) → AnswersWith kdc (with_length (timed_message suite)) (draws.first ∷ draws.rest) reply
         → ResumesAt run reply draws.third state next → Runs seeker out run' net' wanting state next after owns
-        → IsGiven seeker suite address salt (rep_message suite) (rep_in suite) known draws.third tgs_request_first state next
+        → IsGiven seeker suite sealed (rep_message suite) (rep_in suite) known draws.third tgs_request_first state next
     unfolding as_rep
     second_turn phase (Err fault) answers resumes ends =
         absurd (no_memory seeker out run' net' wanting run next fault draws.third state after owns is answers resumes
-        (subst (λ (p : InitPhase). Next (Seeks seeker) p (Err OutOfMemory) draws.third (Err Memory)) (sym phase) (first_wants seeker address.protocol salt draws.third)) ends)
+        (subst (λ (p : InitPhase). Next (Seeks seeker) p (Err OutOfMemory) draws.third (Err Memory)) (sym phase) (as_wants seeker (AwaitsAsRep sealed) draws.third)) ends)
     second_turn phase (Ok reply) answers resumes ends =
         let reply_is : reply ≡ rep_message suite = rep_replied suite c.stands.suite_is reply c.sizes.again answers.0 in
         let granted : GrantsFirst seeker.asker suite address.protocol salt (rep_message suite) (rep_in suite) known.key = first_grants (subst IsOctets reply_is answers.1) in
         let step : Step = record { reply = rep_message suite; draw = draws.third } in
-        let taken : Next (Seeks seeker) (AwaitsAsRep address salt) (Ok (rep_message suite)) draws.third
+        let taken : Next (Seeks seeker) (InAsExchange (AwaitsAsRep sealed)) (Ok (rep_message suite)) draws.third
         (Ok (Asks tgs_request_first (AwaitsTgsRep (leg seeker suite known kdc.realm 0)))) =
         subst (λ (tickets : Option (List Ticket)). Next (Seeks seeker) (AwaitsAsRep address salt) (Ok (rep_message suite)) draws.third
         (Ok (Asks (tgs_request seeker.wanted (shown_of suite held) tickets draws.third address) (AwaitsTgsRep (leg seeker suite known kdc.realm 0))))) (ap first_tickets c.asks.without_tgt)
@@ -290,10 +296,10 @@ module _ (seeker : Seeker) (pairs : List (List ℕ × Kdc)) (draws : Draws) (ser
       → Resolves StartsAt ResumesAt SendsTo run net (of_client draws) out run' net' → HasFetched context seeker draws.start service_key user out
   unfolding as_rep
   fetched context role run net is phase p q resolves =
-      let began : Starts (Seeks seeker) New draws.start (Ok (Asks (first_request address body) (AwaitsError address body))) =
+      let began : Starts (Seeks seeker) New draws.start (Ok (Asks (first_request address body) (InAsExchange (AwaitsError address body)))) =
       starts seeker suite address draws.start c.stands.found in
       let start_turn = started seeker out run' net' wanting run resolves.1 draws.start resolves.0 _ net (draws.second ∷ draws.third ∷ draws.owns) is resolves.2
-      (subst (λ (p : InitPhase). Starts (Seeks seeker) p draws.start (Ok (Asks (first_request address body) (AwaitsError address body)))) (sym phase) began) resolves.3 in
+      (subst (λ (p : InitPhase). Starts (Seeks seeker) p draws.start (Ok (Asks (first_request address body) (InAsExchange (AwaitsError address body))))) (sym phase) began) resolves.3 in
       let one : Runs seeker out run' net' wanting (Suspended (first_request address body)) resolves.1 net (draws.second ∷ draws.third ∷ draws.owns) =
       subst (λ (s : GeneratorState NetworkRequest (Result InitDone Error)). Runs seeker out run' net' wanting s resolves.1 net (draws.second ∷ draws.third ∷ draws.owns))
       start_turn.state_is resolves.3 in
@@ -333,7 +339,7 @@ module _ (seeker : Seeker) (pairs : List (List ℕ × Kdc)) (draws : Draws) (ser
       ends_with_offer seeker suite service_key draws.start all comes.rep comes.part honest c.asks.asks_mutual comes.last_is context role in
       let fetches : Fetches seeker draws.start all comes.done = record {
         request = first_request address body;
-        phase = AwaitsError address body;
+        phase = InAsExchange (AwaitsError address body);
         starts = began;
         leads = (
           second_request suite c.has.client.key draws.second address body,

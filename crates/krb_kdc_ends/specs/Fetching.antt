@@ -28,7 +28,7 @@ use Rattle.krb_requests.specs.Pieces.{spelling, principal as name_with}
 use Rattle.krb_as.specs.declared.asker.Asker.{Asker}
 use Rattle.krb_as.specs.declared.done.InitDone.{InitDone}
 use Rattle.krb_as.specs.Askers.{asker_suite, default_salt, sized_key}
-use Rattle.krb_tgs.specs.declared.wanted.Shown.{Shown}
+use Rattle.krb_as.specs.declared.key.Grant.{Grant as Shown}
 use Rattle.krb_tgs.specs.declared.wanted.Wanted.{Wanted}
 use Rattle.krb_tgs.specs.TgsAsked.{url_for, is_same_realm, parts_of, wanted_body, tgs_req_for}
 use Rattle.krb_initiator.specs.declared.seeker.Seeker.{Seeker}

@@ -30,9 +30,8 @@ ghost use Rattle.krb_kdc_ends.specs.Asking.{AsksFirst, AreNear, IsFairSkew, clie
 ghost use Rattle.sspi_core.specs.declared.protocol.NetworkProtocol.TheVariants.{Tcp};
 ghost use Rattle.krb_as.specs.declared.asker.Asker.{Asker};
 ghost use Rattle.krb_crypto.specs.Suite.{key_size};
-ghost use Rattle.krb_as.specs.ReplyKeys.{client_key};
 ghost use Rattle.krb_kdc.specs.declared.grant.Grant.{Grant};
-ghost use Rattle.krb_as.specs.Askers.{default_salt};
+ghost use Rattle.krb_as.specs.Askers.{client_key, default_salt};
 ghost use Rattle.krb_ends.specs.Answers.{IsDraw, AdmitsOnly, AreNew, EndsWellIn};
 ghost use Rattle.krb_ends.specs.HonestKdc.{AnswersError, GrantsFirst, Known, HasKdc, Refers, Serves, service_of};
 ghost use Rattle.krb_kdc_ends.specs.Granting.{IsSoundGrant, IsSoundClient};

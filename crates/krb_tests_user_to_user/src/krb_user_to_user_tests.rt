@@ -83,7 +83,7 @@ fn user_of(alloc: Global, row: &Request) -> Result<CredentialsBuffers, Fail> {
     }
 }
 
-fn cause_of(answer: Result<AcceptRun, Error>) -> Option<Cause> {
+fn cause_of(answer: &Result<AcceptRun, Error>) -> Option<Cause> {
     match answer {
         Ok(_) => None,
         Err(error) => Some(error.cause),
@@ -99,7 +99,7 @@ fn refusal_for(
 ) -> Result<Option<Cause>, Fail> {
     let tgt_req = tgt_req_of(alloc, row.tgt_req)?;
     let (flags, env) = (flags_of(false), Env::new(alloc));
-    Ok(cause_of(request_tgt(alloc, server, user, &tgt_req, flags, &env)))
+    Ok(cause_of(&request_tgt(alloc, server, user, &tgt_req, flags, &env)))
 }
 
 fn refusal_at(alloc: Global, server: &Kerberos, row: &Request) -> Result<Option<Cause>, Fail> {
