@@ -1,6 +1,6 @@
 -- The refusal that asks for pre-authentication is an honest KDC's error.
-use Rattle.std.proofs.Common.{◌≡◌, ℕ, ◌+◌, ◌%◌, ◌/◌, ◌<◌, ◌≤◌, ◌^◌, pos, Bool, true, false, List, [], ◌∷◌, length, Option, Some, None, IfSome, refl, arith, lit<, lit≤, nat_lt, Ok}
-use Rattle.std.specs.Prelude.{codes, nat_le, unwrap_or, ◌&&◌}
+use Rattle.std.proofs.Common.{◌≡◌, ℕ, ◌+◌, ◌%◌, ◌/◌, ◌<◌, ◌≤◌, ◌^◌, pos, true, List, [], ◌∷◌, length, Option, Some, None, IfSome, refl, arith, lit<, lit≤, nat_lt, Ok}
+use Rattle.std.specs.Prelude.{codes, nat_le, unwrap_or}
 use Rattle.std.specs.Int.{w32, to_be_bytes}
 use Rattle.std.specs.Option.{option_map_or}
 use Rattle.std.proofs.lemmas.Bool.{le-leb, leb-true, ltb-true}
@@ -13,7 +13,6 @@ use Rattle.krb_der.specs.Schema.{IsSound, is_ascii}
 use Rattle.krb_der.specs.Layout.{items_layout}
 use Rattle.krb_crypto.specs.Suite.{suite_number}
 use Rattle.krb_crypto.specs.declared.suite.CipherSuite.{CipherSuite}
-use Rattle.krb_crypto.specs.declared.suite.CipherSuite.TheVariants.{Aes128CtsHmacSha196, Aes256CtsHmacSha196}
 use Rattle.krb_messages.specs.Table.{principal_name}
 use Rattle.krb_messages.specs.Layouts.{principal_name_row, principal_name_layout}
 use Rattle.krb_messages.specs.Frame.{with_length}
@@ -30,6 +29,9 @@ use Rattle.krb_replies.specs.Salts.{NamesSalt}
 use Rattle.krb_as.specs.declared.asker.Asker.{Asker}
 use Rattle.krb_as.specs.Askers.{default_salt}
 use Rattle.krb_requests.specs.Pieces.{spelling, principal}
+use Rattle.krb_ends.proofs.HonestLemmas.{spells_itself}
+use Rattle.krb_ends.proofs.RepLemmas.{short-number}
+use Rattle.krb_kdc.proofs.Found.{and_first, and_second}
 use Rattle.krb_kdc.specs.Fitting.{IsShortSalt}
 use Rattle.krb_kdc.specs.Refusals.{etype_info2, hint, krb_error, refusal}
 use Rattle.krb_kdc.specs.Requests.{granting}
@@ -37,7 +39,6 @@ use Rattle.krb_kdc.proofs.Lengths.{time_short}
 use Rattle.krb_kdc.proofs.RefusalLengths.{entry}
 use Rattle.krb_ends.specs.HonestKdc.{AnswersError}
 use Rattle.krb_kdc_ends.specs.Granting.{AreAscii}
-use Rattle.krb_kdc_ends.proofs.AsLemmas.{spells_itself}
 use Rattle.krb_ends.proofs.OctetsLemmas.{IsShort, IsOctets-time, short-nothing, short-append, short-tlv, short-field, short-more, short-word}
 
 -- a message behind its length comes over TCP
@@ -50,27 +51,12 @@ unwraps_tcp message short =
     (follows _ _ tt _ (holds_true ReplyShort (nat_le 4 (length reply)) (le-leb 4 (length reply) (omega arith)))
     (follows _ _ tt _ (holds_true Shape (nat_le (length reply) 16777216) (le-leb (length reply) 16777216 (omega (arith, short)))) (record { is = refl }))))
 
-pub and_first : (x y : Bool) → (x && y) ≡ true → x ≡ true
-and_first true y e = refl
-and_first false y e = absurd cc
-
-pub and_second : (x y : Bool) → (x && y) ≡ true → y ≡ true
-and_second true y e = e
-and_second false y e = absurd cc
-
 -- ASCII octets are octets
 pub ascii_octets : (text : List ℕ) → is_ascii text ≡ true → IsOctets text
 ascii_octets [] e = none_octets
 ascii_octets (x ∷ text) e =
     let small : x < 128 = ltb-true x 128 (and_first (nat_lt x 128) (is_ascii text) e) in
     more_octets x text (omega (arith, small)) (ascii_octets text (and_second (nat_lt x 128) (is_ascii text) e))
-
-pub number_small : (suite : CipherSuite) → suite_number suite < 256
-number_small Aes128CtsHmacSha196 = lit< tt
-number_small Aes256CtsHmacSha196 = lit< tt
-
-pub short-number : (suite : CipherSuite) → IsShort 1 (suite_number suite ∷ [])
-short-number suite = record { octets = more_octets (suite_number suite) [] (number_small suite) none_octets; short = lit≤ tt }
 
 pub short-octet : (octet : ℕ) → octet < 256 → IsShort 1 (octet ∷ [])
 short-octet octet small = record { octets = more_octets octet [] small none_octets; short = lit≤ tt }

@@ -24,9 +24,9 @@ use Rattle.krb_kdc.specs.Fitting.{are_ascii, is_ascii_salt}
 use Rattle.krb_kdc.specs.Registers.{principal_with, route_to}
 use Rattle.krb_kdc.specs.TgsChecks.{served as served_by, routed, target_of}
 use Rattle.krb_kdc.proofs.AsciiLemmas.{named_ascii, routed_ascii}
-use Rattle.krb_kdc.proofs.Found.{principal_found, salt_ascii, salt_of}
+use Rattle.krb_kdc.proofs.Found.{principal_found, salt_ascii, salt_of, and_first, and_second}
 use Rattle.krb_kdc_ends.specs.Granting.{AreAscii}
-use Rattle.krb_kdc_ends.proofs.ErrorLemmas.{and_first, and_second, ascii_octets, short-octet}
+use Rattle.krb_kdc_ends.proofs.ErrorLemmas.{ascii_octets, short-octet}
 
 abbrev pub AreNames : List (List ℕ) → Type 0
 AreNames components = AllByRecursion (λ component. is_ascii component ≡ true) components

@@ -24,11 +24,11 @@ use Rattle.krb_tgs.specs.TgsAsked.{is_same_realm}
 use Rattle.krb_ends.specs.Answers.{IsDraw}
 use Rattle.krb_ends.specs.HonestKdc.{Known, GrantsNext, HasKdc, Refers, Serves, service_of}
 use Rattle.krb_ends.proofs.OctetsLemmas.{IsShort, IsOctets-back, short-nothing, short-append, short-tlv, short-field, short-more}
+use Rattle.krb_ends.proofs.HonestLemmas.{spells_itself}
 use Rattle.krb_kdc.specs.declared.grant.Grant.{Grant}
 use Rattle.krb_kdc.specs.Grants.{drawn_key, reply_confounder, reply_part, ticket_part, ticket, tgs_rep}
 use Rattle.krb_kdc.specs.Requests.{granting}
 use Rattle.krb_kdc_ends.specs.Granting.{IsSoundGrant, IsSoundClient}
-use Rattle.krb_kdc_ends.proofs.AsLemmas.{spells_itself}
 use Rattle.krb_kdc_ends.proofs.ErrorLemmas.{unwraps_tcp, ascii_octets, short-octet}
 use Rattle.krb_kdc_ends.proofs.RepLemmas.{short-time, data_sound, confounder_size, confounder_octets, drawn_fits, now_is_time, short-key, short-flags, ticket_sound}
 use Rattle.krb_kdc_ends.proofs.TicketLemmas.{is_service_ticket}

@@ -1,9 +1,9 @@
 -- The AS-REP of a KDC is an honest one.
-use Rattle.std.proofs.Common.{◌≡◌, ℕ, zero, suc, ◌+◌, ◌/◌, ◌<◌, ◌≤◌, ◌^◌, ℤ, pos, List, [], ◌∷◌, length, take, drop, replicate, None, refl, sym, subst, ap, ◌∙◌, arith, lit<, lit≤, Ok, length-drop}
+use Rattle.std.proofs.Common.{◌≡◌, ℕ, ◌+◌, ◌/◌, ◌<◌, ◌≤◌, ◌^◌, ℤ, pos, List, [], ◌∷◌, length, take, drop, replicate, None, refl, sym, subst, ap, ◌∙◌, arith, lit<, lit≤, Ok, length-drop}
 use Rattle.std.proofs.lemmas.List.{length-take}
 use Rattle.std.proofs.lemmas.Int.{ints}
 use Rattle.krb_aes.specs.Octets.{IsOctets}
-use Rattle.krb_aes.proofs.InjectiveLemmas.{none_octets, more_octets, rest_octets, IsOctets-append}
+use Rattle.krb_aes.proofs.InjectiveLemmas.{none_octets, more_octets, IsOctets-append}
 use Rattle.krb_der.specs.Der.{tlv}
 use Rattle.krb_der.specs.Moment.{IsTime, time_octets}
 use Rattle.krb_der.specs.Schema.{IsSound}
@@ -27,20 +27,17 @@ use Rattle.krb_replies.specs.Salts.{TellsEtype}
 use Rattle.krb_as.specs.declared.asker.Asker.{Asker}
 use Rattle.krb_as.specs.Askers.{client_key}
 use Rattle.krb_requests.specs.Pieces.{spelling, sealed_data, encryption_key}
+use Rattle.krb_ends.proofs.HonestLemmas.{spells_itself, suite_of-number}
+use Rattle.krb_ends.proofs.RepLemmas.{short-number}
+use Rattle.krb_crypto.proofs.CtsInjective.{IsOctets-take}
 use Rattle.krb_kdc.specs.declared.grant.Grant.{Grant}
 use Rattle.krb_kdc.specs.Grants.{drawn_key, reply_confounder, reply_part, ticket, as_rep}
 use Rattle.krb_kdc.proofs.Lengths.{time_short}
 use Rattle.krb_ends.specs.Answers.{IsDraw}
 use Rattle.krb_ends.specs.HonestKdc.{GrantsFirst}
 use Rattle.krb_kdc_ends.specs.Granting.{IsSoundGrant}
-use Rattle.krb_kdc_ends.proofs.AsLemmas.{spells_itself, suite_of-number}
-use Rattle.krb_kdc_ends.proofs.ErrorLemmas.{unwraps_tcp, ascii_octets, short-number, short-octet}
+use Rattle.krb_kdc_ends.proofs.ErrorLemmas.{unwraps_tcp, ascii_octets, short-octet}
 use Rattle.krb_ends.proofs.OctetsLemmas.{IsShort, IsOctets-back, IsOctets-drop, IsOctets-time, short-nothing, short-append, short-tlv, short-field, short-more}
-
-pub IsOctets-take : (n : ℕ) (xs : List ℕ) → IsOctets xs → IsOctets (take n xs)
-IsOctets-take zero xs h = none_octets
-IsOctets-take (suc n) [] h = none_octets
-IsOctets-take (suc n) (x ∷ xs) h = more_octets x (take n xs) (h.below 0) (IsOctets-take n xs (rest_octets x xs h))
 
 pub size_le : (suite : CipherSuite) → key_size suite ≤ 32
 size_le Aes128CtsHmacSha196 = lit≤ tt

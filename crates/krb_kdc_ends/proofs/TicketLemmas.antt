@@ -23,6 +23,7 @@ use Rattle.krb_tgs.specs.TgsAsked.{is_same_realm}
 use Rattle.krb_ends.specs.Answers.{IsDraw}
 use Rattle.krb_ends.specs.Offers.{Carries, IsServiceTicket}
 use Rattle.krb_ends.proofs.OctetsLemmas.{IsShort, IsOctets-drop, short-nothing, short-append, short-tlv, short-field, short-more}
+use Rattle.krb_ends.proofs.HonestLemmas.{spells_itself, suite_of-number, same_octets}
 use Rattle.krb_kdc.specs.declared.grant.Grant.{Grant}
 use Rattle.krb_kdc.specs.declared.kdc.Kdc.{Kdc}
 use Rattle.krb_kdc.specs.declared.kdc.Trust.{Trust}
@@ -34,7 +35,7 @@ use Rattle.krb_kdc.specs.TgsChecks.{trust_key, key_from, ticket_key}
 use Rattle.krb_kdc.proofs.AsciiLemmas.{same_is}
 use Rattle.krb_kdc_ends.specs.Granting.{IsSoundClient}
 use Rattle.krb_kdc_ends.specs.Showing.{Opens}
-use Rattle.krb_kdc_ends.proofs.AsLemmas.{spells_itself, suite_of-number, same_octets, granting_is}
+use Rattle.krb_kdc_ends.proofs.AsLemmas.{granting_is}
 use Rattle.krb_kdc_ends.proofs.ErrorLemmas.{ascii_octets, short-octet}
 use Rattle.krb_kdc_ends.proofs.RepLemmas.{size_le, short-time, drawn_fits, now_is_time, short-key, short-flags}
 

@@ -58,6 +58,7 @@ use Rattle.krb_ends.specs.Fetches.{Fetches, EndsWithOffer}
 use Rattle.krb_ends.specs.HonestKdc.{AnswersError, GrantsFirst, Known, HasKdc, Step, Answers as AllAnswers, AreHonestKdcs}
 use Rattle.krb_ends.proofs.FetchLemmas.{leg, starts, asks_second, takes_first, ends_with_offer}
 use Rattle.krb_ends.proofs.OneEndLemmas.{one_end}
+use Rattle.krb_ends.proofs.HonestLemmas.{same_octets}
 use Rattle.krb_kdc.specs.declared.grant.Grant.{Grant}
 use Rattle.krb_kdc.specs.declared.kdc.Kdc.{Kdc}
 use Rattle.krb_kdc.specs.Answering.{Answers}
@@ -69,7 +70,7 @@ use Rattle.krb_kdc.proofs.Found.{principal_found, key_of}
 use Rattle.krb_kdc_ends.specs.Asking.{AsksFirst}
 use Rattle.krb_kdc_ends.specs.Fetching.{IsTimely, Held, shown_of, name_of, first_granted, held_first, Draws, of_client, of_kdcs, CanFetch, HasFetched, SendsTo}
 use Rattle.krb_kdc_ends.specs.Granting.{AreAscii, IsSoundGrant}
-use Rattle.krb_kdc_ends.proofs.AsLemmas.{same_octets, name_short, asked_for_key, granted_ticket}
+use Rattle.krb_kdc_ends.proofs.AsLemmas.{name_short, asked_for_key, granted_ticket}
 use Rattle.krb_kdc_ends.proofs.ErrorLemmas.{answers_error}
 use Rattle.krb_kdc_ends.proofs.FirstLemmas.{asks_first}
 use Rattle.krb_kdc_ends.proofs.FirstGrantLemmas.{first_sound, first_held}
@@ -91,6 +92,9 @@ if_some false x y e = absurd cc
 key_is_its : (suite : CipherSuite) (salt key : List ℕ) (credentials : CredentialsBuffers) → key_for suite salt credentials ≡ Some key → client_key suite salt credentials ≡ key
 key_is_its suite salt key (Password identity) e = some_is (password_key suite identity.password salt) key e
 key_is_its suite salt key (Key identity) e = if_some (length identity.key == key_size suite) identity.key key e
+
+ended_so : (out : Result InitDone Error) (one other : InitDone) → out ≡ Ok one → one ≡ other → out ≡ Ok other
+ended_so out one other is same = is ∙ ap Ok same
 
 own_url : (own : Option Parts) (realm : List ℕ) → url_for own realm realm ≡ own
 own_url own realm = ap (λ (b : Bool). if b then own else None) (same_octets realm)
@@ -353,5 +357,5 @@ module _ (seeker : Seeker) (pairs : List (List ℕ × Kdc)) (draws : Draws) (ser
             subst (λ (r : List ℕ). client_of comes.part.cname r ≡ Some user) (sym comes.crealm_is)
             (subst (λ (n : PrincipalName). client_of n kdc.realm ≡ Some user) (sym comes.cname_is) c.has.user_named);
         end = end;
-        out_is = comes.out_is ∙ ap Ok (one_end seeker draws.start all comes.done end.done fetches end.fetches);
+        out_is = ended_so out comes.done end.done comes.out_is (one_end seeker draws.start all comes.done end.done fetches end.fetches);
       }
