@@ -5,7 +5,7 @@ use Rattle.krb_der.proofs.Records.{one_spelling_lem}
 use Rattle.krb_messages.specs.Layouts.{ap_req_layout, enc_ticket_part_layout, authenticator_layout, ap_rep_layout, enc_ap_rep_part_layout}
 use Rattle.krb_messages.specs.declared.ap_rep.ApRep.{ApRep}
 use Rattle.krb_context.specs.Params.{suite_of}
-use Rattle.krb_admission.specs.declared.admission.Accepted.{Accepted}
+use Rattle.krb_admission.specs.declared.admission.Answer.{Answer}
 use Rattle.krb_messages.specs.declared.ap_req.ApReq.{ApReq}
 use Rattle.krb_messages.specs.declared.enc_ticket_part.EncTicketPart.{EncTicketPart}
 use Rattle.krb_messages.specs.declared.encryption.EncryptedData.{EncryptedData}
@@ -115,12 +115,12 @@ pub last_word_once : (server : Kerberos) (token : List ℕ) → Once (IsLastWord
 unfolding IsLastWord
 last_word_once server token = then_once _ _ (takes_once _ _) (λ _. then_once _ _ (tells_last_once server token) (λ _. holds_once _ _))
 
-closes_once : (server : Kerberos) (o : Result (Unit {0}) Cause) (r s : Result Accepted Cause) (a b : Kerberos) → Closes server o r a → Closes server o s b → (r ≡ s) × (a ≡ b)
+closes_once : (server : Kerberos) (o : Result (Unit {0}) Cause) (r s : Result Answer Cause) (a b : Kerberos) → Closes server o r a → Closes server o s b → (r ≡ s) × (a ≡ b)
 closes_once server (Ok _) r s a b h k = (h.0 ∙ sym k.0, h.1 ∙ sym k.1)
 closes_once server (Err cause) r s a b h k = (h.0 ∙ sym k.0, h.1 ∙ sym k.1)
 
 -- each token has one answer where the last word is awaited
-pub concludes_once : (server : Kerberos) (token : List ℕ) (r s : Result Accepted Cause) (a b : Kerberos) → Concludes server token r a → Concludes server token s b → (r ≡ s) × (a ≡ b)
+pub concludes_once : (server : Kerberos) (token : List ℕ) (r s : Result Answer Cause) (a b : Kerberos) → Concludes server token r a → Concludes server token s b → (r ≡ s) × (a ≡ b)
 concludes_once server token r s a b h k =
     let C : Result (Unit {0}) Cause → Type 0 = λ o. Closes server o s b in
     let e = (last_word_once server token).same h.outcome k.outcome h.judged k.judged in

@@ -12,7 +12,7 @@ use Rattle.krb_replay.specs.declared.ask.Verdict.TheVariants.{Admitted}
 use Rattle.krb_context.specs.declared.context.Kerberos.{Kerberos}
 use Rattle.krb_admission.specs.declared.request.Request.{Request}
 use Rattle.krb_admission.specs.declared.admission.Admission.{Admission}
-use Rattle.krb_admission.specs.declared.admission.Accepted.{Accepted}
+use Rattle.krb_admission.specs.declared.admission.Answer.{Answer}
 use Rattle.krb_admission.specs.Requests.{ask_of}
 use Rattle.krb_admission.specs.Complete.{Completes}
 use Rattle.krb_admission.specs.Accepts.{Begins, Finishes, Judged, Accepts, Makes, Ends, awaits_last_word, refusal}
@@ -55,12 +55,12 @@ waits server dce token request h = waits_at dce server.state request h.middle _ 
 
 module _ {G : Type 0} (admits : G → Ask → Verdict → G → Type 0) (server : Kerberos) (dce : Bool) (token : List ℕ) (draw : Draw) (old : G) where
   -- what is made of an AP-REQ
-  ends : (outcome : Result Admission Cause) (answer : Result Accepted Cause) (server' : Kerberos) → awaits_last_word dce server.state ≡ false → Makes server outcome answer server'
+  ends : (outcome : Result Admission Cause) (answer : Result Answer Cause) (server' : Kerberos) → awaits_last_word dce server.state ≡ false → Makes server outcome answer server'
       → Ends (awaits_last_word dce server.state) server token outcome answer server'
   ends outcome answer server' last made = subst (λ (b : Bool). Ends b server token outcome answer server') (sym last) made
 
   -- the last word, at which no gate is asked
-  pub last_word : (answer : Result Accepted Cause) (server' : Kerberos) → awaits_last_word dce server.state ≡ true → Concludes server token answer server' → Accepts admits server dce token draw old answer server' old
+  pub last_word : (answer : Result Answer Cause) (server' : Kerberos) → awaits_last_word dce server.state ≡ true → Concludes server token answer server' → Accepts admits server dce token draw old answer server' old
   unfolding Judged Begins
   last_word answer server' last concludes =
       let begun : Begins server dce token (Err Sequence) = halts _ _ Sequence _ (record { is = rw (not_waiting dce server.state last) refl }) refl in record {
@@ -73,7 +73,7 @@ module _ {G : Type 0} (admits : G → Ask → Verdict → G → Type 0) (server 
         made = subst (λ (b : Bool). Ends b server token (Err Sequence) answer server') (sym last) concludes;
       }
 
-  pub refused_before : (e : Cause) (answer : Result Accepted Cause) → awaits_last_word dce server.state ≡ false → Answers (Begins server dce token) (Err e) → IsErrAnd answer (λ d. d ≡ e) → (answer ≡ Err Memory → ⊥) → Accepts admits server dce token draw old answer server old
+  pub refused_before : (e : Cause) (answer : Result Answer Cause) → awaits_last_word dce server.state ≡ false → Answers (Begins server dce token) (Err e) → IsErrAnd answer (λ d. d ≡ e) → (answer ≡ Err Memory → ⊥) → Accepts admits server dce token draw old answer server old
   unfolding Judged
   refused_before e answer last h is ne =
       let begun : Begins server dce token (Err e) = h.so (λ z. ne (is_err answer e is ∙ ap Err (same_err {A = Request} e Memory z))) in record {
@@ -87,7 +87,7 @@ module _ {G : Type 0} (admits : G → Ask → Verdict → G → Type 0) (server 
       }
 
   -- a request that came to the gate: what is judged behind the gate's verdict, and what is made of it
-  pub answered_at_gate : (request : Request) (ask : Ask) (verdict : Verdict) (new : G) (outcome : Result Admission Cause) (answer : Result Accepted Cause) (server' : Kerberos)
+  pub answered_at_gate : (request : Request) (ask : Ask) (verdict : Verdict) (new : G) (outcome : Result Admission Cause) (answer : Result Answer Cause) (server' : Kerberos)
       → awaits_last_word dce server.state ≡ false → Answers (Begins server dce token) (Ok request) → ask ≡ ask_of request draw.moment → admits old ask verdict new
       → (Passes (refusal verdict) >> Finishes server dce draw request) outcome → Makes server outcome answer server' → Accepts admits server dce token draw old answer server' new
   unfolding Judged
@@ -103,7 +103,7 @@ module _ {G : Type 0} (admits : G → Ask → Verdict → G → Type 0) (server 
       }
 
   -- an AP-REQ that passes every check is accepted
-  pub completed : (new : G) (answer : Result Accepted Cause) (server' : Kerberos) (admission : Admission) (step : Accepts admits server dce token draw old answer server' new) → step.verdict ≡ Admitted → Judged server dce token draw Admitted (Ok admission)
+  pub completed : (new : G) (answer : Result Answer Cause) (server' : Kerberos) (admission : Admission) (step : Accepts admits server dce token draw old answer server' new) → step.verdict ≡ Admitted → Judged server dce token draw Admitted (Ok admission)
       → Makes server (Ok admission) answer server'
   unfolding Judged
   completed new answer server' admission step admits_it passes =

@@ -15,10 +15,10 @@ use Rattle.sspi_core.specs.declared.cause.Cause.TheVariants.{Sequence, Skew, Not
 use Rattle.sspi_core.specs.Checks.{Holds, Takes, Passes, Gives, ◌>>=◌, ◌>>◌}
 use Rattle.krb_admission.specs.declared.request.Request.{Request}
 use Rattle.krb_admission.specs.declared.admission.Admission.{Admission}
-use Rattle.krb_admission.specs.declared.admission.Accepted.{Accepted}
+use Rattle.krb_admission.specs.declared.admission.Answer.{Answer}
 use Rattle.krb_admission.specs.Requests.{Requests, ask_of}
 use Rattle.krb_admission.specs.Complete.{Completes}
-use Rattle.krb_admission.specs.Admission.{admission_of, accepted_of, settled}
+use Rattle.krb_admission.specs.Admission.{admission_of, answer_for, settled}
 use Rattle.krb_admission.specs.ThirdLeg.{Concludes}
 
 -- the caller asks for bare tokens, of which the initiator sends the last: DCE style (MS-KILE, section 3.4.5.1)
@@ -66,19 +66,19 @@ Asks admits moment old (Ok request) verdict new = admits old (ask_of request mom
 Asks admits moment old (Err cause) verdict new = new ≡ old
 
 -- what the caller gets for an AP-REQ, and the context afterwards: a refusal leaves it
-abbrev pub Makes : Kerberos → Result Admission Cause → Result Accepted Cause → Kerberos → Type 0
-Makes server (Ok admission) answer server' = (answer ≡ Ok (accepted_of admission)) × (server' ≡ settled server admission)
+abbrev pub Makes : Kerberos → Result Admission Cause → Result Answer Cause → Kerberos → Type 0
+Makes server (Ok admission) answer server' = (answer ≡ Ok (answer_for admission)) × (server' ≡ settled server admission)
 Makes server (Err cause) answer server' = (answer ≡ Err cause) × (server' ≡ server)
 
 -- the last word where it is awaited, and else the outcome of an AP-REQ
-abbrev pub Ends : Bool → Kerberos → List ℕ → Result Admission Cause → Result Accepted Cause → Kerberos → Type 0
+abbrev pub Ends : Bool → Kerberos → List ℕ → Result Admission Cause → Result Answer Cause → Kerberos → Type 0
 Ends true server token outcome answer server' = Concludes server token answer server'
 Ends false server token outcome answer server' = Makes server outcome answer server'
 
 -- a token at an acceptor, over any gate. Where the last word is awaited no AP-REQ may come: the checks of one end at the
 -- first of them, so that the gate is not asked
 pub record Accepts {G : Type 0} (admits : G → Ask → Verdict → G → Type 0) (server : Kerberos) (dce : Bool) (token : List ℕ) (draw : Draw)
-    (old : G) (answer : Result Accepted Cause) (server' : Kerberos) (new : G) : Type 0 where
+    (old : G) (answer : Result Answer Cause) (server' : Kerberos) (new : G) : Type 0 where
   pub verdict : Verdict
   pub request : Result Request Cause
   pub begun : Begins server dce token request

@@ -23,8 +23,7 @@ use Rattle.sspi_core.specs.declared.results.SecurityStatus.{SecurityStatus}
 use Rattle.sspi_core.specs.declared.results.SecurityStatus.TheVariants.{Ok as Complete, ContinueNeeded}
 use Rattle.krb_admission.specs.declared.request.Request.{Request}
 use Rattle.krb_admission.specs.declared.admission.Admission.{Admission}
-use Rattle.krb_admission.specs.declared.admission.Accepted.{Accepted}
-use Rattle.krb_admission.specs.declared.admission.Accepted.TheVariants.{Done}
+use Rattle.krb_admission.specs.declared.admission.Answer.{Answer}
 use Rattle.krb_replies.specs.Unseals.{suite_of}
 use Rattle.krb_admission.specs.Complete.{is_mutual}
 
@@ -144,8 +143,8 @@ status_in ApExchange = ContinueNeeded
 status_in Final = Complete
 
 -- a client is admitted
-abbrev pub accepted_of : Admission → Accepted
-accepted_of admission = Done (status_in admission.state) admission.token true
+abbrev pub answer_for : Admission → Answer
+answer_for admission = record { status = status_in admission.state; token = admission.token; admits = true }
 
 abbrev pub with_client : Option ServerProperties → UserName → Option ServerProperties
 with_client None client = None

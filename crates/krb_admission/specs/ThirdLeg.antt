@@ -9,8 +9,7 @@ use Rattle.krb_context.specs.declared.state.KerberosState.TheVariants.{Final}
 use Rattle.krb_replies.specs.Unseals.{IsRead}
 use Rattle.krb_replies.specs.Answered.{TellsNumber}
 use Rattle.krb_admission.specs.Admission.{number_after}
-use Rattle.krb_admission.specs.declared.admission.Accepted.{Accepted}
-use Rattle.krb_admission.specs.declared.admission.Accepted.TheVariants.{Done}
+use Rattle.krb_admission.specs.declared.admission.Answer.{Answer}
 use Rattle.sspi_core.specs.declared.results.SecurityStatus.TheVariants.{Ok as Complete}
 use Rattle.sspi_core.specs.declared.cause.Cause.{Cause}
 use Rattle.sspi_core.specs.declared.cause.Cause.TheVariants.{Sequence, Shape, Reply, Number}
@@ -41,13 +40,17 @@ IsLastWord server token = do
 abbrev pub concluded : Kerberos → Kerberos
 concluded server = record server { state = Final; encryption_params = record server.encryption_params { ec = 16 } }
 
+-- its answer: nothing goes back, and nobody is admitted anew
+abbrev pub last_answer : Answer
+last_answer = record { status = Complete; token = []; admits = false }
+
 -- what the caller gets, and the context afterwards: a refusal leaves it
-abbrev pub Closes : Kerberos → Result (Unit {0}) Cause → Result Accepted Cause → Kerberos → Type 0
-Closes server (Ok _) answer server' = (answer ≡ Ok (Done Complete [] false)) × (server' ≡ concluded server)
+abbrev pub Closes : Kerberos → Result (Unit {0}) Cause → Result Answer Cause → Kerberos → Type 0
+Closes server (Ok _) answer server' = (answer ≡ Ok last_answer) × (server' ≡ concluded server)
 Closes server (Err cause) answer server' = (answer ≡ Err cause) × (server' ≡ server)
 
 -- a token where the last word is awaited
-pub record Concludes (server : Kerberos) (token : List ℕ) (answer : Result Accepted Cause) (server' : Kerberos) : Type 0 where
+pub record Concludes (server : Kerberos) (token : List ℕ) (answer : Result Answer Cause) (server' : Kerberos) : Type 0 where
   pub outcome : Result (Unit {0}) Cause
   pub judged : IsLastWord server token outcome
   pub closes : Closes server outcome answer server'

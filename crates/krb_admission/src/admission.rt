@@ -3,7 +3,7 @@
 ghost use Rattle.std.specs.Prelude.{◌≡◌, ◌+◌, ◌<◌, ◌≤◌, ◌^◌, ◌%◌, option_map, length, IfOk};
 ghost use Rattle.krb_der.specs.Reading.{number_of};
 ghost use Rattle.krb_messages.specs.Oid.{contents_of};
-ghost use Rattle.krb_admission.specs.Admission.{framed, ap_rep_id, drawn_key, drawn_confounder, mechanism, reply_part, reply_message, token_with, state_behind, status_in, mutual_admission, subkey_suite, number_before, one_way_admission, admission_of, accepted_of, with_client, settled, IsAnswerable};
+ghost use Rattle.krb_admission.specs.Admission.{framed, ap_rep_id, drawn_key, drawn_confounder, mechanism, reply_part, reply_message, token_with, state_behind, status_in, mutual_admission, subkey_suite, number_before, one_way_admission, admission_of, answer_for, with_client, settled, IsAnswerable};
 
 use crate::ap_rep::{ap_rep_part, seal_ap_rep};
 use crate::complete::is_mutual;
@@ -17,17 +17,14 @@ use krb_replies::suite_of;
 use sspi_core::{Draw, Secret, SecurityStatus, Username};
 use std::alloc::Global;
 
-/// What an accepted token is answered by.
+/// What a token that passes its checks is answered by.
 #[derive(Drop)]
-pub enum Accepted {
-    /// It was an AP-REQ, or the initiator's last word.
-    Done {
-        status: SecurityStatus,
-        /// What goes back to the client; empty where it asked for nothing.
-        token: Octets,
-        /// Whether it was an AP-REQ: a client is admitted. The last word admits nobody anew.
-        admits: bool,
-    },
+pub struct Answer {
+    pub status: SecurityStatus,
+    /// What goes back to the client; empty where it asked for nothing.
+    pub token: Octets,
+    /// Whether it was an AP-REQ: a client is admitted. The last word admits nobody anew.
+    pub admits: bool,
 }
 
 /// What an admission brings to a context, ready before the gate is asked.
@@ -293,9 +290,9 @@ fn secret(key: Option<Octets>) -> Option<Secret<Octets>>
 
 /// Puts what an admission brings into the context. This cannot fail.
 #[tactic(auto, unfolding(crate::specs::Admission::settled))]
-pub(crate) fn settle(server: &mut Kerberos, admission: Admission) -> Accepted
+pub(crate) fn settle(server: &mut Kerberos, admission: Admission) -> Answer
     ensures server { server.new ≡ settled server.old admission }
-    ensures accepted { result ≡ accepted_of admission }
+    ensures answer { result ≡ answer_for admission }
 {
     let Admission {
         client,
@@ -314,7 +311,7 @@ pub(crate) fn settle(server: &mut Kerberos, admission: Admission) -> Accepted
     );
     server.seq_number = seq_number;
     put_client(&mut server.server, client);
-    Accepted::Done {
+    Answer {
         status: status_in(state),
         token,
         admits: true,

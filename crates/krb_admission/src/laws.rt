@@ -6,7 +6,7 @@ ghost use Rattle.sspi_core.specs.declared.draw.Draw.{Draw};
 ghost use Rattle.krb_replay.specs.declared.ask.Verdict.{Verdict};
 ghost use Rattle.krb_replay.specs.declared.ask.Verdict.TheVariants.{Admitted};
 ghost use Rattle.krb_context.specs.declared.context.Kerberos.{Kerberos};
-ghost use Rattle.krb_admission.specs.declared.admission.Accepted.{Accepted};
+ghost use Rattle.krb_admission.specs.declared.admission.Answer.{Answer};
 ghost use Rattle.krb_admission.specs.declared.admission.Admission.{Admission};
 ghost use Rattle.krb_admission.specs.Accepts.{Judged, Accepts, Makes};
 ghost use Rattle.krb_admission.specs.ThirdLeg.{Concludes};
@@ -22,13 +22,13 @@ pub fn one_outcome()
 
 /// An AP-REQ that passes every check, and that the gate admits, is accepted, and the context is settled.
 pub fn completeness<G: ReplayGate>()
-    ensures { (server server' : Kerberos) (dce : Bool) (token : List ℕ) (draw : Draw) (old new : G) (answer : Result Accepted Cause) (admission : Admission)
+    ensures { (server server' : Kerberos) (dce : Bool) (token : List ℕ) (draw : Draw) (old new : G) (answer : Result Answer Cause) (admission : Admission)
         → (step : Accepts G.admits server dce token draw old answer server' new) → step.verdict ≡ Admitted
         → Judged server dce token draw Admitted (Ok admission) → Makes server (Ok admission) answer server' }
 {}
 
 /// Each context and last word of an initiator has at most one answer, and one context afterwards.
 pub fn one_last_word()
-    ensures { (server : Kerberos) (token : List ℕ) (r s : Result Accepted Cause) (a b : Kerberos)
+    ensures { (server : Kerberos) (token : List ℕ) (r s : Result Answer Cause) (a b : Kerberos)
         → Concludes server token r a → Concludes server token s b → (r ≡ s) × (a ≡ b) }
 {}

@@ -1,6 +1,6 @@
 //! The third leg of DCE style: the initiator's last word, an AP-REP in answer to the acceptor's (MS-KILE, section 3.4.5.1).
 
-ghost use Rattle.std.specs.Prelude.{◌≡◌, ◌==◌, Err, Result, [], false};
+ghost use Rattle.std.specs.Prelude.{◌≡◌, ◌==◌, Err, Result};
 ghost use Rattle.std.specs.Result.{result_map_both};
 ghost use Rattle.std.specs.Cmp.Lexicographic.{pointwise};
 ghost use Rattle.sspi_core.specs.declared.cause.Cause.TheVariants as causes;
@@ -8,9 +8,9 @@ ghost use Rattle.sspi_core.specs.Checks.{Answers, Holds, Takes};
 ghost use Rattle.krb_context.specs.Params.{suite_of};
 ghost use Rattle.krb_replies.specs.Answered.{TellsNumber};
 ghost use Rattle.krb_admission.specs.Admission.{number_after};
-ghost use Rattle.krb_admission.specs.ThirdLeg.{ReadsApRep, TellsLast, IsLastWord, concluded, Concludes};
+ghost use Rattle.krb_admission.specs.ThirdLeg.{ReadsApRep, TellsLast, IsLastWord, concluded, last_answer, Concludes};
 
-use crate::admission::Accepted;
+use crate::admission::Answer;
 use crate::token::check_token_length;
 use krb_context::{Kerberos, KerberosState, ServerProperties};
 use krb_der::Octets;
@@ -89,13 +89,13 @@ fn check_last_word(alloc: Global, server: &Kerberos, token: &[u8]) -> Result<(),
 }
 
 /// The context is established. This cannot fail.
-fn establish(alloc: Global, server: &mut Kerberos) -> Accepted
+fn establish(alloc: Global, server: &mut Kerberos) -> Answer
     ensures server { server.new ≡ concluded server.old }
-    ensures accepted { result ≡ Accepted.Done SecurityStatus.Ok [] false }
+    ensures answer { result ≡ last_answer }
 {
     server.state = KerberosState::Final;
     server.encryption_params.ec = EXTRA_COUNT;
-    Accepted::Done {
+    Answer {
         status: SecurityStatus::Ok,
         token: Octets::new(Vec::new(alloc)),
         admits: false,
@@ -103,11 +103,7 @@ fn establish(alloc: Global, server: &mut Kerberos) -> Accepted
 }
 
 /// Judges the initiator's last word.
-pub(crate) fn conclude(
-    alloc: Global,
-    server: &mut Kerberos,
-    token: &[u8],
-) -> Result<Accepted, Cause>
+pub(crate) fn conclude(alloc: Global, server: &mut Kerberos, token: &[u8]) -> Result<Answer, Cause>
     ensures step { (result ≡ Err causes.Memory → ⊥) → Concludes server.old token.now result server.new }
     ensures memory { result ≡ Err causes.Memory → server.new ≡ server.old }
 {

@@ -1,5 +1,5 @@
 -- An exchange ends well, in either style.
-use Rattle.std.proofs.Common.{◌≡◌, ℕ, ◌+◌, ◌≤◌, ◌^◌, ◌%◌, Bool, true, false, List, [], length, take, Option, option_map, refl, sym, subst, ap, ◌∙◌, arith, lit<, Result, Ok, Err}
+use Rattle.std.proofs.Common.{◌≡◌, ℕ, ◌+◌, ◌≤◌, ◌^◌, ◌%◌, Bool, true, false, List, length, take, Option, option_map, refl, sym, subst, ap, ◌∙◌, arith, lit<, Result, Ok, Err}
 use Rattle.std.specs.Prelude.{Some, None, is_some, is_none, nat_le, ◌==◌}
 use Rattle.std.specs.Cmp.Lexicographic.{pointwise}
 use Rattle.std.proofs.lemmas.Bool.{le-leb}
@@ -26,13 +26,12 @@ use Rattle.krb_as.specs.declared.done.InitDone.{InitDone}
 use Rattle.krb_ap.specs.Initiators.{is_bare}
 use Rattle.krb_ap.specs.Answered.{last_word}
 use Rattle.krb_initiator.specs.declared.options.InitOptions.{InitOptions}
-use Rattle.krb_admission.specs.declared.admission.Accepted.TheVariants.{Done as JudgedDone}
 use Rattle.krb_admission.specs.declared.admission.Admission.{Admission}
 use Rattle.krb_admission.specs.declared.request.Request.{Request}
 use Rattle.krb_admission.specs.Accepts.{Begins, Asks, Ends, awaits_last_word}
-use Rattle.krb_admission.specs.Admission.{ap_rep_with, ap_rep_part, drawn_key, number_after, mutual_admission, with_client, accepted_of, settled}
+use Rattle.krb_admission.specs.Admission.{ap_rep_with, ap_rep_part, drawn_key, number_after, mutual_admission, with_client, answer_for, settled}
 use Rattle.krb_admission.specs.Requests.{ask_of}
-use Rattle.krb_admission.specs.ThirdLeg.{ReadsApRep, TellsLast, IsLastWord, concluded, Concludes}
+use Rattle.krb_admission.specs.ThirdLeg.{ReadsApRep, TellsLast, IsLastWord, concluded, last_answer, Concludes}
 use Rattle.krb_admission.proofs.Once.{begins_once, concludes_once}
 use Rattle.krb_server.specs.declared.accept.Accepted.{Accepted}
 use Rattle.krb_server.specs.TgtReqs.{Found, may_begin, Begins as BeginsTgtReq}
@@ -40,7 +39,6 @@ use Rattle.krb_server.specs.Whole.{accepted_as, answered_as, Makes, AcceptsWhole
 use Rattle.sspi_core.specs.declared.cause.Cause.{Cause}
 use Rattle.sspi_core.specs.declared.cause.Cause.TheVariants.{Sequence, Shape, Number}
 use Rattle.sspi_core.specs.declared.draw.Draw.{Draw}
-use Rattle.sspi_core.specs.declared.results.SecurityStatus.TheVariants.{Ok as Complete}
 use Rattle.sspi_core.specs.Usernames.{UserName}
 use Rattle.sspi_core.proofs.Chain.{halts, follows}
 use Rattle.krb_ends.specs.Answers.{AdmitsOnly, IsDraw, Offered, AreNew, AreEstablishedBy, EndsWell, IsTakenToo, EndsWellInTurn, EndsWellIn}
@@ -95,7 +93,7 @@ module _ (server : Kerberos) (draw : Draw) (client : UserName) (offer : Offer) (
   }
 
   made_well : is_bare options.flags ≡ false → AreNew initiator server
-      → EndsWell initiator (settled server (admission false)) options own draw offer (Ok (accepted_as (accepted_of (admission false))))
+      → EndsWell initiator (settled server (admission false)) options own draw offer (Ok (accepted_as (answer_for (admission false))))
   unfolding mutual_admission
   made_well bare new = record {
     done = done false;
@@ -182,7 +180,7 @@ module _ (server : Kerberos) (draw : Draw) (client : UserName) (offer : Offer) (
       (follows _ _ offer.part.key.key_value _ (record { is = refl }) (tells drawn)))
       (holds_true Number (pointwise ◌==◌ number number) (same_octets number)))
 
-  concludes : IsDraw own → Concludes acceptor (done true).token (Ok (JudgedDone Complete [] false)) (concluded acceptor)
+  concludes : IsDraw own → Concludes acceptor (done true).token (Ok last_answer) (concluded acceptor)
   concludes drawn = record {
     outcome = Ok tt;
     judged = subst (λ (t : List ℕ). IsLastWord acceptor t (Ok tt)) (sym word_is) (is_last_word drawn);
@@ -208,7 +206,7 @@ module _ (server : Kerberos) (draw : Draw) (client : UserName) (offer : Offer) (
         let accepts = judges.accepts in
         let said : Concludes acceptor token judges.judged end =
         subst (λ (s : KerberosState). Ends (awaits_last_word true s) acceptor token accepts.outcome judges.judged end) acceptor_state accepts.made in
-        let both = concludes_once acceptor token judges.judged (Ok (JudgedDone Complete [] false)) end (concluded acceptor) said (concludes drawn) in
+        let both = concludes_once acceptor token judges.judged (Ok last_answer) end (concluded acceptor) said (concludes drawn) in
         record {
           answered = judges.answer_is ∙ ap answered_as both.0;
           stays =
@@ -218,7 +216,7 @@ module _ (server : Kerberos) (draw : Draw) (client : UserName) (offer : Offer) (
         }
 
     made_well_in_turn : is_bare options.flags ≡ true → IsDraw own → AreNew initiator server
-        → EndsWellInTurn admits initiator acceptor options own draw offer (Ok (accepted_as (accepted_of (admission true))))
+        → EndsWellInTurn admits initiator acceptor options own draw offer (Ok (accepted_as (answer_for (admission true))))
     unfolding mutual_admission
     made_well_in_turn bare drawn new = record {
       done = done true;
@@ -240,7 +238,7 @@ module _ (server : Kerberos) (draw : Draw) (client : UserName) (offer : Offer) (
           let here = is_answered admits server server' env draw client offer old new answer for_it
           (subst (λ (b : Bool). AcceptsWhole admits server b (token_of offer) env draw old answer server' new) (sym style) step) in
           let verdict = only here.verdict here.asked in
-          let said : answer ≡ Ok (accepted_as (accepted_of (admission false))) = here.answered verdict ∙ ap (λ (b : Bool). Ok (accepted_as (accepted_of (admission b)))) style in
+          let said : answer ≡ Ok (accepted_as (answer_for (admission false))) = here.answered verdict ∙ ap (λ (b : Bool). Ok (accepted_as (answer_for (admission b)))) style in
           let is_now : server' ≡ settled server (admission false) = here.made verdict ∙ ap (λ (b : Bool). settled server (admission b)) style in
           let P : Result Accepted Cause → Kerberos → Type 0 = λ a s. EndsWell initiator s options own draw offer a in
           subst (λ (s : Kerberos). P answer s) (sym is_now) (subst (λ (a : Result Accepted Cause). P a (settled server (admission false))) (sym said) (made_well bare are_new))
@@ -252,7 +250,7 @@ module _ (server : Kerberos) (draw : Draw) (client : UserName) (offer : Offer) (
           let here = is_answered admits server server' env draw client offer old new answer for_it
           (subst (λ (b : Bool). AcceptsWhole admits server b (token_of offer) env draw old answer server' new) (sym style) step) in
           let verdict = only here.verdict here.asked in
-          let said : answer ≡ Ok (accepted_as (accepted_of (admission true))) = here.answered verdict ∙ ap (λ (b : Bool). Ok (accepted_as (accepted_of (admission b)))) style in
+          let said : answer ≡ Ok (accepted_as (answer_for (admission true))) = here.answered verdict ∙ ap (λ (b : Bool). Ok (accepted_as (answer_for (admission b)))) style in
           let is_now : server' ≡ settled server (admission true) = here.made verdict ∙ ap (λ (b : Bool). settled server (admission b)) style in
           let P : Result Accepted Cause → Kerberos → Type 0 = λ a s. EndsWellInTurn admits initiator s options own draw offer a in
           subst (λ (s : Kerberos). P answer s) (sym is_now) (subst (λ (a : Result Accepted Cause). P a (settled server (admission true))) (sym said) (made_well_in_turn bare drawn are_new))

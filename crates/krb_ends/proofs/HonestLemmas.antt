@@ -33,7 +33,7 @@ use Rattle.krb_replies.specs.declared.unseal.Refusals.{Refusals}
 use Rattle.krb_replies.specs.Unseals.{suite_of, own_key, IsRead, Unseals, Opens}
 use Rattle.krb_requests.specs.Pieces.{spelling}
 use Rattle.krb_ap.specs.Shown.{framed}
-use Rattle.krb_admission.specs.declared.admission.Accepted.{Accepted as Judgement}
+use Rattle.krb_admission.specs.declared.admission.Answer.{Answer}
 use Rattle.krb_admission.specs.declared.admission.Admission.{Admission}
 use Rattle.krb_admission.specs.declared.request.Request.{Request}
 use Rattle.krb_admission.specs.Accepts.{Begins, Finishes, Judged, Accepts, Asks}
@@ -228,7 +228,7 @@ module _ {G : Type 0} (admits : G → Ask → Verdict → G → Type 0) (server 
       let none = ap_req_begins_none server offer.dce (token_of offer) (request_of offer) (begins server client offer for_it) step.tgt_req step.found in
       subst (λ (t : Option TgtReq). Makes admits server offer.dce (token_of offer) env draw old t answer server' new) none step.made
 
-  asked : (judged : Result Judgement Cause) (step : Accepts admits server offer.dce (token_of offer) draw old judged server' new) → admits old (ask_of (request_of offer) draw.moment) step.verdict new
+  asked : (judged : Result Answer Cause) (step : Accepts admits server offer.dce (token_of offer) draw old judged server' new) → admits old (ask_of (request_of offer) draw.moment) step.verdict new
   asked judged step =
       subst (λ (r : Result Request Cause). Asks admits draw.moment old r step.verdict new)
       ((begins_once server offer.dce (token_of offer)).same step.request (Ok (request_of offer)) step.begun (begins server client offer for_it)) step.gate

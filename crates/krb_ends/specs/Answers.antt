@@ -20,7 +20,7 @@ use Rattle.krb_initiator.specs.declared.seeker.InitPhase.TheVariants.{New}
 use Rattle.krb_initiator.specs.Beginnings.{Begins}
 use Rattle.krb_initiator.specs.InitRuns.{Starts}
 use Rattle.krb_admission.specs.declared.admission.Admission.{Admission}
-use Rattle.krb_admission.specs.Admission.{drawn_key, mutual_admission, accepted_of, settled}
+use Rattle.krb_admission.specs.Admission.{drawn_key, mutual_admission, answer_for, settled}
 use Rattle.krb_admission.specs.Requests.{ask_of}
 use Rattle.krb_server.specs.declared.accept.Accepted.{Accepted}
 use Rattle.krb_server.specs.declared.accept.Accepted.TheVariants.{Done}
@@ -41,7 +41,7 @@ pub record IsAnswered {G : Type 0} (admits : G → Ask → Verdict → G → Typ
     (offer : Offer) (old : G) (answer : Result Accepted Cause) (server' : Kerberos) (new : G) : Type 0 where
   pub verdict : Verdict
   pub asked : admits old (ask_of (request_of offer) draw.moment) verdict new
-  pub answered : verdict ≡ Admitted → answer ≡ Ok (accepted_as (accepted_of (admission_for server draw client offer)))
+  pub answered : verdict ≡ Admitted → answer ≡ Ok (accepted_as (answer_for (admission_for server draw client offer)))
   pub made : verdict ≡ Admitted → server' ≡ settled server (admission_for server draw client offer)
 
 -- all that a gate may do from one state to another is to admit

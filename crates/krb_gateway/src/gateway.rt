@@ -1,23 +1,21 @@
 //! What a server keeps, and the calls that it makes of the library.
 
-ghost use Rattle.std.specs.Prelude.{◌≡◌, false, map, Ok, None, Some, IfOk, IfErr};
+ghost use Rattle.std.specs.Prelude.{◌≡◌, map, Ok, None, Some, IfOk, IfErr};
 ghost use Rattle.sspi_core.specs.Kinds.{error_of};
 ghost use Rattle.sspi_core.specs.declared.cause.Cause.TheVariants as causes;
 ghost use Rattle.sspi_core.specs.declared.error.Place.TheVariants as places;
-ghost use Rattle.krb_replay.specs.Book.{StandsFor, Follows, IsUnchanged};
+ghost use Rattle.krb_replay.specs.Book.{StandsFor, IsUnchanged};
 ghost use Rattle.krb_replay.specs.History.{no_history};
 ghost use Rattle.krb_context.specs.ServiceKeys.{new_properties, IsNotAscii};
 ghost use Rattle.krb_context.specs.Queries.{name_of};
 ghost use Rattle.krb_context.specs.Refusals.{Refuses};
 ghost use Rattle.krb_context.specs.Unwraps.{Unwraps};
-ghost use Rattle.krb_admission.specs.Accepts.{Accepts};
-ghost use Rattle.krb_admission.specs.declared.admission.Accepted.{Accepted};
-ghost use Rattle.krb_gateway.specs.Admits.{Waits, answer_in, Admits, Rejects, HasName, whole_message};
+ghost use Rattle.krb_gateway.specs.Admits.{Waits, answer_in, LetsIn, Admits, Rejects, HasName, whole_message};
 
-use krb_admission::{
-    Accepted, Draw, Env, Error, Flags, Items, Kerberos, KerberosConfig, Message, Octets, Part,
-    ReplayBook, Secret, SecurityBufferRef, ServerProperties, ServerRequestFlags, Text, TryCopy,
-    Username, accept_security_context,
+use krb_server::{
+    Accepted, Cause, Draw, Env, Error, Flags, Items, Kerberos, KerberosConfig, Message, Octets,
+    Part, ReplayBook, Secret, SecurityBufferRef, ServerProperties, ServerRequestFlags, Text,
+    TryCopy, Username, accept_security_context,
 };
 use std::alloc::Global;
 
@@ -39,12 +37,15 @@ pub struct Guest {
 /// The seconds by which a client's clock may be wrong.
 const SKEW: u32 = 300;
 
-/// The token that goes back to a client.
-fn answer_in(accepted: Accepted) -> Octets
-    ensures { result ≡ answer_in accepted }
+/// The token that goes back to a client. A TGT-REQ asks for a ticket of the service's own, which it has no credentials to
+/// fetch.
+fn answer_in(accepted: Accepted) -> Result<Octets, Cause>
+    ensures { result ≡ answer_in (Ok accepted) }
 {
-    let Accepted::Done { token, .. } = accepted;
-    token
+    match accepted {
+        Accepted::Done { token, .. } => Ok(token),
+        Accepted::Run(_) => Err(Cause::Credentials),
+    }
 }
 
 /// Lets in the client that sent this token at its connection, and tells what goes back to it.
@@ -55,16 +56,15 @@ fn let_in(
     token: &[u8],
     draw: &Draw,
 ) -> Result<Octets, Error>
-    ensures accepts { IfOk result (λ answer. (accepted : Accepted) × (answer ≡ answer_in accepted)
-        × Accepts (Follows StandsFor) connection.old false token.now draw.now book.old (Ok accepted) connection.new book.new) }
+    ensures lets_in { IfOk result (λ answer. LetsIn connection.old book.old token.now draw.now (Ok answer) connection.new book.new) }
     ensures refused { IfErr result (Refuses places.Elsewhere
-        (λ answer. Accepts (Follows StandsFor) connection.old false token.now draw.now book.old answer connection.new book.new)) }
+        (λ answer. LetsIn connection.old book.old token.now draw.now answer connection.new book.new)) }
     ensures memory { IfErr result (λ error. error ≡ error_of causes.Memory → IsUnchanged book.old book.new) }
 {
     let flags = ServerRequestFlags::from_bits_retain(0);
     let env = Env::new(alloc);
     let accepted = accept_security_context(alloc, connection, book, token, flags, &env, draw)?;
-    Ok(answer_in(accepted))
+    Ok(answer_in(accepted)?)
 }
 
 impl Gateway {

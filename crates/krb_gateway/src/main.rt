@@ -10,7 +10,7 @@ mod line;
 
 use anyhow::{Context, Result, anyhow};
 use gateway::{Gateway, Guest};
-use krb_admission::{Draw, Error, MAX_MOMENT, Octets, UsernameParts};
+use krb_server::{Draw, Error, MAX_MOMENT, Octets, UsernameParts};
 use line::Line;
 use std::alloc::Global;
 use std::io;

@@ -1,4 +1,4 @@
--- The names by which a KDC finds a principal are ASCII, as the principal's are.
+-- The names by which a KDC finds a principal or a route are ASCII, as those of the principal and of the route are.
 use Rattle.std.proofs.Common.{◌≡◌, ℕ, Bool, true, false, List, [], ◌∷◌, Option, Some, refl, subst, cond}
 use Rattle.std.specs.Prelude.{◌&&◌, ◌==◌}
 use Rattle.std.specs.List.{find, list_all}
@@ -6,12 +6,13 @@ use Rattle.std.proofs.lemmas.Bool.{eqb-true}
 use Rattle.krb_der.specs.Schema.{is_ascii}
 use Rattle.krb_crypto.specs.declared.suite.CipherSuite.{CipherSuite}
 use Rattle.krb_kdc.specs.declared.kdc.Principal.{Principal}
-use Rattle.krb_kdc.specs.Fitting.{are_ascii, principal_fits}
-use Rattle.krb_kdc.specs.Registers.{same_text, same_components, principal_with}
-use Rattle.krb_kdc.proofs.Found.{and_first, and_second, components_ascii, principal_found}
+use Rattle.krb_kdc.specs.declared.kdc.Route.{Route}
+use Rattle.krb_kdc.specs.Fitting.{is_short, are_ascii, principal_fits, route_fits}
+use Rattle.krb_kdc.specs.Registers.{same_text, same_components, principal_with, route_to}
+use Rattle.krb_kdc.proofs.Found.{and_first, and_second, components_ascii, found_all, principal_found}
 
 -- texts that are compared as the same are the same
-same_is : (a b : List ℕ) → same_text a b ≡ true → a ≡ b
+pub same_is : (a b : List ℕ) → same_text a b ≡ true → a ≡ b
 same_is [] [] e = refl
 same_is [] (y ∷ ys) e = absurd cc
 same_is (x ∷ xs) [] e = absurd cc
@@ -50,3 +51,11 @@ pub named_ascii : (suite : CipherSuite) (components : List (List ℕ)) (principa
 named_ascii suite components principals principal fits e =
     same_ascii principal.components components (found_passes (λ (known : Principal). same_components known.components components) principals principal e)
     (components_ascii suite principal (principal_found suite components principals principal fits e))
+
+pub routed_ascii : (suite : CipherSuite) (service : List (List ℕ)) (routes : List Route) (route : Route) → list_all (route_fits suite) routes ≡ true
+    → route_to service routes ≡ Some route → are_ascii service ≡ true
+routed_ascii suite service routes route fits e =
+    let test : Route → Bool = λ known. same_components known.service service in
+    let fitting : route_fits suite route ≡ true = found_all test (route_fits suite) routes route e fits in
+    same_ascii route.service service (found_passes test routes route e)
+    (and_second (is_ascii route.realm) (are_ascii route.service) (and_second (is_short route.realm) (is_ascii route.realm && are_ascii route.service) fitting))

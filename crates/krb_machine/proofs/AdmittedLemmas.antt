@@ -28,21 +28,20 @@ use Rattle.krb_replay.specs.declared.ask.Verdict.{Verdict}
 use Rattle.krb_replay.specs.declared.ask.Verdict.TheVariants.{Admitted, Skew, NotYet, Expired, Replayed}
 use Rattle.krb_replies.specs.Unseals.{suite_of, own_key, Unseals, Opens}
 use Rattle.krb_admission.specs.Accepts.{asks_dce_style, Begins, Finishes, Judged, Asks, refusal}
-use Rattle.krb_admission.specs.Admission.{reply_message, token_with, state_behind, status_in, admission_of, accepted_of, mutual_admission, one_way_admission}
+use Rattle.krb_admission.specs.Admission.{reply_message, token_with, state_behind, status_in, admission_of, answer_for, mutual_admission, one_way_admission}
 use Rattle.krb_admission.specs.Clients.{client_of}
 use Rattle.krb_admission.specs.Complete.{is_known_options, is_mutual, has_good_subkey, Completes}
 use Rattle.krb_admission.specs.Opens.{OpensData}
 use Rattle.krb_admission.specs.Requests.{is_same_client, OpensTicket, OpensAuthenticator, Requests, ask_of}
 use Rattle.krb_admission.specs.Tokens.{IsApReq, Receives}
-use Rattle.krb_admission.specs.declared.admission.Accepted.{Accepted}
-use Rattle.krb_admission.specs.declared.admission.Accepted.TheVariants.{Done as Answered}
+use Rattle.krb_admission.specs.declared.admission.Answer.{Answer}
 use Rattle.krb_admission.specs.declared.admission.Admission.{Admission}
 use Rattle.krb_admission.specs.declared.request.Request.{Request}
 use Rattle.krb_admission.proofs.Begun.{passed, opened}
 use Rattle.krb_admission.proofs.Once.{begins_once}
 use Rattle.krb_admission.proofs.Steps.{completed}
 use Rattle.krb_server.specs.Whole.{RunsAs, accepted_as, answered_as, Makes as MakesWhole}
-use Rattle.krb_server.specs.declared.accept.Accepted.{Accepted as Taken}
+use Rattle.krb_server.specs.declared.accept.Accepted.{Accepted}
 use Rattle.krb_user_to_user.specs.declared.request.Beginning.{Beginning}
 use Rattle.krb_script.specs.declared.item.Event.{Event}
 use Rattle.sspi_core.proofs.Chain.{follows, gives}
@@ -229,14 +228,14 @@ finishes_there context dce draw request o =
 -- ---- what is answered
 
 reply_by : (asked dce user_to_user : Bool) (number : ℕ) (draw : Draw) (request : Request) (client : UserName)
-    → reply_of (Ok (accepted_of (if asked then mutual_admission dce user_to_user number draw request client else one_way_admission number request client)))
+    → reply_of (Ok (answer_for (if asked then mutual_admission dce user_to_user number draw request client else one_way_admission number request client)))
     ≡ (if asked then Done (status_in (state_behind dce)) (token_with dce user_to_user (reply_message number draw request)) true else Done statuses.Ok [] true)
 unfolding mutual_admission one_way_admission
 reply_by true dce user_to_user number draw request client = refl
 reply_by false dce user_to_user number draw request client = refl
 
 reply_is : (dce user_to_user : Bool) (number : ℕ) (draw : Draw) (request : Request) (client : UserName)
-    → reply_of (Ok (accepted_of (admission_of dce user_to_user number draw request client))) ≡ admitted_reply dce user_to_user number draw request
+    → reply_of (Ok (answer_for (admission_of dce user_to_user number draw request client))) ≡ admitted_reply dce user_to_user number draw request
 reply_is dce user_to_user number draw request client = reply_by (is_mutual request.message.ap_options) dce user_to_user number draw request client
 
 admits_by : (asked dce user_to_user : Bool) (number : ℕ) (draw : Draw) (request : Request)
@@ -278,7 +277,7 @@ admissible-made skew state after event reply step a =
     let asked = subst A same other.accepts.gate in
     let done = completed (Remembers skew) context dce a.token draw state.gate after.gate other.judged j.server admission other.accepts (asked.0 ∙ a.verdict)
     (judged_there context dce a.token draw a.request admission begun (finishes_there context dce draw a.request a.in_order)) in
-    let S : Result Taken Cause → Type 0 = λ r. Settles draw (record a.connection { context = j.server }) (told Elsewhere r) reply j.next in
+    let S : Result Accepted Cause → Type 0 = λ r. Settles draw (record a.connection { context = j.server }) (told Elsewhere r) reply j.next in
     let settles = subst S (other.answer_is ∙ ap answered_as done.0) j.settles in
     let put : Connection → List (ℕ × Connection) = λ next. set_value (is_at (nat_cmp event.connection)) state.connections next in
     same_state after (service_behind a) (j.connections ∙ ap put settles.1 ∙ ap (λ (k : Kerberos). put (record a.connection { context = k })) done.1) j.env asked.1
@@ -319,12 +318,12 @@ judged_passing skew h after context dce token draw verdict (Err cause) admission
     let refused : ◌≡◌ {A = Result Admission Cause} (Ok admission) (Err cause) = subst R same judged.rest in
     absurd (cc)
 
-no_run : (beginning : Result Beginning Cause) (answer : Result Taken Cause) (accepted : Accepted) → RunsAs beginning answer → answer ≡ Ok (accepted_as accepted) → ⊥
-no_run (Ok beginning) answer (Answered status token admits) runs is = let e = sym runs.1 ∙ is in absurd (cc)
-no_run (Err cause) answer (Answered status token admits) runs is = let e = sym runs ∙ is in absurd (cc)
+no_run : (beginning : Result Beginning Cause) (answer : Result Accepted Cause) (accepted : Answer) → RunsAs beginning answer → answer ≡ Ok (accepted_as accepted) → ⊥
+no_run (Ok beginning) answer accepted runs is = let e = sym runs.1 ∙ is in absurd (cc)
+no_run (Err cause) answer accepted runs is = let e = sym runs ∙ is in absurd (cc)
 
-made_passing : (skew : ℕ) (context : Kerberos) (dce : Bool) (token : List ℕ) (env : Env) (draw : Draw) (old : History) (found : Option TgtReq) (answer : Result Taken Cause) (context' : Kerberos) (new : History)
-    → MakesWhole (Remembers skew) context dce token env draw old found answer context' new → (accepted : Accepted) → answer ≡ Ok (accepted_as accepted) → admits_peer (reply_of (Ok accepted)) ≡ true
+made_passing : (skew : ℕ) (context : Kerberos) (dce : Bool) (token : List ℕ) (env : Env) (draw : Draw) (old : History) (found : Option TgtReq) (answer : Result Accepted Cause) (context' : Kerberos) (new : History)
+    → MakesWhole (Remembers skew) context dce token env draw old found answer context' new → (accepted : Answer) → answer ≡ Ok (accepted_as accepted) → admits_peer (reply_of (Ok accepted)) ≡ true
     → Passing skew draw.moment old context dce token
 made_passing skew context dce token env draw old (Some tgt_req) answer context' new made accepted is done = absurd (no_run made.0.beginning answer accepted made.0.runs is)
 made_passing skew context dce token env draw old None answer context' new made accepted is done =

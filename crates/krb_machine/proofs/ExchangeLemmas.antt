@@ -4,7 +4,7 @@ use Rattle.std.specs.Ordering.{nat_cmp}
 use Rattle.std.specs.BTreeMap.{is_at}
 use Rattle.std.specs.Map.{set_value}
 use Rattle.krb_server.specs.Whole.{accepted_as, answered_as, Makes, AcceptsWhole}
-use Rattle.krb_server.specs.declared.accept.Accepted.{Accepted as Taken}
+use Rattle.krb_server.specs.declared.accept.Accepted.{Accepted}
 use Rattle.krb_server.specs.declared.accept.Accepted.TheVariants as taken
 use Rattle.krb_conf.specs.declared.env.Env.{Env}
 use Rattle.krb_machine.proofs.Once.{one_beginning, one_going_on, one_initiation}
@@ -19,8 +19,7 @@ use Rattle.krb_context.specs.declared.context.Kerberos.{Kerberos}
 use Rattle.krb_exchange.specs.declared.user_to_user.TgtReq.{TgtReq}
 use Rattle.krb_replay.specs.declared.ask.Ask.{Ask}
 use Rattle.krb_replay.specs.declared.ask.Verdict.{Verdict}
-use Rattle.krb_admission.specs.declared.admission.Accepted.{Accepted}
-use Rattle.krb_admission.specs.declared.admission.Accepted.TheVariants.{Done as Answered}
+use Rattle.krb_admission.specs.declared.admission.Answer.{Answer}
 use Rattle.krb_script.specs.declared.item.Event.{Event}
 use Rattle.krb_user_to_user.specs.declared.accept_run.AcceptRun.{AcceptRun}
 use Rattle.sspi_core.specs.Checks.{told}
@@ -45,21 +44,21 @@ leads_not connection (Ends value) reply next h done = let z = ap admits_peer (sy
 leads_not connection (Refuses error) reply next h done = let z = ap admits_peer (sym h.0) ∙ done in absurd (cc)
 
 -- who is admitted was answered so
-pub record Admitted (answer : Result Taken Cause) (reply : Reply) : Type 0 where
-  pub accepted : Accepted
+pub record Admitted (answer : Result Accepted Cause) (reply : Reply) : Type 0 where
+  pub accepted : Answer
   pub answer_is : answer ≡ Ok (accepted_as accepted)
   pub reply_is : reply ≡ reply_of (Ok accepted)
 
-pub settles_admitted : (draw : Draw) (connection : Connection) (answer : Result Taken Cause) (reply : Reply) (next : Connection) → Settles draw connection (told Elsewhere answer) reply next
+pub settles_admitted : (draw : Draw) (connection : Connection) (answer : Result Accepted Cause) (reply : Reply) (next : Connection) → Settles draw connection (told Elsewhere answer) reply next
     → admits_peer reply ≡ true → Admitted answer reply
-settles_admitted draw connection (Ok (taken.Done status token admits)) reply next h done = record { accepted = Answered status token admits; answer_is = refl; reply_is = h.0 }
+settles_admitted draw connection (Ok (taken.Done status token admits)) reply next h done = record { accepted = record { status = status; token = token; admits = admits }; answer_is = refl; reply_is = h.0 }
 settles_admitted draw connection (Ok (taken.Run run)) reply next h done = absurd (leads_not connection h.step reply next h.leads done)
 settles_admitted draw connection (Err cause) reply next h done = let z = ap admits_peer (sym h.0) ∙ done in absurd (cc)
 
 -- an answer that is told
-pub settles_done : (draw : Draw) (connection : Connection) (accepted : Accepted) (reply : Reply) (next : Connection) → Settles draw connection (told Elsewhere (Ok (accepted_as accepted))) reply next
+pub settles_done : (draw : Draw) (connection : Connection) (accepted : Answer) (reply : Reply) (next : Connection) → Settles draw connection (told Elsewhere (Ok (accepted_as accepted))) reply next
     → reply ≡ reply_of (Ok accepted)
-settles_done draw connection (Answered status token admits) reply next h = h.0
+settles_done draw connection accepted reply next h = h.0
 
 pub settles_refused : (draw : Draw) (connection : Connection) (cause : Cause) (reply : Reply) (next : Connection) → Settles draw connection (told Elsewhere (Err cause)) reply next
     → reply ≡ reply_of (Err cause)
@@ -102,27 +101,27 @@ undertakes_not : (connection : Connection) (draw : Draw) (answer : Result Initia
 undertakes_not connection draw (Ok initiation) reply next h done = leads_not connection h.3.step reply next h.3.leads done
 undertakes_not connection draw (Err cause) reply next h done = let z = ap admits_peer (sym h.0) ∙ done in absurd (cc)
 
-pub settles_once : (draw : Draw) (connection : Connection) (answer : Result Taken Error) (r s : Reply) (a b : Connection) → Settles draw connection answer r a → Settles draw connection answer s b → (r ≡ s) × (a ≡ b)
+pub settles_once : (draw : Draw) (connection : Connection) (answer : Result Accepted Error) (r s : Reply) (a b : Connection) → Settles draw connection answer r a → Settles draw connection answer s b → (r ≡ s) × (a ≡ b)
 settles_once draw connection (Ok (taken.Done status token admits)) r s a b h k = (h.0 ∙ sym k.0, h.1 ∙ sym k.1)
 settles_once draw connection (Ok (taken.Run run)) r s a b h k = opens_once connection (Accepts run) draw r s a b h k
 settles_once draw connection (Err error) r s a b h k = (h.0 ∙ sym k.0, h.1 ∙ sym k.1)
 
-no_run_judged : (judged : Result Accepted Cause) (run : AcceptRun) → ◌≡◌ {A = Result Taken Cause} (Ok (taken.Run run)) (answered_as judged) → ⊥
-no_run_judged (Ok (Answered a b c)) run e = absurd (cc)
+no_run_judged : (judged : Result Answer Cause) (run : AcceptRun) → ◌≡◌ {A = Result Accepted Cause} (Ok (taken.Run run)) (answered_as judged) → ⊥
+no_run_judged (Ok judged) run e = absurd (cc)
 no_run_judged (Err cause) run e = absurd (cc)
 
-run_told : (answer : Result Taken Cause) (run : AcceptRun) → ◌≡◌ {A = Result Taken Error} (Ok (taken.Run run)) (told Elsewhere answer) → answer ≡ Ok (taken.Run run)
+run_told : (answer : Result Accepted Cause) (run : AcceptRun) → ◌≡◌ {A = Result Accepted Error} (Ok (taken.Run run)) (told Elsewhere answer) → answer ≡ Ok (taken.Run run)
 run_told (Ok x) run e = cc
 run_told (Err cause) run e = absurd (cc)
 
 module _ {G : Type 0} (admits : G → Ask → Verdict → G → Type 0) (is_same : G → G → Type 0) (same : (g : G) → is_same g g) (server : Kerberos) (dce : Bool) (token : List ℕ) (env : Env) (draw : Draw) (old : G) (server' : Kerberos) (new : G) where
-  run_leaves : (found : Option TgtReq) (answer : Result Taken Cause) (run : AcceptRun) → answer ≡ Ok (taken.Run run) → Makes admits server dce token env draw old found answer server' new → (server' ≡ server) × is_same old new
+  run_leaves : (found : Option TgtReq) (answer : Result Accepted Cause) (run : AcceptRun) → answer ≡ Ok (taken.Run run) → Makes admits server dce token env draw old found answer server' new → (server' ≡ server) × is_same old new
   run_leaves (Some tgt_req) answer run is made = (made.1, subst (λ (g : G). is_same old g) (sym made.2) (same old))
   run_leaves None answer run is made = absurd (no_run_judged made.judged run (sym is ∙ made.answer_is))
 
   -- where memory runs out behind an acceptor's answer, context and gate are as before
-  pub stopped_leaves : (result : Result Taken Error) → StopsAt result
-      → ((result ≡ Err (error_of Memory) → ⊥) → (answer : Result Taken Cause) × (result ≡ told Elsewhere answer) × AcceptsWhole admits server dce token env draw old answer server' new)
+  pub stopped_leaves : (result : Result Accepted Error) → StopsAt result
+      → ((result ≡ Err (error_of Memory) → ⊥) → (answer : Result Accepted Cause) × (result ≡ told Elsewhere answer) × AcceptsWhole admits server dce token env draw old answer server' new)
       → (result ≡ Err (error_of Memory) → (server' ≡ server) × is_same old new) → (server' ≡ server) × is_same old new
   stopped_leaves (Ok (taken.Done status sent admits)) stops step memory = absurd stops
   stopped_leaves (Ok (taken.Run run)) stops step memory =

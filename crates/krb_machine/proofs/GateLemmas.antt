@@ -12,7 +12,7 @@ use Rattle.krb_admission.specs.Accepts.{Asks, Begins, Finishes, Judged, Makes, E
 use Rattle.krb_admission.proofs.Steps.{waits}
 use Rattle.krb_admission.specs.Requests.{ask_of}
 use Rattle.krb_server.specs.Whole.{JudgesOther, answered_as, Makes as MakesWhole}
-use Rattle.krb_server.specs.declared.accept.Accepted.{Accepted as Taken}
+use Rattle.krb_server.specs.declared.accept.Accepted.{Accepted}
 use Rattle.krb_conf.specs.declared.env.Env.{Env}
 use Rattle.krb_exchange.specs.declared.user_to_user.TgtReq.{TgtReq}
 use Rattle.sspi_generator.specs.declared.network.NetFault.{NetFault}
@@ -63,7 +63,7 @@ module _ {G : Type 0} (admits : G → Ask → Verdict → G → Type 0) (skew : 
   asks_skew at old new (Ok request) verdict step = keeps old new (ask_of request at) verdict step
   asks_skew at old new (Err cause) verdict same = ap skew same
 
-  made_skew : (server : Kerberos) (dce : Bool) (token : List ℕ) (env : Env) (draw : Draw) (old : G) (found : Option TgtReq) (answer : Result Taken Cause) (server' : Kerberos) (new : G)
+  made_skew : (server : Kerberos) (dce : Bool) (token : List ℕ) (env : Env) (draw : Draw) (old : G) (found : Option TgtReq) (answer : Result Accepted Cause) (server' : Kerberos) (new : G)
       → MakesWhole admits server dce token env draw old found answer server' new → skew new ≡ skew old
   made_skew server dce token env draw old (Some tgt_req) answer server' new made = ap skew made.2
   made_skew server dce token env draw old None answer server' new made = asks_skew draw.moment old new made.accepts.request made.accepts.verdict made.accepts.gate
@@ -137,5 +137,5 @@ module _ {G : Type 0} (admits : G → Ask → Verdict → G → Type 0) (skew mo
       let E : Bool → Type 0 = λ last. Ends last server b.token other.accepts.outcome other.judged g.judges.server in
       let M : Result Admission Cause → Type 0 = λ o. Makes server o other.judged g.judges.server in
       let refused = (subst M out (subst E (waits server dce b.token request b.begun) other.accepts.made)).0 in
-      let S : Result Taken Cause → Type 0 = λ a. Settles draw (record b.connection { context = g.judges.server }) (told Elsewhere a) reply g.judges.next in
+      let S : Result Accepted Cause → Type 0 = λ a. Settles draw (record b.connection { context = g.judges.server }) (told Elsewhere a) reply g.judges.next in
       settles_refused draw (record b.connection { context = g.judges.server }) cause reply g.judges.next (subst S (other.answer_is ∙ ap answered_as refused) g.judges.settles)

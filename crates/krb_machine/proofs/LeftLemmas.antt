@@ -14,14 +14,14 @@ use Rattle.krb_replay.specs.declared.record.Record.{Record}
 use Rattle.krb_admission.proofs.Once.{begins_once}
 use Rattle.krb_admission.proofs.Steps.{completed}
 use Rattle.krb_admission.specs.Accepts.{Begins, Finishes, Judged, Asks, Makes, Ends, awaits_last_word, refusal, asks_dce_style}
-use Rattle.krb_admission.specs.ThirdLeg.{Closes, Concludes}
-use Rattle.krb_admission.specs.Admission.{accepted_of}
+use Rattle.krb_admission.specs.ThirdLeg.{Closes}
+use Rattle.krb_admission.specs.Admission.{answer_for}
 use Rattle.krb_admission.specs.Requests.{ask_of}
-use Rattle.krb_admission.specs.declared.admission.Accepted.{Accepted}
-use Rattle.krb_admission.specs.declared.admission.Accepted.TheVariants.{Done as Answered}
+use Rattle.krb_admission.specs.declared.admission.Answer.{Answer}
 use Rattle.krb_server.proofs.Once.{ap_req_begins_none}
 use Rattle.krb_server.specs.Whole.{RunsAs, JudgesOther, accepted_as, answered_as, Makes as MakesWhole}
-use Rattle.krb_server.specs.declared.accept.Accepted.{Accepted as Taken}
+use Rattle.krb_server.specs.declared.accept.Accepted.{Accepted}
+use Rattle.krb_server.specs.declared.accept.Accepted.TheVariants as taken
 use Rattle.krb_user_to_user.specs.declared.request.Beginning.{Beginning}
 use Rattle.krb_exchange.specs.declared.user_to_user.TgtReq.{TgtReq}
 use Rattle.krb_conf.specs.declared.env.Env.{Env}
@@ -70,7 +70,7 @@ asks_left skew moment h (Err cause) verdict after same distinct =
     let D : History → Type 0 = λ g. IsDistinct g.admitted in
     record { is = ap (λ (g : History). g.admitted) same ∙ sym (append-nil h.admitted); distinct = subst D (sym same) distinct }
 
-made_left_once : (skew : ℕ) (server : Kerberos) (dce : Bool) (token : List ℕ) (env : Env) (draw : Draw) (h : History) (found : Option TgtReq) (answer : Result Taken Cause) (server' : Kerberos) (after : History)
+made_left_once : (skew : ℕ) (server : Kerberos) (dce : Bool) (token : List ℕ) (env : Env) (draw : Draw) (h : History) (found : Option TgtReq) (answer : Result Accepted Cause) (server' : Kerberos) (after : History)
     → (made : MakesWhole (Remembers skew) server dce token env draw h found answer server' after) → IsDistinct h.admitted
     → Leaves h.admitted after.admitted (left_made (Remembers skew) server dce token env draw h found answer server' after made)
 made_left_once skew server dce token env draw h (Some tgt_req) answer server' after made distinct =
@@ -153,41 +153,47 @@ goes_left server dce token draw verdict (Err cause) admission begun judged =
     absurd (cc)
 
 -- the last word admits nobody
-closed_not : (server : Kerberos) (outcome : Result (Unit {0}) Cause) (answer : Result Accepted Cause) (after : Kerberos) → Closes server outcome answer after → admits_peer (reply_of answer) ≡ true → ⊥
+closed_not : (server : Kerberos) (outcome : Result (Unit {0}) Cause) (answer : Result Answer Cause) (after : Kerberos) → Closes server outcome answer after → admits_peer (reply_of answer) ≡ true → ⊥
 closed_not server (Ok _) answer after closes done = let z = ap (λ a. admits_peer (reply_of a)) (sym closes.0) ∙ done in absurd cc
 closed_not server (Err cause) answer after closes done = let z = ap (λ a. admits_peer (reply_of a)) (sym closes.0) ∙ done in absurd cc
 
-made_left : (server : Kerberos) (outcome : Result Admission Cause) (answer : Result Accepted Cause) (after : Kerberos) → Makes server outcome answer after → admits_peer (reply_of answer) ≡ true
+made_left : (server : Kerberos) (outcome : Result Admission Cause) (answer : Result Answer Cause) (after : Kerberos) → Makes server outcome answer after → admits_peer (reply_of answer) ≡ true
     → (admission : Admission) × (outcome ≡ Ok admission)
 made_left server (Ok admission) answer after made done = (admission, refl)
 made_left server (Err cause) answer after made done =
     let is = made.0 in let refused : admits_peer (reply_of (Err cause)) ≡ true = ap (λ a. admits_peer (reply_of a)) (sym is) ∙ done in absurd (cc)
 
-ends_left : (last : Bool) (server : Kerberos) (token : List ℕ) (outcome : Result Admission Cause) (answer : Result Accepted Cause) (after : Kerberos) → Ends last server token outcome answer after → admits_peer (reply_of answer) ≡ true
+ends_left : (last : Bool) (server : Kerberos) (token : List ℕ) (outcome : Result Admission Cause) (answer : Result Answer Cause) (after : Kerberos) → Ends last server token outcome answer after → admits_peer (reply_of answer) ≡ true
     → (admission : Admission) × (outcome ≡ Ok admission)
 ends_left true server token outcome answer after concludes done = absurd (closed_not server concludes.outcome answer after concludes.closes done)
 ends_left false server token outcome answer after made done = made_left server outcome answer after made done
 
+-- the answer that is told
+answer_in : Answer → Accepted → Answer
+answer_in other (taken.Done status token admits) = record { status = status; token = token; admits = admits }
+answer_in other (taken.Run run) = other
+
 -- what is answered Ok was judged so
-judged_ok : (judged : Result Accepted Cause) (accepted : Accepted) → ◌≡◌ {A = Result Taken Cause} (Ok (accepted_as accepted)) (answered_as judged) → judged ≡ Ok accepted
-judged_ok (Ok (Answered a b c)) (Answered x y z) e = cc
+judged_ok : (judged : Result Answer Cause) (accepted : Answer) → ◌≡◌ {A = Result Accepted Cause} (Ok (accepted_as accepted)) (answered_as judged) → judged ≡ Ok accepted
+unfolding answer_in
+judged_ok (Ok judged) accepted e = let same : accepted_as accepted ≡ accepted_as judged = cc in ap Ok (sym (ap (answer_in judged) same))
 judged_ok (Err cause) accepted e = absurd (cc)
 
 module _ {G : Type 0} (admits : G → Ask → Verdict → G → Type 0) where
   -- what is answered so admits by an admission, which leaves a record
-  pub made_admission : (server : Kerberos) (dce : Bool) (token : List ℕ) (draw : Draw) (old new : G) (answer : Result Taken Cause) (server' : Kerberos) (other : JudgesOther admits server dce token draw old answer server' new) (accepted : Accepted)
+  pub made_admission : (server : Kerberos) (dce : Bool) (token : List ℕ) (draw : Draw) (old new : G) (answer : Result Accepted Cause) (server' : Kerberos) (other : JudgesOther admits server dce token draw old answer server' new) (accepted : Answer)
       → answer ≡ Ok (accepted_as accepted) → admits_peer (reply_of (Ok accepted)) ≡ true → (admission : Admission) × (other.accepts.outcome ≡ Ok admission)
   made_admission server dce token draw old new answer server' other accepted is done =
       let judged = judged_ok other.judged accepted (sym is ∙ other.answer_is) in
-      let D : Result Accepted Cause → Type 0 = λ j. admits_peer (reply_of j) ≡ true in
+      let D : Result Answer Cause → Type 0 = λ j. admits_peer (reply_of j) ≡ true in
       ends_left (awaits_last_word dce server.state) server token other.accepts.outcome other.judged server' other.accepts.made (subst D (sym judged) done)
 
-  no_run : (beginning : Result Beginning Cause) (answer : Result Taken Cause) (accepted : Accepted) → RunsAs beginning answer → answer ≡ Ok (accepted_as accepted) → ⊥
-  no_run (Ok beginning) answer (Answered status token admits) runs is = let e = sym runs.1 ∙ is in absurd (cc)
-  no_run (Err cause) answer (Answered status token admits) runs is = let e = sym runs ∙ is in absurd (cc)
+  no_run : (beginning : Result Beginning Cause) (answer : Result Accepted Cause) (accepted : Answer) → RunsAs beginning answer → answer ≡ Ok (accepted_as accepted) → ⊥
+  no_run (Ok beginning) answer accepted runs is = let e = sym runs.1 ∙ is in absurd (cc)
+  no_run (Err cause) answer accepted runs is = let e = sym runs ∙ is in absurd (cc)
 
-  done_made : (server : Kerberos) (dce : Bool) (token : List ℕ) (env : Env) (draw : Draw) (old : G) (found : Option TgtReq) (answer : Result Taken Cause) (server' : Kerberos) (new : G)
-      → (made : MakesWhole admits server dce token env draw old found answer server' new) (accepted : Accepted) → answer ≡ Ok (accepted_as accepted) → admits_peer (reply_of (Ok accepted)) ≡ true
+  done_made : (server : Kerberos) (dce : Bool) (token : List ℕ) (env : Env) (draw : Draw) (old : G) (found : Option TgtReq) (answer : Result Accepted Cause) (server' : Kerberos) (new : G)
+      → (made : MakesWhole admits server dce token env draw old found answer server' new) (accepted : Answer) → answer ≡ Ok (accepted_as accepted) → admits_peer (reply_of (Ok accepted)) ≡ true
       → length (left_made admits server dce token env draw old found answer server' new made) ≡ 1
   done_made server dce token env draw old (Some tgt_req) answer server' new made accepted is done = absurd (no_run made.0.beginning answer accepted made.0.runs is)
   done_made server dce token env draw old None answer server' new made accepted is done =
@@ -245,7 +251,7 @@ asked_verdict skew moment h p request verdict after is asks =
 pub passing-done : (skew : ℕ) (state after : State History) (event : Event) (reply : Reply) (connection : Connection) (token : List ℕ) (request : Request) (admission : Admission)
     → Steps (Remembers skew) state event reply after → reached state.connections event ≡ Ok (connection, token)
     → Begins connection.context (asks_dce_style (server_flags event.flags)) token (Ok request) → verdict_of skew state.gate (ask_of request event.moment) ≡ Admitted
-    → Finishes connection.context (asks_dce_style (server_flags event.flags)) (draw_of event) request (Ok admission) → reply ≡ reply_of (Ok (accepted_of admission))
+    → Finishes connection.context (asks_dce_style (server_flags event.flags)) (draw_of event) request (Ok admission) → reply ≡ reply_of (Ok (answer_for admission))
 passing-done skew state after event reply connection token request admission step reaches begun admitted finished =
     let j = token-step (Remembers skew) state event connection token reply after reaches step in
     let dce = asks_dce_style (server_flags event.flags) in
@@ -254,5 +260,5 @@ passing-done skew state after event reply connection token request admission ste
     let same = (begins_once connection.context dce token).same other.accepts.request (Ok request) other.accepts.begun begun in
     let verdict = asked_verdict skew event.moment state.gate other.accepts.request request other.accepts.verdict after.gate same other.accepts.gate ∙ admitted in
     let done = completed (Remembers skew) connection.context dce token draw state.gate after.gate other.judged j.server admission other.accepts verdict (judged_admitted connection.context dce token draw request admission begun finished) in
-    let S : Result Taken Cause → Type 0 = λ a. Settles draw (record connection { context = j.server }) (told Elsewhere a) reply j.next in
-    settles_done draw (record connection { context = j.server }) (accepted_of admission) reply j.next (subst S (other.answer_is ∙ ap answered_as done.0) j.settles)
+    let S : Result Accepted Cause → Type 0 = λ a. Settles draw (record connection { context = j.server }) (told Elsewhere a) reply j.next in
+    settles_done draw (record connection { context = j.server }) (answer_for admission) reply j.next (subst S (other.answer_is ∙ ap answered_as done.0) j.settles)

@@ -9,10 +9,10 @@ use Rattle.krb_replay.specs.declared.ask.Ask.{Ask}
 use Rattle.krb_replay.specs.declared.ask.Verdict.{Verdict}
 use Rattle.krb_admission.proofs.Once.{begins_once, one_outcome_lem, concludes_once}
 use Rattle.krb_admission.specs.Accepts.{Begins, Finishes, Judged, Asks, Makes, Ends, Accepts, awaits_last_word, refusal, asks_dce_style}
-use Rattle.krb_admission.specs.declared.admission.Accepted.{Accepted}
+use Rattle.krb_admission.specs.declared.admission.Answer.{Answer}
 use Rattle.krb_server.proofs.Once.{found_once, tgt_req_once}
 use Rattle.krb_server.specs.Whole.{answered_as, AcceptsWhole, Makes as MakesWhole}
-use Rattle.krb_server.specs.declared.accept.Accepted.{Accepted as Taken}
+use Rattle.krb_server.specs.declared.accept.Accepted.{Accepted}
 use Rattle.krb_conf.specs.declared.env.Env.{Env}
 use Rattle.krb_exchange.specs.declared.user_to_user.TgtReq.{TgtReq}
 use Rattle.sspi_generator.specs.declared.network.NetFault.{NetFault}
@@ -44,11 +44,11 @@ judged_refused server dce token draw verdict cause outcome begun judged =
     let R : Result Request Cause → Type 0 = λ m. Goes (λ (request : Request). Passes (refusal verdict) >> Finishes server dce draw request) m outcome in
     subst R same judged.rest
 
-makes_once : (server : Kerberos) (o : Result Admission Cause) (r s : Result Accepted Cause) (a b : Kerberos) → Makes server o r a → Makes server o s b → (r ≡ s) × (a ≡ b)
+makes_once : (server : Kerberos) (o : Result Admission Cause) (r s : Result Answer Cause) (a b : Kerberos) → Makes server o r a → Makes server o s b → (r ≡ s) × (a ≡ b)
 makes_once server (Ok admission) r s a b h k = (h.0 ∙ sym k.0, h.1 ∙ sym k.1)
 makes_once server (Err cause) r s a b h k = (h.0 ∙ sym k.0, h.1 ∙ sym k.1)
 
-ends_once : (last : Bool) (server : Kerberos) (token : List ℕ) (o : Result Admission Cause) (r s : Result Accepted Cause) (a b : Kerberos) → Ends last server token o r a → Ends last server token o s b → (r ≡ s) × (a ≡ b)
+ends_once : (last : Bool) (server : Kerberos) (token : List ℕ) (o : Result Admission Cause) (r s : Result Answer Cause) (a b : Kerberos) → Ends last server token o r a → Ends last server token o s b → (r ≡ s) × (a ≡ b)
 ends_once true server token o r s a b h k = concludes_once server token r s a b h k
 ends_once false server token o r s a b h k = makes_once server o r s a b h k
 
@@ -76,7 +76,7 @@ module _ {G : Type 0} (admits : G → Ask → Verdict → G → Type 0) (determi
   outcome_once server dce token draw old (Ok x) (Err y) v w a b o u e begun h k j l = absurd (cc)
   outcome_once server dce token draw old (Err x) (Ok y) v w a b o u e begun h k j l = absurd (cc)
 
-  accepts_once : (server : Kerberos) (dce : Bool) (token : List ℕ) (draw : Draw) (old : G) (r s : Result Accepted Cause) (x y : Kerberos) (a b : G) → Accepts admits server dce token draw old r x a
+  accepts_once : (server : Kerberos) (dce : Bool) (token : List ℕ) (draw : Draw) (old : G) (r s : Result Answer Cause) (x y : Kerberos) (a b : G) → Accepts admits server dce token draw old r x a
       → Accepts admits server dce token draw old s y b → (r ≡ s) × (x ≡ y) × (a ≡ b)
   accepts_once server dce token draw old r s x y a b h k =
       let asked = (begins_once server dce token).same h.request k.request h.begun k.begun in
@@ -86,14 +86,14 @@ module _ {G : Type 0} (admits : G → Ask → Verdict → G → Type 0) (determi
       let made = ends_once last server token h.outcome r s x y h.made (subst M (sym same.0) k.made) in
       (made.0, made.1, same.1)
 
-  makes_whole_once : (server : Kerberos) (dce : Bool) (token : List ℕ) (env : Env) (draw : Draw) (old : G) (found : Option TgtReq) (r s : Result Taken Cause) (x y : Kerberos) (a b : G)
+  makes_whole_once : (server : Kerberos) (dce : Bool) (token : List ℕ) (env : Env) (draw : Draw) (old : G) (found : Option TgtReq) (r s : Result Accepted Cause) (x y : Kerberos) (a b : G)
       → MakesWhole admits server dce token env draw old found r x a → MakesWhole admits server dce token env draw old found s y b → (r ≡ s) × (x ≡ y) × (a ≡ b)
   makes_whole_once server dce token env draw old (Some tgt_req) r s x y a b h k = (tgt_req_once server tgt_req dce env r s h.0 k.0, h.1 ∙ sym k.1, h.2 ∙ sym k.2)
   makes_whole_once server dce token env draw old None r s x y a b h k =
       let same = accepts_once server dce token draw old h.judged k.judged x y a b h.accepts k.accepts in
       (h.answer_is ∙ ap answered_as same.0 ∙ sym k.answer_is, same.1, same.2)
 
-  whole_once : (server : Kerberos) (dce : Bool) (token : List ℕ) (env : Env) (draw : Draw) (old : G) (r s : Result Taken Cause) (x y : Kerberos) (a b : G)
+  whole_once : (server : Kerberos) (dce : Bool) (token : List ℕ) (env : Env) (draw : Draw) (old : G) (r s : Result Accepted Cause) (x y : Kerberos) (a b : G)
       → AcceptsWhole admits server dce token env draw old r x a → AcceptsWhole admits server dce token env draw old s y b → (r ≡ s) × (x ≡ y) × (a ≡ b)
   whole_once server dce token env draw old r s x y a b h k =
       let M : Option TgtReq → Type 0 = λ f. MakesWhole admits server dce token env draw old f s y b in
@@ -104,7 +104,7 @@ module _ {G : Type 0} (admits : G → Ask → Verdict → G → Type 0) (determi
   judges_once state event connection token r s a b h k =
       let draw = draw_of event in
       let same = whole_once connection.context (asks_dce_style (server_flags event.flags)) token state.env draw state.gate h.answer k.answer h.server k.server a.gate b.gate h.accepts k.accepts in
-      let S : Result Taken Cause → Kerberos → Type 0 = λ answer server. Settles draw (record connection { context = server }) (told Elsewhere answer) s k.next in
+      let S : Result Accepted Cause → Kerberos → Type 0 = λ answer server. Settles draw (record connection { context = server }) (told Elsewhere answer) s k.next in
       let moved : S h.answer h.server = subst (λ answer. S answer h.server) (sym same.0) (subst (λ server. S k.answer server) (sym same.1) k.settles) in
       let settled = settles_once draw (record connection { context = h.server }) (told Elsewhere h.answer) r s h.next k.next h.settles moved in
       let put : Connection → List (ℕ × Connection) = λ next. set_value (is_at (nat_cmp event.connection)) state.connections next in

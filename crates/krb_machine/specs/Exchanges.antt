@@ -4,7 +4,7 @@ use Rattle.std.specs.Prelude.{◌≡◌, ℕ, Bool, false, List, Option, Some, N
 use Rattle.krb_context.specs.Contexts.{settled}
 use Rattle.krb_script.specs.declared.input.Input.{Input}
 use Rattle.krb_script.specs.declared.input.Input.TheVariants.{Token, Start, KdcReply, KdcFault, Wrap, Unwrap, MakeMic, VerifyMic}
-use Rattle.krb_server.specs.declared.accept.Accepted.{Accepted as Taken}
+use Rattle.krb_server.specs.declared.accept.Accepted.{Accepted}
 use Rattle.krb_server.specs.declared.accept.Accepted.TheVariants as taken
 use Rattle.krb_machine.specs.Steps.{Begins, GoesOn as ExchangeGoesOn}
 use Rattle.krb_machine.specs.declared.exchange.Step.{Step}
@@ -23,11 +23,6 @@ use Rattle.krb_machine.specs.declared.reply.Reply.TheVariants.{Done, Ask, Refuse
 -- the connection awaits what a KDC answers
 abbrev pub awaits : Connection → Bool
 awaits connection = is_some connection.exchange
-
--- there is such a connection, and it awaits nothing
-abbrev pub IsFree : Option Connection → Type 0
-IsFree None = ⊥
-IsFree (Some connection) = connection.exchange ≡ None
 
 -- what an event brings of the network: a KDC's reply, or that there is none
 abbrev pub answer_of : Input → Option (Result (List ℕ) NetFault)
@@ -61,7 +56,7 @@ pub record GoesOn (connection : Connection) (run : Run) (answer : Result (List �
   pub leads : LeadsTo connection step reply next
 
 -- where memory can run out behind an acceptor's answer: for the answer itself, or for the exchange that it begins
-abbrev pub StopsAt : Result Taken Error → Type 0
+abbrev pub StopsAt : Result Accepted Error → Type 0
 StopsAt (Ok (taken.Done status token admits)) = ⊥
 StopsAt (Ok (taken.Run run)) = Unit {0}
 StopsAt (Err error) = error ≡ error_of Memory

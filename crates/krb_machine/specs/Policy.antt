@@ -10,11 +10,10 @@ use Rattle.krb_context.specs.declared.context.Kerberos.{Kerberos}
 use Rattle.krb_replay.specs.declared.ask.Ask.{Ask}
 use Rattle.krb_replay.specs.declared.ask.Verdict.{Verdict}
 use Rattle.krb_admission.specs.Accepts.{asks_dce_style, Begins}
-use Rattle.krb_admission.specs.declared.admission.Accepted.{Accepted}
-use Rattle.krb_admission.specs.declared.admission.Accepted.TheVariants.{Done as Answered}
+use Rattle.krb_admission.specs.declared.admission.Answer.{Answer}
 use Rattle.krb_admission.specs.declared.request.Request.{Request}
 use Rattle.krb_server.specs.Whole.{AcceptsWhole}
-use Rattle.krb_server.specs.declared.accept.Accepted.{Accepted as Taken}
+use Rattle.krb_server.specs.declared.accept.Accepted.{Accepted}
 use Rattle.krb_server.specs.declared.accept.Accepted.TheVariants as taken
 use Rattle.krb_machine.specs.declared.run.Run.{Run}
 use Rattle.krb_machine.specs.declared.run.Run.TheVariants.{Accepts}
@@ -125,12 +124,12 @@ pub record Brings (connections : List (ℕ × Connection)) (event : Event) (requ
   pub begun : Begins connection.context (asks_dce_style (server_flags event.flags)) token (Ok request)
 
 -- the reply that an acceptor's answer makes
-abbrev pub reply_of : Result Accepted Cause → Reply
-reply_of (Ok (Answered status token admits)) = Done status token admits
+abbrev pub reply_of : Result Answer Cause → Reply
+reply_of (Ok answer) = Done answer.status answer.token answer.admits
 reply_of (Err cause) = Refused (error_of cause)
 
 -- what an acceptor's answer to a token leads to: its reply; or an exchange with a KDC begins, at a TGT-REQ
-abbrev pub Settles : Draw → Connection → Result Taken Error → Reply → Connection → Type 0
+abbrev pub Settles : Draw → Connection → Result Accepted Error → Reply → Connection → Type 0
 Settles draw connection (Ok (taken.Done status token admits)) reply next = (reply ≡ Done status token admits) × (next ≡ connection)
 Settles draw connection (Ok (taken.Run run)) reply next = Opens connection (Accepts run) draw reply next
 Settles draw connection (Err error) reply next = (reply ≡ Refused error) × (next ≡ connection)
@@ -214,7 +213,7 @@ TakesTurn state event (Err cause) reply after = (reply ≡ Refused (error_of cau
 module _ {G : Type 0} (admits : G → Ask → Verdict → G → Type 0) where
   -- the acceptor of a connection judges a token: its context, its exchange and the gate take the step, and all else stays
   pub record Judges (state : State G) (event : Event) (connection : Connection) (token : List ℕ) (reply : Reply) (after : State G) : Type 0 where
-    pub answer : Result Taken Cause
+    pub answer : Result Accepted Cause
     pub server : Kerberos
     pub accepts : AcceptsWhole admits connection.context (asks_dce_style (server_flags event.flags)) token state.env
         (draw_of event) state.gate answer server after.gate

@@ -1,5 +1,7 @@
 //! Laws of the service, for all values.
 
+ghost use Rattle.std.specs.List.{IsDistinct as IsDistinctBy};
+ghost use Rattle.std.specs.Ordering.{int_eq};
 ghost use Rattle.std.specs.Prelude.{◌≡◌, ℕ, List, Result, ◌≢◌, ◌↔◌, ◌⊎◌, ◌++◌, length, true, Some, None, Ok, Err};
 ghost use Rattle.sspi_core.specs.declared.cause.Cause.{Cause};
 ghost use Rattle.sspi_core.specs.declared.draw.Draw.{Draw};
@@ -8,7 +10,7 @@ ghost use Rattle.krb_context.specs.declared.context.Kerberos.{Kerberos};
 ghost use Rattle.krb_initiator.specs.Beginnings.{Begins as BeginsInitiation};
 ghost use Rattle.krb_initiator.specs.declared.options.InitOptions.{InitOptions};
 ghost use Rattle.krb_initiator.specs.declared.seeker.Initiation.{Initiation};
-ghost use Rattle.krb_machine.specs.Steps.{Begins, GoesOn};
+ghost use Rattle.krb_machine.specs.Steps.{Begins as BeginsRun, GoesOn};
 ghost use Rattle.krb_machine.specs.declared.exchange.Step.{Step};
 ghost use Rattle.krb_machine.specs.declared.run.Run.{Run};
 ghost use Rattle.krb_replay.specs.Book.{Book, Follows, StandsFor};
@@ -18,7 +20,7 @@ ghost use Rattle.krb_replay.specs.Records.{IsDistinct};
 ghost use Rattle.krb_replay.specs.declared.ask.Verdict.{Verdict};
 ghost use Rattle.krb_replay.specs.declared.ask.Verdict.TheVariants.{Admitted};
 ghost use Rattle.krb_admission.specs.Accepts.{asks_dce_style, refusal, Begins, Finishes};
-ghost use Rattle.krb_admission.specs.Admission.{accepted_of};
+ghost use Rattle.krb_admission.specs.Admission.{answer_for};
 ghost use Rattle.krb_admission.specs.Requests.{ask_of};
 ghost use Rattle.krb_admission.specs.declared.request.Request.{Request};
 ghost use Rattle.krb_admission.specs.declared.admission.Admission.{Admission};
@@ -30,6 +32,7 @@ ghost use Rattle.krb_machine.specs.Described.{Remembers, with_gate};
 ghost use Rattle.krb_machine.specs.Left.{record_left, records_left};
 ghost use Rattle.krb_machine.specs.Admitted.{IsAdmissible, reply_to, service_behind};
 ghost use Rattle.krb_machine.specs.Reply.{admits_peer};
+ghost use Rattle.krb_machine.specs.Opened.{Lists, StandFor, AreJudgedBy, lists_behind, BringOctets};
 ghost use Rattle.krb_machine.specs.Serve.{Written, end_of};
 ghost use Rattle.krb_text.specs.declared.status.Status.{Status};
 ghost use Rattle.krb_text.specs.declared.status.Status.TheVariants.{Done, BadWords, ReadFault, WriteFault, OutOfMemory};
@@ -42,7 +45,7 @@ use krb_replay::ReplayGate;
 pub fn one_outcome()
     ensures initiations { (context : Kerberos) (options : InitOptions) (r s : Result Initiation Cause)
         → BeginsInitiation context options r → BeginsInitiation context options s → r ≡ s }
-    ensures begins { (run : Run) (draw : Draw) (r s : Step) → Begins run draw r → Begins run draw s → r ≡ s }
+    ensures begins { (run : Run) (draw : Draw) (r s : Step) → BeginsRun run draw r → BeginsRun run draw s → r ≡ s }
     ensures goes_on { (run : Run) (answer : Result (List ℕ) NetFault) (draw : Draw) (r s : Step)
         → GoesOn run answer draw r → GoesOn run answer draw s → r ≡ s }
 {}
@@ -101,7 +104,7 @@ pub fn completeness()
         → Begins connection.context (asks_dce_style (server_flags event.flags)) token (Ok request)
         → verdict_of skew state.gate (ask_of request event.moment) ≡ Admitted
         → Finishes connection.context (asks_dce_style (server_flags event.flags)) (draw_of event) request (Ok admission)
-        → reply ≡ reply_of (Ok (accepted_of admission)) }
+        → reply ≡ reply_of (Ok (answer_for admission)) }
 {}
 
 /// A run over a replay book is a run over the gate that never forgets, for each history that the book stands for: with the
@@ -132,7 +135,7 @@ pub fn completeness_over_a_book()
         → Begins connection.context (asks_dce_style (server_flags event.flags)) token (Ok request)
         → verdict_of before.gate.skew h (ask_of request event.moment) ≡ Admitted
         → Finishes connection.context (asks_dce_style (server_flags event.flags)) (draw_of event) request (Ok admission)
-        → reply ≡ reply_of (Ok (accepted_of admission)) }
+        → reply ≡ reply_of (Ok (answer_for admission)) }
 {}
 
 /// Whatever the gate, from what every gate owes alone: a request that reaches it is refused for the first of the clock's
@@ -148,6 +151,19 @@ pub fn gates_refuse_by_the_clock<G: ReplayGate>()
         → clock_refusal (G.skew state.gate) (G.moment after.gate) (ask_of request event.moment) ≡ None }
     ensures skew { (state after : State G) (events : List Event) (replies : List Reply)
         → Runs G.admits state events replies after → G.skew after.gate ≡ G.skew state.gate }
+{}
+
+/// Messages by the lists that never forget, whatever the gate. Over a run of events, from connections whose windows stand for lists: a
+/// message that is opened was fresh by its connection's list, one that is refused as old or repeated was so by that list, and the
+/// windows afterwards stand for the lists with the places of the messages that were opened. So no place is opened twice.
+pub fn messages_follow_the_lists<G: ReplayGate>()
+    ensures judged { (lists : Lists) (state after : State G) (events : List Event) (replies : List Reply) → BringOctets events
+        → Runs G.admits state events replies after → StandFor state lists → AreJudgedBy lists events replies }
+    ensures stand { (lists : Lists) (state after : State G) (events : List Event) (replies : List Reply) → BringOctets events
+        → Runs G.admits state events replies after → StandFor state lists → StandFor after (lists_behind lists events replies) }
+    ensures once { (lists : Lists) (state after : State G) (events : List Event) (replies : List Reply) → BringOctets events
+        → Runs G.admits state events replies after → StandFor state lists
+        → (id : ℕ) → IsDistinctBy int_eq (lists id) → IsDistinctBy int_eq (lists_behind lists events replies id) }
 {}
 
 /// An input with no bad and no long line is answered whole, or a read or a write fails, or memory runs out.

@@ -11,8 +11,7 @@ use Rattle.sspi_core.specs.declared.identity.CredentialsBuffers.{CredentialsBuff
 use Rattle.sspi_core.specs.declared.cause.Cause.{Cause}
 use Rattle.sspi_core.specs.declared.cause.Cause.TheVariants.{Credentials}
 use Rattle.sspi_core.specs.Checks.{Takes, ◌>>=◌}
-use Rattle.krb_admission.specs.declared.admission.Accepted.{Accepted as Judged}
-use Rattle.krb_admission.specs.declared.admission.Accepted.TheVariants.{Done as JudgedDone}
+use Rattle.krb_admission.specs.declared.admission.Answer.{Answer}
 use Rattle.krb_admission.specs.Accepts.{Accepts}
 use Rattle.krb_user_to_user.specs.declared.request.Beginning.{Beginning}
 use Rattle.krb_user_to_user.specs.declared.accept_run.AcceptRun.{AcceptRun}
@@ -44,17 +43,17 @@ pub record TakesTgtReq (server : Kerberos) (tgt_req : TgtReq) (dce : Bool) (env 
   pub runs : RunsAs beginning answer
 
 -- the same answer
-abbrev pub accepted_as : Judged → Accepted
-accepted_as (JudgedDone status token admits) = Done status token admits
+abbrev pub accepted_as : Answer → Accepted
+accepted_as answer = Done answer.status answer.token answer.admits
 
-abbrev pub answered_as : Result Judged Cause → Result Accepted Cause
-answered_as (Ok judged) = Ok (accepted_as judged)
+abbrev pub answered_as : Result Answer Cause → Result Accepted Cause
+answered_as (Ok answer) = Ok (accepted_as answer)
 answered_as (Err cause) = Err cause
 
 -- a token that is no TGT-REQ, judged by the checks of an AP-REQ and of the last word
 pub record JudgesOther {G : Type 0} (admits : G → Ask → Verdict → G → Type 0) (server : Kerberos) (dce : Bool) (token : List ℕ)
     (draw : Draw) (old : G) (answer : Result Accepted Cause) (server' : Kerberos) (new : G) : Type 0 where
-  pub judged : Result Judged Cause
+  pub judged : Result Answer Cause
   pub accepts : Accepts admits server dce token draw old judged server' new
   pub answer_is : answer ≡ answered_as judged
 

@@ -14,12 +14,12 @@ ghost use Rattle.krb_server.specs.Whole.{user_of, Checks, TakesTgtReq, accepted_
 
 use crate::tgt_req::tgt_req_in;
 use bitflags::Flags;
+use krb_admission::{Answer, judge_token};
 use krb_conf::Env;
 use krb_context::Kerberos;
 use krb_der::{Octets, OutOfMemory};
 use krb_exchange::TgtReq;
 use krb_replay::ReplayGate;
-use krb_replies::tell;
 use krb_user_to_user::{AcceptRun, Beginning, begin_accept};
 use sspi_core::{Cause, CredentialsBuffers, Draw, Error, SecurityStatus, ServerRequestFlags};
 use std::alloc::Global;
@@ -84,15 +84,15 @@ fn take_tgt_req(
     }
 }
 
-fn accepted_as(accepted: krb_admission::Accepted) -> Accepted
-    ensures same { result ≡ accepted_as accepted }
+fn accepted_as(answer: Answer) -> Accepted
+    ensures same { result ≡ accepted_as answer }
     ensures ready { CanStart result }
 {
-    let krb_admission::Accepted::Done {
+    let Answer {
         status,
         token,
         admits,
-    } = accepted;
+    } = answer;
     Accepted::Done {
         status,
         token,
@@ -105,20 +105,39 @@ fn judge_other<G: ReplayGate>(
     alloc: Global,
     server: &mut Kerberos,
     gate: &mut G,
+    dce: bool,
     token: &[u8],
-    flags: ServerRequestFlags,
+    draw: &Draw,
+) -> Result<Accepted, Cause>
+    ensures step { (result ≡ Err causes.Memory → ⊥) → JudgesOther G.admits server.old dce token.now draw.now gate.old result server.new gate.new }
+    ensures ready { IfOk result CanStart }
+    ensures memory { result ≡ Err causes.Memory → (server.new ≡ server.old) × G.is_same gate.old gate.new }
+{
+    match judge_token(alloc, server, gate, dce, token, draw) {
+        Ok(answer) => Ok(accepted_as(answer)),
+        Err(cause) => Err(cause),
+    }
+}
+
+/// What a token is answered.
+fn accept<G: ReplayGate>(
+    alloc: Global,
+    server: &mut Kerberos,
+    gate: &mut G,
+    dce: bool,
+    token: &[u8],
     env: &Env,
     draw: &Draw,
-) -> Result<Accepted, Error>
-    ensures step { (result ≡ Err (error_of causes.Memory) → ⊥)
-        → (answer : Result Accepted Cause) × (result ≡ told places.Elsewhere answer)
-        × JudgesOther G.admits server.old (asks_dce_style flags) token.now draw.now gate.old answer server.new gate.new }
+) -> Result<Accepted, Cause>
+    ensures step { (result ≡ Err causes.Memory → ⊥)
+        → AcceptsWhole G.admits server.old dce token.now env.now draw.now gate.old result server.new gate.new }
     ensures ready { IfOk result CanStart }
-    ensures memory { result ≡ Err (error_of causes.Memory) → (server.new ≡ server.old) × G.is_same gate.old gate.new }
+    ensures memory { result ≡ Err causes.Memory → (server.new ≡ server.old) × G.is_same gate.old gate.new }
 {
-    match krb_admission::accept_security_context(alloc, server, gate, token, flags, env, draw) {
-        Ok(accepted) => Ok(accepted_as(accepted)),
-        Err(error) => Err(error),
+    match tgt_req_in(alloc, dce, server.state, token) {
+        Ok(None) => judge_other(alloc, server, gate, dce, token, draw),
+        Ok(Some(tgt_req)) => take_tgt_req(alloc, server, &tgt_req, dce, env),
+        Err(OutOfMemory) => Err(Cause::Memory),
     }
 }
 
@@ -128,8 +147,19 @@ fn judge_other<G: ReplayGate>(
 /// context is as before until what it ends with is settled. Refused, in this order, as IncompleteCredentials Credentials where
 /// the service is no user, and then as `request_tgt` refuses. The gate is not asked.
 ///
-/// Every other token is judged as `krb_admission` does: admitted or refused by the first check that it fails, and InvalidToken
-/// Shape where it is nothing.
+/// Every other token is the initiator's last word where that is awaited, and else an AP-REQ. With `USE_DCE_STYLE` tokens are
+/// bare, and else framed. An AP-REP in DCE style is not the end: the context then awaits the initiator's last word, an AP-REP
+/// with the same number, at which the gate is not asked; its messages have 16 octets of filler from there on (MS-KILE, section
+/// 3.4.5.1).
+///
+/// The moment of `draw` is the gate's question, in microseconds since 1970-01-01T00:00:00Z. Where the client asks for an
+/// AP-REP, the first random octets of `draw` become the sub-session key, as many as the suite's key has, and the 16 behind
+/// them the AP-REP's confounder.
+///
+/// The refusals of an AP-REQ, in their order: OutOfSequence Sequence where the context waits for no token; those of the checks
+/// of RFC 4120, section 3.2.3, as `specs/Requests` of `krb_admission` has them, the gate's, and those of its `specs/Complete`.
+/// InvalidToken Shape is that of a token that is nothing. The refusals of the last word are those of its `specs/ThirdLeg`:
+/// InvalidToken Shape, DecryptFailure Reply, InvalidToken Inner, NoNumber, Number.
 pub fn accept_security_context<G: ReplayGate>(
     alloc: Global,
     server: &mut Kerberos,
@@ -139,7 +169,7 @@ pub fn accept_security_context<G: ReplayGate>(
     env: &Env,
     draw: &Draw,
 ) -> Result<Accepted, Error>
-    // Anything but want of memory is what the ordered checks and the gate answer.
+    // Anything but memory that runs out is what the ordered checks and the gate answer.
     ensures step { (result ≡ Err (error_of causes.Memory) → ⊥)
         → (answer : Result Accepted Cause) × (result ≡ told places.Elsewhere answer)
         × AcceptsWhole G.admits server.old (asks_dce_style flags) token.now env.now draw.now gate.old answer server.new gate.new }
@@ -149,9 +179,8 @@ pub fn accept_security_context<G: ReplayGate>(
     ensures memory { result ≡ Err (error_of causes.Memory) → (server.new ≡ server.old) × G.is_same gate.old gate.new }
 {
     let dce = flags.contains(ServerRequestFlags::USE_DCE_STYLE);
-    match tgt_req_in(alloc, dce, server.state, token) {
-        Ok(None) => judge_other(alloc, server, gate, token, flags, env, draw),
-        Ok(Some(tgt_req)) => tell(take_tgt_req(alloc, server, &tgt_req, dce, env)),
-        Err(OutOfMemory) => Err(Error::from(Cause::Memory)),
+    match accept(alloc, server, gate, dce, token, env, draw) {
+        Ok(accepted) => Ok(accepted),
+        Err(cause) => Err(Error::from(cause)),
     }
 }

@@ -1,14 +1,50 @@
-//! The acceptor whole: an AP-REQ, the initiator's last word in DCE style, and a TGT-REQ, which begins user-to-user.
+//! The acceptor: who writes a Kerberos server finds all that it calls and names here.
 //!
-//! [`accept_security_context`] judges a token over any replay gate. A TGT-REQ, where one may come, is answered by a run that
-//! fetches the service's ticket (`krb_user_to_user`), and no gate is asked; every other token goes to the ordered checks of
-//! `krb_admission`.
+//! [`accept_security_context`] judges a token of a client at the context of its connection, over one replay gate of all clients,
+//! most often a [`ReplayBook`]. An AP-REQ is admitted or refused, as is the initiator's last word in DCE style. A TGT-REQ, where
+//! one may come, begins user-to-user: it is answered by an [`AcceptRun`], which fetches the service's ticket, and no gate is asked.
+//!
+//! ```
+//! let mut book = ReplayBook::new(alloc, 300)?; // one for all clients
+//! let service = ServerProperties::new(alloc, &["host", "server.example.com"], None, 300, Some(key))?;
+//! let mut context = Kerberos::new_server_from_config(config, service, number)?; // one for each connection
+//! let flags = ServerRequestFlags::empty();
+//! match accept_security_context(alloc, &mut context, &mut book, token, flags, &env, &draw)? {
+//!     Accepted::Done { token, .. } => token, // goes back to the client; `context` knows who it is, and opens its messages
+//!     Accepted::Run(run) => ..,              // asks a KDC, by way of `Generator::new(run)`
+//! }
+//! ```
+//!
+//! The ordered checks of an AP-REQ stand in `krb_admission`, the run of user-to-user in `krb_user_to_user`.
 #![tactic(auto)]
 
 mod accept;
 mod tgt_req;
 
 pub use accept::{Accepted, accept_security_context};
+pub use krb_admission::{client_upn, generate_ap_rep};
 pub use krb_user_to_user::{
     AcceptRun, GeneratorAcceptSecurityContext, generate_tgt_rep, request_tgt,
+};
+
+// What a server names beside, so that its imports come from here alone.
+pub use bitflags::Flags;
+pub use krb_as::InitDone;
+pub use krb_conf::{Env, KerberosConfig};
+pub use krb_context::{
+    ContextChange, EncryptionParams, Kerberos, KerberosServerConfig, KerberosState, ProtocolConfig,
+    ServerProperties,
+};
+pub use krb_der::{IntegerAsn1, Items, Name, Octets, OutOfMemory, Text, Time, TryCopy};
+pub use krb_exchange::{TgtRep, TgtReq};
+pub use krb_messages::{ApRep, PrincipalName, Ticket};
+pub use krb_replay::{Ask, CacheGate, Record, ReplayBook, ReplayGate, Verdict};
+pub use sspi_core::{
+    AuthIdentity, AuthIdentityBuffers, BufferType, Cause, ContextNames, ContextSizes,
+    CredentialsBuffers, Draw, Error, ErrorKind, KeytabIdentity, MAX_MOMENT, Message,
+    NetworkProtocol, PackageInfo, Part, Secret, SecurityBufferFlags, SecurityBufferRef,
+    SecurityStatus, ServerRequestFlags, SessionKeys, Username, UsernameError, UsernameParts,
+};
+pub use sspi_generator::{
+    Generator, GeneratorState, NetFault, NetworkClient, NetworkRequest, Resumable, Task,
 };

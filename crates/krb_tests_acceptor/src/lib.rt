@@ -2,4 +2,4 @@
 #![tactic(auto)]
 
 #[cfg(test)]
-mod krb_admission_tests;
+mod krb_server_tests;

@@ -216,12 +216,6 @@ fn draws(turns: &[Turn]) -> [Draw; 3]
     }
 }
 
-fn nonce(draw: &Draw) -> [u8; 4] {
-    let mut nonce = [0; 4];
-    nonce.copy_from_slice(&draw.random[..4]);
-    nonce
-}
-
 fn client(alloc: Global, who: &Who, credentials: &CredentialsBuffers) -> Result<Client, Cause>
     ensures { IfOk result (λ client. IsShort client) }
 {
@@ -239,8 +233,7 @@ fn body(alloc: Global, client: &Client, draw: &Draw) -> Result<KdcReqBody, OutOf
         client,
         FirstService::TicketGranting,
         ClientRequestFlags::MUTUAL_AUTH,
-        nonce(draw),
-        draw.moment,
+        draw,
     )
 }
 

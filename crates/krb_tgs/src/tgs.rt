@@ -15,8 +15,8 @@ ghost use Rattle.krb_as.specs.Kdcs.{FindsKdc};
 ghost use Rattle.krb_as.specs.Granted.{IsSendable};
 ghost use Rattle.krb_tgs.specs.TgsAsked.{drawn_number, drawn_nonce, drawn_confounder, tgs_authenticator, tgs_req_for, tgs_request, url_for, AsksTgs, is_same_realm, Follows};
 
-use crate::wanted::{Shown, Wanted};
-use krb_as::{Asker, Begun, Kdc, find_kdc, request_to};
+use crate::wanted::Wanted;
+use krb_as::{Asker, Grant, Kdc, find_kdc, request_to};
 use krb_authenticators::{
     GenerateAuthenticatorOptions, GenerateTgsReqOptions, generate_authenticator, generate_tgs_req,
 };
@@ -31,6 +31,14 @@ use std::alloc::Global;
 
 /// The most referrals that are followed.
 const MAX_HOPS: u8 = 9;
+
+/// A request to a ticket-granting service.
+#[derive(Drop)]
+pub struct Begun {
+    pub request: NetworkRequest,
+    /// Where it goes.
+    pub kdc: Kdc,
+}
 
 fn drawn_number(draw: &Draw) -> u32
     ensures { result ≡ drawn_number draw.now }
@@ -96,7 +104,7 @@ fn tgs_authenticator(
 fn tgs_req_by(
     alloc: Global,
     wanted: &Wanted,
-    shown: &Shown,
+    shown: &Grant,
     realm: &Name,
     tickets: Option<Items<Ticket>>,
     authenticator: Authenticator,
@@ -135,7 +143,7 @@ fn tgs_req_by(
 fn tgs_req_for(
     alloc: Global,
     wanted: &Wanted,
-    shown: &Shown,
+    shown: &Grant,
     realm: &Name,
     tickets: Option<Items<Ticket>>,
     draw: &Draw,
@@ -157,7 +165,7 @@ fn tgs_req_for(
 fn tgs_request(
     alloc: Global,
     wanted: &Wanted,
-    shown: &Shown,
+    shown: &Grant,
     tickets: Option<Items<Ticket>>,
     draw: &Draw,
     kdc: &Kdc,
@@ -179,7 +187,7 @@ fn tgs_request(
 fn sent_tgs_request(
     alloc: Global,
     wanted: &Wanted,
-    shown: &Shown,
+    shown: &Grant,
     tickets: Option<Items<Ticket>>,
     draw: &Draw,
     kdc: Kdc,
@@ -196,7 +204,7 @@ fn sent_tgs_request(
     Ok(Begun { request, kdc })
 }
 
-fn check_key(shown: &Shown) -> Result<(), Cause>
+fn check_key(shown: &Grant) -> Result<(), Cause>
     ensures { Holds causes.KeyLength (length shown.now.key == key_size shown.now.suite) result }
 {
     hold(
@@ -227,7 +235,7 @@ pub fn ask_tgs(
     alloc: Global,
     asker: &Asker,
     wanted: &Wanted,
-    shown: &Shown,
+    shown: &Grant,
     home: &Name,
     realm: &Name,
     tickets: Option<Items<Ticket>>,
@@ -275,7 +283,7 @@ pub fn follow(
     alloc: Global,
     asker: &Asker,
     wanted: &Wanted,
-    shown: &Shown,
+    shown: &Grant,
     hops: u8,
     home: &Name,
     asked: &Name,

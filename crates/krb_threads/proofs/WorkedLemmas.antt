@@ -6,7 +6,7 @@ use Rattle.krb_replay.specs.declared.ask.Verdict.{Verdict}
 use Rattle.krb_admission.specs.Accepts.{Asks}
 use Rattle.krb_admission.specs.Requests.{ask_of}
 use Rattle.krb_server.specs.Whole.{Makes}
-use Rattle.krb_server.specs.declared.accept.Accepted.{Accepted as Taken}
+use Rattle.krb_server.specs.declared.accept.Accepted.{Accepted}
 use Rattle.krb_conf.specs.declared.env.Env.{Env}
 use Rattle.krb_context.specs.declared.context.Kerberos.{Kerberos}
 use Rattle.krb_exchange.specs.declared.user_to_user.TgtReq.{TgtReq}
@@ -85,12 +85,12 @@ module _ {G N : Type 0} (admits : G → Ask → Verdict → G → Type 0) (log :
       }
   asks_by moment old (Err cause) verdict new same = record { gained = []; gains = gains_none old new same; asks = λ more. ap (λ g. rest_at g more) same }
 
-  record MadeBy (server : Kerberos) (dce : Bool) (token : List ℕ) (env : Env) (draw : Draw) (old : G) (found : Option TgtReq) (answer : Result Taken Cause) (server' : Kerberos) (new : G) : Type 0 where
+  record MadeBy (server : Kerberos) (dce : Bool) (token : List ℕ) (env : Env) (draw : Draw) (old : G) (found : Option TgtReq) (answer : Result Accepted Cause) (server' : Kerberos) (new : G) : Type 0 where
     gained : List Entry
     gains : Gains old new gained
     made : (more : List Entry) → Makes (Reads (seat old)) server dce token env draw (rest_at old (gained ++ more)) found answer server' (rest_at new more)
 
-  made_by : (server : Kerberos) (dce : Bool) (token : List ℕ) (env : Env) (draw : Draw) (old : G) (found : Option TgtReq) (answer : Result Taken Cause) (server' : Kerberos) (new : G)
+  made_by : (server : Kerberos) (dce : Bool) (token : List ℕ) (env : Env) (draw : Draw) (old : G) (found : Option TgtReq) (answer : Result Accepted Cause) (server' : Kerberos) (new : G)
       → Makes admits server dce token env draw old found answer server' new → MadeBy server dce token env draw old found answer server' new
   made_by server dce token env draw old (Some tgt_req) answer server' new m =
       record { gained = []; gains = gains_none old new m.2; made = λ more. (m.0, m.1, ap (λ g. rest_at g more) m.2) }

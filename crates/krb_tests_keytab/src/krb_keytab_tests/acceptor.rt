@@ -3,12 +3,12 @@
 use super::files::{KAFKA, KAFKA_LOCALHOST, KAFKA_RC4, MIT_AGAIN};
 use super::{name, read};
 use bitflags::Flags;
-use krb_admission::accept_security_context;
 use krb_conf::{Env, KerberosConfig};
 use krb_context::{Kerberos, ServerProperties};
 use krb_der::{Items, Octets, Text};
 use krb_keytab::Keytab;
 use krb_replay::ReplayBook;
+use krb_server::accept_security_context;
 use sspi_core::{Cause, Draw, Message, Part, SecurityBufferRef, ServerRequestFlags};
 use std::alloc::{AllocError, Global};
 use std::test::Fail;

@@ -1,15 +1,11 @@
-use Rattle.std.proofs.Common.{refl, Some}
-use Rattle.krb_server.proofs.Retold.{taken, found_one}
+use Rattle.std.proofs.Common.{Err, ap, ◌∙◌}
+use Rattle.sspi_core.specs.declared.cause.Cause.TheVariants as causes
+use Rattle.sspi_core.specs.Kinds.{error_of}
+use Rattle.sspi_core.proofs.Chain.{same_err}
+use Rattle.krb_server.specs.declared.accept.Accepted.{Accepted}
 use Rattle.krb_server.proofs.accept.accept_security_context.Goals as goal
 
-pub returns-in-Ok-Some-clause-step : goal.returns-in-Ok-Some-clause-step
-returns-in-Ok-Some-clause-step g c =
-    λ ne. (
-      c.take_tgt_req.result,
-      c.tell.ensures,
-      record {
-        tgt_req = Some c.in-Ok-Some.tgt_req;
-        found = found_one _ _ _ c.in-Ok-Some.field-0-is (rw c.contains-dce.ensures at c.in-Ok-Some.ensures);
-        made = (taken _ _ _ _ _ _ (rw c.contains-dce.ensures at c.take_tgt_req.ensures.step) c.tell.ensures ne, refl, refl);
-      },
-    )
+pub returns-in-Err-clause-step : goal.returns-in-Err-clause-step
+returns-in-Err-clause-step g c =
+    let step = rw c.contains-dce.ensures at c.in-Err.ensures.step in
+    λ ne. (Err c.in-Err.cause, ap Err c.from.ensures, step (λ z. ne (ap Err (c.from.ensures ∙ ap error_of (same_err {A = Accepted} c.in-Err.cause causes.Memory z)))))
