@@ -1,4 +1,4 @@
-use Rattle.std.proofs.Common.{◌≡◌, ◌≤◌, ◌-◌, ◌^◌, ◌∙◌, ℕ, List, length, arith}
+use Rattle.std.proofs.Common.{◌≤◌, ◌-◌, ◌^◌, ◌∙◌, ℕ, List, length, arith}
 use Rattle.std.proofs.lemmas.Result.{IfOk-weaker}
 use Rattle.krb_kdc.proofs.GrantLengths.{ticket_part_fits}
 use Rattle.krb_kdc.proofs.grant.written_ticket_part.Goals as goal
