@@ -21,9 +21,9 @@ use Rattle.krb_script.specs.Script.{at_id}
 use Rattle.krb_script.specs.declared.item.Event.{Event}
 use Rattle.krb_script.specs.declared.input.Input.{Input}
 use Rattle.krb_script.specs.declared.input.Input.TheVariants as inputs
-use Rattle.krb_machine.specs.MessageCalls.{is_call, IsSealedBy, IsOpenedBy, IsSignedBy, Seals, Opens, Signs, Verifies, verified, Calls}
+use Rattle.krb_machine.specs.MessageCalls.{is_call, IsSealedBy, IsOpenedBy, IsSignedBy, verified, Calls}
 use Rattle.krb_machine.specs.Exchanges.{awaits, answer_of}
-use Rattle.krb_machine.specs.Policy.{State, ◌>>=◌, check, token_of, is_initiating, is_initiator, reached, ready, CallsAt, AnswersCall, Behind, Judges, TakesPart, StepsOnward, StepsBy, Steps}
+use Rattle.krb_machine.specs.Policy.{State, ◌>>=◌, check, token_of, is_initiating, is_initiator, reached, ready, AnswersCall, Behind, Judges, TakesPart, StepsOnward, StepsBy, Steps}
 use Rattle.sspi_core.specs.Moments.{last_moment}
 use Rattle.krb_machine.specs.Reply.{admits_peer}
 use Rattle.krb_machine.specs.declared.connection.Connection.{Connection}

@@ -1,5 +1,5 @@
 -- Each event keeps the lists of places for which the windows of the connections stand.
-use Rattle.std.proofs.Common.{◌≡◌, ℕ, ◌^◌, ◌<◌, not, Bool, true, false, List, [], ◌∷◌, ◌++◌, Option, Some, None, Result, Ok, Err, inl, inr, refl, sym, ap, ◌∙◌, subst}
+use Rattle.std.proofs.Common.{◌≡◌, ℕ, ◌^◌, ◌<◌, not, Bool, true, false, List, [], ◌∷◌, Option, Some, None, Result, Ok, Err, inl, inr, refl, sym, ap, ◌∙◌, subst}
 use Rattle.std.specs.Prelude.{◌==◌, ℤ, pos, ◌-ℤ◌, int_lt, nat_le, is_some, ◌||◌, if◌then◌else◌}
 use Rattle.std.specs.Cmp.{int_eq_equiv}
 use Rattle.std.specs.List.{IsDistinct, list_any}
@@ -14,7 +14,6 @@ use Rattle.krb_context.specs.Places.{greatest, place_of, was_opened, verdict_aft
 use Rattle.krb_context.specs.Unwraps.{aged, Unwraps, unwrapped, message_number}
 use Rattle.krb_context.specs.Window.{Window, StandsFor, judged, noted}
 use Rattle.krb_context.specs.declared.context.Kerberos.{Kerberos}
-use Rattle.krb_context.specs.declared.window.NumberVerdict.{NumberVerdict}
 use Rattle.krb_context.specs.declared.window.NumberVerdict.TheVariants.{Fresh, Old, Repeated}
 use Rattle.krb_exchange.specs.declared.user_to_user.TgtReq.{TgtReq}
 use Rattle.krb_replay.specs.declared.ask.Ask.{Ask}
@@ -45,7 +44,7 @@ use Rattle.krb_machine.specs.Exchanges.{awaits, answer_of, LeadsTo}
 use Rattle.krb_machine.specs.Initiations.{SetsOut}
 use Rattle.krb_machine.specs.MessageCalls.{is_call, IsSealedBy, IsOpenedBy, IsSignedBy, Calls}
 use Rattle.krb_machine.specs.Opened.{Lists, StandFor, IsAnsweredBy, IsJudgedBy, list_after, lists_after, lists_behind, AreJudgedBy, BringsOctets, BringOctets}
-use Rattle.krb_machine.specs.Policy.{State, ◌>>=◌, check, called, ready, reached, heard, awaited, is_initiator, Settles, AnswersCall, TakesAnswer, TakesTurn, Behind, TakesPart, StepsOnward, StepsBy, Steps, Runs}
+use Rattle.krb_machine.specs.Policy.{State, ◌>>=◌, check, ready, reached, heard, awaited, is_initiator, Settles, AnswersCall, TakesAnswer, TakesTurn, Behind, TakesPart, StepsOnward, StepsBy, Steps, Runs}
 use Rattle.krb_machine.specs.declared.connection.Connection.{Connection}
 use Rattle.krb_machine.specs.declared.exchange.Step.{Step}
 use Rattle.krb_machine.specs.declared.exchange.Step.TheVariants.{Asks, Ends as EndsStep, Refused as RefusesStep}

@@ -24,7 +24,7 @@ use Rattle.krb_machine.proofs.ExchangeLemmas.{same_state}
 use Rattle.krb_machine.specs.MessageCalls.{is_call}
 use Rattle.krb_machine.specs.Exchanges.{answer_of}
 use Rattle.krb_machine.specs.Initiations.{token_heard}
-use Rattle.krb_machine.specs.Policy.{State, ◌>>=◌, check, token_of, called, ready, reached, heard, awaited, is_initiating, is_initiator, draw_of, AnswersCall, TakesAnswer, TakesTurn, Behind, TakesPart, StepsOnward, StepsBy, Steps}
+use Rattle.krb_machine.specs.Policy.{State, ◌>>=◌, check, token_of, called, ready, is_initiating, is_initiator, draw_of, AnswersCall, TakesAnswer, TakesTurn, Behind, TakesPart, StepsOnward, StepsBy, Steps}
 use Rattle.krb_machine.specs.There.{Refuses, TakesAnswerThere, InitiatesThere, AcceptsThere, TakesPartThere, IsTimelyThere, StepsBy as StepsThereBy, StepsThere}
 use Rattle.krb_machine.specs.declared.connection.Connection.{Connection}
 use Rattle.krb_machine.specs.declared.reply.Reply.{Reply}

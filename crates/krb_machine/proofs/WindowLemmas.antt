@@ -7,7 +7,7 @@ use Rattle.krb_aes.specs.Octets.{IsOctets}
 use Rattle.krb_context.specs.Contexts.{is_peer_acceptor}
 use Rattle.krb_context.specs.Header.{is_wrap_header, number_of}
 use Rattle.krb_context.specs.Spelled.{spelled}
-use Rattle.krb_context.specs.Unwraps.{header_of, Heads, Opens, aged, Receives, Unwraps, message_number}
+use Rattle.krb_context.specs.Unwraps.{Heads, Opens, aged, Receives, Unwraps, message_number}
 use Rattle.krb_context.specs.Window.{judged}
 use Rattle.krb_context.specs.declared.context.Kerberos.{Kerberos}
 use Rattle.krb_context.specs.declared.params.EncryptionParams.{EncryptionParams}

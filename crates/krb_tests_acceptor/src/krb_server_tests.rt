@@ -15,7 +15,7 @@ use krb_context::{Kerberos, ServerProperties};
 use krb_der::{Octets, Text, boxed};
 use krb_replay::{ReplayBook, ReplayGate};
 use krb_server::{Accepted, accept_security_context};
-use sspi_core::{Cause, Draw, Error, Secret, ServerRequestFlags};
+use sspi_core::{Cause, Draw, Secret, ServerRequestFlags};
 use std::alloc::Global;
 use std::test::Fail;
 
@@ -59,13 +59,6 @@ fn context_with(
 /// An acceptor of host/server.example.com with this number.
 fn context_of(alloc: Global, number: u32) -> Result<Box<Kerberos>, Fail> {
     context_with(alloc, properties(alloc)?, number)
-}
-
-fn cause_of<T: Drop>(answer: Result<T, Error>) -> Option<Cause> {
-    match answer {
-        Ok(_) => None,
-        Err(error) => Some(error.cause),
-    }
 }
 
 /// The octets 0 to 63, at 1700000000 s.

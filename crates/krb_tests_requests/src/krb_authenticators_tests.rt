@@ -251,7 +251,7 @@ static AUTHENTICATORS: [(Shown, Result<&str, Cause>); 4] = [
 #[tactic(auto, using(crate::proofs::Fitting::from_27))]
 fn is_shown(alloc: Global, shown: &Shown, end: &Result<&str, Cause>) -> bool {
     match as_rep(alloc) {
-        Ok(rep) => ends(alloc, &authenticator(alloc, &rep, shown), end),
+        Ok(rep) => ends(alloc, authenticator(alloc, &rep, shown), end),
         Err(_) => false,
     }
 }
@@ -427,7 +427,7 @@ fn tgs_req_of(alloc: Global, rep: &KdcRep, wanted: &Wanted) -> Result<TgsReq, Er
 
 fn is_wanted(alloc: Global, wanted: &Wanted, end: &Result<&str, Cause>) -> bool {
     match as_rep(alloc) {
-        Ok(rep) => ends(alloc, &tgs_req_of(alloc, &rep, wanted), end),
+        Ok(rep) => ends(alloc, tgs_req_of(alloc, &rep, wanted), end),
         Err(_) => false,
     }
 }
@@ -465,7 +465,7 @@ fn tgs_ap_req(alloc: Global, rep: &KdcRep, length: usize) -> Result<ApReq, Error
 #[tactic(auto, using(crate::proofs::Fitting::from_28))]
 fn is_tgs_ap_req(alloc: Global, length: usize, end: &Result<&str, Cause>) -> bool {
     match as_rep(alloc) {
-        Ok(rep) => ends(alloc, &tgs_ap_req(alloc, &rep, length), end),
+        Ok(rep) => ends(alloc, tgs_ap_req(alloc, &rep, length), end),
         Err(_) => false,
     }
 }
@@ -507,7 +507,7 @@ fn ap_req(alloc: Global, rep: &KdcRep, key: &str) -> Result<ApReq, Error>
 #[tactic(auto, using(crate::proofs::Fitting::from_28))]
 fn is_ap_req(alloc: Global, key: &str, end: &Result<&str, Cause>) -> bool {
     match tgs_rep(alloc) {
-        Ok(rep) => ends(alloc, &ap_req(alloc, &rep, key), end),
+        Ok(rep) => ends(alloc, ap_req(alloc, &rep, key), end),
         Err(_) => false,
     }
 }

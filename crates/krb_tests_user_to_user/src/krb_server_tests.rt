@@ -9,6 +9,7 @@ use crate::rows::is_hex;
 use crate::services::{Service, acceptor_of, draw, flags_of};
 use krb_conf::Env;
 use krb_context::Kerberos;
+use krb_der::boxed;
 use krb_replay::ReplayBook;
 use krb_server::{Accepted, accept_security_context};
 use sspi_core::{Cause, Error, SecurityStatus};
@@ -81,6 +82,7 @@ fn is_answered_so(
     let flags = flags_of(step.dce);
     let env = Env::new(alloc);
     let answer = accept_security_context(alloc, server, book, &token, flags, &env, &draw());
+    let answer = boxed(alloc, answer)?;
     Ok(is_answer(alloc, &answer, &step.answer))
 }
 

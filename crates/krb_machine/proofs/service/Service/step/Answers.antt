@@ -1,6 +1,5 @@
 use Rattle.std.proofs.Common.{ap, refl, sym, Some, ◌∙◌}
 use Rattle.std.proofs.lemmas.Result.{on_err_weaker}
-use Rattle.krb_machine.specs.Policy.{State}
 use Rattle.krb_machine.specs.declared.connection.Connection.{Connection}
 use Rattle.krb_machine.proofs.ThereLemmas.{connection-stays, step-taken}
 use Rattle.krb_machine.proofs.service.Service.step.Goals as goal

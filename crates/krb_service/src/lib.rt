@@ -1,0 +1,34 @@
+//! The service: a Kerberos service over lines of text, as a program or a library calls it. There is no code in this crate.
+//!
+//! [`serve`] reads lines from a [`Source`], answers each event as its line comes, and writes the reply to a [`Sink`] before it reads
+//! on. [`threads`] reads all lines first and answers the events on two threads over one replay book, and [`demo`] answers a made
+//! input. Each gives the [`Status`] that the program exits with:
+//!
+//! ```
+//! let mut source = SureSource::new(b"skew 300\n");
+//! let mut sink = MemSink::new(alloc, Calls::sound(alloc));
+//! let status = serve(alloc, &words, &mut source, &mut sink); // Done, and the sink has taken `end 0 0`
+//! ```
+//!
+//! Below them stands [`Service`], many connections over one replay gate: [`Service::run`] answers a list of events with as many
+//! replies. [`run_two`] runs two services in two threads. [`laws`] has what holds for every service, every pair of ends and every
+//! input, as laws over the definitions that the contracts of these calls name.
+#![tactic(auto)]
+
+pub mod laws;
+
+pub use krb_machine::{Connection, HeldConnection, Reply, Service, Stopped, demo, serve};
+pub use krb_script::{Event, Input};
+pub use krb_text::{
+    Calls, CutFault, Failed, LineCutter, MAX_INPUT, MAX_LINE, MemSink, MemSource, Sink, Source,
+    Status, StdSink, StdSource, SureSink, SureSource, Words,
+};
+pub use krb_threads::{NoPause, Part, Pause, PausedGate, run_two, threads};
+
+// What names a service's parts beside.
+pub use krb_conf::{Env, KerberosConfig};
+pub use krb_context::{Kerberos, ServerProperties};
+pub use krb_der::{Items, Name, Octets, OutOfMemory, Text};
+pub use krb_replay::{ReplayBook, ReplayGate};
+pub use sspi_core::{Cause, ClientRequestFlags, Error, Message, Secret, SecurityStatus};
+pub use sspi_generator::NetworkRequest;
