@@ -142,7 +142,7 @@ module _ (alloc : Global) where
   granting_le = lit≤ tt
 
   body_le : length (spelling kdc_req_body_layout body) ≤ 1024
-  unfolding tlv length_octets time_octets body_of first_body kdc_req_body kdc_req_body_row principal_name principal_name_row host_address host_address_row
+  unfolding tlv length_octets time_octets first_body kdc_req_body kdc_req_body_row principal_name principal_name_row host_address host_address_row
   body_le = lit≤ tt
 
   small : IsSmall grant
@@ -158,7 +158,7 @@ module _ (alloc : Global) where
   sound = first_sound example_seeker example_draws example_user kdc has refl start 2 timely timely name_short
 
   nonce_le : length body.nonce ≤ 4
-  unfolding body_of first_body
+  unfolding first_body
   nonce_le = lit≤ tt
 
   abbrev ticket_cipher : List ℕ

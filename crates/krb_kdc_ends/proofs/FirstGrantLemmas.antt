@@ -48,17 +48,17 @@ module _ (seeker : Seeker) (draws : Draws) (user : UserName) (kdc : Kdc) (has : 
       }
 
   first_lives : IsLiving start grant.endtime
-  unfolding body_of first_body
+  unfolding first_body
   first_lives =
       earlier_lives start (three_days_after draws.start.moment) (ten_hours_after draws.first.moment) (three_days_live start span draws.start begun)
       (ten_hours_live start span draws.first given)
 
   nonce_size : length body.nonce ≡ 4
-  unfolding body_of first_body
+  unfolding first_body
   nonce_size = omega (arith, length-take 4 draws.start.random, begun.is.size)
 
   pub first_sound : IsSoundGrant kdc.realm body.nonce grant
-  unfolding body_of first_body
+  unfolding first_body
   first_sound =
       let named = granting_sound kdc.realm draws.first suite
       (record { realm_ascii = kdc.realm_ascii; realm_short = kdc.realm_short; salt_ascii = tt; salt_short = refl }) given.is.moment in

@@ -43,7 +43,6 @@ use Rattle.krb_as.specs.Askers.{asker_suite, client_key, default_salt, key_for}
 use Rattle.krb_as.specs.declared.as_phase.AsPhase.TheVariants.{AwaitsError, AwaitsAsRep}
 use Rattle.krb_as.specs.declared.key.SealedTime.{SealedTime}
 use Rattle.krb_as.specs.Turns.{IsWant}
-use Rattle.krb_as.specs.ReplyKeys.{client_key}
 use Rattle.krb_tgs.specs.TgsAsked.{url_for, tgs_request}
 use Rattle.krb_initiator.specs.declared.init_run.InitRun.{InitRun}
 use Rattle.krb_initiator.specs.declared.seeker.Seeker.{Seeker}
@@ -78,7 +77,7 @@ use Rattle.krb_kdc_ends.proofs.HeldLemmas.{IsHeld, near}
 use Rattle.krb_kdc_ends.proofs.NameLemmas.{salt_names}
 use Rattle.krb_kdc_ends.proofs.RepLemmas.{grants_first}
 use Rattle.krb_kdc_ends.proofs.TicketLemmas.{own_key}
-use Rattle.krb_kdc_ends.proofs.TurnLemmas.{IsTurned, Runs, started, resumed, no_memory, second_wants, first_wants, IsAnswered, answered}
+use Rattle.krb_kdc_ends.proofs.TurnLemmas.{IsTurned, Runs, started, resumed, no_memory, as_wants, IsAnswered, answered}
 use Rattle.krb_kdc_ends.proofs.WalkLemmas.{Comes, walk}
 
 some_is : {A : Type 0} (x y : A) → Some x ≡ Some y → x ≡ y
@@ -124,7 +123,7 @@ module _ (seeker : Seeker) (pairs : List (List ℕ × Kdc)) (draws : Draws) (ser
   salt = unwrap_or c.has.client.salt (default_salt seeker.asker.credentials)
 
   abbrev sealed : SealedTime
-  sealed = sealed_time seeker.asker address salt c.client.key
+  sealed = sealed_time seeker.asker address salt c.has.client.key
 
   abbrev plain_message : List ℕ
   plain_message = spelling as_req_layout (as_req_with plain_pa_datas body)
@@ -163,10 +162,8 @@ module _ (seeker : Seeker) (pairs : List (List ℕ × Kdc)) (draws : Draws) (ser
   first_timely = c.drawn.by_kdcs.1.0
 
   asks : AsksFirst kdc (name_of seeker) c.has.client draws.start.moment body
-  unfolding body_of
   asks =
-      asks_first kdc seeker.client c.has.client seeker.wanted.flags.0 (take 4 draws.start.random) draws.start.moment c.has.realm_is c.has.known
-      (omega (arith, length-take 4 draws.start.random, starts_timely.is.size)) starts_timely.is.moment
+      asks_first kdc seeker.client c.has.client seeker.wanted.flags.0 draws.start c.has.realm_is c.has.known starts_timely.is
 
   salted : AreAscii kdc.realm c.has.client.salt
   salted = salt_names kdc (user_components seeker.client.name) c.has.client c.has.known
@@ -250,13 +247,13 @@ module _ (seeker : Seeker) (pairs : List (List ℕ × Kdc)) (draws : Draws) (ser
       second_payload p q sends
 
   module _ (run next : InitRun) (state : GeneratorState NetworkRequest (Result InitDone Error)) (after : Net) (owns : List Draw) (is : run.initiation ≡ Seeks seeker) where
-    asks_again : Next (Seeks seeker) (AwaitsError address body) (Ok (error_message suite)) draws.second
-        (Ok (Asks (second_request suite c.has.client.key draws.second address body) (AwaitsAsRep address salt)))
+    asks_again : Next (Seeks seeker) (InAsExchange (AwaitsError address body)) (Ok (error_message suite)) draws.second
+        (Ok (Asks (second_request suite c.has.client.key draws.second address body) (InAsExchange (AwaitsAsRep sealed))))
     asks_again = asks_second seeker suite address body (record { reply = error_message suite; draw = draws.second }) salt c.has.client.key error_is c.has.keyed
 
     first_turn : run.phase ≡ InAsExchange (AwaitsError address body) → (reply : Result (List ℕ) NetFault) → AnswersWith kdc (with_length plain_message) (of_kdcs draws) reply
         → ResumesAt run reply draws.second state next → Runs seeker out run' net' wanting state next after owns
-        → IsTurned seeker (Ok (Asks (second_request suite c.has.client.key draws.second address body) (AwaitsAsRep address salt))) state next
+        → IsTurned seeker (Ok (Asks (second_request suite c.has.client.key draws.second address body) (InAsExchange (AwaitsAsRep sealed)))) state next
     first_turn phase (Err fault) answers resumes ends =
         absurd (no_memory seeker out run' net' wanting run next fault draws.second state after owns is answers resumes
         (subst (λ (p : InitPhase). Next (Seeks seeker) p (Err OutOfMemory) draws.second (Err Memory)) (sym phase) (as_wants seeker (AwaitsError address body) draws.second)) ends)
@@ -264,7 +261,7 @@ module _ (seeker : Seeker) (pairs : List (List ℕ × Kdc)) (draws : Draws) (ser
         resumed seeker out run' net' wanting run next (Ok (error_message suite)) draws.second state _ after owns is
         (subst (λ (r : List ℕ). ResumesAt run (Ok r) draws.second state next) (error_replied reply answers.0) resumes)
         (subst (λ (p : InitPhase). Next (Seeks seeker) p (Ok (error_message suite)) draws.second
-        (Ok (Asks (second_request suite c.has.client.key draws.second address body) (AwaitsAsRep address salt)))) (sym phase) asks_again) ends
+        (Ok (Asks (second_request suite c.has.client.key draws.second address body) (InAsExchange (AwaitsAsRep sealed))))) (sym phase) asks_again) ends
 
     second_turn : run.phase ≡ InAsExchange (AwaitsAsRep sealed) → (reply : Result (List ℕ) NetFault) → AnswersWith kdc (with_length (timed_message suite)) (draws.first ∷ draws.rest) reply
         → ResumesAt run reply draws.third state next → Runs seeker out run' net' wanting state next after owns
@@ -279,9 +276,9 @@ module _ (seeker : Seeker) (pairs : List (List ℕ × Kdc)) (draws : Draws) (ser
         let step : Step = record { reply = rep_message suite; draw = draws.third } in
         let taken : Next (Seeks seeker) (InAsExchange (AwaitsAsRep sealed)) (Ok (rep_message suite)) draws.third
         (Ok (Asks tgs_request_first (AwaitsTgsRep (leg seeker suite known kdc.realm 0)))) =
-        subst (λ (tickets : Option (List Ticket)). Next (Seeks seeker) (AwaitsAsRep address salt) (Ok (rep_message suite)) draws.third
+        subst (λ (tickets : Option (List Ticket)). Next (Seeks seeker) (InAsExchange (AwaitsAsRep sealed)) (Ok (rep_message suite)) draws.third
         (Ok (Asks (tgs_request seeker.wanted (shown_of suite held) tickets draws.third address) (AwaitsTgsRep (leg seeker suite known kdc.realm 0))))) (ap first_tickets c.asks.without_tgt)
-        (takes_first seeker suite address salt step (rep_in suite) known granted found) in
+        (takes_first seeker suite sealed step (rep_in suite) known granted found) in
         record {
           grants = granted;
           leads = taken;
@@ -343,7 +340,7 @@ module _ (seeker : Seeker) (pairs : List (List ℕ × Kdc)) (draws : Draws) (ser
         starts = began;
         leads = (
           second_request suite c.has.client.key draws.second address body,
-          AwaitsAsRep address salt,
+          InAsExchange (AwaitsAsRep sealed),
           asks_again resolves.1 one.3 one.2 one.1 (draws.third ∷ draws.owns) start_turn.stays,
           (tgs_request_first, AwaitsTgsRep (leg seeker suite known kdc.realm 0), two_turn.leads, comes.leads),
         );

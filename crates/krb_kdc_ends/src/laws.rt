@@ -128,10 +128,9 @@ pub fn first_replies_are_honest()
 
 /// The body that credentials make of their AS-REQ asks the KDC of their realm, where that KDC has them.
 pub fn credentials_ask_their_kdc()
-    ensures { (kdc : Kdc) (client : Credentialed) (principal : Principal) (flags : ℕ) (nonce : List ℕ) (moment : ℕ) → client.realm ≡ kdc.realm
-        → principal_with (user_components client.name) kdc.principals ≡ Some principal
-        → 0 < length nonce → moment ≤ last_moment
-        → AsksFirst kdc (name_with client.name_type (user_components client.name)) principal moment (first_body client TicketGranting flags nonce moment) }
+    ensures { (kdc : Kdc) (client : Credentialed) (principal : Principal) (flags : ℕ) (own : Draw) → client.realm ≡ kdc.realm
+        → principal_with (user_components client.name) kdc.principals ≡ Some principal → IsDraw own
+        → AsksFirst kdc (name_with client.name_type (user_components client.name)) principal own.moment (first_body client TicketGranting flags own) }
 {}
 
 /// A client's TGS-REQ asks the KDC of a realm that gives the ticket, and its authenticator is that of the holder of the ticket that the

@@ -21,6 +21,12 @@ pub use krb_ends::laws::{
     messages_open_where_others_are_lost, runs_have_one_end,
 };
 
+// The same over services, event by event.
+pub use krb_served::laws::{
+    both_ends_reach_one_context_by_events, established_connections_understand_each_other,
+    events_leave_other_connections, one_list_of_events_brings_both_to_one_context,
+};
+
 // Where the session keys of initiators come from.
 pub use krb_origins::laws::{
     declared_initiators_have_keys_by_their_replies, session_keys_come_from_credentials,
