@@ -167,7 +167,7 @@ impl Login {
         network: &mut dyn NetworkClient,
         draws: &[Draw],
     ) -> Result<(), Error>
-        requires password { length password.entry.now ≤ 2 ^ 24 }
+        requires password { length password.now ≤ 2 ^ 24 }
         requires enough { 3 < length draws.now }
         requires in_range { AreInRange draws.now }
     {

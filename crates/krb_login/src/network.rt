@@ -1,5 +1,7 @@
 //! Who carries requests to a KDC. A program of yours opens its sockets here; this one has been given what comes back.
 
+ghost use Rattle.std.specs.Prelude.{◌≡◌};
+
 use krb_client::{NetFault, NetworkClient, NetworkRequest, Octets, OutOfMemory, TryCopy};
 use std::alloc::{AllocError, Global};
 use std::collections::VecDeque;

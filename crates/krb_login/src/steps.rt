@@ -2,6 +2,7 @@
 
 ghost use Rattle.std.specs.Prelude.{◌<◌, IfSome, length};
 ghost use Rattle.sspi_generator.specs.Draws.{AreInRange};
+ghost use Rattle.krb_login.specs.Drawn.{in_range-prop};
 
 use anyhow::{Result, anyhow};
 use krb_client::{Draw, MAX_MOMENT};
@@ -13,7 +14,7 @@ use std::mem;
 pub struct Steps {
     alloc: Global,
     draws: Vec<Draw>,
-    ghost in_range: { AreInRange draws.items },
+    ghost in_range: { AreInRange draws.items } by { in_range-prop draws.items },
 }
 
 impl Steps {

@@ -3,8 +3,8 @@
 // What a service answers to events, over any gate and over a replay book.
 pub use krb_machine::laws::{
     admitted_exactly_where, books_admit_a_record_once, completeness, completeness_over_a_book,
-    gates_refuse_by_the_clock, one_outcome, one_reply, one_reply_an_event, one_text,
-    records_are_left_once, runs_never_forget,
+    gates_refuse_by_the_clock, messages_follow_the_lists, one_outcome, one_reply,
+    one_reply_an_event, one_text, records_are_left_once, runs_never_forget,
 };
 
 // How an input is answered, on one thread and on two.
