@@ -197,11 +197,11 @@ module _ {G : Type 0} (admits : G → Ask → Verdict → G → Type 0) (state :
 
 module _ {G : Type 0} (admits : G → Ask → Verdict → G → Type 0) where
   -- what a connection makes of an event in time is a step of its service
-  pub step-taken : (state after : State G) (event : Event) (connection next : Connection) (made : Result Reply OutOfMemory) → event.moment ≤ last_moment
-      → at_id event.connection state.connections ≡ Some connection → after.connections ≡ set_value (is_at (nat_cmp event.connection)) state.connections next → after.env ≡ state.env
-      → IfOk made (λ reply. StepsThere admits state.env connection state.gate event reply next after.gate) → IfOk made (λ reply. Steps admits state event reply after)
-  step-taken state after event connection next (Ok reply) in_time stands put env h =
-      let there : State G = record { connections = set_value (is_at (nat_cmp event.connection)) state.connections next; env = state.env; gate = after.gate } in
+  pub step-taken : (state last : State G) (event : Event) (connection next : Connection) (made : Result Reply OutOfMemory) → event.moment ≤ last_moment
+      → at_id event.connection state.connections ≡ Some connection → last.connections ≡ set_value (is_at (nat_cmp event.connection)) state.connections next → last.env ≡ state.env
+      → IfOk made (λ reply. StepsThere admits state.env connection state.gate event reply next last.gate) → IfOk made (λ reply. Steps admits state event reply last)
+  step-taken state last event connection next (Ok reply) in_time stands put env h =
+      let there : State G = record { connections = set_value (is_at (nat_cmp event.connection)) state.connections next; env = state.env; gate = last.gate } in
       let found = called-in_time state.connections event in_time ∙ ap (λ (o : Option Connection). ok_or causes.Connection o) stands in
-      subst (λ (s : State G). Steps admits state event reply s) (sym (same_state after there put env refl)) (step-there admits state event connection reply next after.gate stands found h)
-  step-taken state after event connection next (Err memory) in_time stands put env h = tt
+      subst (λ (s : State G). Steps admits state event reply s) (sym (same_state last there put env refl)) (step-there admits state event connection reply next last.gate stands found h)
+  step-taken state last event connection next (Err memory) in_time stands put env h = tt
