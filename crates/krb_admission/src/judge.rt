@@ -7,7 +7,7 @@ ghost use Rattle.krb_admission.specs.Admission.{IsAnswerable};
 ghost use Rattle.krb_context.specs.States.{is_waiting};
 ghost use Rattle.krb_admission.specs.Accepts.{awaits_last_word, refusal, Begins, Finishes, Accepts};
 
-use crate::admission::{Answer, Acceptor, Admission, admission_of, settle};
+use crate::admission::{Acceptor, Admission, Answer, admission_of, settle};
 use crate::complete::complete;
 use crate::request::{Request, ask_of, read_request};
 use crate::third_leg::{conclude, properties};
