@@ -1,6 +1,7 @@
 -- The body of a first AS-REQ.
 use Rattle.std.proofs.Common.{◌≡◌, ℕ, ◌+◌, ◌≤◌, ◌^◌, List, [], ◌∷◌, length, map, Ok, refl, ap, ◌∙◌, arith, lit≤}
-use Rattle.std.specs.Prelude.{codes}
+use Rattle.std.specs.Prelude.{codes, take}
+use Rattle.sspi_core.specs.declared.draw.Draw.{Draw}
 use Rattle.krb_der.specs.Der.{tlv}
 use Rattle.krb_der.proofs.Lengths.{tlv_le, append_le}
 use Rattle.krb_context.proofs.ChainLemmas.{passed, gave}
@@ -52,26 +53,27 @@ body_made options moment body h =
     gave (as_req_body options moment realm.found cname.found sname.found host.found) body host.rest_held ∙ same_body options moment _ _ _ _ _ _ _ _ er ec es eh
 
 -- options that are a client's
-pub record AreOf (client : Client) (service : FirstService) (options : GenerateAsReqOptions) : Type 0 where
+pub record AreOf (client : Client) (service : FirstService) (draw : Draw) (options : GenerateAsReqOptions) : Type 0 where
   pub realm : options.realm.now ≡ client.realm
   pub username : options.username.now ≡ client.name
   pub cname_type : options.cname_type ≡ client.name_type
   pub snames : map (λ part. part.now) options.snames.now ≡ service_components service client.realm
   pub hostname : options.hostname.now ≡ client.host
+  pub nonce : options.nonce ≡ take 4 draw.random
 
-first_of : (options : GenerateAsReqOptions) (client : Client) (service : FirstService) (moment : ℕ) → AreOf client service options
-    → as_req_body options moment options.realm.now (principal options.cname_type (user_components options.username.now)) (principal 2 (map (λ part. part.now) options.snames.now)) options.hostname.now
-    ≡ first_body client service options.context_requirements.0 options.nonce moment
+first_of : (options : GenerateAsReqOptions) (client : Client) (service : FirstService) (draw : Draw) → AreOf client service draw options
+    → as_req_body options draw.moment options.realm.now (principal options.cname_type (user_components options.username.now)) (principal 2 (map (λ part. part.now) options.snames.now)) options.hostname.now
+    ≡ first_body client service options.context_requirements.0 draw
 unfolding as_req_body first_body
-first_of options client service moment are = rw (are.realm, are.username, are.cname_type, are.snames, are.hostname) refl
+first_of options client service draw are = rw (are.realm, are.username, are.cname_type, are.snames, are.hostname, are.nonce) refl
 
-pub is_first_body : (options : GenerateAsReqOptions) (client : Client) (service : FirstService) (moment : ℕ) (body : KdcReqBody) → AreOf client service options → Answers (MakesBody options moment) (Ok body)
-    → body ≡ first_body client service options.context_requirements.0 options.nonce moment
-is_first_body options client service moment body are h = body_made options moment body h ∙ first_of options client service moment are
+pub is_first_body : (options : GenerateAsReqOptions) (client : Client) (service : FirstService) (draw : Draw) (body : KdcReqBody) → AreOf client service draw options → Answers (MakesBody options draw.moment) (Ok body)
+    → body ≡ first_body client service options.context_requirements.0 draw
+is_first_body options client service draw body are h = body_made options draw.moment body h ∙ first_of options client service draw are
 
 -- so they are short
-pub are_short : (options : GenerateAsReqOptions) (client : Client) (service : FirstService) → AreOf client service options → IsShort client → AreShort options
-are_short options client service are short = record {
+pub are_short : (options : GenerateAsReqOptions) (client : Client) (service : FirstService) (draw : Draw) → AreOf client service draw options → IsShort client → AreShort options
+are_short options client service draw are short = record {
   realm = omega (arith, short.realm, ap (λ (o : List ℕ). length o) are.realm);
   username = omega (arith, short.name, ap (λ (o : List ℕ). length o) are.username);
   snames = omega (arith, service_short service client.realm short.realm, ap (λ (o : List (List ℕ)). length (component_octets o)) are.snames);

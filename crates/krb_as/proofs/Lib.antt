@@ -11,5 +11,4 @@ pub mod Once
 pub mod Complete
 pub mod ReplyLengths
 pub mod BodyNames
-pub mod FirstRefusals
-pub mod FirstOnce
+pub mod AsTurns

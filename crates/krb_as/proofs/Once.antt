@@ -31,13 +31,22 @@ use Rattle.sspi_core.specs.declared.protocol.NetworkProtocol.{NetworkProtocol}
 use Rattle.sspi_core.specs.declared.protocol.NetworkProtocol.TheVariants.{Tcp, Udp, Http, Https}
 use Rattle.sspi_generator.specs.declared.network.NetFault.{NetFault}
 use Rattle.krb_as.specs.Replied.{WantsPreAuth, Grants}
-use Rattle.krb_as.specs.Asked.{Begins, AsksAgain}
-use Rattle.krb_as.specs.AsExchanges.{AsksFirst, AsksSecond, TakesAsRep, Starts, Next}
+use Rattle.krb_as.specs.Clients.{NamesClient}
+use Rattle.krb_as.specs.ReplyKeys.{TakesReplyKey}
+use Rattle.krb_as.specs.Turns.{Within}
+use Rattle.krb_as.specs.AsPhases.{BeginsExchange, SealsTime, AsksSecond, TakesAsRep, TakesReply, BeginsWithin, TakesReplyWithin}
+use Rattle.krb_as.specs.AsExchanges.{EndsWithAsRep, Starts, Next}
 use Rattle.krb_as.specs.declared.asker.Asker.{Asker}
-use Rattle.krb_as.specs.declared.as_exchange.AsPhase.{AsPhase}
-use Rattle.krb_as.specs.declared.as_exchange.AsPhase.TheVariants.{New, AwaitsError, AwaitsAsRep, Over}
+use Rattle.krb_as.specs.declared.as_phase.AsPhase.{AsPhase}
+use Rattle.krb_as.specs.declared.as_phase.AsPhase.TheVariants.{AwaitsError, AwaitsAsRep}
+use Rattle.krb_as.specs.declared.as_exchange.ExchangePhase.{ExchangePhase}
+use Rattle.krb_as.specs.declared.as_exchange.ExchangePhase.TheVariants.{New, InAsExchange, Over}
+use Rattle.krb_as.specs.declared.key.Grant.{Grant}
+use Rattle.krb_as.specs.declared.turn.Turn.{Turn}
+use Rattle.krb_as.specs.declared.turn.Turn.TheVariants.{Asks, Ends}
+use Rattle.sspi_core.specs.declared.identity.CredentialsBuffers.{CredentialsBuffers}
 
-pub hands_once : {A : Type 0} (outcome : Result A Cause) → Once (λ r. Hands outcome r)
+hands_once : {A : Type 0} (outcome : Result A Cause) → Once (λ r. Hands outcome r)
 hands_once outcome = record { same = λ r s h k. h.is ∙ sym k.is }
 
 -- protocols have different schemes
@@ -70,7 +79,7 @@ as_rep_once : HasOneResult as_rep_layout
 unfolding as_rep krb_error
 as_rep_once = one_result_of as_rep_layout (λ e. omega (arith, e))
 
-pub replies_once : {A : Type 0} (protocol : NetworkProtocol) (layout : Layout A) (reply : Result (List ℕ) NetFault) → HasOneResult layout → Once (Replies protocol layout reply)
+replies_once : {A : Type 0} (protocol : NetworkProtocol) (layout : Layout A) (reply : Result (List ℕ) NetFault) → HasOneResult layout → Once (Replies protocol layout reply)
 unfolding Replies
 replies_once protocol layout reply one = then_once _ _ (unwraps_once protocol reply) (λ message. finds_once _ _ (λ x y s t. one message x y s t))
 
@@ -78,7 +87,7 @@ pub grants_once : {A : Type 0} (protocol : NetworkProtocol) (layout : Layout A) 
 unfolding Grants
 grants_once protocol layout reply one = then_once _ _ (replies_once protocol layout reply one) (λ result. hands_once _)
 
-pub grants_as_rep_once : (protocol : NetworkProtocol) (reply : Result (List ℕ) NetFault) → Once (Grants protocol as_rep_layout reply)
+grants_as_rep_once : (protocol : NetworkProtocol) (reply : Result (List ℕ) NetFault) → Once (Grants protocol as_rep_layout reply)
 grants_as_rep_once protocol reply = grants_once protocol as_rep_layout reply as_rep_once
 
 -- what a KDC hints at
@@ -97,52 +106,83 @@ unfolding NamesSalt
 names_salt_once error =
     then_once _ _ (finds_once _ _ (same_hints error.e_data)) (λ hints. then_once _ _ (finds_once _ _ (same_info2 (etype_info2 hints))) (λ entries. gives_once _))
 
-pub tells_etype_once : (used : List ℕ) (as_rep : AsRep) → Once (TellsEtype used as_rep)
+tells_etype_once : (used : List ℕ) (as_rep : AsRep) → Once (TellsEtype used as_rep)
 unfolding TellsEtype
 tells_etype_once used as_rep =
     then_once _ _ (finds_once _ _ (same_info2 _)) (λ entries. then_once _ _ (hands_once _) (λ hint. then_once _ _ (takes_once _ _) (λ suite. gives_once _)))
 
 -- the session key that an AS-REP brings
-pub brings_key_once : (suite : CipherSuite) (key : List ℕ) (as_rep : AsRep) → Once (BringsKey suite key as_rep)
+brings_key_once : (suite : CipherSuite) (key : List ℕ) (as_rep : AsRep) → Once (BringsKey suite key as_rep)
 unfolding BringsKey
 brings_key_once suite key as_rep = then_once _ _ (opens_once enc_as_rep_part_layout _ suite key 3 as_rep.0.enc_part.cipher) (λ part. gives_once _)
 
--- the steps of an AS exchange
+-- the error of an AS exchange
 wants_pre_auth_once : (protocol : NetworkProtocol) (default : List ℕ) (reply : Result (List ℕ) NetFault) → Once (WantsPreAuth protocol default reply)
 unfolding WantsPreAuth
 wants_pre_auth_once protocol default reply =
     then_once _ _ (replies_once protocol as_rep_layout reply as_rep_once)
     (λ result. then_once _ _ (takes_once _ _) (λ error. then_once _ _ (names_salt_once error) (λ salt. gives_once _)))
 
-pub begins_once : (asker : Asker) (body : KdcReqBody) → Once (Begins asker body)
-unfolding Begins
-begins_once asker body = then_once _ _ (finds_kdc_once asker.kdc_url asker.env asker.realm) (λ kdc. gives_once _)
+-- the client that credentials name
+pub names_client_once : (credentials : CredentialsBuffers) (machine : List ℕ) (env : Env) → Once (NamesClient credentials machine env)
+unfolding NamesClient
+names_client_once credentials machine env =
+    then_once _ _ (takes_once _ _) (λ name. then_once _ _ (takes_once _ _) (λ realm. then_once _ _ (takes_once _ _) (λ host. gives_once _)))
 
-pub asks_again_once : (asker : Asker) (kdc : Kdc) (body : KdcReqBody) (reply : Result (List ℕ) NetFault) (draw : Draw) → Once (AsksAgain asker kdc body reply draw)
-unfolding AsksAgain
-asks_again_once asker kdc body reply draw =
+pub takes_reply_key_once : (credentials : CredentialsBuffers) (used : List ℕ) (as_rep : AsRep) → Once (TakesReplyKey credentials used as_rep)
+unfolding TakesReplyKey
+takes_reply_key_once credentials used as_rep =
+    then_once _ _ (tells_etype_once used as_rep) (λ hint. then_once _ _ (brings_key_once _ _ as_rep) (λ key. gives_once _))
+
+-- the phases
+begins_exchange_once : (asker : Asker) (body : KdcReqBody) → Once (BeginsExchange asker body)
+unfolding BeginsExchange
+begins_exchange_once asker body = then_once _ _ (finds_kdc_once asker.kdc_url asker.env asker.realm) (λ kdc. gives_once _)
+
+seals_time_once : (asker : Asker) (kdc : Kdc) (body : KdcReqBody) (reply : Result (List ℕ) NetFault) (draw : Draw) → Once (SealsTime asker kdc body reply draw)
+unfolding SealsTime
+seals_time_once asker kdc body reply draw =
     then_once _ _ (wants_pre_auth_once kdc.protocol _ reply) (λ salt. then_once _ _ (takes_once _ _) (λ key. gives_once _))
 
-asks_first_once : (asker : Asker) (body : KdcReqBody) → Once (AsksFirst asker body)
-unfolding AsksFirst
-asks_first_once asker body = then_once _ _ (begins_once asker body) (λ begun. gives_once _)
-
-asks_second_once : (asker : Asker) (kdc : Kdc) (body : KdcReqBody) (reply : Result (List ℕ) NetFault) (draw : Draw) → Once (AsksSecond asker kdc body reply draw)
-unfolding AsksSecond
-asks_second_once asker kdc body reply draw = then_once _ _ (asks_again_once asker kdc body reply draw) (λ again. gives_once _)
-
-takes_as_rep_once : (protocol : NetworkProtocol) (salt : List ℕ) (reply : Result (List ℕ) NetFault) → Once (TakesAsRep protocol salt reply)
+takes_as_rep_once : (credentials : CredentialsBuffers) (protocol : NetworkProtocol) (used : List ℕ) (reply : Result (List ℕ) NetFault) → Once (TakesAsRep credentials protocol used reply)
 unfolding TakesAsRep
-takes_as_rep_once protocol salt reply = then_once _ _ (grants_as_rep_once protocol reply) (λ as_rep. gives_once _)
+takes_as_rep_once credentials protocol used reply =
+    then_once _ _ (grants_as_rep_once protocol reply) (λ as_rep. then_once _ _ (takes_reply_key_once credentials used as_rep) (λ taken. gives_once _))
 
-pub starts_once : (asker : Asker) (phase : AsPhase) → Once (λ r. Starts asker phase r)
-starts_once asker (New body) = record { same = λ r s h k. (asks_first_once asker body).same r s h k }
-starts_once asker (AwaitsError kdc body) = record { same = λ r s h k. absurd h }
-starts_once asker (AwaitsAsRep kdc salt) = record { same = λ r s h k. absurd h }
+module _ {P O : Type 0} (within : AsPhase → P) where
+  pub begins_within_once : (asker : Asker) (body : KdcReqBody) → Once (BeginsWithin {P = P} {O = O} within asker body)
+  unfolding BeginsWithin
+  begins_within_once asker body = then_once _ _ (begins_exchange_once asker body) (λ sent. gives_once _)
+
+  pub asks_second_once : (asker : Asker) (kdc : Kdc) (body : KdcReqBody) (reply : Result (List ℕ) NetFault) (draw : Draw) → Once (AsksSecond {P = P} {O = O} within asker kdc body reply draw)
+  unfolding AsksSecond
+  asks_second_once asker kdc body reply draw = then_once _ _ (seals_time_once asker kdc body reply draw) (λ sent. gives_once _)
+
+takes_reply_once : (asker : Asker) (phase : AsPhase) (reply : Result (List ℕ) NetFault) (draw : Draw) → Once (λ r. TakesReply asker phase reply draw r)
+takes_reply_once asker (AwaitsError kdc body) reply draw = record { same = λ r s h k. (asks_second_once (λ phase. phase) asker kdc body reply draw).same r s h k }
+takes_reply_once asker (AwaitsAsRep sealed) reply draw = record { same = λ r s h k. (takes_as_rep_once asker.credentials sealed.kdc.protocol sealed.salt reply).same r s h k }
+
+module _ {P O : Type 0} (within : AsPhase → P) (next : Grant → Result (Turn P O) Cause → Type 0) (once : (grant : Grant) → Once (next grant)) where
+  goes_on_once : (turn : Turn AsPhase Grant) → Once (λ r. Within within next turn r)
+  goes_on_once (Asks request phase) = record { same = λ r s h k. (gives_once _).same r s h k }
+  goes_on_once (Ends grant) = record { same = λ r s h k. (once grant).same r s h k }
+
+  pub takes_reply_within_once : (asker : Asker) (phase : AsPhase) (reply : Result (List ℕ) NetFault) (draw : Draw) → Once (TakesReplyWithin within next asker phase reply draw)
+  unfolding TakesReplyWithin
+  takes_reply_within_once asker phase reply draw = then_once _ _ (takes_reply_once asker phase reply draw) goes_on_once
+
+-- the exchange as a task
+ends_with_as_rep_once : (protocol : NetworkProtocol) (salt : List ℕ) (reply : Result (List ℕ) NetFault) → Once (EndsWithAsRep protocol salt reply)
+unfolding EndsWithAsRep
+ends_with_as_rep_once protocol salt reply = then_once _ _ (grants_as_rep_once protocol reply) (λ as_rep. gives_once _)
+
+pub starts_once : (asker : Asker) (phase : ExchangePhase) → Once (λ r. Starts asker phase r)
+starts_once asker (New body) = record { same = λ r s h k. (begins_within_once InAsExchange asker body).same r s h k }
+starts_once asker (InAsExchange phase) = record { same = λ r s h k. absurd h }
 starts_once asker Over = record { same = λ r s h k. absurd h }
 
-pub next_once : (asker : Asker) (phase : AsPhase) (reply : Result (List ℕ) NetFault) (draw : Draw) → Once (λ r. Next asker phase reply draw r)
+pub next_once : (asker : Asker) (phase : ExchangePhase) (reply : Result (List ℕ) NetFault) (draw : Draw) → Once (λ r. Next asker phase reply draw r)
 next_once asker (New body) reply draw = record { same = λ r s h k. absurd h }
-next_once asker (AwaitsError kdc body) reply draw = record { same = λ r s h k. (asks_second_once asker kdc body reply draw).same r s h k }
-next_once asker (AwaitsAsRep kdc salt) reply draw = record { same = λ r s h k. (takes_as_rep_once kdc.protocol salt reply).same r s h k }
+next_once asker (InAsExchange (AwaitsError kdc body)) reply draw = record { same = λ r s h k. (asks_second_once InAsExchange asker kdc body reply draw).same r s h k }
+next_once asker (InAsExchange (AwaitsAsRep sealed)) reply draw = record { same = λ r s h k. (ends_with_as_rep_once sealed.kdc.protocol sealed.salt reply).same r s h k }
 next_once asker Over reply draw = record { same = λ r s h k. absurd h }

@@ -1,4 +1,4 @@
--- The realm of a KDC that is found.
+-- The realm of a KDC that is found can be sent.
 use Rattle.std.proofs.Common.{◌≡◌, ℕ, ◌≤◌, ◌^◌, List, Option, Result, Ok, Err, sym, ap, subst}
 use Rattle.std.specs.Prelude.{length}
 use Rattle.url.specs.Parts.{Parts}
@@ -10,6 +10,10 @@ use Rattle.sspi_core.specs.declared.cause.Cause.TheVariants.{Scheme}
 use Rattle.sspi_core.specs.Checks.{Answers, Finds, Gives, Goes, Then}
 use Rattle.krb_as.specs.declared.kdc.Kdc.{Kdc}
 use Rattle.krb_as.specs.Kdcs.{FindsKdc}
+use Rattle.krb_as.specs.declared.asker.Asker.{Asker}
+use Rattle.krb_as.specs.declared.as_phase.AsPhase.{AsPhase}
+use Rattle.krb_as.specs.declared.as_phase.AsPhase.TheVariants.{AwaitsError, AwaitsAsRep}
+use Rattle.krb_as.specs.AsPhases.{IsAwaiting, kdc_of}
 
 same_ok : {A : Type 0} (x y : A) → ◌≡◌ {A = Result A Cause} (Ok x) (Ok y) → x ≡ y
 same_ok x y e = cc
@@ -33,3 +37,8 @@ module _ (own : Option Parts) (env : Env) (realm : List ℕ) where
 
   pub short_realm : (kdc : Kdc) → Answers (FindsKdc own env realm) (Ok kdc) → length realm ≤ 2 ^ 24 → length kdc.realm ≤ 2 ^ 24
   short_realm kdc h short = subst (λ (r : List ℕ). length r ≤ 2 ^ 24) (sym (found_realm kdc (h.so (λ z. absurd cc)))) short
+
+-- so is that of a phase that waits
+pub short_kdc : (asker : Asker) (phase : AsPhase) → IsAwaiting asker phase → length (kdc_of phase).realm ≤ 2 ^ 24
+short_kdc asker (AwaitsError kdc body) waits = waits.1
+short_kdc asker (AwaitsAsRep sealed) waits = waits.realm

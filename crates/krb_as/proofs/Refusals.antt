@@ -1,7 +1,7 @@
 -- Which checks refuse because the network failed: none but the first one on a reply.
-use Rattle.std.proofs.Common.{◌≡◌, ℕ, Bool, true, false, List, Option, Some, None, Result, Ok, Err, sym, ◌∙◌}
+use Rattle.std.proofs.Common.{◌≡◌, ℕ, Bool, true, false, List, [], ◌∷◌, Option, Some, None, Result, Ok, Err, sym, ◌∙◌}
 use Rattle.sspi_core.specs.declared.cause.Cause.{Cause}
-use Rattle.sspi_core.specs.declared.cause.Cause.TheVariants.{Network, NoKdc, Scheme, ReplyShort, Shape, EarlyAsRep, KeyLength}
+use Rattle.sspi_core.specs.declared.cause.Cause.TheVariants.{Network, NoKdc, Scheme, ReplyShort, Shape, EarlyAsRep, KeyLength, Etype, Short, Altered, Inner}
 use Rattle.sspi_core.specs.declared.draw.Draw.{Draw}
 use Rattle.sspi_core.specs.declared.protocol.NetworkProtocol.{NetworkProtocol}
 use Rattle.sspi_core.specs.declared.protocol.NetworkProtocol.TheVariants.{Tcp, Udp, Http, Https}
@@ -18,13 +18,26 @@ use Rattle.krb_as.specs.declared.kdc.Kdc.{Kdc}
 use Rattle.krb_as.specs.Kdcs.{FindsKdc}
 use Rattle.krb_as.specs.Replies.{Brings, Unproxies, Strips, Skips, Unpacks, Unwraps, Replies}
 use Rattle.krb_replies.specs.Told.{Hands}
-use Rattle.krb_replies.specs.Salts.{NamesSalt}
+use Rattle.krb_crypto.specs.declared.suite.CipherSuite.{CipherSuite}
+use Rattle.krb_exchange.specs.declared.kdc_rep.AsRep.{AsRep}
+use Rattle.krb_exchange.specs.declared.pa_data.EtypeInfo2Entry.{EtypeInfo2Entry}
+use Rattle.krb_replies.specs.Keys.{BringsKey}
+use Rattle.krb_replies.specs.Salts.{NamesSalt, entry_hint, first_hint, TellsEtype}
+use Rattle.krb_replies.specs.Unseals.{Unseals, Opens}
+use Rattle.sspi_core.specs.declared.identity.CredentialsBuffers.{CredentialsBuffers}
 use Rattle.krb_as.specs.declared.asker.Asker.{Asker}
-use Rattle.krb_as.specs.declared.as_exchange.AsPhase.{AsPhase}
-use Rattle.krb_as.specs.declared.as_exchange.AsPhase.TheVariants.{New, AwaitsError, AwaitsAsRep, Over}
+use Rattle.krb_as.specs.declared.as_phase.AsPhase.{AsPhase}
+use Rattle.krb_as.specs.declared.as_phase.AsPhase.TheVariants.{AwaitsError, AwaitsAsRep}
+use Rattle.krb_as.specs.declared.as_exchange.ExchangePhase.{ExchangePhase}
+use Rattle.krb_as.specs.declared.as_exchange.ExchangePhase.TheVariants.{New, InAsExchange, Over}
+use Rattle.krb_as.specs.declared.key.Grant.{Grant}
+use Rattle.krb_as.specs.declared.turn.Turn.{Turn}
+use Rattle.krb_as.specs.declared.turn.Turn.TheVariants.{Asks, Ends}
 use Rattle.krb_as.specs.Replied.{reply_in, WantsPreAuth, Grants}
-use Rattle.krb_as.specs.Asked.{Begins, AsksAgain}
-use Rattle.krb_as.specs.AsExchanges.{AsksFirst, AsksSecond, TakesAsRep, Starts, Next}
+use Rattle.krb_as.specs.ReplyKeys.{TakesReplyKey}
+use Rattle.krb_as.specs.Turns.{Within}
+use Rattle.krb_as.specs.AsPhases.{BeginsExchange, SealsTime, AsksSecond, TakesAsRep, TakesReply, BeginsWithin, TakesReplyWithin}
+use Rattle.krb_as.specs.AsExchanges.{EndsWithAsRep, Starts, Next}
 
 -- the network failed
 abbrev pub IsNetwork : Cause → Type 0
@@ -66,20 +79,19 @@ reply_refuses P (Reply reply) e h z = let i = h.is in absurd cc
 reply_refuses P (Refusal error) e h z = let i = h.is in let j = z.1 in absurd cc
 
 -- the start never does
-pub begins_refuses : (asker : Asker) (body : KdcReqBody) → Refuses ⊥ (Begins asker body)
-unfolding Begins FindsKdc
+begins_refuses : (asker : Asker) (body : KdcReqBody) → Refuses ⊥ (BeginsExchange asker body)
+unfolding BeginsExchange FindsKdc
 begins_refuses asker body =
     then_refuses ⊥ _ _ (then_refuses ⊥ _ _ (takes_refuses ⊥ NoKdc _ (λ z. let e = z.1 in cc)) (λ url. then_refuses ⊥ _ _ (finds_refuses ⊥ Scheme _ (λ z. let e = z.1 in cc))
     (λ protocol. gives_refuses ⊥ _))) (λ kdc. gives_refuses ⊥ _)
 
-first_refuses : (asker : Asker) (body : KdcReqBody) → Refuses ⊥ (AsksFirst asker body)
-unfolding AsksFirst
-first_refuses asker body = then_refuses ⊥ _ _ (begins_refuses asker body) (λ begun. gives_refuses ⊥ _)
+pub begins_within_refuses : {P O : Type 0} (within : AsPhase → P) (asker : Asker) (body : KdcReqBody) → Refuses ⊥ (BeginsWithin {P = P} {O = O} within asker body)
+unfolding BeginsWithin
+begins_within_refuses within asker body = then_refuses ⊥ _ _ (begins_refuses asker body) (λ sent. gives_refuses ⊥ _)
 
-pub starts_refuse : (asker : Asker) (phase : AsPhase) (e : Cause) → Starts asker phase (Err e) → IsNetwork e → ⊥
-starts_refuse asker (New body) e h z = (first_refuses asker body).not e h z
-starts_refuse asker (AwaitsError kdc body) e h z = h
-starts_refuse asker (AwaitsAsRep kdc salt) e h z = h
+pub starts_refuse : (asker : Asker) (phase : ExchangePhase) (e : Cause) → Starts asker phase (Err e) → IsNetwork e → ⊥
+starts_refuse asker (New body) e h z = (begins_within_refuses InAsExchange asker body).not e h z
+starts_refuse asker (InAsExchange phase) e h z = h
 starts_refuse asker Over e h z = h
 
 module _ (P : Type 0) where
@@ -113,6 +125,33 @@ module _ (P : Type 0) where
   unfolding Unpacks
   unpacks_refuse protocol octets = then_refuses P _ _ (strips_refuse protocol octets) (λ carried. skips_refuse carried)
 
+  entry_refuses : (etype : List ℕ) (salt : Option (List ℕ)) (e : Cause) → Hands (entry_hint etype salt) (Err e) → IsNetwork e → P
+  entry_refuses etype (Some salt) e h z = let i = h.is in absurd cc
+  entry_refuses etype None e h z = let i = h.is in let j = z.1 in absurd cc
+
+  hint_refuses : (etype used : List ℕ) (entries : Option (List EtypeInfo2Entry)) (e : Cause) → Hands (first_hint etype used entries) (Err e) → IsNetwork e → P
+  hint_refuses etype used None e h z = let i = h.is in absurd cc
+  hint_refuses etype used (Some []) e h z = let i = h.is in let j = z.1 in absurd cc
+  hint_refuses etype used (Some (entry ∷ entries)) e h z = entry_refuses entry.etype entry.salt e h z
+
+  tells_refuse : (used : List ℕ) (as_rep : AsRep) → Refuses P (TellsEtype used as_rep)
+  unfolding TellsEtype
+  tells_refuse used as_rep =
+      then_refuses P _ _ (finds_refuses P Shape _ (λ z. let e = z.1 in absurd cc)) (λ entries. then_refuses P _ _ (record { not = hint_refuses _ used entries })
+      (λ hint. then_refuses P _ _ (takes_refuses P Etype _ (λ z. let e = z.1 in absurd cc)) (λ suite. gives_refuses P _)))
+
+  brings_refuse : (suite : CipherSuite) (key : List ℕ) (as_rep : AsRep) → Refuses P (BringsKey suite key as_rep)
+  unfolding BringsKey Opens Unseals
+  brings_refuse suite key as_rep =
+      then_refuses P _ _ (then_refuses P _ _ (then_refuses P _ _ (holds_refuses P KeyLength _ (λ z. let e = z.1 in absurd cc))
+      (λ _. then_refuses P _ _ (holds_refuses P Short _ (λ z. let e = z.1 in absurd cc)) (λ _. finds_refuses P Altered _ (λ z. let e = z.1 in absurd cc))))
+      (λ plain. finds_refuses P Inner _ (λ z. let e = z.1 in absurd cc))) (λ part. gives_refuses P _)
+
+  pub key_refuses : (credentials : CredentialsBuffers) (used : List ℕ) (as_rep : AsRep) → Refuses P (TakesReplyKey credentials used as_rep)
+  unfolding TakesReplyKey
+  key_refuses credentials used as_rep =
+      then_refuses P _ _ (tells_refuse used as_rep) (λ hint. then_refuses P _ _ (brings_refuse _ _ as_rep) (λ key. gives_refuses P _))
+
 brought_refuses : (reply : Result (List ℕ) NetFault) (e : Cause) → Brings reply (Err e) → IsNetwork e → IsFailure reply
 brought_refuses (Ok octets) e h z = let i = h.is in absurd cc
 brought_refuses (Err (Failed code)) e h z = tt
@@ -136,21 +175,43 @@ module _ (reply : Result (List ℕ) NetFault) (protocol : NetworkProtocol) where
   unfolding Grants
   grants_refuse layout = then_refuses _ _ _ (replies_refuse layout) (λ result. record { not = reply_refuses _ result })
 
-pub again_refuses : (asker : Asker) (kdc : Kdc) (body : KdcReqBody) (reply : Result (List ℕ) NetFault) (draw : Draw) → Refuses (IsFailure reply) (AsksAgain asker kdc body reply draw)
-unfolding AsksAgain
-again_refuses asker kdc body reply draw =
+seals_refuse : (asker : Asker) (kdc : Kdc) (body : KdcReqBody) (reply : Result (List ℕ) NetFault) (draw : Draw) → Refuses (IsFailure reply) (SealsTime asker kdc body reply draw)
+unfolding SealsTime
+seals_refuse asker kdc body reply draw =
     then_refuses _ _ _ (wants_refuse reply kdc.protocol _) (λ salt. then_refuses _ _ _ (takes_refuses _ KeyLength _ (not_key _)) (λ key. gives_refuses _ _))
 
-second_refuses : (asker : Asker) (kdc : Kdc) (body : KdcReqBody) (reply : Result (List ℕ) NetFault) (draw : Draw) → Refuses (IsFailure reply) (AsksSecond asker kdc body reply draw)
+asks_second_refuses : {P O : Type 0} (within : AsPhase → P) (asker : Asker) (kdc : Kdc) (body : KdcReqBody) (reply : Result (List ℕ) NetFault) (draw : Draw)
+    → Refuses (IsFailure reply) (AsksSecond {P = P} {O = O} within asker kdc body reply draw)
 unfolding AsksSecond
-second_refuses asker kdc body reply draw = then_refuses _ _ _ (again_refuses asker kdc body reply draw) (λ again. gives_refuses _ _)
+asks_second_refuses within asker kdc body reply draw = then_refuses _ _ _ (seals_refuse asker kdc body reply draw) (λ sent. gives_refuses _ _)
 
-takes_refuse : (protocol : NetworkProtocol) (salt : List ℕ) (reply : Result (List ℕ) NetFault) → Refuses (IsFailure reply) (TakesAsRep protocol salt reply)
+takes_as_rep_refuses : (credentials : CredentialsBuffers) (protocol : NetworkProtocol) (used : List ℕ) (reply : Result (List ℕ) NetFault)
+    → Refuses (IsFailure reply) (TakesAsRep credentials protocol used reply)
 unfolding TakesAsRep
-takes_refuse protocol salt reply = then_refuses _ _ _ (grants_refuse reply protocol _) (λ as_rep. gives_refuses _ _)
+takes_as_rep_refuses credentials protocol used reply =
+    then_refuses _ _ _ (grants_refuse reply protocol _) (λ as_rep. then_refuses _ _ _ (key_refuses _ credentials used as_rep) (λ taken. gives_refuses _ _))
 
-pub next_refuses : (asker : Asker) (phase : AsPhase) (reply : Result (List ℕ) NetFault) (draw : Draw) (e : Cause) → Next asker phase reply draw (Err e) → IsNetwork e → IsFailure reply
+takes_reply_refuses : (asker : Asker) (phase : AsPhase) (reply : Result (List ℕ) NetFault) (draw : Draw) → Refuses (IsFailure reply) (λ r. TakesReply asker phase reply draw r)
+takes_reply_refuses asker (AwaitsError kdc body) reply draw = record { not = λ e h z. (asks_second_refuses (λ phase. phase) asker kdc body reply draw).not e h z }
+takes_reply_refuses asker (AwaitsAsRep sealed) reply draw = record { not = λ e h z. (takes_as_rep_refuses asker.credentials sealed.kdc.protocol sealed.salt reply).not e h z }
+
+-- nor does what follows within a run, where none of its own checks does
+module _ {P O : Type 0} (within : AsPhase → P) (next : Grant → Result (Turn P O) Cause → Type 0) (reply : Result (List ℕ) NetFault)
+    (refuses : (grant : Grant) → Refuses (IsFailure reply) (next grant)) where
+  goes_on_refuses : (turn : Turn AsPhase Grant) → Refuses (IsFailure reply) (λ r. Within within next turn r)
+  goes_on_refuses (Asks request phase) = record { not = λ e h z. (gives_refuses _ _).not e h z }
+  goes_on_refuses (Ends grant) = record { not = λ e h z. (refuses grant).not e h z }
+
+  pub takes_reply_within_refuses : (asker : Asker) (phase : AsPhase) (draw : Draw) → Refuses (IsFailure reply) (TakesReplyWithin within next asker phase reply draw)
+  unfolding TakesReplyWithin
+  takes_reply_within_refuses asker phase draw = then_refuses _ _ _ (takes_reply_refuses asker phase reply draw) goes_on_refuses
+
+ends_refuses : (protocol : NetworkProtocol) (salt : List ℕ) (reply : Result (List ℕ) NetFault) → Refuses (IsFailure reply) (EndsWithAsRep protocol salt reply)
+unfolding EndsWithAsRep
+ends_refuses protocol salt reply = then_refuses _ _ _ (grants_refuse reply protocol _) (λ as_rep. gives_refuses _ _)
+
+pub next_refuses : (asker : Asker) (phase : ExchangePhase) (reply : Result (List ℕ) NetFault) (draw : Draw) (e : Cause) → Next asker phase reply draw (Err e) → IsNetwork e → IsFailure reply
 next_refuses asker (New body) reply draw e h z = absurd h
-next_refuses asker (AwaitsError kdc body) reply draw e h z = (second_refuses asker kdc body reply draw).not e h z
-next_refuses asker (AwaitsAsRep kdc salt) reply draw e h z = (takes_refuse kdc.protocol salt reply).not e h z
+next_refuses asker (InAsExchange (AwaitsError kdc body)) reply draw e h z = (asks_second_refuses InAsExchange asker kdc body reply draw).not e h z
+next_refuses asker (InAsExchange (AwaitsAsRep sealed)) reply draw e h z = (ends_refuses sealed.kdc.protocol sealed.salt reply).not e h z
 next_refuses asker Over reply draw e h z = absurd h

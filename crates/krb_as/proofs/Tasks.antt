@@ -1,5 +1,5 @@
 -- From the checks of a step to the task's step.
-use Rattle.std.proofs.Common.{◌≡◌, ℕ, ◌<◌, Result, Ok, Err, refl, sym, ap, ◌∙◌, subst}
+use Rattle.std.proofs.Common.{◌≡◌, ℕ, ◌<◌, ◌≤◌, Result, Ok, Err, refl, sym, ap, ◌∙◌, subst, arith}
 use Rattle.std.specs.Prelude.{IfOk}
 use Rattle.sspi_core.specs.declared.cause.Cause.{Cause}
 use Rattle.sspi_core.specs.declared.cause.Cause.TheVariants.{Memory, Network}
@@ -12,11 +12,7 @@ use Rattle.sspi_generator.specs.declared.task.GeneratorState.{GeneratorState}
 use Rattle.sspi_generator.specs.Steps.{OnSuspended, OnCompleted}
 use Rattle.krb_as.specs.declared.turn.Turn.{Turn}
 use Rattle.krb_as.specs.declared.turn.Turn.TheVariants.{Asks, Ends}
-use Rattle.krb_as.specs.declared.as_exchange.AsPhase.{AsPhase}
-use Rattle.krb_as.specs.declared.as_exchange.AsPhase.TheVariants.{Over}
-use Rattle.krb_as.specs.declared.as_exchange.AsDone.{AsDone}
-use Rattle.krb_as.specs.Turns.{Turns, state_of, phase_of, IsWant, IsFault}
-use Rattle.krb_as.specs.AsExchanges.{GoesDown, IsAwaiting, turns_left}
+use Rattle.krb_as.specs.Turns.{Turns, state_of, phase_of, GoesDown, IsWant, IsFault}
 use Rattle.krb_as.proofs.Refusals.{IsNetwork}
 
 -- a step is what its checks answer
@@ -26,19 +22,30 @@ turns_of over checks answer state new h is goes = record {
   so = λ ne. let other : answer ≡ Err Memory → ⊥ = λ z. ne (is ∙ ap state_of z) in (answer, h.so other, is, goes other);
 }
 
--- a step that asks leaves a phase that awaits, and fewer turns
-awaits : (answer : Result (Turn AsPhase AsDone) Cause) (n : ℕ) (new : AsPhase) → IfOk answer (λ turn. GoesDown n turn) → ((answer ≡ Err Memory → ⊥) → new ≡ phase_of Over answer)
-    → OnSuspended (state_of answer) (λ request. IsAwaiting new × (turns_left new < n))
-awaits (Ok (Asks request phase)) n new down goes =
-    let same : new ≡ phase = goes (λ z. absurd cc) in
-    subst (λ (p : AsPhase). IsAwaiting p × (turns_left p < n)) (sym same) down
-awaits (Ok (Ends value)) n new down goes = tt
-awaits (Err cause) n new down goes = tt
+-- a step that asks leaves a phase that waits, and fewer turns
+module _ {P O : Type 0} (waits : P → Type 0) (left : P → ℕ) (R : P → Type 0) (leads : (phase : P) → waits phase → R phase) (over : P) where
+  awaits : (answer : Result (Turn P O) Cause) (n : ℕ) (new : P) → IfOk answer (λ turn. GoesDown waits left n turn) → ((answer ≡ Err Memory → ⊥) → new ≡ phase_of over answer)
+      → OnSuspended (state_of answer) (λ request. R new × (left new < n))
+  awaits (Ok (Asks request phase)) n new down goes =
+      let same : new ≡ phase = goes (λ z. absurd cc) in
+      subst (λ (p : P). R p × (left p < n)) (sym same) (leads phase down.0, down.1)
+  awaits (Ok (Ends value)) n new down goes = tt
+  awaits (Err cause) n new down goes = tt
 
-pub awaits_of : (answer : Result (Turn AsPhase AsDone) Cause) (state : GeneratorState NetworkRequest (Result AsDone Error)) (n : ℕ) (new : AsPhase) → state ≡ state_of answer → IfOk answer (λ turn. GoesDown n turn)
-    → ((answer ≡ Err Memory → ⊥) → new ≡ phase_of Over answer) → OnSuspended state (λ request. IsAwaiting new × (turns_left new < n))
-awaits_of answer state n new is down goes =
-    subst (λ (s : GeneratorState NetworkRequest (Result AsDone Error)). OnSuspended s (λ request. IsAwaiting new × (turns_left new < n))) (sym is) (awaits answer n new down goes)
+  pub awaits_of : (answer : Result (Turn P O) Cause) (state : GeneratorState NetworkRequest (Result O Error)) (n : ℕ) (new : P) → state ≡ state_of answer
+      → IfOk answer (λ turn. GoesDown waits left n turn) → ((answer ≡ Err Memory → ⊥) → new ≡ phase_of over answer) → OnSuspended state (λ request. R new × (left new < n))
+  awaits_of answer state n new is down goes =
+      subst (λ (s : GeneratorState NetworkRequest (Result O Error)). OnSuspended s (λ request. R new × (left new < n))) (sym is) (awaits answer n new down goes)
+
+-- a step that leaves few turns leaves no more than that
+module _ {P O : Type 0} (waits R : P → Type 0) (left : P → ℕ) (m n : ℕ) (leads : (phase : P) → waits phase → R phase) (few : m ≤ n) where
+  turn_down : (turn : Turn P O) → GoesDown waits left m turn → GoesDown R left n turn
+  turn_down (Asks request phase) down = (leads phase down.0, let h = down.1 in omega (arith, h, few))
+  turn_down (Ends value) down = tt
+
+  pub down_as : (answer : Result (Turn P O) Cause) → IfOk answer (λ turn. GoesDown waits left m turn) → IfOk answer (λ turn. GoesDown R left n turn)
+  down_as (Ok turn) down = turn_down turn down
+  down_as (Err cause) down = tt
 
 -- an error has its cause
 same_cause : {O : Type 0} (d e : Cause) → ◌≡◌ {A = Result O Error} (Err (error_of d)) (Err (error_of e)) → d ≡ e

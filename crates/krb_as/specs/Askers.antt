@@ -38,6 +38,11 @@ abbrev pub key_for : CipherSuite → List ℕ → CredentialsBuffers → Option 
 key_for suite salt (Password identity) = Some (password_key suite identity.password salt)
 key_for suite salt (Key identity) = if length identity.key == key_size suite then Some identity.key else None
 
+-- the key of credentials in a suite, with a salt, whatever its length: that of the password, or the keytab's own
+abbrev pub client_key : CipherSuite → List ℕ → CredentialsBuffers → List ℕ
+client_key suite salt (Password identity) = password_key suite identity.password salt
+client_key suite salt (Key identity) = identity.key
+
 -- the client's key with a salt
 abbrev pub sized_key : Asker → List ℕ → Option (List ℕ)
 sized_key asker salt = key_for (asker_suite asker) salt asker.credentials

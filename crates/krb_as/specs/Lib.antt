@@ -7,6 +7,7 @@ pub mod Replied
 pub mod Asked
 pub mod Turns
 pub mod AsExchanges
+pub mod AsPhases
 pub mod Clients
 pub mod FirstBodies
 pub mod ReplyKeys

@@ -1,21 +1,14 @@
 -- The key that an AS-REP brings (RFC 4120, section 3.1.5).
 use Rattle.std.specs.Prelude.{ℕ, List, Result}
-use Rattle.krb_crypto.specs.Password.{password_key}
 use Rattle.krb_crypto.specs.Suite.{suite_of_etype}
-use Rattle.krb_crypto.specs.declared.suite.CipherSuite.{CipherSuite}
 use Rattle.krb_exchange.specs.declared.kdc_rep.AsRep.{AsRep}
 use Rattle.sspi_core.specs.declared.identity.CredentialsBuffers.{CredentialsBuffers}
-use Rattle.sspi_core.specs.declared.identity.CredentialsBuffers.TheVariants.{AuthIdentity as Password, Keytab as Key}
 use Rattle.sspi_core.specs.declared.cause.Cause.{Cause}
 use Rattle.sspi_core.specs.Checks.{Gives, ◌>>=◌}
 use Rattle.krb_replies.specs.Salts.{TellsEtype}
 use Rattle.krb_replies.specs.Keys.{BringsKey}
 use Rattle.krb_as.specs.declared.key.ReplyKey.{ReplyKey}
-
--- the key of credentials in a suite, with a salt: that of the password, or the keytab's own
-abbrev pub client_key : CipherSuite → List ℕ → CredentialsBuffers → List ℕ
-client_key suite salt (Password identity) = password_key suite identity.password salt
-client_key suite salt (Key identity) = identity.key
+use Rattle.krb_as.specs.Askers.{client_key}
 
 -- the AS-REP tells the suite and the salt of the client's key, and is sealed under that key; used is the salt of the request
 unfoldable pub TakesReplyKey : CredentialsBuffers → List ℕ → AsRep → Result ReplyKey Cause → Type 0

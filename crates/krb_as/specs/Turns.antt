@@ -1,8 +1,9 @@
 -- How the checks of a step become a turn of a task, and how those see its end that run any task.
-use Rattle.std.specs.Prelude.{◌≡◌, ℕ, Bool, true, false, List, Result, Ok, Err}
+use Rattle.std.specs.Prelude.{◌≡◌, ◌<◌, ℕ, Bool, true, false, List, Result, Ok, Err}
 use Rattle.sspi_core.specs.declared.cause.Cause.{Cause}
 use Rattle.sspi_core.specs.declared.cause.Cause.TheVariants.{Memory, Network}
 use Rattle.sspi_core.specs.declared.error.Error.{Error}
+use Rattle.sspi_core.specs.Checks.{Gives}
 use Rattle.sspi_core.specs.Kinds.{error_of}
 use Rattle.sspi_generator.specs.declared.network.NetworkRequest.{NetworkRequest}
 use Rattle.sspi_generator.specs.declared.network.NetFault.{NetFault}
@@ -28,6 +29,16 @@ pub record Turns {P O : Type 0} (over : P) (checks : Result (Turn P O) Cause →
     (state : GeneratorState NetworkRequest (Result O Error)) (phase : P) : Type 0 where
   pub so : (state ≡ Completed (Err (error_of Memory)) → ⊥) → (answer : Result (Turn P O) Cause) × checks answer × (state ≡ state_of answer)
       × (phase ≡ phase_of over answer)
+
+-- a step of what a run contains: where that asks the run asks, and where it ends the run goes on
+abbrev pub Within : {P Q A B : Type 0} → (P → Q) → (A → Result (Turn Q B) Cause → Type 0) → Turn P A → Result (Turn Q B) Cause → Type 0
+Within within next (Asks request phase) answer = Gives (Asks request (within phase)) answer
+Within within next (Ends value) answer = next value answer
+
+-- a step that ends at a request leaves a phase that waits, and fewer turns
+abbrev pub GoesDown : {P O : Type 0} → (P → Type 0) → (P → ℕ) → ℕ → Turn P O → Type 0
+GoesDown waits turns_left turns (Asks request phase) = waits phase × (turns_left phase < turns)
+GoesDown waits turns_left turns (Ends value) = Unit {0}
 
 -- an end for want of memory
 abbrev pub IsWant : {O : Type 0} → Result O Error → Type 0

@@ -1,39 +1,40 @@
 //! The AS exchange (RFC 4120, section 3.1).
 
-ghost use Rattle.std.specs.Prelude.{◌≡◌, ◌≤◌, ◌^◌, true, IfOk, length, Err};
+ghost use Rattle.std.specs.Prelude.{◌≡◌, ℕ, ◌≤◌, ◌^◌, true, IfOk, length, Err};
 ghost use Rattle.sspi_core.specs.declared.cause.Cause.TheVariants as causes;
 ghost use Rattle.sspi_core.specs.Moments.{last_moment};
 ghost use Rattle.sspi_core.specs.Checks.{Answers, Gives};
 ghost use Rattle.krb_exchange.specs.Layouts.{kdc_req_body_layout};
 ghost use Rattle.krb_requests.specs.Pieces.{Fits};
-ghost use Rattle.krb_as.specs.declared.as_exchange.AsPhase.TheVariants as phases;
+ghost use Rattle.krb_as.specs.declared.as_exchange.ExchangePhase.TheVariants as phases;
 ghost use Rattle.krb_as.specs.declared.turn.Turn.TheVariants as turns;
+ghost use Rattle.krb_as.specs.declared.asker.Asker.{Asker};
 ghost use Rattle.krb_as.specs.Askers.{asker_of};
-ghost use Rattle.krb_as.specs.Turns.{is_want};
-ghost use Rattle.krb_as.specs.AsExchanges.{AsksFirst, AsksSecond, TakesAsRep, Starts, Next, IsNewPhase, IsAwaiting, turns_left, GoesDown, IsNew, StartsAt, ResumesAt};
+ghost use Rattle.krb_as.specs.Turns.{is_want, GoesDown};
+ghost use Rattle.krb_as.specs.AsPhases.{BeginsWithin, AsksSecond};
+ghost use Rattle.krb_as.specs.AsExchanges.{EndsWithAsRep, Starts, Next, IsNewPhase, IsAwaiting, turns_left, IsNew, StartsAt, ResumesAt};
 
+use crate::as_phase::{AsPhase, begin_exchange, seal_time};
 use crate::asker::Asker;
 use crate::kdc::Kdc;
-use crate::reply::granted;
-use crate::request::{ask_again, begin};
+use crate::key::SealedTime;
+use crate::reply::granted_as_rep;
 use crate::turn::{Turn, go_on, is_want};
 use krb_conf::Env;
 use krb_context::Kerberos;
 use krb_der::{Name, Octets, OutOfMemory, Text, TryCopy};
 use krb_exchange::{AsRep, KdcReqBody};
-use sspi_core::{Cause, CredentialsBuffers, Draw, Error, NetworkProtocol};
+use sspi_core::{Cause, CredentialsBuffers, Draw, Error};
 use sspi_generator::{GeneratorState, NetFault, NetworkRequest, Resumable, Task};
 use std::alloc::Global;
 
 /// How far the exchange has come.
 #[derive(Drop)]
-pub enum AsPhase {
+pub enum ExchangePhase {
     /// It is not started, and is to ask for this.
     New(KdcReqBody),
-    /// The first request was sent there.
-    AwaitsError(Kdc, KdcReqBody),
-    /// The second one was sent there, under a key with this salt.
-    AwaitsAsRep(Kdc, Text),
+    /// It waits for a reply.
+    InAsExchange(AsPhase),
     Over,
 }
 
@@ -50,7 +51,7 @@ pub struct AsDone {
 pub struct AsExchange {
     alloc: Global,
     asker: Asker,
-    phase: AsPhase,
+    phase: ExchangePhase,
 }
 
 impl AsExchange {
@@ -73,72 +74,49 @@ impl AsExchange {
         Ok(AsExchange {
             alloc,
             asker: Asker::new(client, credentials, realm, env)?,
-            phase: AsPhase::New(body),
+            phase: ExchangePhase::New(body),
         })
     }
 }
 
-/// The phase behind the first request.
-fn sent_first(
-    alloc: Global,
-    request: NetworkRequest,
-    kdc: Kdc,
-    body: &KdcReqBody,
-) -> Result<Turn<AsPhase, AsDone>, Cause>
-    requires body { Fits kdc_req_body_layout (2 ^ 28) body.now }
-    requires realm { length kdc.realm ≤ 2 ^ 24 }
-    ensures step { Answers (Gives (turns.Asks request (phases.AwaitsError kdc body.now))) result }
-    ensures down { IfOk result (λ turn. GoesDown 2 turn) }
-{
-    let body = body.copy(alloc)?;
-    Ok(Turn::Asks(request, AsPhase::AwaitsError(kdc, body)))
-}
-
 /// The start.
-#[tactic(auto, unfolding(crate::specs::AsExchanges::AsksFirst))]
+#[tactic(auto, unfolding(crate::specs::AsPhases::BeginsWithin))]
 fn ask_first(
     alloc: Global,
     asker: &Asker,
-    body: &KdcReqBody,
-) -> Result<Turn<AsPhase, AsDone>, Cause>
-    requires body { Fits kdc_req_body_layout (2 ^ 28) body.now }
+    body: KdcReqBody,
+) -> Result<Turn<ExchangePhase, AsDone>, Cause>
+    requires body { Fits kdc_req_body_layout (2 ^ 28) body }
     requires realm { length asker.now.realm ≤ 2 ^ 24 }
-    ensures step { Answers (AsksFirst asker.now body.now) result }
-    ensures down { IfOk result (λ turn. GoesDown 2 turn) }
+    ensures step { Answers (BeginsWithin phases.InAsExchange asker.now body) result }
+    ensures down { IfOk result (λ turn. GoesDown (IsAwaiting asker.now) turns_left 2 turn) }
 {
-    let begun = begin(alloc, asker, body)?;
-    sent_first(alloc, begun.request, begun.kdc, body)
+    let (request, phase) = begin_exchange(alloc, asker, body)?;
+    Ok(Turn::Asks(request, ExchangePhase::InAsExchange(phase)))
 }
 
 /// What the start leads to in a phase that is new.
-fn started(alloc: Global, asker: &Asker, phase: &AsPhase) -> Result<Turn<AsPhase, AsDone>, Cause>
+fn started(
+    alloc: Global,
+    asker: &Asker,
+    phase: &ExchangePhase,
+) -> Result<Turn<ExchangePhase, AsDone>, Cause>
     requires new { IsNewPhase phase.now }
     requires realm { length asker.now.realm ≤ 2 ^ 24 }
     ensures step { Answers (Starts asker.now phase.now) result }
-    ensures down { IfOk result (λ turn. GoesDown (turns_left phase.now) turn) }
+    ensures down { IfOk result (λ turn. GoesDown (IsAwaiting asker.now) turns_left (turns_left phase.now) turn) }
 {
     match phase {
-        AsPhase::New(body) => ask_first(alloc, asker, body),
-        AsPhase::AwaitsError(_, _) | AsPhase::AwaitsAsRep(_, _) | AsPhase::Over => unreachable!(),
+        ExchangePhase::New(body) => {
+            let body = body.copy(alloc)?;
+            ask_first(alloc, asker, body)
+        }
+        ExchangePhase::InAsExchange(_) | ExchangePhase::Over => unreachable!(),
     }
 }
 
-/// The phase behind the second request.
-fn sent_second(
-    alloc: Global,
-    request: NetworkRequest,
-    kdc: &Kdc,
-    salt: Text,
-) -> Result<Turn<AsPhase, AsDone>, Cause>
-    ensures step { Answers (Gives (turns.Asks request (phases.AwaitsAsRep kdc.now salt))) result }
-    ensures down { IfOk result (λ turn. GoesDown 1 turn) }
-{
-    let kdc = kdc.copy(alloc)?;
-    Ok(Turn::Asks(request, AsPhase::AwaitsAsRep(kdc, salt)))
-}
-
 /// What follows the first reply.
-#[tactic(auto, unfolding(crate::specs::AsExchanges::AsksSecond))]
+#[tactic(auto, unfolding(crate::specs::AsPhases::AsksSecond))]
 fn ask_second(
     alloc: Global,
     asker: &Asker,
@@ -146,57 +124,61 @@ fn ask_second(
     body: &KdcReqBody,
     reply: Result<Octets, NetFault>,
     draw: &Draw,
-) -> Result<Turn<AsPhase, AsDone>, Cause>
+) -> Result<Turn<ExchangePhase, AsDone>, Cause>
     requires moment { draw.now.moment ≤ last_moment }
     requires body { Fits kdc_req_body_layout (2 ^ 28) body.now }
     requires realm { length kdc.now.realm ≤ 2 ^ 24 }
-    ensures step { Answers (AsksSecond asker.now kdc.now body.now reply draw.now) result }
-    ensures down { IfOk result (λ turn. GoesDown 1 turn) }
+    ensures step { Answers (AsksSecond phases.InAsExchange asker.now kdc.now body.now reply draw.now) result }
+    ensures down { IfOk result (λ turn. GoesDown (IsAwaiting asker.now) turns_left 1 turn) }
 {
-    let again = ask_again(alloc, asker, kdc, body, reply, draw)?;
-    sent_second(alloc, again.request, kdc, again.salt)
+    let (request, sealed) = seal_time(alloc, asker, kdc, body, reply, draw)?;
+    let phase = AsPhase::AwaitsAsRep(sealed);
+    Ok(Turn::Asks(request, ExchangePhase::InAsExchange(phase)))
 }
 
-fn end(alloc: Global, as_rep: AsRep, salt: &Text) -> Result<Turn<AsPhase, AsDone>, Cause>
+fn end(alloc: Global, as_rep: AsRep, salt: &Text) -> Result<Turn<ExchangePhase, AsDone>, Cause>
     ensures step { Answers (Gives (turns.Ends (record { as_rep = as_rep; salt = salt.now }))) result }
-    ensures down { IfOk result (λ turn. GoesDown 0 turn) }
+    ensures down { (asker : Asker) (turns : ℕ) → IfOk result (λ turn. GoesDown (IsAwaiting asker) turns_left turns turn) }
 {
     let salt = salt.copy(alloc)?;
     Ok(Turn::Ends(AsDone { as_rep, salt }))
 }
 
 /// What follows the second reply.
-#[tactic(auto, unfolding(crate::specs::AsExchanges::TakesAsRep))]
+#[tactic(auto, unfolding(crate::specs::AsExchanges::EndsWithAsRep))]
 fn take_as_rep(
     alloc: Global,
-    protocol: NetworkProtocol,
-    salt: &Text,
+    sealed: &SealedTime,
     reply: Result<Octets, NetFault>,
-) -> Result<Turn<AsPhase, AsDone>, Cause>
-    ensures step { Answers (TakesAsRep protocol salt.now reply) result }
-    ensures down { IfOk result (λ turn. GoesDown 0 turn) }
+) -> Result<Turn<ExchangePhase, AsDone>, Cause>
+    ensures step { Answers (EndsWithAsRep sealed.now.kdc.protocol sealed.now.salt reply) result }
+    ensures down { (asker : Asker) (turns : ℕ) → IfOk result (λ turn. GoesDown (IsAwaiting asker) turns_left turns turn) }
 {
-    let as_rep = granted::<AsRep>(alloc, protocol, reply)?;
-    end(alloc, as_rep, salt)
+    let as_rep = granted_as_rep(alloc, sealed.kdc.protocol, reply)?;
+    end(alloc, as_rep, &sealed.salt)
 }
 
 /// What an answer leads to in a phase that awaits one.
 fn in_phase(
     alloc: Global,
     asker: &Asker,
-    phase: &AsPhase,
+    phase: &ExchangePhase,
     reply: Result<Octets, NetFault>,
     draw: &Draw,
-) -> Result<Turn<AsPhase, AsDone>, Cause>
-    requires awaiting { IsAwaiting phase.now }
+) -> Result<Turn<ExchangePhase, AsDone>, Cause>
+    requires awaiting { IsAwaiting asker.now phase.now }
     requires moment { draw.now.moment ≤ last_moment }
     ensures step { Answers (Next asker.now phase.now reply draw.now) result }
-    ensures down { IfOk result (λ turn. GoesDown (turns_left phase.now) turn) }
+    ensures down { IfOk result (λ turn. GoesDown (IsAwaiting asker.now) turns_left (turns_left phase.now) turn) }
 {
     match phase {
-        AsPhase::AwaitsError(kdc, body) => ask_second(alloc, asker, kdc, body, reply, draw),
-        AsPhase::AwaitsAsRep(kdc, salt) => take_as_rep(alloc, kdc.protocol, salt, reply),
-        AsPhase::New(_) | AsPhase::Over => unreachable!(),
+        ExchangePhase::InAsExchange(AsPhase::AwaitsError(kdc, body)) => {
+            ask_second(alloc, asker, kdc, body, reply, draw)
+        }
+        ExchangePhase::InAsExchange(AsPhase::AwaitsAsRep(sealed)) => {
+            take_as_rep(alloc, sealed, reply)
+        }
+        ExchangePhase::New(_) | ExchangePhase::Over => unreachable!(),
     }
 }
 
@@ -204,14 +186,14 @@ fn in_phase(
 fn next(
     alloc: Global,
     asker: &Asker,
-    phase: &AsPhase,
+    phase: &ExchangePhase,
     reply: Result<Octets, NetFault>,
     draw: &Draw,
-) -> Result<Turn<AsPhase, AsDone>, Cause>
-    requires awaiting { IsAwaiting phase.now }
+) -> Result<Turn<ExchangePhase, AsDone>, Cause>
+    requires awaiting { IsAwaiting asker.now phase.now }
     requires moment { draw.now.moment ≤ last_moment }
     ensures step { Answers (Next asker.now phase.now reply draw.now) result }
-    ensures down { IfOk result (λ turn. GoesDown (turns_left phase.now) turn) }
+    ensures down { IfOk result (λ turn. GoesDown (IsAwaiting asker.now) turns_left (turns_left phase.now) turn) }
     ensures memory { is_want reply ≡ true → result ≡ Err causes.Memory }
 {
     if is_want(&reply) {
@@ -240,14 +222,14 @@ impl Task for AsExchange {
 
     fn start(&mut self, _draw: &Draw) -> GeneratorState<NetworkRequest, Result<AsDone, Error>> {
         let answer = started(self.alloc, &self.asker, &self.phase);
-        go_on(&mut self.phase, AsPhase::Over, answer)
+        go_on(&mut self.phase, ExchangePhase::Over, answer)
     }
 
     fn turns(&self) -> u32 {
-        match self.phase {
-            AsPhase::New(_) => 2,
-            AsPhase::AwaitsError(_, _) => 1,
-            AsPhase::AwaitsAsRep(_, _) | AsPhase::Over => 0,
+        match &self.phase {
+            ExchangePhase::New(_) => 2,
+            ExchangePhase::InAsExchange(phase) => phase.turns(),
+            ExchangePhase::Over => 0,
         }
     }
 }
@@ -263,6 +245,6 @@ impl Resumable for AsExchange {
         draw: &Draw,
     ) -> GeneratorState<NetworkRequest, Result<AsDone, Error>> {
         let answer = next(self.alloc, &self.asker, &self.phase, reply, draw);
-        go_on(&mut self.phase, AsPhase::Over, answer)
+        go_on(&mut self.phase, ExchangePhase::Over, answer)
     }
 }

@@ -5,7 +5,7 @@ ghost use Rattle.krb_crypto.specs.Suite.{key_size};
 ghost use Rattle.krb_crypto.specs.Password.{password_key};
 ghost use Rattle.sspi_core.specs.declared.cause.Cause.TheVariants as causes;
 ghost use Rattle.sspi_core.specs.Checks.{Answers, Takes};
-ghost use Rattle.krb_as.specs.Askers.{suite_for, key_for, default_salt, asker_suite, sized_key, asker_of};
+ghost use Rattle.krb_as.specs.Askers.{suite_for, key_for, client_key, default_salt, asker_suite, sized_key, asker_of};
 
 use crate::client::Client;
 use krb_conf::Env;
@@ -90,6 +90,7 @@ fn key_of_password(
 fn key_of_keytab(alloc: Global, suite: CipherSuite, key: &Octets) -> Result<Octets, Cause>
     ensures step { Answers (Takes causes.KeyLength (if length key.now == key_size suite then Some key.now else None)) result }
     ensures size { IfOk result (λ key. length key ≡ key_size suite) }
+    ensures copied { IfOk result (λ copy. copy ≡ key.now) }
 {
     if key.as_slice().len() == suite.key_size() {
         Ok(key.copy(alloc)?)
@@ -107,6 +108,7 @@ fn key_for(
 ) -> Result<Octets, Cause>
     ensures step { Answers (Takes causes.KeyLength (key_for suite salt.now credentials.now)) result }
     ensures size { IfOk result (λ key. length key ≡ key_size suite) }
+    ensures client { IfOk result (λ key. key ≡ client_key suite salt.now credentials.now) }
 {
     match credentials {
         CredentialsBuffers::AuthIdentity(identity) => {
@@ -140,6 +142,7 @@ pub fn asker_suite(asker: &Asker) -> CipherSuite
 pub fn sized_key(alloc: Global, asker: &Asker, salt: &Text) -> Result<Octets, Cause>
     ensures step { Answers (Takes causes.KeyLength (sized_key asker.now salt.now)) result }
     ensures size { IfOk result (λ key. length key ≡ key_size (asker_suite asker.now)) }
+    ensures client { IfOk result (λ key. key ≡ client_key (asker_suite asker.now) salt.now asker.now.credentials) }
 {
     key_for(alloc, asker_suite(asker), salt, &asker.credentials)
 }

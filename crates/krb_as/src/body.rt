@@ -11,7 +11,7 @@ use crate::client::Client;
 use krb_der::OutOfMemory;
 use krb_exchange::KdcReqBody;
 use krb_requests::{GenerateAsReqOptions, as_req_body};
-use sspi_core::ClientRequestFlags;
+use sspi_core::{ClientRequestFlags, Draw};
 use std::alloc::Global;
 
 /// A service to which a KDC gives a first ticket.
@@ -33,19 +33,18 @@ fn service_components(service: FirstService, realm: &str) -> [&str; 2]
     }
 }
 
-/// The body of a client's first AS-REQ (RFC 4120, section 5.4.1), as `generate_as_req_kdc_body` makes it. No name of a
-/// [`Client`] is past ASCII, so that call has nothing to refuse.
+/// The body of a client's first AS-REQ (RFC 4120, section 5.4.1), as `generate_as_req_kdc_body` makes it with what a step
+/// draws. No name of a [`Client`] is past ASCII, so that call has nothing to refuse.
 pub fn first_body(
     alloc: Global,
     client: &Client,
     service: FirstService,
     flags: ClientRequestFlags,
-    nonce: [u8; 4],
-    moment: u64,
+    draw: &Draw,
 ) -> Result<KdcReqBody, OutOfMemory>
     requires short { IsShort client.now }
-    requires moment { moment ≤ last_moment }
-    ensures made { IfOk result (λ body. body ≡ first_body client.now service flags.0 nonce moment) }
+    requires moment { draw.now.moment ≤ last_moment }
+    ensures made { IfOk result (λ body. body ≡ first_body client.now service flags.0 draw.now) }
     ensures fits { IfOk result (λ body. Fits kdc_req_body_layout (2 ^ 28) body) }
 {
     let snames = service_components(service, client.realm.as_str());
@@ -54,11 +53,11 @@ pub fn first_body(
         username: client.name.as_str(),
         cname_type: client.name_type,
         snames: &snames,
-        nonce,
+        nonce: draw.octets(0),
         hostname: client.host.as_str(),
         context_requirements: flags,
     };
-    match as_req_body(alloc, &options, moment) {
+    match as_req_body(alloc, &options, draw.moment) {
         Ok(body) => Ok(body),
         Err(_) => Err(OutOfMemory),
     }

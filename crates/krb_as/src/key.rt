@@ -1,21 +1,47 @@
-//! The key that an AS-REP brings.
+//! The keys of an AS exchange: the client's, and the one that an AS-REP brings.
 
-ghost use Rattle.std.specs.Prelude.{◌≡◌, IfOk};
+ghost use Rattle.std.specs.Prelude.{◌≡◌, true};
 ghost use Rattle.krb_crypto.specs.Suite.{suite_of_etype};
 ghost use Rattle.sspi_core.specs.Checks.{Answers, Gives};
 ghost use Rattle.krb_replies.specs.Salts.{TellsEtype};
 ghost use Rattle.krb_replies.specs.Keys.{BringsKey};
-ghost use Rattle.krb_as.specs.ReplyKeys.{client_key, TakesReplyKey};
+ghost use Rattle.krb_as.specs.Askers.{client_key};
+ghost use Rattle.krb_as.specs.ReplyKeys.{TakesReplyKey};
 
 use crate::asker::Asker;
+use crate::kdc::Kdc;
 use krb_crypto::{CipherSuite, generate_key_from_password};
 use krb_der::{Octets, Text};
-use krb_exchange::AsRep;
+use krb_exchange::{AsRep, KdcRep};
 use krb_replies::{session_key_in_as_rep, told_etype};
 use sspi_core::{Cause, CredentialsBuffers, Secret};
 use std::alloc::Global;
 
-/// What an AS-REP brings.
+/// The second request of an AS exchange: the time is sealed in it under the client's key.
+#[derive(Drop)]
+pub struct SealedTime {
+    /// Where it was sent.
+    pub kdc: Kdc,
+    /// The suite of the key.
+    pub suite: CipherSuite,
+    /// The salt of the key.
+    pub salt: Text,
+    /// The client's key. Most AS-REPs are sealed under it too.
+    pub key: Secret<Octets>,
+}
+
+/// A ticket that a KDC granted.
+#[derive(Drop)]
+pub struct Grant {
+    /// The suite of the key.
+    pub suite: CipherSuite,
+    /// The session key of the ticket.
+    pub key: Secret<Octets>,
+    /// The reply that brought the ticket.
+    pub rep: KdcRep,
+}
+
+/// The key that an AS-REP brings.
 #[derive(Drop)]
 pub struct ReplyKey {
     /// The suite of the client's key.
@@ -97,5 +123,47 @@ pub fn reply_key(
 {
     let hint = told_hint(alloc, salt, as_rep)?;
     let key = told_key(alloc, &asker.credentials, &hint, as_rep)?;
+    with_suite(hint.0, key)
+}
+
+/// Whether the key that the time was sealed under is the one that was told.
+fn is_kept(sealed: &SealedTime, hint: &(u8, Text)) -> bool
+    ensures suite { result ≡ true → sealed.now.suite ≡ suite_of_etype hint.now.0 }
+    ensures salt { result ≡ true → sealed.now.salt ≡ hint.now.1 }
+{
+    sealed.suite == CipherSuite::of_etype(hint.0) && sealed.salt.as_str() == hint.1.as_str()
+}
+
+/// The session key, in the suite and with the salt that were told. A password's key is made again only where these are others.
+fn kept_or_told_key(
+    alloc: Global,
+    credentials: &CredentialsBuffers,
+    sealed: &SealedTime,
+    hint: &(u8, Text),
+    as_rep: &AsRep,
+) -> Result<Secret<Octets>, Cause>
+    requires { sealed.now.key ≡ client_key sealed.now.suite sealed.now.salt credentials.now }
+    ensures { Answers (BringsKey (suite_of_etype hint.now.0) (client_key (suite_of_etype hint.now.0) hint.now.1 credentials.now) as_rep.now) result }
+{
+    if is_kept(sealed, hint) {
+        session_key_in_as_rep(alloc, sealed.suite, sealed.key.as_ref().as_slice(), as_rep)
+    } else {
+        told_key(alloc, credentials, hint, as_rep)
+    }
+}
+
+/// The same key as that of `reply_key`, refused as it refuses, behind a request that the time was sealed in.
+#[tactic(auto, unfolding(crate::specs::ReplyKeys::TakesReplyKey))]
+pub(crate) fn kept_reply_key(
+    alloc: Global,
+    asker: &Asker,
+    sealed: &SealedTime,
+    as_rep: &AsRep,
+) -> Result<ReplyKey, Cause>
+    requires { sealed.now.key ≡ client_key sealed.now.suite sealed.now.salt asker.now.credentials }
+    ensures { Answers (TakesReplyKey asker.now.credentials sealed.now.salt as_rep.now) result }
+{
+    let hint = told_hint(alloc, &sealed.salt, as_rep)?;
+    let key = kept_or_told_key(alloc, &asker.credentials, sealed, &hint, as_rep)?;
     with_suite(hint.0, key)
 }

@@ -12,7 +12,7 @@ ghost use Rattle.krb_as.specs.Replies.{Unwraps};
 ghost use Rattle.sspi_core.specs.declared.draw.Draw.{Draw};
 ghost use Rattle.krb_as.specs.declared.asker.Asker.{Asker};
 ghost use Rattle.krb_as.specs.declared.as_exchange.AsDone.{AsDone};
-ghost use Rattle.krb_as.specs.declared.as_exchange.AsPhase.{AsPhase};
+ghost use Rattle.krb_as.specs.declared.as_exchange.ExchangePhase.{ExchangePhase};
 ghost use Rattle.krb_as.specs.declared.turn.Turn.{Turn};
 ghost use Rattle.krb_as.specs.AsExchanges.{Starts, Next};
 
@@ -33,7 +33,8 @@ pub fn one_answer()
 /// Each step of an AS exchange has at most one outcome: a request and what awaits its answer, the end, or one refusal. It is
 /// determined by who asks, how far the exchange has come, the reply and the draw.
 pub fn one_outcome()
-    ensures starts { (asker : Asker) (phase : AsPhase) (r s : Result (Turn AsPhase AsDone) Cause) → Starts asker phase r → Starts asker phase s → r ≡ s }
-    ensures resumes { (asker : Asker) (phase : AsPhase) (reply : Result (List ℕ) NetFault) (draw : Draw) (r s : Result (Turn AsPhase AsDone) Cause)
+    ensures starts { (asker : Asker) (phase : ExchangePhase) (r s : Result (Turn ExchangePhase AsDone) Cause) → Starts asker phase r → Starts asker phase s → r ≡ s }
+    ensures resumes { (asker : Asker) (phase : ExchangePhase) (reply : Result (List ℕ) NetFault) (draw : Draw)
+        (r s : Result (Turn ExchangePhase AsDone) Cause)
         → Next asker phase reply draw r → Next asker phase reply draw s → r ≡ s }
 {}

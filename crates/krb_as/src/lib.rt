@@ -5,19 +5,20 @@
 //! - [`find_kdc`] tells where the requests for a realm go and by which protocol, [`request_to`] gives the octets that are sent
 //!   there, and [`unwrap_reply`] the message that the octets of a reply bring (RFC 4120, section 7.2; MS-KKDCP, section 2.2.2).
 //!   Nothing here sends anything.
-//! - [`begin`] and [`ask_again`] make the two requests, [`granted`] takes a reply, and [`reply_key`] opens an AS-REP with the key of
-//!   the credentials.
-//! - [`AsExchange`] is the whole exchange as a task, and [`go_on`] turns what the checks of a step answer into the step of a task.
+//! - [`begin_exchange`] makes the first request and [`take_reply`] the second one, and takes the ticket of the AS-REP. An [`AsPhase`]
+//!   is what stands between them. Each run that begins with an AS exchange contains it.
+//! - [`AsExchange`] is the exchange as a task of its own, whose AS-REP [`reply_key`] opens with the key of the credentials;
+//!   [`granted`] takes any reply, and [`go_on`] turns what the checks of a step answer into the step of a task.
 //!
 //! Each step is one chain of ordered checks in `specs/`. That it has one outcome at most is a law in [`laws`].
 #![tactic(auto)]
 
 mod as_exchange;
+mod as_phase;
 mod asker;
 mod body;
 mod client;
 mod done;
-mod granting;
 mod kdc;
 mod key;
 pub mod laws;
@@ -27,16 +28,15 @@ mod request;
 mod sending;
 mod turn;
 
-pub use as_exchange::{AsDone, AsExchange, AsPhase};
+pub use as_exchange::{AsDone, AsExchange, ExchangePhase};
+pub use as_phase::{AsPhase, begin_exchange, take_reply};
 pub use asker::{Asker, asker_of, asker_suite, default_salt, sized_key};
 pub use body::{FirstService, first_body};
 pub use client::{Client, client_of, short_name};
 pub use done::InitDone;
-pub use granting::{granted_as_rep, granted_tgs_rep};
 pub use kdc::{Kdc, find_kdc};
-pub use key::{ReplyKey, reply_key};
+pub use key::{Grant, ReplyKey, SealedTime, reply_key};
 pub use receiving::{MAX_REPLY, read_reply, unwrap_reply};
-pub use reply::{granted, wanted_salt};
-pub use request::{Again, Begun, ask_again, begin};
+pub use reply::{granted, granted_as_rep, granted_tgs_rep, wanted_salt};
 pub use sending::request_to;
 pub use turn::{Turn, go_on, is_want};

@@ -1,16 +1,18 @@
 //! The replies of a KDC (RFC 4120, sections 3.1.3 to 3.1.5).
 
-ghost use Rattle.std.specs.Prelude.{◌≡◌, unwrap_or};
+ghost use Rattle.std.specs.Prelude.{◌≡◌, unwrap_or, IfOk};
 ghost use Rattle.sspi_core.specs.declared.cause.Cause.TheVariants as causes;
 ghost use Rattle.sspi_core.specs.Checks.{Answers, Takes, Gives};
 ghost use Rattle.krb_replies.specs.Told.{Hands};
+ghost use Rattle.krb_exchange.specs.Layouts.{as_rep_layout, tgs_rep_layout};
 ghost use Rattle.krb_as.specs.Askers.{default_salt};
+ghost use Rattle.krb_as.specs.Granted.{IsSendable};
 ghost use Rattle.krb_as.specs.Replied.{error_in, reply_in, WantsPreAuth, Grants};
 
 use crate::asker::default_salt;
 use crate::receiving::read_reply;
 use krb_der::{Asn1, Octets, Text};
-use krb_exchange::{AsRep, KrbError, KrbResult};
+use krb_exchange::{AsRep, KrbError, KrbResult, TgsRep};
 use krb_replies::named_salt;
 use sspi_core::{Cause, CredentialsBuffers, NetworkProtocol};
 use sspi_generator::NetFault;
@@ -78,4 +80,28 @@ pub fn granted<T: Asn1>(
 {
     let answer = read_reply::<T>(alloc, protocol, reply)?;
     reply_in(answer)
+}
+
+/// The AS-REP that was asked for. Refused as `granted` refuses. A reply is not longer than 2^24 octets, so none of its parts is.
+pub fn granted_as_rep(
+    alloc: Global,
+    protocol: NetworkProtocol,
+    reply: Result<Octets, NetFault>,
+) -> Result<AsRep, Cause>
+    ensures step { Answers (Grants protocol as_rep_layout reply) result }
+    ensures sendable { IfOk result (λ as_rep. IsSendable as_rep.0) }
+{
+    granted::<AsRep>(alloc, protocol, reply)
+}
+
+/// The TGS-REP that was asked for, in the same way.
+pub fn granted_tgs_rep(
+    alloc: Global,
+    protocol: NetworkProtocol,
+    reply: Result<Octets, NetFault>,
+) -> Result<TgsRep, Cause>
+    ensures step { Answers (Grants protocol tgs_rep_layout reply) result }
+    ensures sendable { IfOk result (λ tgs_rep. IsSendable tgs_rep.0) }
+{
+    granted::<TgsRep>(alloc, protocol, reply)
 }

@@ -12,7 +12,7 @@ ghost use Rattle.krb_authenticators.specs.ApRequests.{ap_req_with, ap_req, tgs_u
 use bitflags::Flags;
 use krb_context::{ApOptions, EncryptionParams};
 use krb_crypto::CipherSuite;
-use krb_der::{Asn1, Bits, Octets, OutOfMemory};
+use krb_der::{Asn1, Bits, Octets, OutOfMemory, boxed};
 use krb_messages::constants::{
     AP_REQ_AUTHENTICATOR_USAGE, AP_REQ_MSG_TYPE, KERBEROS_VERSION, TGS_REQ_AUTHENTICATOR_USAGE,
 };
@@ -69,18 +69,18 @@ pub(crate) fn seal_ap_req(
     key: &[u8],
     usage: u32,
     options: u32,
-    ticket: Ticket,
+    ticket: Box<Ticket>,
     authenticator: &Authenticator,
     confounder: [u8; 16],
 ) -> Result<ApReq, OutOfMemory>
     requires key { length key.now ≡ key_size suite }
-    requires ticket { Fits ticket_layout (2 ^ 24) ticket }
+    requires ticket { Fits ticket_layout (2 ^ 24) ticket.value }
     requires authenticator { Fits authenticator_layout (2 ^ 27 + 128) authenticator.now }
-    ensures made { IfOk result (λ made. made ≡ ap_req suite key.now usage confounder options ticket authenticator.now) }
+    ensures made { IfOk result (λ made. made ≡ ap_req suite key.now usage confounder options ticket.value authenticator.now) }
     ensures within { IfOk result (λ made. Fits ap_req_layout (2 ^ 28) made) }
 {
     let sealed = sealed_authenticator(alloc, suite, key, usage, authenticator, confounder)?;
-    ap_req_with(alloc, options, ticket, sealed)
+    ap_req_with(alloc, options, Box::into_inner(ticket), sealed)
 }
 
 /// The same where the key may have another length.
@@ -106,6 +106,7 @@ fn ap_req_under(
     if key.len() != suite.key_size() {
         return Err(Error::from(Cause::KeyLength));
     }
+    let ticket = boxed(alloc, ticket)?;
     Ok(seal_ap_req(
         alloc,
         suite,

@@ -169,7 +169,7 @@ pub fn generate_krb_priv_request(
         key,
         AP_REQ_AUTHENTICATOR_USAGE,
         0,
-        Box::into_inner(ticket),
+        ticket,
         authenticator,
         first,
     )?;

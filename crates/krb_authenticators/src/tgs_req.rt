@@ -22,7 +22,7 @@ use bitflags::Flags;
 use krb_conf::parse_target_name;
 use krb_context::KdcOptions;
 use krb_crypto::CipherSuite;
-use krb_der::{Asn1, Bits, Items, Name, Octets, OutOfMemory, is_ascii};
+use krb_der::{Asn1, Bits, Items, Name, Octets, OutOfMemory, boxed, is_ascii};
 use krb_exchange::{KdcReq, KdcReqBody, PaData, PaPacOptions, TgsReq};
 use krb_messages::constants::{
     KERBEROS_VERSION, NT_SRV_INST, RSA_MD5_CHECKSUM_TYPE, TGS_REQ_AUTHENTICATOR_USAGE,
@@ -217,9 +217,13 @@ fn pac_options(alloc: Global) -> Result<PaData, OutOfMemory>
 }
 
 /// A TGS-REQ of these parts.
-fn tgs_req_with(alloc: Global, body: KdcReqBody, request: &ApReq) -> Result<TgsReq, OutOfMemory>
+fn tgs_req_with(
+    alloc: Global,
+    body: Box<KdcReqBody>,
+    request: &ApReq,
+) -> Result<TgsReq, OutOfMemory>
     requires { Fits ap_req_layout (2 ^ 28) request.now }
-    ensures { IfOk result (λ made. made ≡ tgs_req_with body request.now) }
+    ensures { IfOk result (λ made. made ≡ tgs_req_with body.value request.now) }
 {
     let first = pa_tgs_req(alloc, request)?;
     let second = pac_options(alloc)?;
@@ -228,7 +232,7 @@ fn tgs_req_with(alloc: Global, body: KdcReqBody, request: &ApReq) -> Result<TgsR
         pvno: maker.integer(&[KERBEROS_VERSION]),
         msg_type: maker.integer(&[TGS_REQ_MSG_TYPE]),
         padata: Some(maker.list_of_two(first, second)),
-        req_body: body,
+        req_body: Box::into_inner(body),
     });
     maker.finish(made)
 }
@@ -238,16 +242,16 @@ fn ap_req_over(
     alloc: Global,
     suite: CipherSuite,
     key: &[u8],
-    ticket: Ticket,
+    ticket: Box<Ticket>,
     authenticator: Authenticator,
     body: &KdcReqBody,
     confounder: [u8; 16],
 ) -> Result<ApReq, OutOfMemory>
     requires key { length key.now ≡ key_size suite }
-    requires ticket { Fits ticket_layout (2 ^ 24) ticket }
+    requires ticket { Fits ticket_layout (2 ^ 24) ticket.value }
     requires authenticator { Fits authenticator_layout (2 ^ 27) authenticator }
     requires body { Fits kdc_req_body_layout (2 ^ 27) body.now }
-    ensures made { IfOk result (λ made. made ≡ ap_req suite key.now tgs_usage confounder 0 ticket (over body.now authenticator)) }
+    ensures made { IfOk result (λ made. made ≡ ap_req suite key.now tgs_usage confounder 0 ticket.value (over body.now authenticator)) }
     ensures within { IfOk result (λ made. Fits ap_req_layout (2 ^ 28) made) }
 {
     let authenticator = over(alloc, body, authenticator)?;
@@ -268,19 +272,22 @@ fn tgs_req_of(
     alloc: Global,
     suite: CipherSuite,
     key: &[u8],
-    ticket: Ticket,
+    ticket: Box<Ticket>,
     authenticator: Authenticator,
-    body: KdcReqBody,
+    body: Box<KdcReqBody>,
     confounder: [u8; 16],
 ) -> Result<TgsReq, OutOfMemory>
     requires key { length key.now ≡ key_size suite }
-    requires ticket { Fits ticket_layout (2 ^ 24) ticket }
+    requires ticket { Fits ticket_layout (2 ^ 24) ticket.value }
     requires authenticator { Fits authenticator_layout (2 ^ 27) authenticator }
-    requires body { Fits kdc_req_body_layout (2 ^ 27) body }
-    ensures made { IfOk result (λ made. made ≡ tgs_req suite key.now confounder ticket authenticator body) }
+    requires body { Fits kdc_req_body_layout (2 ^ 27) body.value }
+    ensures made { IfOk result (λ made. made ≡ tgs_req suite key.now confounder ticket.value authenticator body.value) }
     ensures within { IfOk result (λ made. Fits tgs_req_layout (2 ^ 29) made) }
 {
-    let request = ap_req_over(alloc, suite, key, ticket, authenticator, &body, confounder)?;
+    let request = boxed(
+        alloc,
+        ap_req_over(alloc, suite, key, ticket, authenticator, &body, confounder)?,
+    )?;
     tgs_req_with(alloc, body, &request)
 }
 
@@ -319,6 +326,76 @@ fn refusal_of(
     None
 }
 
+/// The service and the host of a request that can be made; else why it cannot be.
+fn asked_parts<'a>(
+    realm: &str,
+    target: &'a str,
+    suite: CipherSuite,
+    key: &[u8],
+) -> Result<(&'a str, &'a str), Cause>
+    ensures target { IfOk result (λ parts. target_parts target.entry.now ≡ Some (parts.0.now, parts.1.now)) }
+    ensures askable { IfOk result (λ parts. refusal_of realm.now parts.0.now parts.1.now suite key.now ≡ None) }
+    ensures refused { IfErr result (λ cause. tgs_refusal realm.now (target_parts target.entry.now) suite key.now ≡ Some cause) }
+{
+    let Some((service, host)) = target_of(target) else {
+        return Err(Cause::Target);
+    };
+    match refusal_of(realm, service, host, suite, key) {
+        Some(cause) => Err(cause),
+        None => Ok((service, host)),
+    }
+}
+
+/// The request for this service on this host, which is not refused.
+fn tgs_req_for(
+    alloc: Global,
+    options: GenerateTgsReqOptions<'_>,
+    service: &str,
+    host: &str,
+    now: u64,
+    nonce: [u8; 4],
+    confounder: [u8; 16],
+) -> Result<TgsReq, OutOfMemory>
+    requires moment { now ≤ last_moment }
+    requires realm { length options.realm.now ≤ 2 ^ 24 }
+    requires service { length service.now ≤ 2 ^ 24 }
+    requires host { length host.now ≤ 2 ^ 24 }
+    requires ticket { Fits ticket_layout (2 ^ 24) options.ticket }
+    requires authenticator { Fits authenticator_layout (2 ^ 27) options.authenticator }
+    requires tickets { AreShortTickets options.additional_tickets }
+    requires askable { refusal_of options.realm.now service.now host.now (suite_of options.enc_params.now) options.session_key.now ≡ None }
+    ensures made { IfOk result (λ made. made ≡ tgs_req (suite_of options.entry.enc_params.now) options.entry.session_key.now confounder
+        options.entry.ticket options.entry.authenticator
+        (tgs_body options.entry.realm.now service.now host.now options.entry.additional_tickets
+        options.entry.context_requirements.0 now nonce)) }
+    ensures within { IfOk result (λ made. Fits tgs_req_layout (2 ^ 29) made) }
+{
+    let suite = options.enc_params.suite();
+    let key = options.session_key.as_ref().as_slice();
+    let ticket = boxed(alloc, options.ticket)?;
+    let authenticator = boxed(alloc, options.authenticator)?;
+    let asked = tgs_body(
+        alloc,
+        options.realm,
+        service,
+        host,
+        options.additional_tickets,
+        options.context_requirements,
+        now,
+        nonce,
+    )?;
+    let body = boxed(alloc, asked)?;
+    tgs_req_of(
+        alloc,
+        suite,
+        key,
+        ticket,
+        Box::into_inner(authenticator),
+        body,
+        confounder,
+    )
+}
+
 /// A TGS-REQ for a service: an AP-REQ with the ticket and the authenticator, whose checksum becomes the MD5 of the written
 /// body.
 ///
@@ -352,31 +429,12 @@ pub fn generate_tgs_req(
         (suite_of options.entry.enc_params.now) options.entry.session_key.now) (IfErr result (λ e. e ≡ error_of causes.Memory)) }
     ensures within { IfOk result (λ made. Fits tgs_req_layout (2 ^ 29) made) }
 {
-    let Some((service, host)) = target_of(options.service_principal) else {
-        return Err(Error::from(Cause::Target));
-    };
     let suite = options.enc_params.suite();
     let key = options.session_key.as_ref().as_slice();
-    if let Some(cause) = refusal_of(options.realm, service, host, suite, key) {
-        return Err(Error::from(cause));
+    match asked_parts(options.realm, options.service_principal, suite, key) {
+        Ok((service, host)) => Ok(tgs_req_for(
+            alloc, options, service, host, now, nonce, confounder,
+        )?),
+        Err(cause) => Err(Error::from(cause)),
     }
-    let body = tgs_body(
-        alloc,
-        options.realm,
-        service,
-        host,
-        options.additional_tickets,
-        options.context_requirements,
-        now,
-        nonce,
-    )?;
-    Ok(tgs_req_of(
-        alloc,
-        suite,
-        key,
-        options.ticket,
-        options.authenticator,
-        body,
-        confounder,
-    )?)
 }

@@ -6,7 +6,7 @@ use bitflags::Flags;
 use krb_conf::{Env, KerberosConfig};
 use krb_context::{Kerberos, KerberosState, ServerProperties};
 use krb_demo::DemoClient;
-use krb_der::{Items, Octets, Text, Time};
+use krb_der::{Octets, Text, Time, boxed};
 use krb_replay::ReplayBook;
 use krb_server::accept_security_context;
 use sspi_core::{Draw, Error, Secret, ServerRequestFlags};
@@ -74,19 +74,34 @@ fn key(alloc: Global) -> Result<Secret<Octets>, Error> {
     Ok(Secret::new(Octets::new(octets)))
 }
 
-/// An acceptor of the service.
-fn acceptor(alloc: Global) -> Result<Kerberos, Error> {
-    let name = Text::new(String::from_str(alloc, "server")?);
-    let config = KerberosConfig::new(alloc, "", name)?;
+fn config(alloc: Global) -> Result<KerberosConfig, Error> {
+    let name = Text::from_str(alloc, "server")?;
+    Ok(KerberosConfig::new(alloc, "", name)?)
+}
+
+fn service(alloc: Global) -> Result<Box<ServerProperties>, Error> {
     let service = ["host", "server.example.com"];
-    let server = ServerProperties::new(alloc, &service, None, 300, Some(key(alloc)?))?;
-    Ok(Kerberos::new_server_from_config(config, server, [0, 0, 0, 100])?)
+    let key = key(alloc)?;
+    let service = ServerProperties::new(alloc, &service, None, 300, Some(key))?;
+    Ok(boxed(alloc, service)?)
+}
+
+/// An acceptor of the service.
+fn acceptor(alloc: Global) -> Result<Box<Kerberos>, Error> {
+    let service = service(alloc)?;
+    let config = config(alloc)?;
+    let acceptor = Kerberos::new_server_from_config(
+        config,
+        Box::into_inner(service),
+        [0, 0, 0, 100],
+    )?;
+    Ok(boxed(alloc, acceptor)?)
 }
 
 /// An acceptor, its replay book and an environment without variables and files.
 #[derive(Drop)]
 struct Door {
-    server: Kerberos,
+    server: Box<Kerberos>,
     book: ReplayBook,
     env: Env,
 }
@@ -95,10 +110,7 @@ fn new_door(alloc: Global) -> Result<Door, Error> {
     Ok(Door {
         server: acceptor(alloc)?,
         book: ReplayBook::new(alloc, 300)?,
-        env: Env {
-            vars: Items::new(Vec::new(alloc)),
-            files: Items::new(Vec::new(alloc)),
-        },
+        env: Env::new(alloc),
     })
 }
 
@@ -132,31 +144,65 @@ fn admitted(alloc: Global, door: &mut Door, tokens: &[Vec<u8>]) -> u32 {
     admitted
 }
 
-/// Admits tokens with these options, and prints how many were admitted and how long one took.
+/// Admits so many tokens with these options: how many were admitted, and how long that took.
+fn admit_all(
+    rt: &(impl Clock + AllocGlobal),
+    client: &DemoClient,
+    door: &mut Door,
+    options: u8,
+    count: u32,
+) -> Result<(u32, Duration)> {
+    let alloc = rt.alloc();
+    let mut all = 0u32;
+    let mut spent = Duration::ZERO;
+    for batch in 0..count.div_ceil(BATCH) {
+        let first = batch.saturating_mul(BATCH);
+        let tokens = tokens(alloc, client, options, first, count).context("out of memory")?;
+        let start = Instant::now(rt)?;
+        let some = admitted(alloc, door, tokens.as_slice());
+        spent = spent.saturating_add(start.elapsed(rt)?);
+        all = all.saturating_add(some);
+    }
+    Ok((all, spent))
+}
+
+/// Prints how many were admitted, and how long one took.
+fn tell(
+    rt: &(impl Print + Eprint),
+    action: &str,
+    count: u32,
+    all: u32,
+    spent: Duration,
+) -> Result<()> {
+    println!(rt; "acceptor: {action}: {all} of {count}")?;
+    let each = spent.as_nanos().checked_div(u128::from(count)).unwrap_or(0);
+    let a_second = 1_000_000_000u128.checked_div(each).unwrap_or(0);
+    eprintln!(rt; "acceptor: {action}: {each} ns each, {a_second} a second")?;
+    Ok(())
+}
+
+/// Admits tokens of a client at a new acceptor, and prints how many were admitted and how long one took.
+fn measure_client(
+    rt: &(impl Print + Eprint + Clock + AllocGlobal),
+    client: &DemoClient,
+    action: &str,
+    options: u8,
+    count: u32,
+) -> Result<()> {
+    let mut door = boxed(rt.alloc(), new_door(rt.alloc())?)?;
+    let (all, spent) = admit_all(rt, client, &mut door, options, count)?;
+    tell(rt, action, count, all, spent)
+}
+
+/// Measures admissions with these options.
 fn measure(
     rt: &(impl Print + Eprint + Clock + AllocGlobal),
     action: &str,
     options: u8,
     count: u32,
 ) -> Result<()> {
-    let alloc = rt.alloc();
-    let client = DemoClient::new(alloc).ok().context("out of memory")?;
-    let mut door = new_door(alloc)?;
-    let mut all = 0u32;
-    let mut spent = Duration::ZERO;
-    for batch in 0..count.div_ceil(BATCH) {
-        let first = batch.saturating_mul(BATCH);
-        let tokens = tokens(alloc, &client, options, first, count).context("out of memory")?;
-        let start = Instant::now(rt)?;
-        let some = admitted(alloc, &mut door, tokens.as_slice());
-        spent = spent.saturating_add(start.elapsed(rt)?);
-        all = all.saturating_add(some);
-    }
-    println!(rt; "acceptor: {action}: {all} of {count}")?;
-    let each = spent.as_nanos().checked_div(u128::from(count)).unwrap_or(0);
-    let a_second = 1_000_000_000u128.checked_div(each).unwrap_or(0);
-    eprintln!(rt; "acceptor: {action}: {each} ns each, {a_second} a second")?;
-    Ok(())
+    let client = DemoClient::new(rt.alloc()).ok().context("out of memory")?;
+    measure_client(rt, &client, action, options, count)
 }
 
 /// Measures admissions without and with an answer to the client.

@@ -4,7 +4,7 @@ use crate::timing::{Measurement, last_octets, repetitions};
 use krb_conf::KerberosConfig;
 use krb_context::{Kerberos, KerberosState, ServerProperties};
 use krb_crypto::CipherSuite;
-use krb_der::{Items, Octets, Text};
+use krb_der::{Items, Octets, Text, boxed};
 use sspi_core::{Error, Message, Part, Secret, SecurityBufferRef};
 use std::alloc::Global;
 use std::rt::Clock;
@@ -21,8 +21,8 @@ const READY: usize = 1_048_576;
 /// Two ends of one connection.
 #[derive(Drop)]
 struct Ends {
-    initiator: Kerberos,
-    acceptor: Kerberos,
+    initiator: Box<Kerberos>,
+    acceptor: Box<Kerberos>,
 }
 
 /// The last octets of what was done and of what was undone again, and how many nanoseconds each took.
@@ -43,34 +43,38 @@ struct Load<'a> {
 }
 
 fn config(alloc: Global) -> Result<KerberosConfig, Error> {
-    let name = Text::new(String::from_str(alloc, "bench")?);
+    let name = Text::from_str(alloc, "bench")?;
     Ok(KerberosConfig::new(alloc, "", name)?)
 }
 
-/// The context once the exchange is over, under a key of 32 octets.
-fn established(alloc: Global, context: Kerberos) -> Result<Kerberos, Error> {
+/// The context is as once the exchange is over, under a key of 32 octets.
+fn establish(alloc: Global, context: &mut Kerberos) -> Result<(), Error> {
     let key = Octets::from_slice(alloc, &[0x33; 32])?;
-    let mut context = context;
     context.state = KerberosState::Final;
     context.encryption_params.encryption_type = Some(CipherSuite::Aes256CtsHmacSha196);
     context.encryption_params.sub_session_key = Some(Secret::new(key));
+    Ok(())
+}
+
+fn initiator(alloc: Global) -> Result<Box<Kerberos>, Error> {
+    let config = config(alloc)?;
+    let mut context = boxed(alloc, Kerberos::new_client_from_config(config, [0; 4]))?;
+    establish(alloc, &mut context)?;
     Ok(context)
 }
 
-fn initiator(alloc: Global) -> Result<Kerberos, Error> {
-    established(
-        alloc,
-        Kerberos::new_client_from_config(config(alloc)?, [0; 4]),
-    )
+fn service(alloc: Global) -> Result<Box<ServerProperties>, Error> {
+    let service = ServerProperties::new(alloc, &["server"], None, 300, None)?;
+    Ok(boxed(alloc, service)?)
 }
 
-fn acceptor(alloc: Global) -> Result<Kerberos, Error> {
+fn acceptor(alloc: Global) -> Result<Box<Kerberos>, Error> {
+    let service = service(alloc)?;
     let config = config(alloc)?;
-    let server = ServerProperties::new(alloc, &["server"], None, 300, None)?;
-    established(
-        alloc,
-        Kerberos::new_server_from_config(config, server, [0; 4])?,
-    )
+    let context = Kerberos::new_server_from_config(config, Box::into_inner(service), [0; 4])?;
+    let mut context = boxed(alloc, context)?;
+    establish(alloc, &mut context)?;
+    Ok(context)
 }
 
 /// A token without octets, and a text.
@@ -117,27 +121,35 @@ fn last_of(messages: &[Message]) -> u32 {
 }
 
 /// Seals messages at one end, and opens them at the other.
+fn seal_and_open_all(
+    rt: &(impl Clock + AllocGlobal),
+    ends: &mut Ends,
+    messages: &mut [Message],
+) -> anyhow::Result<Round> {
+    let alloc = rt.alloc();
+    let start = Instant::now(rt)?;
+    seal_all(alloc, &mut ends.initiator, messages)?;
+    let doing = start.elapsed(rt)?.as_nanos();
+    let done = last_of(messages);
+    let start = Instant::now(rt)?;
+    open_all(alloc, &mut ends.acceptor, messages)?;
+    let undoing = start.elapsed(rt)?.as_nanos();
+    Ok(Round {
+        done,
+        undone: last_of(messages),
+        doing,
+        undoing,
+    })
+}
+
+/// Seals and opens messages of a text.
 fn seal_and_open(
     rt: &(impl Clock + AllocGlobal),
     ends: &mut Ends,
     load: &Load,
 ) -> anyhow::Result<Round> {
-    let alloc = rt.alloc();
-    let mut messages = plain_messages(alloc, load.text, load.ready)?;
-    let start = Instant::now(rt)?;
-    seal_all(alloc, &mut ends.initiator, messages.as_mut_slice())?;
-    let doing = start.elapsed(rt)?.as_nanos();
-    let done = last_of(messages.as_slice());
-    let start = Instant::now(rt)?;
-    open_all(alloc, &mut ends.acceptor, messages.as_mut_slice())?;
-    let undoing = start.elapsed(rt)?.as_nanos();
-    let undone = last_of(messages.as_slice());
-    Ok(Round {
-        done,
-        undone,
-        doing,
-        undoing,
-    })
+    let mut messages = plain_messages(rt.alloc(), load.text, load.ready)?;
+    seal_and_open_all(rt, ends, messages.as_mut_slice())
 }
 
 fn sign_all(alloc: Global, end: &mut Kerberos, load: &Load) -> Result<Vec<Octets>, Error> {

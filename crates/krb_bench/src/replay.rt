@@ -94,9 +94,11 @@ fn ask_at(alloc: Global, stretch: &Stretch, index: u32) -> Option<Ask> {
     let moment = moment(stretch.window, k);
     let seconds = i64::try_from(moment / 1_000_000).ok()?;
     let ctime = seconds.saturating_sub(i64::from(lateness(k, stretch.late)));
+    let sname = principal(alloc, b"http")?;
+    let entry = record(alloc, k, Time::new(ctime.clamp(0, 253_402_300_799)))?;
     Some(Ask {
-        entry: record(alloc, k, Time::new(ctime.clamp(0, 253_402_300_799)))?,
-        sname: principal(alloc, b"http")?,
+        entry,
+        sname,
         start: Time::new(1_600_000_000),
         end: Time::new(100_000_000_000),
         moment,
@@ -165,6 +167,56 @@ fn measure(
 
 /// Fills a window in the order of time, and measures in that order, then replays of its newer half, and then asks that
 /// are late by up to 2 and up to 250 seconds.
+fn measure_stretches(
+    rt: &(impl Print + Eprint + Clock + AllocGlobal),
+    book: &mut ReplayBook,
+    window: u32,
+    count: u32,
+    late_count: u32,
+) -> Result<()> {
+    let fill = Stretch {
+        name: "fill",
+        window,
+        first: 0,
+        count: window,
+        step: ONE_BY_ONE,
+        late: 0,
+    };
+    measure(rt, book, fill)?;
+    let in_order = Stretch {
+        name: "in order",
+        first: window,
+        count,
+        ..fill
+    };
+    measure(rt, book, in_order)?;
+    let end = window.saturating_add(count);
+    let replays = Stretch {
+        name: "replays",
+        first: end.saturating_sub(window / 2),
+        count: window / 2,
+        step: SCATTERED,
+        ..fill
+    };
+    measure(rt, book, replays)?;
+    let late = Stretch {
+        name: "late by up to 2 s",
+        first: end,
+        count: late_count,
+        late: 2,
+        ..fill
+    };
+    measure(rt, book, late)?;
+    let later = Stretch {
+        name: "late by up to 250 s",
+        first: end.saturating_add(late_count),
+        late: 250,
+        ..late
+    };
+    measure(rt, book, later)
+}
+
+/// Measures a new book with that window.
 fn measure_window(
     rt: &(impl Print + Eprint + Clock + AllocGlobal),
     window: u32,
@@ -174,46 +226,7 @@ fn measure_window(
     let mut book = ReplayBook::new(rt.alloc(), SKEW)
         .ok()
         .context("out of memory")?;
-    let fill = Stretch {
-        name: "fill",
-        window,
-        first: 0,
-        count: window,
-        step: ONE_BY_ONE,
-        late: 0,
-    };
-    measure(rt, &mut book, fill)?;
-    let in_order = Stretch {
-        name: "in order",
-        first: window,
-        count,
-        ..fill
-    };
-    measure(rt, &mut book, in_order)?;
-    let end = window.saturating_add(count);
-    let replays = Stretch {
-        name: "replays",
-        first: end.saturating_sub(window / 2),
-        count: window / 2,
-        step: SCATTERED,
-        ..fill
-    };
-    measure(rt, &mut book, replays)?;
-    let late = Stretch {
-        name: "late by up to 2 s",
-        first: end,
-        count: late_count,
-        late: 2,
-        ..fill
-    };
-    measure(rt, &mut book, late)?;
-    let later = Stretch {
-        name: "late by up to 250 s",
-        first: end.saturating_add(late_count),
-        late: 250,
-        ..late
-    };
-    measure(rt, &mut book, later)
+    measure_stretches(rt, &mut book, window, count, late_count)
 }
 
 /// Measures a small window, or with `full` windows of 1,000, 100,000 and 1,000,000 records.

@@ -119,10 +119,12 @@ fn measure_hmac(
     })
 }
 
-/// Measures both suites over texts of 64 octets, 1 KiB, 16 KiB and 1 MiB.
-pub fn run(rt: &(impl Print + Eprint + Clock + AllocGlobal), full: bool) -> Result<()> {
-    let all = vec![in rt.alloc(); 7u8; LONGEST]?;
-    let all = all.as_slice();
+/// Measures both suites over the front of a text in four lengths.
+fn measure_fronts(
+    rt: &(impl Print + Eprint + Clock + AllocGlobal),
+    all: &[u8],
+    full: bool,
+) -> Result<()> {
     let short = Subject {
         name: "aes128-cts-hmac-sha1-96",
         suite: CipherSuite::Aes128CtsHmacSha196,
@@ -147,4 +149,10 @@ pub fn run(rt: &(impl Print + Eprint + Clock + AllocGlobal), full: bool) -> Resu
     }
     measure_password(rt, &short, full)?;
     measure_password(rt, &long, full)
+}
+
+/// Measures both suites over texts of 64 octets, 1 KiB, 16 KiB and 1 MiB.
+pub fn run(rt: &(impl Print + Eprint + Clock + AllocGlobal), full: bool) -> Result<()> {
+    let all = vec![in rt.alloc(); 7u8; LONGEST]?;
+    measure_fronts(rt, all.as_slice(), full)
 }

@@ -15,9 +15,10 @@ use std::collections::VecDeque;
 const KEY: &str = "72e14c8e96dfba330802c689e06448591bc19da4f18500d9d63671d6ce24d52d";
 
 /// When all happens, in microseconds from the beginning of 1970.
-pub const MOMENT: u64 = 1_700_000_000_000_000;
+const MOMENT: u64 = 1_700_000_000_000_000;
 
-fn draw() -> Draw
+/// What she draws at each step.
+pub fn draw() -> Draw
     ensures { IsInRange result }
 {
     Draw {

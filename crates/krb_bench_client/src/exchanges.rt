@@ -1,25 +1,26 @@
 //! AS exchanges: from alice's credentials to the session key of her ticket for the ticket-granting service.
 
-ghost use Rattle.std.specs.Prelude.{◌≡◌, ◌^◌, IfOk};
+ghost use Rattle.std.specs.Prelude.{◌≤◌, ◌^◌, IfOk, length};
 ghost use Rattle.krb_exchange.specs.Layouts.{kdc_req_body_layout};
 ghost use Rattle.krb_requests.specs.Pieces.{Fits};
-ghost use Rattle.krb_as.specs.AsExchanges.{IsNew, turns_left};
+ghost use Rattle.krb_as.specs.AsPhases.{IsAwaiting, turns_left};
 ghost use Rattle.krb_as.specs.Clients.{IsShort};
+ghost use Rattle.krb_as.specs.Turns.{GoesDown};
 
-use crate::alice::{MOMENT, config, context, draws, network, with_key, with_password};
+use crate::alice::{config, context, draw, network, with_key, with_password};
 use crate::replies::{AS_REP, KRB_ERROR};
 use crate::report::{report, sum};
 use anyhow::Result;
 use krb_as::{
-    AsDone, AsExchange, Client, FirstService, asker_of, client_of, first_body, reply_key,
-    short_name,
+    AsPhase, Asker, Client, FirstService, Grant, Turn, asker_of, begin_exchange, client_of,
+    first_body, take_reply,
 };
 use krb_conf::Env;
 use krb_context::Kerberos;
-use krb_der::{OutOfMemory, TryCopy};
+use krb_der::OutOfMemory;
 use krb_exchange::KdcReqBody;
-use sspi_core::{ClientRequestFlags, CredentialsBuffers, Error};
-use sspi_generator::{Generator, MemClient};
+use sspi_core::{Cause, ClientRequestFlags, CredentialsBuffers, Error};
+use sspi_generator::{MemClient, NetworkClient};
 use std::alloc::Global;
 use std::rt::Clock;
 use std::time::Instant;
@@ -34,77 +35,50 @@ fn body(alloc: Global, client: &Client) -> Result<KdcReqBody, OutOfMemory>
 {
     let service = FirstService::TicketGranting;
     let flags = ClientRequestFlags::MUTUAL_AUTH;
-    first_body(alloc, client, service, flags, [0, 1, 2, 3], MOMENT)
+    first_body(alloc, client, service, flags, &draw())
 }
 
+/// The sum of the octets of the key of a ticket that was granted.
+fn granted_sum(turn: &Turn<AsPhase, Grant>) -> Result<u64, Cause> {
+    match turn {
+        Turn::Ends(grant) => Ok(sum(grant.key.as_ref().as_slice())),
+        Turn::Asks(_, _) => Err(Cause::Suspended),
+    }
+}
+
+/// What follows the first reply: the sum of the octets of the key that the second one brings.
+fn end_of(
+    alloc: Global,
+    asker: &Asker,
+    turn: &Turn<AsPhase, Grant>,
+    network: &mut MemClient,
+) -> Result<u64, Cause>
+    requires { GoesDown (IsAwaiting asker.now) turns_left 1 turn.now }
+{
+    match turn {
+        Turn::Ends(_) => Err(Cause::Suspended),
+        Turn::Asks(request, phase) => {
+            let reply = network.send(request);
+            let turn = take_reply(alloc, asker, phase, reply, &draw())?;
+            granted_sum(&turn)
+        }
+    }
+}
+
+/// What an exchange for this body ends with.
 fn exchange(
     alloc: Global,
-    context: &Kerberos,
-    credentials: &CredentialsBuffers,
-    client: &Client,
-) -> Result<AsExchange, OutOfMemory>
-    requires { IsShort client.now }
-    ensures new { IfOk result (λ exchange. IsNew exchange) }
-    ensures turns { IfOk result (λ exchange. turns_left exchange.phase ≡ 2) }
-{
-    let realm = short_name(alloc, &client.realm)?;
-    let credentials = credentials.copy(alloc)?;
-    let body = body(alloc, client)?;
-    AsExchange::new(alloc, context, body, credentials, realm, Env::new(alloc))
-}
-
-/// The exchange on the heap.
-fn run_of(
-    alloc: Global,
-    context: &Kerberos,
-    credentials: &CredentialsBuffers,
-    client: &Client,
-) -> Result<Box<Generator<AsExchange>>, Error>
-    requires { IsShort client.now }
-    ensures new { IfOk result (λ run. IsNew run.value) }
-    ensures turns { IfOk result (λ run. turns_left run.value.phase ≡ 2) }
-{
-    match exchange(alloc, context, credentials, client) {
-        Ok(exchange) => Ok(Box::new(alloc, Generator::new(exchange))?),
-        Err(OutOfMemory) => Err(Error::from(OutOfMemory)),
-    }
-}
-
-/// What it ends with over the replies.
-fn end_of(run: Box<Generator<AsExchange>>, network: &mut MemClient) -> Result<AsDone, Error>
-    requires new { IsNew run.value }
-    requires turns { turns_left run.value.phase ≡ 2 }
-{
-    let mut run = run;
-    run.resolve_with_client(network, &draws())
-}
-
-fn done_of(
-    alloc: Global,
-    context: &Kerberos,
-    credentials: &CredentialsBuffers,
-    client: &Client,
+    asker: &Asker,
+    body: KdcReqBody,
     network: &mut MemClient,
-) -> Result<AsDone, Error>
-    requires { IsShort client.now }
+) -> Result<u64, Cause>
+    requires body { Fits kdc_req_body_layout (2 ^ 28) body }
+    requires realm { length asker.now.realm ≤ 2 ^ 24 }
 {
-    match run_of(alloc, context, credentials, client) {
-        Ok(run) => end_of(run, network),
-        Err(error) => Err(error),
-    }
-}
-
-/// The sum of the octets of the key that is sealed in the last reply.
-fn key_sum(
-    alloc: Global,
-    context: &Kerberos,
-    credentials: &CredentialsBuffers,
-    client: &Client,
-    done: &AsDone,
-) -> Result<u64, Error> {
-    let asker = asker_of(alloc, context, credentials, &Env::new(alloc), client)?;
-    let key = reply_key(alloc, &asker, &done.salt, &done.as_rep)?;
-    Ok(sum(key.key.as_ref().as_slice()))
+    let (request, phase) = begin_exchange(alloc, asker, body)?;
+    let reply = network.send(&request);
+    let turn = take_reply(alloc, asker, &phase, reply, &draw())?;
+    end_of(alloc, asker, &turn, network)
 }
 
 fn key_of_client(
@@ -113,13 +87,12 @@ fn key_of_client(
     credentials: &CredentialsBuffers,
     client: &Client,
     network: &mut MemClient,
-) -> Result<u64, Error>
+) -> Result<u64, Cause>
     requires { IsShort client.now }
 {
-    match done_of(alloc, context, credentials, client, network) {
-        Ok(done) => key_sum(alloc, context, credentials, client, &done),
-        Err(error) => Err(error),
-    }
+    let asker = asker_of(alloc, context, credentials, &Env::new(alloc), client)?;
+    let body = body(alloc, client)?;
+    exchange(alloc, &asker, body, network)
 }
 
 /// One exchange: the sum of the octets of the key that it brings.
@@ -128,12 +101,10 @@ fn key_of_one(
     context: &Kerberos,
     credentials: &CredentialsBuffers,
     network: &mut MemClient,
-) -> Result<u64, Error> {
+) -> Result<u64, Cause> {
     let machine = &context.config.client_computer_name;
-    match client_of(alloc, credentials, machine, &Env::new(alloc)) {
-        Ok(client) => key_of_client(alloc, context, credentials, &client, network),
-        Err(cause) => Err(Error::from(cause)),
-    }
+    let client = client_of(alloc, credentials, machine, &Env::new(alloc))?;
+    key_of_client(alloc, context, credentials, &client, network)
 }
 
 /// So many exchanges: the sum of the octets of their keys.
@@ -143,7 +114,7 @@ fn keys_of(
     credentials: &CredentialsBuffers,
     network: &mut MemClient,
     count: u32,
-) -> Result<u64, Error> {
+) -> Result<u64, Cause> {
     let mut sum: u64 = 0;
     for _ in 0..count {
         sum = sum.wrapping_add(key_of_one(alloc, context, credentials, network)?);
@@ -161,8 +132,10 @@ fn measure(
     let alloc = rt.alloc();
     let mut network = network(alloc, &REPLIES, count)?;
     let start = Instant::now(rt)?;
-    let sum = keys_of(alloc, context, credentials, &mut network, count)?;
-    report(rt, name, count, sum, start.elapsed(rt)?)
+    match keys_of(alloc, context, credentials, &mut network, count) {
+        Ok(sum) => report(rt, name, count, sum, start.elapsed(rt)?),
+        Err(cause) => Err(Error::from(cause))?,
+    }
 }
 
 fn measure_both(

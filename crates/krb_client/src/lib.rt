@@ -39,7 +39,7 @@ pub use krb_replies::{
 pub use krb_requests::{
     GenerateAsPaDataOptions, GenerateAsReqOptions, GenerateKeytabPaDataOptions, generate_as_req,
     generate_as_req_kdc_body, generate_pa_datas_for_as_req, generate_pa_datas_for_as_req_with_key,
-    generate_tgt_req, get_mech_list,
+    generate_tgt_req, get_mech_list, name_of,
 };
 
 // What a client names beside, so that its imports come from here alone.

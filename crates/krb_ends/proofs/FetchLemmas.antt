@@ -29,21 +29,26 @@ use Rattle.krb_as.specs.Replies.{Replies}
 use Rattle.krb_replies.specs.Unseals.{own_key, session_key}
 use Rattle.krb_replies.specs.Keys.{BringsKey, HandsOnKey}
 use Rattle.krb_as.specs.declared.done.InitDone.{InitDone}
-use Rattle.krb_as.specs.declared.request.Again.{Again}
-use Rattle.krb_as.specs.declared.request.Begun.{Begun}
+use Rattle.krb_as.specs.declared.as_phase.AsPhase.{AsPhase}
+use Rattle.krb_as.specs.declared.as_phase.AsPhase.TheVariants.{AwaitsError, AwaitsAsRep}
+use Rattle.krb_as.specs.declared.key.SealedTime.{SealedTime}
+use Rattle.krb_as.specs.declared.turn.Turn.{Turn}
+use Rattle.krb_tgs.specs.declared.tgs.Begun.{Begun}
 use Rattle.krb_as.specs.declared.turn.Turn.TheVariants.{Asks, Ends}
-use Rattle.krb_as.specs.Askers.{asker_suite, default_salt, sized_key}
-use Rattle.krb_as.specs.Asked.{first_request, second_request, Begins, AsksAgain}
+use Rattle.krb_as.specs.Askers.{asker_suite, client_key, default_salt, sized_key}
+use Rattle.krb_as.specs.Asked.{first_request, second_request}
+use Rattle.krb_as.specs.AsPhases.{sealed_time, BeginsExchange, SealsTime, AsksSecond, TakesAsRep, BeginsWithin, TakesReplyWithin}
 use Rattle.krb_as.specs.Replied.{WantsPreAuth, Grants}
-use Rattle.krb_as.specs.ReplyKeys.{client_key, TakesReplyKey}
-use Rattle.krb_tgs.specs.declared.wanted.Shown.{Shown}
+use Rattle.krb_as.specs.ReplyKeys.{TakesReplyKey}
+use Rattle.krb_as.specs.declared.key.Grant.{Grant}
 use Rattle.krb_tgs.specs.TgsAsked.{is_same_realm, tgs_request, AsksTgs, Follows}
-use Rattle.krb_tgs.specs.Taken.{TakesAsRep, TakesTgsRep}
+use Rattle.krb_tgs.specs.Taken.{TakesTgsRep}
 use Rattle.krb_ap.specs.Shown.{message, shown as shown_to, ShowsTicket}
 use Rattle.krb_initiator.specs.declared.seeker.Seeker.{Seeker}
 use Rattle.krb_initiator.specs.declared.seeker.TgsLeg.{TgsLeg}
-use Rattle.krb_initiator.specs.declared.seeker.InitPhase.TheVariants.{AwaitsError, AwaitsAsRep, AwaitsTgsRep}
-use Rattle.krb_initiator.specs.InitSteps.{body_of, AsksFirst, AsksSecond, AsksFirstTgs, TakesFirst, Refers as RefersOn, Arrives, GoesTo, TakesNext}
+use Rattle.krb_initiator.specs.declared.seeker.InitPhase.{InitPhase}
+use Rattle.krb_initiator.specs.declared.seeker.InitPhase.TheVariants.{InAsExchange, AwaitsTgsRep}
+use Rattle.krb_initiator.specs.InitSteps.{body_of, AsksFirstTgs, Refers as RefersOn, Arrives, GoesTo, TakesNext}
 use Rattle.krb_initiator.specs.Tgts.{first_tickets}
 use Rattle.krb_ends.specs.Answers.{IsDraw, Offered}
 use Rattle.krb_ends.specs.Fetches.{Leads, Fetches, AsksMutual, EndsWithOffer}
@@ -69,14 +74,21 @@ module _ (seeker : Seeker) (suite : CipherSuite) where
       (follows _ _ error.error _ (record { is = refl })
       (follows _ _ error.named _ error.names (record { is = ap Ok error.salt_is })))
 
+  -- what a reply of the AS exchange leads to
+  abbrev pub Taken : AsPhase → Step → Turn InitPhase InitDone → Type 0
+  Taken phase step turn = TakesReplyWithin InAsExchange (λ grant. AsksFirstTgs seeker grant step.draw) seeker.asker phase (Ok step.reply) step.draw (Ok turn)
+
   pub asks_second : (kdc : Kdc) (body : KdcReqBody) (step : Step) (salt key : List ℕ) → AnswersError seeker.asker kdc.protocol step.reply salt → sized_key seeker.asker salt ≡ Some key
-      → AsksSecond seeker.asker kdc body (Ok step.reply) step.draw (Ok (Asks (second_request (asker_suite seeker.asker) key step.draw kdc body) (AwaitsAsRep kdc salt)))
-  unfolding AsksSecond AsksAgain
+      → Taken (AwaitsError kdc body) step (Asks (second_request (asker_suite seeker.asker) key step.draw kdc body) (InAsExchange (AwaitsAsRep (sealed_time seeker.asker kdc salt key))))
+  unfolding TakesReplyWithin AsksSecond SealsTime
   asks_second kdc body step salt key error has =
-      let again : Again = record { request = second_request (asker_suite seeker.asker) key step.draw kdc body; salt = salt } in
-      follows _ _ again _
+      let request : NetworkRequest = second_request (asker_suite seeker.asker) key step.draw kdc body in
+      let sealed : SealedTime = sealed_time seeker.asker kdc salt key in
+      follows _ _ (Asks request (AwaitsAsRep sealed)) _
+      (follows _ _ (request, sealed) _
       (follows _ _ salt _ (wants kdc.protocol step.reply salt error)
-      (follows _ _ key _ (takes_some KeyLength (sized_key seeker.asker salt) key has) (gives again)))
+      (follows _ _ key _ (takes_some KeyLength (sized_key seeker.asker salt) key has) (gives _)))
+      (gives _))
       (gives _)
 
   -- the AS-REP
@@ -105,18 +117,18 @@ module _ (seeker : Seeker) (suite : CipherSuite) where
       (follows _ _ key _ brought (record { is = ap (λ (s : CipherSuite). Ok (record { suite = s; key = key })) (sym numbered) }))
 
   -- what was shown, and the leg that awaits the next reply
-  abbrev pub shown : List ℕ → KdcRep → Shown
+  abbrev pub shown : List ℕ → KdcRep → Grant
   shown key rep = record { suite = suite; key = key; rep = rep }
 
   abbrev pub leg : Known → List ℕ → ℕ → TgsLeg
   leg known home hops = record { kdc = known.kdc; suite = suite; key = known.key; home = home; hops = hops }
 
   takes_as_rep : (protocol : NetworkProtocol) (used reply : List ℕ) (rep : AsRep) (key : List ℕ) → GrantsFirst seeker.asker suite protocol used reply rep key
-      → TakesAsRep seeker.asker.credentials protocol used (Ok reply) (Ok (shown key rep.0))
+      → TakesAsRep seeker.asker.credentials protocol used (Ok reply) (Ok (Ends (shown key rep.0)))
   unfolding TakesAsRep
   takes_as_rep protocol used reply rep key first =
       follows _ _ rep _ (grants as_rep_layout protocol reply rep first.brings)
-      (follows _ _ (record { suite = suite; key = key }) _ (takes_key protocol used reply rep key first) (gives (shown key rep.0)))
+      (follows _ _ (record { suite = suite; key = key }) _ (takes_key protocol used reply rep key first) (gives _))
 
   -- a ticket-granting service is asked
   asks_tgs : (key : List ℕ) (rep : KdcRep) (home realm : List ℕ) (kdc : Kdc) (tickets : Option (List Ticket)) (draw : Draw) → length key ≡ key_size suite
@@ -127,13 +139,12 @@ module _ (seeker : Seeker) (suite : CipherSuite) where
       follows _ _ tt _ (holds_true KeyLength (length key == key_size suite) (eq-eqb (length key) (key_size suite) fits))
       (follows _ _ kdc _ found (gives _))
 
-  pub takes_first : (home : Kdc) (used : List ℕ) (step : Step) (rep : AsRep) (known : Known) → GrantsFirst seeker.asker suite home.protocol used step.reply rep known.key
+  pub takes_first : (sealed : SealedTime) (step : Step) (rep : AsRep) (known : Known) → GrantsFirst seeker.asker suite sealed.kdc.protocol sealed.salt step.reply rep known.key
       → HasKdc seeker.asker rep.0.crealm rep.0.crealm known.kdc
-      → TakesFirst seeker home.protocol used (Ok step.reply) step.draw
-      (Ok (Asks (tgs_request seeker.wanted (shown known.key rep.0) (first_tickets seeker.tgt) step.draw known.kdc) (AwaitsTgsRep (leg known rep.0.crealm 0))))
-  unfolding TakesFirst AsksFirstTgs
-  takes_first home used step rep known first found =
-      follows _ _ (shown known.key rep.0) _ (takes_as_rep home.protocol used step.reply rep known.key first)
+      → Taken (AwaitsAsRep sealed) step (Asks (tgs_request seeker.wanted (shown known.key rep.0) (first_tickets seeker.tgt) step.draw known.kdc) (AwaitsTgsRep (leg known rep.0.crealm 0)))
+  unfolding TakesReplyWithin AsksFirstTgs
+  takes_first sealed step rep known first found =
+      follows _ _ (Ends (shown known.key rep.0)) _ (takes_as_rep sealed.kdc.protocol sealed.salt step.reply rep known.key first)
       (follows _ _ (record { request = tgs_request seeker.wanted (shown known.key rep.0) (first_tickets seeker.tgt) step.draw known.kdc; kdc = known.kdc }) _
       (asks_tgs known.key rep.0 rep.0.crealm rep.0.crealm known.kdc (first_tickets seeker.tgt) step.draw first.fits found) (gives _))
 
@@ -204,11 +215,10 @@ module _ (seeker : Seeker) (suite : CipherSuite) where
 
   -- the start
   pub starts : (home : Kdc) (draw : Draw) → FindsKdc seeker.asker.kdc_url seeker.asker.env seeker.asker.realm (Ok home)
-      → AsksFirst seeker.asker (body_of seeker draw) (Ok (Asks (first_request home (body_of seeker draw)) (AwaitsError home (body_of seeker draw))))
-  unfolding AsksFirst Begins
+      → BeginsWithin {O = InitDone} InAsExchange seeker.asker (body_of seeker draw) (Ok (Asks (first_request home (body_of seeker draw)) (InAsExchange (AwaitsError home (body_of seeker draw)))))
+  unfolding BeginsWithin BeginsExchange
   starts home draw found =
-      let begun : Begun = record { request = first_request home (body_of seeker draw); kdc = home } in
-      follows _ _ begun _ (follows _ _ home _ found (gives begun)) (gives _)
+      follows _ _ (first_request home (body_of seeker draw), AwaitsError home (body_of seeker draw)) _ (follows _ _ home _ found (gives _)) (gives _)
 
   module _ (service_key : List ℕ) (draw : Draw) (answers : Answers) (rep : TgsRep) (part : EncTicketPart) (kdcs : AreHonestKdcs seeker suite service_key answers rep part) where
     abbrev done : InitDone
@@ -217,16 +227,16 @@ module _ (seeker : Seeker) (suite : CipherSuite) where
     fetches : Fetches seeker draw answers done
     fetches = record {
       request = first_request kdcs.first_kdc (body_of seeker draw);
-      phase = AwaitsError kdcs.first_kdc (body_of seeker draw);
+      phase = InAsExchange (AwaitsError kdcs.first_kdc (body_of seeker draw));
       starts = starts kdcs.first_kdc draw kdcs.first_found;
       leads = (
         second_request (asker_suite seeker.asker) kdcs.key answers.error.draw kdcs.first_kdc (body_of seeker draw),
-        AwaitsAsRep kdcs.first_kdc kdcs.salt,
+        InAsExchange (AwaitsAsRep (sealed_time seeker.asker kdcs.first_kdc kdcs.salt kdcs.key)),
         asks_second kdcs.first_kdc (body_of seeker draw) answers.error kdcs.salt kdcs.key kdcs.error kdcs.has_key,
         (
           tgs_request seeker.wanted (shown kdcs.known.key kdcs.as_rep.0) (first_tickets seeker.tgt) answers.first.draw kdcs.known.kdc,
           AwaitsTgsRep (leg kdcs.known kdcs.as_rep.0.crealm 0),
-          takes_first kdcs.first_kdc kdcs.salt answers.first kdcs.as_rep kdcs.known kdcs.grants kdcs.found,
+          takes_first (sealed_time seeker.asker kdcs.first_kdc kdcs.salt kdcs.key) answers.first kdcs.as_rep kdcs.known kdcs.grants kdcs.found,
           leads service_key kdcs.known kdcs.as_rep.0.crealm 0 answers.referrals answers.last rep part kdcs.grants.fits (omega (arith, kdcs.few)) kdcs.honest,
         ),
       );

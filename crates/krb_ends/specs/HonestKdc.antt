@@ -22,8 +22,7 @@ use Rattle.krb_replies.specs.Unseals.{IsRead}
 use Rattle.krb_replies.specs.Salts.{NamesSalt, TellsEtype}
 use Rattle.krb_replies.specs.Realms.{referral_realm}
 use Rattle.krb_as.specs.declared.asker.Asker.{Asker}
-use Rattle.krb_as.specs.Askers.{default_salt, sized_key}
-use Rattle.krb_as.specs.ReplyKeys.{client_key}
+use Rattle.krb_as.specs.Askers.{client_key, default_salt, sized_key}
 use Rattle.krb_tgs.specs.TgsAsked.{parts_of, url_for, is_same_realm}
 use Rattle.krb_initiator.specs.declared.seeker.Seeker.{Seeker}
 use Rattle.krb_ends.specs.Offers.{Carries, IsServiceTicket}

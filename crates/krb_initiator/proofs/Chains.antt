@@ -1,5 +1,5 @@
 -- The keys of a run's replies are a chain.
-use Rattle.std.proofs.Common.{◌≡◌, ℕ, ◌+◌, Bool, true, false, List, [], ◌∷◌, ◌++◌, length, Option, Some, None, Result, Ok, refl, sym, ap, ◌∙◌, subst, arith, length-append}
+use Rattle.std.proofs.Common.{◌≡◌, ℕ, ◌+◌, Bool, true, false, List, [], ◌∷◌, ◌++◌, Option, Some, None, Result, Ok, refl, sym, ap, ◌∙◌, subst, length-append}
 use Rattle.std.specs.Prelude.{◌&&◌, is_some}
 use Rattle.std.specs.List.{list_all}
 use Rattle.krb_crypto.specs.declared.suite.CipherSuite.{CipherSuite}
@@ -8,8 +8,6 @@ use Rattle.krb_exchange.specs.declared.kdc_rep.TgsRep.{TgsRep}
 use Rattle.krb_exchange.specs.declared.kdc_req.KdcReqBody.{KdcReqBody}
 use Rattle.sspi_core.specs.declared.cause.Cause.{Cause}
 use Rattle.sspi_core.specs.declared.draw.Draw.{Draw}
-use Rattle.sspi_core.specs.declared.protocol.NetworkProtocol.{NetworkProtocol}
-use Rattle.sspi_core.specs.Checks.{Gives}
 use Rattle.sspi_generator.specs.declared.network.NetworkRequest.{NetworkRequest}
 use Rattle.sspi_generator.specs.declared.network.NetFault.{NetFault}
 use Rattle.krb_as.specs.declared.kdc.Kdc.{Kdc}
@@ -18,22 +16,23 @@ use Rattle.krb_replies.specs.Realms.{referral_realm}
 use Rattle.krb_as.specs.declared.turn.Turn.{Turn}
 use Rattle.krb_as.specs.declared.turn.Turn.TheVariants.{Asks, Ends}
 use Rattle.krb_as.specs.declared.done.InitDone.{InitDone}
-use Rattle.krb_as.specs.declared.request.Again.{Again}
-use Rattle.krb_as.specs.Askers.{default_salt}
-use Rattle.krb_as.specs.Asked.{AsksAgain}
-use Rattle.krb_as.specs.Replied.{WantsPreAuth}
-use Rattle.krb_tgs.specs.declared.wanted.Shown.{Shown}
+use Rattle.krb_as.specs.declared.as_phase.AsPhase.{AsPhase}
+use Rattle.krb_as.specs.declared.as_phase.AsPhase.TheVariants.{AwaitsError, AwaitsAsRep}
+use Rattle.krb_as.specs.declared.key.SealedTime.{SealedTime}
+use Rattle.krb_as.specs.AsPhases.{TakesReplyWithin}
+use Rattle.krb_as.proofs.AsTurns.{asked_first, error_taken, as_rep_taken}
+use Rattle.krb_as.specs.declared.key.Grant.{Grant}
 use Rattle.krb_tgs.specs.Chain.{IsChain}
-use Rattle.krb_tgs.proofs.Chains.{chain_begins, chain_goes_on, taken_as, taken_tgs, TgsTaken}
+use Rattle.krb_tgs.proofs.Chains.{chain_begins, chain_goes_on, taken_tgs, TgsTaken}
 use Rattle.krb_ap.specs.Shown.{shown as shown_to, ShowsTicket}
 use Rattle.krb_initiator.specs.declared.seeker.Seeker.{Seeker}
 use Rattle.krb_initiator.specs.declared.seeker.TgsLeg.{TgsLeg}
 use Rattle.krb_initiator.specs.declared.seeker.Initiation.TheVariants.{Seeks}
 use Rattle.krb_initiator.specs.declared.seeker.InitPhase.{InitPhase}
-use Rattle.krb_initiator.specs.declared.seeker.InitPhase.TheVariants.{New, AwaitsError, AwaitsAsRep, AwaitsTgsRep, Over}
-use Rattle.krb_initiator.specs.InitSteps.{body_of, AsksFirst, AsksSecond, leg_of, AsksFirstTgs, TakesFirst, Refers, Arrives, GoesTo, TakesNext}
-use Rattle.krb_initiator.specs.InitRuns.{Starts, Continues, Next}
-use Rattle.krb_initiator.specs.Came.{IsGranted, AreGranted, is_referral, NamesFirst, GrantsFirst, HasChain, CameWithSalt, CameWithKey, Came, IsSession}
+use Rattle.krb_initiator.specs.declared.seeker.InitPhase.TheVariants.{New, InAsExchange, AwaitsTgsRep, Over}
+use Rattle.krb_initiator.specs.InitSteps.{body_of, AsksFirstTgs, Refers, Arrives, GoesTo, TakesNext}
+use Rattle.krb_initiator.specs.InitRuns.{Starts, Next}
+use Rattle.krb_initiator.specs.Came.{IsGranted, AreGranted, is_referral, HasChain, CameWithSalt, CameWithKey, Came, IsSession}
 
 -- which turn was given
 asked : (request made : NetworkRequest) (next phase : InitPhase) → ◌≡◌ {A = Turn InitPhase InitDone} (Asks made next) (Asks request phase) → next ≡ phase
@@ -41,41 +40,36 @@ asked request made next phase e = cc
 
 -- behind the start there is no reply
 pub begins : (seeker : Seeker) (draw : Draw) (request : NetworkRequest) (phase : InitPhase) → Starts (Seeks seeker) New draw (Ok (Asks request phase)) → Came seeker [] phase
-unfolding AsksFirst
 begins seeker draw request phase h =
-    let begun = passed _ _ _ h in
-    subst (λ (p : InitPhase). Came seeker [] p) (sym (asked _ request phase _ (gave _ _ begun.rest_held))) refl
+    let first = asked_first InAsExchange seeker.asker (body_of seeker draw) (Asks request phase) h in
+    subst (λ (p : InitPhase). Came seeker [] p) (sym (asked _ request phase _ first.is)) refl
 
 module _ (seeker : Seeker) (reply : Result (List ℕ) NetFault) (draw : Draw) where
-  -- the error
-  names : (kdc : Kdc) (body : KdcReqBody) (again : Again) → AsksAgain seeker.asker kdc body reply draw (Ok again) → NamesFirst seeker reply again.salt
-  unfolding AsksAgain
-  names kdc body again h =
-      let salt = passed _ _ _ h in
-      let key = passed _ _ _ salt.rest_held in
-      record {
-        protocol = kdc.protocol;
-        named =
-            subst (λ (s : List ℕ). WantsPreAuth kdc.protocol (default_salt seeker.asker.credentials) reply (Ok s)) (sym (ap (λ (a : Again). a.salt) (gave _ _ key.rest_held)))
-            salt.first_held;
-      }
+  abbrev AsksTgs : Grant → Result (Turn InitPhase InitDone) Cause → Type 0
+  AsksTgs grant answer = AsksFirstTgs seeker grant draw answer
 
-  second : (kdc : Kdc) (body : KdcReqBody) (replies : List (Result (List ℕ) NetFault)) (request : NetworkRequest) (next : InitPhase) → replies ≡ []
-      → AsksSecond seeker.asker kdc body reply draw (Ok (Asks request next)) → Came seeker (replies ++ (reply ∷ [])) next
-  unfolding AsksSecond
+  abbrev Taken : AsPhase → Turn InitPhase InitDone → Type 0
+  Taken phase turn = TakesReplyWithin InAsExchange AsksTgs seeker.asker phase reply draw (Ok turn)
+
+  -- the error
+  second : (kdc : Kdc) (body : KdcReqBody) (replies : List (Result (List ℕ) NetFault)) (request : NetworkRequest) (next : InitPhase) → replies ≡ [] → Taken (AwaitsError kdc body) (Asks request next)
+      → Came seeker (replies ++ (reply ∷ [])) next
   second kdc body replies request next none h =
-      let again = passed _ _ _ h in
-      subst (λ (p : InitPhase). Came seeker (replies ++ (reply ∷ [])) p) (sym (asked _ request next _ (gave _ _ again.rest_held)))
-      (record { error = reply; are = ap (λ (r : List (Result (List ℕ) NetFault)). r ++ (reply ∷ [])) none; names = names kdc body again.found again.first_held })
+      let second = error_taken InAsExchange AsksTgs seeker.asker reply draw (Asks request next) kdc body h in
+      subst (λ (p : InitPhase). Came seeker (replies ++ (reply ∷ [])) p) (sym (asked _ request next _ second.is))
+      (record {
+        error = reply;
+        are = ap (λ (r : List (Result (List ℕ) NetFault)). r ++ (reply ∷ [])) none;
+        names = record { protocol = kdc.protocol; named = second.names };
+      })
 
   -- the AS-REP
-  first : (protocol : NetworkProtocol) (salt : List ℕ) (replies : List (Result (List ℕ) NetFault)) (request : NetworkRequest) (next : InitPhase) → CameWithSalt seeker replies salt
-      → TakesFirst seeker protocol salt reply draw (Ok (Asks request next)) → Came seeker (replies ++ (reply ∷ [])) next
-  unfolding TakesFirst AsksFirstTgs
-  first protocol salt replies request next came h =
-      let shown = passed _ _ _ h in
-      let begun = passed _ _ _ shown.rest_held in
-      let taken = taken_as seeker.asker.credentials protocol salt reply shown.found shown.first_held in
+  first : (sealed : SealedTime) (replies : List (Result (List ℕ) NetFault)) (request : NetworkRequest) (next : InitPhase) → CameWithSalt seeker replies sealed.salt → Taken (AwaitsAsRep sealed) (Asks request next)
+      → Came seeker (replies ++ (reply ∷ [])) next
+  unfolding AsksFirstTgs
+  first sealed replies request next came h =
+      let on = as_rep_taken InAsExchange AsksTgs seeker.asker reply draw (Asks request next) sealed h in
+      let begun = passed _ _ _ on.rest in
       subst (λ (p : InitPhase). Came seeker (replies ++ (reply ∷ [])) p) (sym (asked _ request next _ (gave _ _ begun.rest_held)))
       (record {
         reps = [];
@@ -84,16 +78,23 @@ module _ (seeker : Seeker) (reply : Result (List ℕ) NetFault) (draw : Draw) wh
           first = reply;
           rest = [];
           are = ap (λ (r : List (Result (List ℕ) NetFault)). r ++ (reply ∷ [])) came.are;
-          salt = salt;
+          salt = sealed.salt;
           names = came.names;
-          as_rep = taken.rep;
-          grants = record { protocol = protocol; granted = taken.granted };
+          as_rep = on.taken.rep;
+          grants = record { protocol = sealed.kdc.protocol; granted = on.taken.granted };
           granted = tt;
-          chain = chain_begins seeker.asker.credentials salt taken.rep shown.found.suite shown.found.key taken.opened;
+          chain = chain_begins seeker.asker.credentials sealed.salt on.taken.rep on.grant.suite on.grant.key on.taken.opened;
         };
         referrals = refl;
         count = refl;
       })
+
+  -- neither ends the run
+  no_end : (phase : AsPhase) (done : InitDone) → Taken phase (Ends done) → ⊥
+  unfolding AsksFirstTgs
+  no_end (AwaitsError kdc body) done h = let second = error_taken InAsExchange AsksTgs seeker.asker reply draw (Ends done) kdc body h in let f = second.is in absurd cc
+  no_end (AwaitsAsRep sealed) done h =
+      let on = as_rep_taken InAsExchange AsksTgs seeker.asker reply draw (Ends done) sealed h in let begun = passed _ _ _ on.rest in let f = gave _ _ begun.rest_held in absurd cc
 
   -- one more TGS-REP
   more_granted : (replies : List (Result (List ℕ) NetFault)) (reps : List TgsRep) (rep : TgsRep) → AreGranted replies reps → IsGranted reply rep → AreGranted (replies ++ (reply ∷ [])) (reps ++ (rep ∷ []))
@@ -110,7 +111,7 @@ module _ (seeker : Seeker) (reply : Result (List ℕ) NetFault) (draw : Draw) wh
       step true b c h goes = goes h
       step false b c h goes = h
 
-  module _ (leg : TgsLeg) (replies : List (Result (List ℕ) NetFault)) (shown : Shown) (came : CameWithKey seeker replies leg)
+  module _ (leg : TgsLeg) (replies : List (Result (List ℕ) NetFault)) (shown : Grant) (came : CameWithKey seeker replies leg)
       (taken : TgsTaken leg.kdc.protocol leg.suite leg.key reply shown) where
     one_more : HasChain seeker (replies ++ (reply ∷ [])) shown.suite (came.reps ++ (taken.rep ∷ [])) shown.key
     one_more = record {
@@ -196,17 +197,14 @@ module _ (seeker : Seeker) (reply : Result (List ℕ) NetFault) (draw : Draw) wh
 pub goes_on : (seeker : Seeker) (replies : List (Result (List ℕ) NetFault)) (phase : InitPhase) (reply : Result (List ℕ) NetFault) (draw : Draw) (request : NetworkRequest) (next : InitPhase)
     → Came seeker replies phase → Next (Seeks seeker) phase reply draw (Ok (Asks request next)) → Came seeker (replies ++ (reply ∷ [])) next
 goes_on seeker replies New reply draw request next came h = absurd h
-goes_on seeker replies (AwaitsError kdc body) reply draw request next came h = second seeker reply draw kdc body replies request next came h
-goes_on seeker replies (AwaitsAsRep kdc salt) reply draw request next came h = first seeker reply draw kdc.protocol salt replies request next came h
+goes_on seeker replies (InAsExchange (AwaitsError kdc body)) reply draw request next came h = second seeker reply draw kdc body replies request next came h
+goes_on seeker replies (InAsExchange (AwaitsAsRep sealed)) reply draw request next came h = first seeker reply draw sealed replies request next came h
 goes_on seeker replies (AwaitsTgsRep leg) reply draw request next came h = next_goes seeker reply draw leg replies request next came h
 goes_on seeker replies Over reply draw request next came h = absurd h
 
 pub ends : (seeker : Seeker) (replies : List (Result (List ℕ) NetFault)) (phase : InitPhase) (reply : Result (List ℕ) NetFault) (draw : Draw) (done : InitDone)
     → Came seeker replies phase → Next (Seeks seeker) phase reply draw (Ok (Ends done)) → IsSession seeker (replies ++ (reply ∷ [])) done
-unfolding AsksSecond TakesFirst AsksFirstTgs
 ends seeker replies New reply draw done came h = absurd h
-ends seeker replies (AwaitsError kdc body) reply draw done came h = let again = passed _ _ _ h in let f = gave _ _ again.rest_held in absurd cc
-ends seeker replies (AwaitsAsRep kdc salt) reply draw done came h =
-    let shown = passed _ _ _ h in let begun = passed _ _ _ shown.rest_held in let f = gave _ _ begun.rest_held in absurd cc
+ends seeker replies (InAsExchange phase) reply draw done came h = absurd (no_end seeker reply draw phase done h)
 ends seeker replies (AwaitsTgsRep leg) reply draw done came h = next_ends seeker reply draw leg replies done came h
 ends seeker replies Over reply draw done came h = absurd h

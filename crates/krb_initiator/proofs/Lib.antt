@@ -1,6 +1,6 @@
 pub mod Tgts
 pub mod TgtReqs
 pub mod Refusals
-pub mod Tasks
 pub mod Chains
 pub mod Once
+pub mod Seeking

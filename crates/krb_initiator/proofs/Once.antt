@@ -11,7 +11,6 @@ use Rattle.krb_messages.specs.declared.oid.Oid.TheVariants.{Krb5, MsKrb5, UserTo
 use Rattle.krb_messages.specs.declared.ticket.Ticket.{Ticket}
 use Rattle.krb_messages.proofs.FrameLemmas.{opens_all, one_frame_lem, one_any_frame}
 use Rattle.krb_exchange.specs.Layouts.{tgt_rep_layout}
-use Rattle.krb_exchange.specs.declared.kdc_req.KdcReqBody.{KdcReqBody}
 use Rattle.krb_exchange.specs.declared.user_to_user.TgtRep.{TgtRep}
 use Rattle.krb_exchange.proofs.Spelled.{same_record}
 use Rattle.sspi_core.proofs.Once.{Once, then_once, finds_once, takes_once, holds_once, gives_once}
@@ -22,17 +21,13 @@ use Rattle.sspi_core.specs.declared.cause.Cause.TheVariants.{Shape}
 use Rattle.sspi_core.specs.declared.draw.Draw.{Draw}
 use Rattle.sspi_core.specs.declared.error.Error.{Error}
 use Rattle.sspi_core.specs.declared.identity.CredentialsBuffers.{CredentialsBuffers}
-use Rattle.sspi_core.specs.declared.protocol.NetworkProtocol.{NetworkProtocol}
 use Rattle.sspi_generator.specs.declared.network.NetFault.{NetFault}
-use Rattle.krb_as.specs.declared.kdc.Kdc.{Kdc}
 use Rattle.krb_replies.specs.Realms.{referral_realm}
 use Rattle.krb_replies.specs.Tickets.{IsTgtRep, HasTicket, TakesTicket}
 use Rattle.krb_replies.specs.Unseals.{IsRead}
-use Rattle.krb_as.proofs.Once.{begins_once as asks_once, asks_again_once}
-use Rattle.krb_as.specs.declared.asker.Asker.{Asker}
-use Rattle.krb_as.proofs.FirstOnce.{names_client_once}
-use Rattle.krb_tgs.proofs.Once.{asks_tgs_once, follows_once, takes_as_rep_once, takes_tgs_rep_once}
-use Rattle.krb_tgs.specs.declared.wanted.Shown.{Shown}
+use Rattle.krb_as.proofs.Once.{names_client_once, begins_within_once, takes_reply_within_once}
+use Rattle.krb_tgs.proofs.Once.{asks_tgs_once, follows_once, takes_tgs_rep_once}
+use Rattle.krb_as.specs.declared.key.Grant.{Grant}
 use Rattle.krb_ap.proofs.Once.{shows_ticket_once, takes_ap_rep_once}
 use Rattle.krb_ap.specs.Initiators.{is_bare}
 use Rattle.krb_ap.specs.declared.initiator.Initiator.{Initiator}
@@ -43,11 +38,11 @@ use Rattle.krb_initiator.specs.declared.seeker.TgsLeg.{TgsLeg}
 use Rattle.krb_initiator.specs.declared.seeker.Initiation.{Initiation}
 use Rattle.krb_initiator.specs.declared.seeker.Initiation.TheVariants.{Requests, Seeks, Hears}
 use Rattle.krb_initiator.specs.declared.seeker.InitPhase.{InitPhase}
-use Rattle.krb_initiator.specs.declared.seeker.InitPhase.TheVariants.{New, AwaitsError, AwaitsAsRep, AwaitsTgsRep, Over}
+use Rattle.krb_initiator.specs.declared.seeker.InitPhase.TheVariants.{New, InAsExchange, AwaitsTgsRep, Over}
 use Rattle.krb_initiator.specs.declared.init_run.InitRun.{InitRun}
 use Rattle.krb_initiator.specs.Tgts.{is_user_to_user, framed_tgt, HasTgtRep, TakesBareTgt, TakesFramedTgt, TakesTgt}
 use Rattle.krb_initiator.specs.Beginnings.{ChecksTarget, NamesTarget, NamesIdentity, Identifies, SeeksTicket, RequestsTgt, BeginsNew, BeginsIn, Begins}
-use Rattle.krb_initiator.specs.InitSteps.{body_of, AsksFirst, AsksSecond, AsksFirstTgs, TakesFirst, Refers, Arrives, GoesTo, TakesNext, HearsAnswer}
+use Rattle.krb_initiator.specs.InitSteps.{body_of, AsksFirstTgs, Refers, Arrives, GoesTo, TakesNext, HearsAnswer}
 use Rattle.krb_initiator.specs.InitRuns.{StartsNew, Starts, Continues, Next, BeginsSo}
 
 -- no octets are no value, and so neither a record nor a frame
@@ -193,32 +188,19 @@ begins_so_once (Err cause) (Err e) (Ok y) h k = absurd k
 begins_so_once (Err cause) (Err e) (Err d) h k = ap Err (h ∙ sym k)
 
 -- the steps
-asks_first_once : (asker : Asker) (body : KdcReqBody) → Once (AsksFirst asker body)
-unfolding AsksFirst
-asks_first_once asker body = then_once _ _ (asks_once asker body) (λ begun. gives_once _)
-
-asks_second_once : (asker : Asker) (kdc : Kdc) (body : KdcReqBody) (reply : Result (List ℕ) NetFault) (draw : Draw) → Once (AsksSecond asker kdc body reply draw)
-unfolding AsksSecond
-asks_second_once asker kdc body reply draw = then_once _ _ (asks_again_once asker kdc body reply draw) (λ again. gives_once _)
-
-asks_first_tgs_once : (seeker : Seeker) (shown : Shown) (draw : Draw) → Once (AsksFirstTgs seeker shown draw)
+asks_first_tgs_once : (seeker : Seeker) (shown : Grant) (draw : Draw) → Once (AsksFirstTgs seeker shown draw)
 unfolding AsksFirstTgs
 asks_first_tgs_once seeker shown draw = then_once _ _ (asks_tgs_once seeker.asker seeker.wanted shown _ _ _ draw) (λ begun. gives_once _)
 
-takes_first_once : (seeker : Seeker) (protocol : NetworkProtocol) (salt : List ℕ) (reply : Result (List ℕ) NetFault) (draw : Draw) → Once (TakesFirst seeker protocol salt reply draw)
-unfolding TakesFirst
-takes_first_once seeker protocol salt reply draw =
-    then_once _ _ (takes_as_rep_once seeker.asker.credentials protocol salt reply) (λ shown. asks_first_tgs_once seeker shown draw)
-
-refers_once : (seeker : Seeker) (leg : TgsLeg) (realm : List ℕ) (shown : Shown) (draw : Draw) → Once (Refers seeker leg realm shown draw)
+refers_once : (seeker : Seeker) (leg : TgsLeg) (realm : List ℕ) (shown : Grant) (draw : Draw) → Once (Refers seeker leg realm shown draw)
 unfolding Refers
 refers_once seeker leg realm shown draw = then_once _ _ (follows_once seeker.asker seeker.wanted shown leg.hops leg.home leg.kdc.realm realm draw) (λ begun. gives_once _)
 
-arrives_once : (seeker : Seeker) (leg : TgsLeg) (shown : Shown) (draw : Draw) → Once (Arrives seeker leg shown draw)
+arrives_once : (seeker : Seeker) (leg : TgsLeg) (shown : Grant) (draw : Draw) → Once (Arrives seeker leg shown draw)
 unfolding Arrives
 arrives_once seeker leg shown draw = then_once _ _ (shows_ticket_once seeker.errand shown.suite shown.key shown.rep leg.home draw) (λ done. gives_once _)
 
-goes_to_once : (referral : Option (List ℕ)) (seeker : Seeker) (leg : TgsLeg) (shown : Shown) (draw : Draw) → Once (λ r. GoesTo referral seeker leg shown draw r)
+goes_to_once : (referral : Option (List ℕ)) (seeker : Seeker) (leg : TgsLeg) (shown : Grant) (draw : Draw) → Once (λ r. GoesTo referral seeker leg shown draw r)
 goes_to_once None seeker leg shown draw = record { same = λ r s h k. (arrives_once seeker leg shown draw).same r s h k }
 goes_to_once (Some realm) seeker leg shown draw = record { same = λ r s h k. (refers_once seeker leg realm shown draw).same r s h k }
 
@@ -234,20 +216,22 @@ hears_answer_once initiator token draw = then_once _ _ (takes_ap_rep_once initia
 -- a step leads to one turn
 starts_new_once : (initiation : Initiation) (draw : Draw) → Once (λ r. StartsNew initiation draw r)
 starts_new_once (Requests initiator token) draw = record { same = λ r s h k. (gives_once _).same r s h k }
-starts_new_once (Seeks seeker) draw = record { same = λ r s h k. (asks_first_once seeker.asker (body_of seeker draw)).same r s h k }
+starts_new_once (Seeks seeker) draw = record { same = λ r s h k. (begins_within_once InAsExchange seeker.asker (body_of seeker draw)).same r s h k }
 starts_new_once (Hears initiator token) draw = record { same = λ r s h k. (hears_answer_once initiator token draw).same r s h k }
 
 pub starts_once : (initiation : Initiation) (phase : InitPhase) (draw : Draw) → Once (λ r. Starts initiation phase draw r)
 starts_once initiation New draw = record { same = λ r s h k. (starts_new_once initiation draw).same r s h k }
-starts_once initiation (AwaitsError kdc body) draw = record { same = λ r s h k. absurd h }
-starts_once initiation (AwaitsAsRep kdc salt) draw = record { same = λ r s h k. absurd h }
+starts_once initiation (InAsExchange phase) draw = record { same = λ r s h k. absurd h }
 starts_once initiation (AwaitsTgsRep leg) draw = record { same = λ r s h k. absurd h }
 starts_once initiation Over draw = record { same = λ r s h k. absurd h }
 
 continues_once : (seeker : Seeker) (phase : InitPhase) (reply : Result (List ℕ) NetFault) (draw : Draw) → Once (λ r. Continues seeker phase reply draw r)
 continues_once seeker New reply draw = record { same = λ r s h k. absurd h }
-continues_once seeker (AwaitsError kdc body) reply draw = record { same = λ r s h k. (asks_second_once seeker.asker kdc body reply draw).same r s h k }
-continues_once seeker (AwaitsAsRep kdc salt) reply draw = record { same = λ r s h k. (takes_first_once seeker kdc.protocol salt reply draw).same r s h k }
+continues_once seeker (InAsExchange phase) reply draw = record {
+  same =
+      λ r s h k.
+      (takes_reply_within_once InAsExchange (λ grant. AsksFirstTgs seeker grant draw) (λ grant. asks_first_tgs_once seeker grant draw) seeker.asker phase reply draw).same r s h k;
+}
 continues_once seeker (AwaitsTgsRep leg) reply draw = record { same = λ r s h k. (takes_next_once seeker leg reply draw).same r s h k }
 continues_once seeker Over reply draw = record { same = λ r s h k. absurd h }
 

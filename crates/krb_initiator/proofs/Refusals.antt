@@ -4,29 +4,24 @@ use Rattle.krb_crypto.specs.declared.suite.CipherSuite.{CipherSuite}
 use Rattle.krb_messages.specs.declared.ticket.Ticket.{Ticket}
 use Rattle.krb_messages.specs.declared.ap_rep.ApRep.{ApRep}
 use Rattle.krb_messages.specs.declared.ap_rep.EncApRepPart.{EncApRepPart}
-use Rattle.krb_exchange.specs.declared.kdc_req.KdcReqBody.{KdcReqBody}
 use Rattle.krb_exchange.specs.declared.kdc_rep.TgsRep.{TgsRep}
 use Rattle.sspi_core.specs.declared.cause.Cause.{Cause}
 use Rattle.sspi_core.specs.declared.cause.Cause.TheVariants.{Shape, KeyLength, NoKdc, Scheme, Hops, SameRealm, Reply, Inner, NoSubKey, NoNumber}
 use Rattle.sspi_core.specs.declared.draw.Draw.{Draw}
-use Rattle.sspi_core.specs.declared.protocol.NetworkProtocol.{NetworkProtocol}
 use Rattle.sspi_generator.specs.declared.network.NetFault.{NetFault}
 use Rattle.sspi_generator.specs.Steps.{IsFailure}
-use Rattle.krb_as.specs.declared.kdc.Kdc.{Kdc}
 use Rattle.krb_as.specs.Kdcs.{FindsKdc}
 use Rattle.krb_replies.specs.Unseals.{Unseals, Opens}
 use Rattle.krb_replies.specs.Keys.{HandsOnKey}
 use Rattle.krb_replies.specs.Answered.{OpensApRep}
 use Rattle.krb_replies.specs.Realms.{referral_realm}
 use Rattle.krb_as.specs.declared.asker.Asker.{Asker}
-use Rattle.krb_as.proofs.Refusals.{IsNetwork, Refuses, then_refuses, finds_refuses, takes_refuses, holds_refuses, gives_refuses, begins_refuses, again_refuses, grants_refuse}
-use Rattle.krb_as.proofs.FirstRefusals.{key_refuses}
+use Rattle.krb_as.proofs.Refusals.{IsNetwork, Refuses, then_refuses, finds_refuses, takes_refuses, holds_refuses, gives_refuses, begins_within_refuses, takes_reply_within_refuses, grants_refuse}
 use Rattle.krb_tgs.specs.declared.wanted.Wanted.{Wanted}
-use Rattle.krb_tgs.specs.declared.wanted.Shown.{Shown}
+use Rattle.krb_as.specs.declared.key.Grant.{Grant}
 use Rattle.krb_tgs.specs.TgsAsked.{AsksTgs, Follows}
-use Rattle.krb_tgs.specs.Taken.{TakesAsRep, TakesTgsRep}
+use Rattle.krb_tgs.specs.Taken.{TakesTgsRep}
 use Rattle.krb_ap.specs.declared.initiator.Initiator.{Initiator}
-use Rattle.krb_ap.specs.Initiators.{is_bare}
 use Rattle.krb_ap.specs.Shown.{ShowsTicket}
 use Rattle.krb_ap.specs.Answered.{ReadsApRep, Confirms, Replies, Finishes, TakesApRep}
 use Rattle.krb_initiator.specs.declared.seeker.Seeker.{Seeker}
@@ -34,8 +29,8 @@ use Rattle.krb_initiator.specs.declared.seeker.TgsLeg.{TgsLeg}
 use Rattle.krb_initiator.specs.declared.seeker.Initiation.{Initiation}
 use Rattle.krb_initiator.specs.declared.seeker.Initiation.TheVariants.{Requests, Seeks, Hears}
 use Rattle.krb_initiator.specs.declared.seeker.InitPhase.{InitPhase}
-use Rattle.krb_initiator.specs.declared.seeker.InitPhase.TheVariants.{New, AwaitsError, AwaitsAsRep, AwaitsTgsRep, Over}
-use Rattle.krb_initiator.specs.InitSteps.{AsksFirst, AsksSecond, AsksFirstTgs, TakesFirst, Refers, Arrives, GoesTo, TakesNext, HearsAnswer}
+use Rattle.krb_initiator.specs.declared.seeker.InitPhase.TheVariants.{New, InAsExchange, AwaitsTgsRep, Over}
+use Rattle.krb_initiator.specs.InitSteps.{AsksFirstTgs, Refers, Arrives, GoesTo, TakesNext, HearsAnswer}
 use Rattle.krb_initiator.specs.InitRuns.{StartsNew, Starts, Continues, Next}
 
 module _ (P : Type 0) where
@@ -55,14 +50,14 @@ module _ (P : Type 0) where
   not_key z = let e = z.1 in absurd cc
 
   -- what is asked of ticket-granting services
-  asks_refuse : (asker : Asker) (wanted : Wanted) (shown : Shown) (home realm : List ℕ) (tickets : Option (List Ticket)) (draw : Draw) → Refuses P (AsksTgs asker wanted shown home realm tickets draw)
+  asks_refuse : (asker : Asker) (wanted : Wanted) (shown : Grant) (home realm : List ℕ) (tickets : Option (List Ticket)) (draw : Draw) → Refuses P (AsksTgs asker wanted shown home realm tickets draw)
   unfolding AsksTgs FindsKdc
   asks_refuse asker wanted shown home realm tickets draw =
       then_refuses P _ _ (holds_refuses P KeyLength _ not_length) (λ _. then_refuses P _ _
       (then_refuses P _ _ (takes_refuses P NoKdc _ (λ z. let e = z.1 in absurd cc))
       (λ url. then_refuses P _ _ (finds_refuses P Scheme _ (λ z. let e = z.1 in absurd cc)) (λ protocol. gives_refuses P _))) (λ kdc. gives_refuses P _))
 
-  follows_refuse : (asker : Asker) (wanted : Wanted) (shown : Shown) (hops : ℕ) (home asked realm : List ℕ) (draw : Draw) → Refuses P (Follows asker wanted shown hops home asked realm draw)
+  follows_refuse : (asker : Asker) (wanted : Wanted) (shown : Grant) (hops : ℕ) (home asked realm : List ℕ) (draw : Draw) → Refuses P (Follows asker wanted shown hops home asked realm draw)
   unfolding Follows
   follows_refuse asker wanted shown hops home asked realm draw =
       then_refuses P _ _ (holds_refuses P Hops _ (λ z. let e = z.1 in absurd cc))
@@ -76,20 +71,20 @@ module _ (P : Type 0) where
       (λ plain. finds_refuses P Inner _ not_inner)) (λ part. gives_refuses P _)
 
   -- what the service is shown
-  shows_refuse : (seeker : Seeker) (leg : TgsLeg) (shown : Shown) (draw : Draw) → Refuses P (Arrives seeker leg shown draw)
+  shows_refuse : (seeker : Seeker) (leg : TgsLeg) (shown : Grant) (draw : Draw) → Refuses P (Arrives seeker leg shown draw)
   unfolding Arrives ShowsTicket
   shows_refuse seeker leg shown draw =
       then_refuses P _ _ (then_refuses P _ _ (holds_refuses P KeyLength _ not_length) (λ _. gives_refuses P _)) (λ done. gives_refuses P _)
 
-  refers_refuse : (seeker : Seeker) (leg : TgsLeg) (realm : List ℕ) (shown : Shown) (draw : Draw) → Refuses P (Refers seeker leg realm shown draw)
+  refers_refuse : (seeker : Seeker) (leg : TgsLeg) (realm : List ℕ) (shown : Grant) (draw : Draw) → Refuses P (Refers seeker leg realm shown draw)
   unfolding Refers
   refers_refuse seeker leg realm shown draw = then_refuses P _ _ (follows_refuse _ _ shown _ _ _ realm draw) (λ begun. gives_refuses P _)
 
-  goes_refuse : (referral : Option (List ℕ)) (seeker : Seeker) (leg : TgsLeg) (shown : Shown) (draw : Draw) → Refuses P (GoesTo referral seeker leg shown draw)
+  goes_refuse : (referral : Option (List ℕ)) (seeker : Seeker) (leg : TgsLeg) (shown : Grant) (draw : Draw) → Refuses P (GoesTo referral seeker leg shown draw)
   goes_refuse None seeker leg shown draw = record { not = λ e h z. (shows_refuse seeker leg shown draw).not e h z }
   goes_refuse (Some realm) seeker leg shown draw = record { not = λ e h z. (refers_refuse seeker leg realm shown draw).not e h z }
 
-  first_tgs_refuses : (seeker : Seeker) (shown : Shown) (draw : Draw) → Refuses P (AsksFirstTgs seeker shown draw)
+  first_tgs_refuses : (seeker : Seeker) (shown : Grant) (draw : Draw) → Refuses P (AsksFirstTgs seeker shown draw)
   unfolding AsksFirstTgs
   first_tgs_refuses seeker shown draw = then_refuses P _ _ (asks_refuse _ _ shown _ _ _ draw) (λ begun. gives_refuses P _)
 
@@ -127,32 +122,17 @@ module _ (P : Type 0) where
       (λ message. then_refuses P _ _ (takes_refuses P Reply _ not_reply) (λ key. then_refuses P _ _ (opens_refuse _ key message) (λ part. finishes_refuse _ initiator key part draw))))
       (λ done. gives_refuses P _)
 
-first_refuses : (asker : Asker) (body : KdcReqBody) → Refuses ⊥ (AsksFirst asker body)
-unfolding AsksFirst
-first_refuses asker body = then_refuses ⊥ _ _ (begins_refuses asker body) (λ begun. gives_refuses ⊥ _)
-
 new_refuses : (initiation : Initiation) (draw : Draw) (e : Cause) → StartsNew initiation draw (Err e) → IsNetwork e → ⊥
 new_refuses (Requests initiator token) draw e h z = (gives_refuses ⊥ _).not e h z
-new_refuses (Seeks seeker) draw e h z = (first_refuses seeker.asker _).not e h z
+new_refuses (Seeks seeker) draw e h z = (begins_within_refuses InAsExchange seeker.asker _).not e h z
 new_refuses (Hears initiator token) draw e h z = (hears_refuse ⊥ initiator token draw).not e h z
 
 -- the start never does
 pub starts_refuse : (initiation : Initiation) (phase : InitPhase) (draw : Draw) (e : Cause) → Starts initiation phase draw (Err e) → IsNetwork e → ⊥
 starts_refuse initiation New draw e h z = new_refuses initiation draw e h z
-starts_refuse initiation (AwaitsError kdc body) draw e h z = h
-starts_refuse initiation (AwaitsAsRep kdc salt) draw e h z = h
+starts_refuse initiation (InAsExchange phase) draw e h z = h
 starts_refuse initiation (AwaitsTgsRep leg) draw e h z = h
 starts_refuse initiation Over draw e h z = h
-
-second_refuses : (asker : Asker) (kdc : Kdc) (body : KdcReqBody) (reply : Result (List ℕ) NetFault) (draw : Draw) → Refuses (IsFailure reply) (AsksSecond asker kdc body reply draw)
-unfolding AsksSecond
-second_refuses asker kdc body reply draw = then_refuses _ _ _ (again_refuses asker kdc body reply draw) (λ again. gives_refuses _ _)
-
-takes_first_refuses : (seeker : Seeker) (protocol : NetworkProtocol) (salt : List ℕ) (reply : Result (List ℕ) NetFault) (draw : Draw) → Refuses (IsFailure reply) (TakesFirst seeker protocol salt reply draw)
-unfolding TakesFirst TakesAsRep
-takes_first_refuses seeker protocol salt reply draw =
-    then_refuses _ _ _ (then_refuses _ _ _ (grants_refuse reply protocol _) (λ as_rep. then_refuses _ _ _ (key_refuses _ _ salt as_rep) (λ key. gives_refuses _ _)))
-    (λ shown. first_tgs_refuses _ seeker shown draw)
 
 takes_next_refuses : (seeker : Seeker) (leg : TgsLeg) (reply : Result (List ℕ) NetFault) (draw : Draw) → Refuses (IsFailure reply) (TakesNext seeker leg reply draw)
 unfolding TakesNext TakesTgsRep
@@ -162,8 +142,8 @@ takes_next_refuses seeker leg reply draw =
 
 continues_refuse : (seeker : Seeker) (phase : InitPhase) (reply : Result (List ℕ) NetFault) (draw : Draw) (e : Cause) → Continues seeker phase reply draw (Err e) → IsNetwork e → IsFailure reply
 continues_refuse seeker New reply draw e h z = absurd h
-continues_refuse seeker (AwaitsError kdc body) reply draw e h z = (second_refuses seeker.asker kdc body reply draw).not e h z
-continues_refuse seeker (AwaitsAsRep kdc salt) reply draw e h z = (takes_first_refuses seeker kdc.protocol salt reply draw).not e h z
+continues_refuse seeker (InAsExchange phase) reply draw e h z =
+    (takes_reply_within_refuses InAsExchange (λ grant. AsksFirstTgs seeker grant draw) reply (λ grant. first_tgs_refuses _ seeker grant draw) seeker.asker phase draw).not e h z
 continues_refuse seeker (AwaitsTgsRep leg) reply draw e h z = (takes_next_refuses seeker leg reply draw).not e h z
 continues_refuse seeker Over reply draw e h z = absurd h
 

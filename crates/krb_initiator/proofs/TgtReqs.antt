@@ -1,5 +1,5 @@
 -- The TGT-REQ to a target that has its two parts, and how long it is.
-use Rattle.std.proofs.Common.{◌≡◌, ℕ, ◌+◌, ◌<◌, ◌≤◌, ◌^◌, List, [], ◌∷◌, ◌++◌, length, Option, Some, Result, Ok, Err, refl, sym, ap, ◌∙◌, subst, arith, lit≤}
+use Rattle.std.proofs.Common.{◌≡◌, ℕ, ◌+◌, ◌<◌, ◌≤◌, ◌^◌, List, [], ◌∷◌, ◌++◌, length, Option, Some, Result, Ok, Err, sym, ap, ◌∙◌, subst, arith, lit≤}
 use Rattle.std.specs.Prelude.{IfOk}
 use Rattle.krb_der.specs.Der.{tlv}
 use Rattle.krb_der.specs.Schema.{Spells}
@@ -9,7 +9,6 @@ use Rattle.krb_exchange.specs.Layouts.{tgt_req_layout}
 use Rattle.krb_messages.specs.declared.principal_name.PrincipalName.{PrincipalName}
 use Rattle.krb_exchange.specs.declared.user_to_user.TgtReq.{TgtReq}
 use Rattle.krb_conf.specs.Names.{target_parts}
-use Rattle.sspi_core.specs.declared.cause.Cause.{Cause}
 use Rattle.krb_context.proofs.ChainLemmas.{passed, gave}
 use Rattle.krb_replies.specs.Told.{Tells}
 use Rattle.krb_requests.specs.Pieces.{principal, spelling, Fits}

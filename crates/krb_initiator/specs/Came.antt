@@ -1,6 +1,6 @@
 -- Which replies brought an initiator so far, and which of them was sealed under which key (RFC 4120, sections 3.1.5 and 3.3.4): beside the
 -- run, as contracts see it.
-use Rattle.std.specs.Prelude.{◌≡◌, ℕ, ◌≤◌, Bool, true, false, is_some, List, [], ◌∷◌, ◌++◌, length, Some, Result, Ok}
+use Rattle.std.specs.Prelude.{◌≡◌, ℕ, Bool, true, false, is_some, List, [], ◌∷◌, ◌++◌, length, Some, Result, Ok}
 use Rattle.std.specs.List.{list_all}
 use Rattle.krb_crypto.specs.declared.suite.CipherSuite.{CipherSuite}
 use Rattle.krb_exchange.specs.declared.kdc_rep.AsRep.{AsRep}
@@ -9,6 +9,7 @@ use Rattle.krb_exchange.specs.Layouts.{as_rep_layout, tgs_rep_layout}
 use Rattle.sspi_core.specs.declared.protocol.NetworkProtocol.{NetworkProtocol}
 use Rattle.sspi_generator.specs.declared.network.NetFault.{NetFault}
 use Rattle.krb_replies.specs.Realms.{referral_realm}
+use Rattle.krb_as.specs.declared.as_phase.AsPhase.TheVariants.{AwaitsError, AwaitsAsRep}
 use Rattle.krb_as.specs.declared.done.InitDone.{InitDone}
 use Rattle.krb_as.specs.Askers.{default_salt}
 use Rattle.krb_as.specs.Replied.{WantsPreAuth, Grants}
@@ -16,7 +17,7 @@ use Rattle.krb_tgs.specs.Chain.{IsChain}
 use Rattle.krb_initiator.specs.declared.seeker.Seeker.{Seeker}
 use Rattle.krb_initiator.specs.declared.seeker.TgsLeg.{TgsLeg}
 use Rattle.krb_initiator.specs.declared.seeker.InitPhase.{InitPhase}
-use Rattle.krb_initiator.specs.declared.seeker.InitPhase.TheVariants.{New, AwaitsError, AwaitsAsRep, AwaitsTgsRep, Over}
+use Rattle.krb_initiator.specs.declared.seeker.InitPhase.TheVariants.{New, InAsExchange, AwaitsTgsRep, Over}
 
 -- a reply of a ticket-granting service that was asked for, over some protocol
 pub record IsGranted (reply : Result (List ℕ) NetFault) (rep : TgsRep) : Type 0 where
@@ -72,8 +73,8 @@ pub record CameWithKey (seeker : Seeker) (replies : List (Result (List ℕ) NetF
 -- these replies, in their order, bring an initiator to this phase
 abbrev pub Came : Seeker → List (Result (List ℕ) NetFault) → InitPhase → Type 0
 Came seeker replies New = replies ≡ []
-Came seeker replies (AwaitsError kdc body) = replies ≡ []
-Came seeker replies (AwaitsAsRep kdc salt) = CameWithSalt seeker replies salt
+Came seeker replies (InAsExchange (AwaitsError kdc body)) = replies ≡ []
+Came seeker replies (InAsExchange (AwaitsAsRep sealed)) = CameWithSalt seeker replies sealed.salt
 Came seeker replies (AwaitsTgsRep leg) = CameWithKey seeker replies leg
 Came seeker replies Over = Unit {0}
 

@@ -1,5 +1,5 @@
 -- An initiator on its way to the ticket of a service, as it can be sent.
-use Rattle.std.specs.Prelude.{ℕ, ◌≤◌, ◌^◌, length, IfSome}
+use Rattle.std.specs.Prelude.{◌≤◌, ◌^◌, length, IfSome}
 use Rattle.krb_authenticators.specs.Bindings.{AreShortBindings}
 use Rattle.krb_authenticators.specs.TgsRequests.{AreShortTickets}
 use Rattle.krb_as.specs.Clients.{IsShort}

@@ -1,5 +1,5 @@
 -- The request for a service's own ticket (draft-swift-win2k-krb-user2user, section 3; RFC 2743, section 3.1).
-use Rattle.std.specs.Prelude.{ℕ, Bool, List, [], ◌∷◌, ◌++◌, Option, Some, None, if◌then◌else◌}
+use Rattle.std.specs.Prelude.{ℕ, Bool, List, [], ◌∷◌, ◌++◌, if◌then◌else◌}
 use Rattle.krb_der.specs.Der.{tlv}
 use Rattle.krb_conf.specs.Names.{target_parts}
 use Rattle.krb_exchange.specs.declared.user_to_user.TgtReq.{TgtReq}

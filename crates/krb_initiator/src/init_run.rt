@@ -6,20 +6,19 @@ ghost use Rattle.sspi_core.specs.declared.cause.Cause.TheVariants as causes;
 ghost use Rattle.sspi_core.specs.Moments.{last_moment};
 ghost use Rattle.sspi_core.specs.Kinds.{error_of};
 ghost use Rattle.sspi_core.specs.Checks.{Answers};
-ghost use Rattle.krb_as.specs.Turns.{is_want};
+ghost use Rattle.krb_as.specs.Turns.{is_want, GoesDown};
 ghost use Rattle.krb_initiator.specs.declared.seeker.Initiation.{Initiation};
 ghost use Rattle.krb_initiator.specs.declared.seeker.InitPhase.TheVariants as phases;
-ghost use Rattle.krb_initiator.specs.Seekers.{CanSeek, CanBegin};
+ghost use Rattle.krb_initiator.specs.Seekers.{CanBegin};
 ghost use Rattle.krb_initiator.specs.Beginnings.{Begins};
-ghost use Rattle.krb_initiator.specs.InitSteps.{body_of, AsksFirst};
-ghost use Rattle.krb_initiator.specs.InitRuns.{StartsNew, Starts, Continues, Next, IsNewPhase, IsAwaiting, CanWait, IsNew, turns_left, GoesDown, MayAsk, StartsAt, ResumesAt, BeginsSo};
+ghost use Rattle.krb_initiator.specs.InitRuns.{StartsNew, Starts, Continues, Next, IsNewPhase, IsSeeking, Waits, IsNew, turns_left, StartsAt, ResumesAt, BeginsSo};
 
-use crate::as_steps::{ask_first, ask_second, body_of};
+use crate::as_steps::{ask_first, take_as_reply};
 use crate::begin::begin;
 use crate::options::InitOptions;
 use crate::seeker::{InitPhase, Initiation, Seeker};
 use crate::service_steps::{hear_answer, request};
-use crate::tgs_steps::{take_first, take_next};
+use crate::tgs_steps::take_next;
 use krb_as::{InitDone, Turn, go_on, is_want};
 use krb_context::Kerberos;
 use krb_der::Octets;
@@ -79,21 +78,6 @@ pub fn initialize_security_context(
     }
 }
 
-/// The start of one that fetches a ticket.
-fn start_seeking(
-    alloc: Global,
-    seeker: &Seeker,
-    draw: &Draw,
-) -> Result<Turn<InitPhase, InitDone>, Cause>
-    requires seeker { CanSeek seeker.now }
-    requires moment { draw.now.moment ≤ last_moment }
-    ensures step { Answers (AsksFirst seeker.now.asker (body_of seeker.now draw.now)) result }
-    ensures down { IfOk result (λ turn. GoesDown 12 turn) }
-{
-    let body = body_of(alloc, seeker, draw)?;
-    ask_first(alloc, &seeker.asker, body)
-}
-
 /// What the start leads to.
 fn start_new(
     alloc: Global,
@@ -103,12 +87,11 @@ fn start_new(
     requires initiation { CanBegin initiation.now }
     requires moment { draw.now.moment ≤ last_moment }
     ensures step { Answers (StartsNew initiation.now draw.now) result }
-    ensures down { IfOk result (λ turn. GoesDown 12 turn) }
-    ensures may { IfOk result (λ turn. MayAsk initiation.now turn) }
+    ensures down { IfOk result (λ turn. GoesDown (Waits initiation.now) turns_left 12 turn) }
 {
     match initiation {
         Initiation::Requests(initiator, token) => request(alloc, initiator, token),
-        Initiation::Seeks(seeker) => start_seeking(alloc, seeker, draw),
+        Initiation::Seeks(seeker) => ask_first(alloc, seeker, draw),
         Initiation::Hears(initiator, token) => hear_answer(alloc, initiator, token, draw),
     }
 }
@@ -124,15 +107,11 @@ fn started(
     requires initiation { CanBegin initiation.now }
     requires moment { draw.now.moment ≤ last_moment }
     ensures step { Answers (Starts initiation.now phase.now draw.now) result }
-    ensures down { IfOk result (λ turn. GoesDown (turns_left phase.now) turn) }
-    ensures may { IfOk result (λ turn. MayAsk initiation.now turn) }
+    ensures down { IfOk result (λ turn. GoesDown (Waits initiation.now) turns_left (turns_left phase.now) turn) }
 {
     match phase {
         InitPhase::New => start_new(alloc, initiation, draw),
-        InitPhase::AwaitsError(_, _)
-        | InitPhase::AwaitsAsRep(_, _)
-        | InitPhase::AwaitsTgsRep(_)
-        | InitPhase::Over => unreachable!(),
+        InitPhase::InAsExchange(_) | InitPhase::AwaitsTgsRep(_) | InitPhase::Over => unreachable!(),
     }
 }
 
@@ -144,19 +123,13 @@ fn in_phase(
     reply: Result<Octets, NetFault>,
     draw: &Draw,
 ) -> Result<Turn<InitPhase, InitDone>, Cause>
-    requires seeker { CanSeek seeker.now }
-    requires awaiting { IsAwaiting phase.now }
+    requires waits { IsSeeking seeker.now phase.now }
     requires moment { draw.now.moment ≤ last_moment }
     ensures step { Answers (Continues seeker.now phase.now reply draw.now) result }
-    ensures down { IfOk result (λ turn. GoesDown (turns_left phase.now) turn) }
+    ensures down { IfOk result (λ turn. GoesDown (IsSeeking seeker.now) turns_left (turns_left phase.now) turn) }
 {
     match phase {
-        InitPhase::AwaitsError(kdc, body) => {
-            ask_second(alloc, &seeker.asker, kdc, body, reply, draw)
-        }
-        InitPhase::AwaitsAsRep(kdc, salt) => {
-            take_first(alloc, seeker, kdc.protocol, salt, reply, draw)
-        }
+        InitPhase::InAsExchange(phase) => take_as_reply(alloc, seeker, phase, reply, draw),
         InitPhase::AwaitsTgsRep(leg) => take_next(alloc, seeker, leg, reply, draw),
         InitPhase::New | InitPhase::Over => unreachable!(),
     }
@@ -170,11 +143,10 @@ fn next(
     reply: Result<Octets, NetFault>,
     draw: &Draw,
 ) -> Result<Turn<InitPhase, InitDone>, Cause>
-    requires initiation { CanWait initiation.now }
-    requires awaiting { IsAwaiting phase.now }
+    requires waits { Waits initiation.now phase.now }
     requires moment { draw.now.moment ≤ last_moment }
     ensures step { Answers (Next initiation.now phase.now reply draw.now) result }
-    ensures down { IfOk result (λ turn. GoesDown (turns_left phase.now) turn) }
+    ensures down { IfOk result (λ turn. GoesDown (Waits initiation.now) turns_left (turns_left phase.now) turn) }
     ensures memory { is_want reply ≡ true → result ≡ Err causes.Memory }
 {
     if is_want(&reply) {
@@ -212,8 +184,7 @@ impl Task for InitRun {
     fn turns(&self) -> u32 {
         match &self.phase {
             InitPhase::New => 12,
-            InitPhase::AwaitsError(_, _) => 11,
-            InitPhase::AwaitsAsRep(_, _) => 10,
+            InitPhase::InAsExchange(phase) => phase.turns() + 10,
             InitPhase::AwaitsTgsRep(leg) => u32::from(9u8.saturating_sub(leg.hops)),
             InitPhase::Over => 0,
         }

@@ -1,10 +1,9 @@
 //! An initiator on its way to the ticket of a service.
 
 use krb_ap::{Errand, Initiator};
-use krb_as::{Asker, Client, Kdc};
+use krb_as::{AsPhase, Asker, Client, Kdc};
 use krb_crypto::CipherSuite;
-use krb_der::{Name, Octets, Text};
-use krb_exchange::KdcReqBody;
+use krb_der::{Name, Octets};
 use krb_messages::Ticket;
 use krb_tgs::Wanted;
 use sspi_core::Secret;
@@ -54,10 +53,8 @@ pub struct TgsLeg {
 pub enum InitPhase {
     /// It is not started.
     New,
-    /// The first request was sent there.
-    AwaitsError(Kdc, KdcReqBody),
-    /// The second one was sent there, under a key with this salt.
-    AwaitsAsRep(Kdc, Text),
+    /// The AS exchange waits for a reply.
+    InAsExchange(AsPhase),
     /// A ticket-granting service was asked.
     AwaitsTgsRep(TgsLeg),
     Over,

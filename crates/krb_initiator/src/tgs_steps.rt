@@ -11,19 +11,20 @@ ghost use Rattle.krb_tgs.specs.TgsAsked.{AsksTgs};
 ghost use Rattle.krb_initiator.specs.declared.seeker.InitPhase.TheVariants as phases;
 ghost use Rattle.krb_initiator.specs.Tgts.{first_tickets};
 ghost use Rattle.krb_initiator.specs.Seekers.{CanSeek};
-ghost use Rattle.krb_initiator.specs.InitSteps.{leg_of, AsksFirstTgs, TakesFirst, Refers, Arrives, GoesTo, TakesNext};
-ghost use Rattle.krb_initiator.specs.InitRuns.{GoesDown};
+ghost use Rattle.krb_initiator.specs.InitSteps.{leg_of, AsksFirstTgs, Refers, Arrives, GoesTo, TakesNext};
+ghost use Rattle.krb_as.specs.Turns.{GoesDown};
+ghost use Rattle.krb_initiator.specs.InitRuns.{IsAtTgs, turns_left};
 
 use crate::seeker::{InitPhase, Seeker, TgsLeg};
 use crate::service_steps::end;
 use krb_ap::show_ticket;
-use krb_as::{Begun, InitDone, Turn, short_name};
-use krb_der::{Items, Name, Octets, OutOfMemory, Text, TryCopy, boxed};
+use krb_as::{Grant, InitDone, Turn, short_name};
+use krb_der::{Items, Name, Octets, OutOfMemory, TryCopy, boxed};
 use krb_exchange::KdcRep;
 use krb_messages::Ticket;
 use krb_replies::referral_target_realm;
-use krb_tgs::{Shown, ask_tgs, follow, take_as_rep, take_tgs_rep};
-use sspi_core::{Cause, Draw, NetworkProtocol};
+use krb_tgs::{Begun, ask_tgs, follow, take_tgs_rep};
+use sspi_core::{Cause, Draw};
 use sspi_generator::NetFault;
 use std::alloc::Global;
 
@@ -42,7 +43,7 @@ fn first_tickets(alloc: Global, tgt: &Option<Ticket>) -> Result<Option<Items<Tic
 }
 
 /// The request to the first ticket-granting service.
-fn begin_tgs(alloc: Global, seeker: &Seeker, shown: &Shown, draw: &Draw) -> Result<Begun, Cause>
+fn begin_tgs(alloc: Global, seeker: &Seeker, shown: &Grant, draw: &Draw) -> Result<Begun, Cause>
     requires seeker { CanSeek seeker.now }
     requires rep { IsSendable shown.now.rep }
     requires moment { draw.now.moment ≤ last_moment }
@@ -64,12 +65,12 @@ fn begin_tgs(alloc: Global, seeker: &Seeker, shown: &Shown, draw: &Draw) -> Resu
 }
 
 /// The phase behind the first request to a ticket-granting service.
-fn sent_first_tgs(begun: Begun, shown: Shown) -> Result<Turn<InitPhase, InitDone>, Cause>
+fn sent_first_tgs(begun: Begun, shown: Grant) -> Result<Turn<InitPhase, InitDone>, Cause>
     ensures step { Answers (Gives (turns.Asks begun.request (phases.AwaitsTgsRep (leg_of begun.kdc shown shown.rep.crealm 0)))) result }
-    ensures down { IfOk result (λ turn. GoesDown 10 turn) }
+    ensures down { IfOk result (λ turn. GoesDown IsAtTgs turns_left 10 turn) }
 {
     let Begun { request, kdc } = begun;
-    let Shown { suite, key, rep } = shown;
+    let Grant { suite, key, rep } = shown;
     let leg = TgsLeg {
         kdc,
         suite,
@@ -82,56 +83,37 @@ fn sent_first_tgs(begun: Begun, shown: Shown) -> Result<Turn<InitPhase, InitDone
 
 /// What follows the AS-REP that was opened.
 #[tactic(auto, unfolding(crate::specs::InitSteps::AsksFirstTgs))]
-fn ask_first_tgs(
+pub(crate) fn ask_first_tgs(
     alloc: Global,
     seeker: &Seeker,
-    shown: Shown,
+    shown: Grant,
     draw: &Draw,
 ) -> Result<Turn<InitPhase, InitDone>, Cause>
     requires seeker { CanSeek seeker.now }
     requires rep { IsSendable shown.rep }
     requires moment { draw.now.moment ≤ last_moment }
     ensures step { Answers (AsksFirstTgs seeker.now shown draw.now) result }
-    ensures down { IfOk result (λ turn. GoesDown 10 turn) }
+    ensures down { IfOk result (λ turn. GoesDown IsAtTgs turns_left 10 turn) }
 {
     let begun = begin_tgs(alloc, seeker, &shown, draw)?;
     sent_first_tgs(begun, shown)
-}
-
-/// What follows the second reply.
-#[tactic(auto, unfolding(crate::specs::InitSteps::TakesFirst))]
-pub(crate) fn take_first(
-    alloc: Global,
-    seeker: &Seeker,
-    protocol: NetworkProtocol,
-    salt: &Text,
-    reply: Result<Octets, NetFault>,
-    draw: &Draw,
-) -> Result<Turn<InitPhase, InitDone>, Cause>
-    requires seeker { CanSeek seeker.now }
-    requires moment { draw.now.moment ≤ last_moment }
-    ensures step { Answers (TakesFirst seeker.now protocol salt.now reply draw.now) result }
-    ensures down { IfOk result (λ turn. GoesDown 10 turn) }
-{
-    let shown = take_as_rep(alloc, &seeker.asker, protocol, salt, reply)?;
-    ask_first_tgs(alloc, seeker, shown, draw)
 }
 
 /// The phase behind a request that follows a referral.
 fn sent_next_tgs(
     alloc: Global,
     begun: Begun,
-    shown: Shown,
+    shown: Grant,
     leg: &TgsLeg,
 ) -> Result<Turn<InitPhase, InitDone>, Cause>
     requires few { leg.now.hops < 9 }
     ensures step { Answers (Gives (turns.Asks begun.request (phases.AwaitsTgsRep (leg_of begun.kdc shown leg.now.home (leg.now.hops + 1))))) result }
-    ensures down { IfOk result (λ turn. GoesDown (9 - leg.now.hops) turn) }
+    ensures down { IfOk result (λ turn. GoesDown IsAtTgs turns_left (9 - leg.now.hops) turn) }
 {
     let shown = boxed(alloc, shown)?;
     let home = leg.home.copy(alloc)?;
     let Begun { request, kdc } = begun;
-    let Shown { suite, key, rep } = Box::into_inner(shown);
+    let Grant { suite, key, rep } = Box::into_inner(shown);
     drop(rep);
     let next = TgsLeg {
         kdc,
@@ -150,7 +132,7 @@ fn refer(
     seeker: &Seeker,
     leg: &TgsLeg,
     realm: &Name,
-    shown: Shown,
+    shown: Grant,
     draw: &Draw,
 ) -> Result<Turn<InitPhase, InitDone>, Cause>
     requires seeker { CanSeek seeker.now }
@@ -158,7 +140,7 @@ fn refer(
     requires rep { IsSendable shown.rep }
     requires moment { draw.now.moment ≤ last_moment }
     ensures step { Answers (Refers seeker.now leg.now realm.now shown draw.now) result }
-    ensures down { IfOk result (λ turn. GoesDown (9 - leg.now.hops) turn) }
+    ensures down { IfOk result (λ turn. GoesDown IsAtTgs turns_left (9 - leg.now.hops) turn) }
 {
     let asked = &leg.kdc.realm;
     let begun = follow(
@@ -181,16 +163,16 @@ fn arrive(
     alloc: Global,
     seeker: &Seeker,
     leg: &TgsLeg,
-    shown: Shown,
+    shown: Grant,
     draw: &Draw,
 ) -> Result<Turn<InitPhase, InitDone>, Cause>
     requires seeker { CanSeek seeker.now }
     requires rep { IsSendable shown.rep }
     requires moment { draw.now.moment ≤ last_moment }
     ensures step { Answers (Arrives seeker.now leg.now shown draw.now) result }
-    ensures down { IfOk result (λ turn. GoesDown (9 - leg.now.hops) turn) }
+    ensures down { IfOk result (λ turn. GoesDown IsAtTgs turns_left (9 - leg.now.hops) turn) }
 {
-    let Shown { suite, key, rep } = shown;
+    let Grant { suite, key, rep } = shown;
     let done = show_ticket(alloc, &seeker.errand, suite, key, rep, &leg.home, draw)?;
     end(done)
 }
@@ -211,14 +193,14 @@ fn go_to(
     alloc: Global,
     seeker: &Seeker,
     leg: &TgsLeg,
-    shown: Shown,
+    shown: Grant,
     draw: &Draw,
 ) -> Result<Turn<InitPhase, InitDone>, Cause>
     requires seeker { CanSeek seeker.now }
     requires rep { IsSendable shown.rep }
     requires moment { draw.now.moment ≤ last_moment }
     ensures step { Answers (GoesTo (referral_realm shown.rep.ticket.sname) seeker.now leg.now shown draw.now) result }
-    ensures down { IfOk result (λ turn. GoesDown (9 - leg.now.hops) turn) }
+    ensures down { IfOk result (λ turn. GoesDown IsAtTgs turns_left (9 - leg.now.hops) turn) }
 {
     let referral = referral_in(alloc, &shown.rep)?;
     match referral {
@@ -239,7 +221,7 @@ pub(crate) fn take_next(
     requires seeker { CanSeek seeker.now }
     requires moment { draw.now.moment ≤ last_moment }
     ensures step { Answers (TakesNext seeker.now leg.now reply draw.now) result }
-    ensures down { IfOk result (λ turn. GoesDown (9 - leg.now.hops) turn) }
+    ensures down { IfOk result (λ turn. GoesDown IsAtTgs turns_left (9 - leg.now.hops) turn) }
 {
     let shown = take_tgs_rep(alloc, leg.kdc.protocol, leg.suite, &leg.key, reply)?;
     go_to(alloc, seeker, leg, shown, draw)

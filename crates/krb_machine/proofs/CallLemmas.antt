@@ -1,5 +1,5 @@
 -- Calls at a context: none reaches an acceptor's checks or the gate, none admits a peer, and each has one answer.
-use Rattle.std.proofs.Common.{◌≡◌, ℕ, nat_le, Bool, true, false, List, take, Option, Some, None, is_some, is_none, Result, Ok, Err, refl, sym, ap, ◌∙◌, subst}
+use Rattle.std.proofs.Common.{◌≡◌, ℕ, nat_le, not, Bool, true, false, List, take, Option, Some, None, is_some, is_none, Result, Ok, Err, refl, sym, ap, ◌∙◌, subst}
 use Rattle.std.specs.Ordering.{nat_cmp}
 use Rattle.std.specs.BTreeMap.{is_at}
 use Rattle.std.specs.Map.{set_value}
@@ -21,14 +21,28 @@ use Rattle.krb_script.specs.Script.{at_id}
 use Rattle.krb_script.specs.declared.item.Event.{Event}
 use Rattle.krb_script.specs.declared.input.Input.{Input}
 use Rattle.krb_script.specs.declared.input.Input.TheVariants as inputs
-use Rattle.krb_machine.specs.MessageCalls.{is_call, IsSealedBy, IsOpenedBy, IsSignedBy, Seals, Opens, Signs, Verifies, verified, Calls}
-use Rattle.krb_machine.proofs.TakeLemmas.{stands_by}
-use Rattle.krb_machine.specs.Exchanges.{answer_of}
-use Rattle.krb_machine.specs.Policy.{State, ◌>>=◌, check, token_of, is_initiating, is_initiator, reached, ready, CallsAt, AnswersCall, Behind, Judges, TakesPart, StepsOnward, StepsBy, Steps}
+use Rattle.krb_machine.specs.MessageCalls.{is_call, IsSealedBy, IsOpenedBy, IsSignedBy, verified, Calls}
+use Rattle.krb_machine.specs.Exchanges.{awaits, answer_of}
+use Rattle.krb_machine.specs.Policy.{State, ◌>>=◌, check, token_of, is_initiating, is_initiator, reached, ready, AnswersCall, Behind, Judges, TakesPart, StepsOnward, StepsBy, Steps}
 use Rattle.sspi_core.specs.Moments.{last_moment}
 use Rattle.krb_machine.specs.Reply.{admits_peer}
 use Rattle.krb_machine.specs.declared.connection.Connection.{Connection}
 use Rattle.krb_machine.specs.declared.reply.Reply.{Reply}
+
+same_ok : {A : Type 0} (x y : A) → ◌≡◌ {A = Result A Cause} (Ok x) (Ok y) → x ≡ y
+same_ok x y e = cc
+
+-- a check that passes hands on what was there
+passes_on : (connection c : Connection) (checked : Result (Unit {0}) Cause) → (checked >>= (λ u. Ok connection)) ≡ Ok c → connection ≡ c
+passes_on connection c (Ok u) e = same_ok connection c e
+passes_on connection c (Err cause) e = absurd (cc)
+
+-- what the checks found stands at the number
+stands_by : (in_range : Result (Unit {0}) Cause) (found : Option Connection) (c : Connection)
+    → (in_range >>= (λ u. ok_or causes.Connection found) >>= (λ connection. check causes.Sequence (not (awaits connection)) >>= (λ u. Ok connection))) ≡ Ok c → found ≡ Some c
+stands_by (Ok u) (Some connection) c e = ap Some (passes_on connection c (check causes.Sequence (not (awaits connection))) e)
+stands_by (Ok u) None c e = absurd (cc)
+stands_by (Err cause) found c e = absurd (cc)
 
 -- behind the checks of the connection: the token, and what goes with it
 abbrev with_token : Connection → Option (List ℕ) → Result (Unit {0}) Cause → Result (Connection × List ℕ) Cause

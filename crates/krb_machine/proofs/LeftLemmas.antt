@@ -14,7 +14,7 @@ use Rattle.krb_replay.specs.declared.record.Record.{Record}
 use Rattle.krb_admission.proofs.Once.{begins_once}
 use Rattle.krb_admission.proofs.Steps.{completed}
 use Rattle.krb_admission.specs.Accepts.{Begins, Finishes, Judged, Asks, Makes, Ends, awaits_last_word, refusal, asks_dce_style}
-use Rattle.krb_admission.specs.ThirdLeg.{Closes, Concludes}
+use Rattle.krb_admission.specs.ThirdLeg.{Closes}
 use Rattle.krb_admission.specs.Admission.{answer_for}
 use Rattle.krb_admission.specs.Requests.{ask_of}
 use Rattle.krb_admission.specs.declared.admission.Answer.{Answer}

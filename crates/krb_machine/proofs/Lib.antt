@@ -1,11 +1,10 @@
 pub mod States
 pub mod Once
 pub mod MessageLemmas
-pub mod TakeLemmas
+pub mod ThereLemmas
 pub mod ExchangeLemmas
 pub mod CallLemmas
 pub mod PolicyLemmas
-pub mod StepLemmas
 pub mod HistoryLemmas
 pub mod GrowthLemmas
 pub mod ProgressLemmas
@@ -19,3 +18,6 @@ pub mod LeftLemmas
 pub mod BookLemmas
 pub mod GateLemmas
 pub mod AdmittedLemmas
+pub mod SetLemmas
+pub mod WindowLemmas
+pub mod OpenedLemmas

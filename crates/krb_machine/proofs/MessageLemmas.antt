@@ -1,5 +1,5 @@
 -- What calls at a context make, from what the context's own clauses say.
-use Rattle.std.proofs.Common.{◌≡◌, ℕ, List, take, Ok, Err, refl, sym, ap, ◌∙◌, subst}
+use Rattle.std.proofs.Common.{◌≡◌, ℕ, List, take, Err, ap, ◌∙◌}
 use Rattle.sspi_core.specs.Buffer.{Buffer}
 use Rattle.sspi_core.specs.Kinds.{error_of}
 use Rattle.sspi_core.specs.declared.cause.Cause.TheVariants.{Memory}

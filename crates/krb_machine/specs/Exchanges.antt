@@ -24,11 +24,6 @@ use Rattle.krb_machine.specs.declared.reply.Reply.TheVariants.{Done, Ask, Refuse
 abbrev pub awaits : Connection → Bool
 awaits connection = is_some connection.exchange
 
--- there is such a connection, and it awaits nothing
-abbrev pub IsFree : Option Connection → Type 0
-IsFree None = ⊥
-IsFree (Some connection) = connection.exchange ≡ None
-
 -- what an event brings of the network: a KDC's reply, or that there is none
 abbrev pub answer_of : Input → Option (Result (List ℕ) NetFault)
 answer_of (Token octets) = None

@@ -6,6 +6,8 @@ pub mod MessageCalls
 pub mod Exchanges
 pub mod Initiations
 pub mod Policy
+pub mod There
+pub mod Opened
 pub mod Described
 pub mod Left
 pub mod Admitted

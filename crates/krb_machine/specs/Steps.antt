@@ -14,7 +14,7 @@ use Rattle.krb_machine.specs.declared.exchange.Step.{Step}
 use Rattle.krb_machine.specs.declared.exchange.Step.TheVariants.{Asks, Ends, Refused}
 use Rattle.krb_machine.specs.declared.run.Run.{Run}
 
--- a run that stopped here: at a request whose answer it waits for, or at its end, of which want of memory is none
+-- a run that stopped here: at a request whose answer it waits for, or at its end, of which running out of memory is none
 abbrev pub IsStep : GeneratorState NetworkRequest (Result InitDone Error) → Run → Step → Type 0
 IsStep (Suspended request) run step = step ≡ Asks request run
 IsStep (Completed (Ok done)) run step = step ≡ Ends done

@@ -1,13 +1,19 @@
 -- That a run waits for an answer is known in one way: the fact has one proof at most.
-use Rattle.std.specs.Prelude.{◌≡◌, ◌<◌, ℕ, List, [], ◌∷◌, Option, Some, None, IfSome}
+use Rattle.std.specs.Prelude.{ℕ, List, [], ◌∷◌, Option, Some, None, IfSome}
 use Rattle.std.specs.List.{AllByRecursion}
-use Rattle.std.specs.Coded.{×_prop, Unit-prop, le_prop}
+use Rattle.std.specs.Coded.{×_prop, Unit-prop, le_prop, Coded-set, coded_list, coded_ℕ}
 use Rattle.std.proofs.Common.{ap, ◌∙◌}
 use Rattle.krb_der.specs.Layout.{Layout}
 use Rattle.krb_der.specs.Schema.{Kind, Fields, Of, Row, integer, error_code, text, octet_string, bits, time, boolean, sequence_of, sequence, application, nothing, required, optional, IsComplete, IsCompleteRow}
 use Rattle.krb_authenticators.specs.Bindings.{AreShortBindings}
+use Rattle.krb_as.specs.AsPhases as as_phases
+use Rattle.krb_as.specs.AsPhases.{IsSealed}
 use Rattle.krb_as.specs.Clients.{IsShort}
+use Rattle.krb_as.specs.declared.as_phase.AsPhase.{AsPhase}
+use Rattle.krb_as.specs.declared.as_phase.AsPhase.TheVariants.{AwaitsError, AwaitsAsRep}
+use Rattle.krb_as.specs.declared.asker.Asker.{Asker}
 use Rattle.krb_as.specs.declared.client.Client.{Client}
+use Rattle.krb_as.specs.declared.key.SealedTime.{SealedTime}
 use Rattle.krb_ap.specs.Shown.{CanGo}
 use Rattle.krb_ap.specs.declared.errand.Errand.{Errand}
 use Rattle.krb_initiator.specs.InitRuns as initiations
@@ -19,7 +25,7 @@ use Rattle.krb_initiator.specs.declared.seeker.Initiation.TheVariants.{Requests,
 use Rattle.krb_initiator.specs.declared.seeker.Seeker.{Seeker}
 use Rattle.krb_requests.specs.Pieces.{Fits}
 use Rattle.krb_user_to_user.specs.declared.steps.AcceptPhase.{AcceptPhase}
-use Rattle.krb_user_to_user.specs.declared.steps.AcceptPhase.TheVariants.{New, AwaitsError, AwaitsAsRep, Over}
+use Rattle.krb_user_to_user.specs.declared.steps.AcceptPhase.TheVariants.{New, InAsExchange, Over}
 use Rattle.krb_user_to_user.specs.AcceptRuns as acceptances
 use Rattle.sspi_core.specs.declared.bindings.ChannelBindings.{ChannelBindings}
 use Rattle.krb_machine.specs.Runs.{IsWaiting}
@@ -58,20 +64,28 @@ fits-prop layout limit value x y =
     ap (λ complete. record { complete = complete; short = x.short }) (complete-prop layout.kind (layout.view value) x.complete y.complete)
     ∙ ap (λ short. record { complete = y.complete; short = short }) (le_prop x.short y.short)
 
+-- an AS exchange
+sealed-prop : (asker : Asker) (sealed : SealedTime) → IsProp (IsSealed asker sealed)
+sealed-prop asker sealed x y =
+    ap (λ realm. record { realm = realm; key = x.key }) (le_prop x.realm y.realm)
+    ∙ ap (λ key. record { realm = y.realm; key = key }) (Coded-set (coded_list coded_ℕ) _ _ x.key y.key)
+
+as-prop : (asker : Asker) (phase : AsPhase) → IsProp (as_phases.IsAwaiting asker phase)
+as-prop asker (AwaitsError kdc body) = ×_prop (fits-prop _ _ body) le_prop
+as-prop asker (AwaitsAsRep sealed) = sealed-prop asker sealed
+
 -- a service that fetches its ticket
-awaiting-prop : (phase : AcceptPhase) → IsProp (acceptances.IsAwaiting phase)
-awaiting-prop (New client) = λ x y. absurd x
-awaiting-prop (AwaitsError kdc body) = ×_prop (fits-prop _ _ body) le_prop
-awaiting-prop (AwaitsAsRep kdc salt) = Unit-prop
-awaiting-prop Over = λ x y. absurd x
+awaiting-prop : (asker : Asker) (phase : AcceptPhase) → IsProp (acceptances.IsAwaiting asker phase)
+awaiting-prop asker (New client) = λ x y. absurd x
+awaiting-prop asker (InAsExchange phase) = as-prop asker phase
+awaiting-prop asker Over = λ x y. absurd x
 
 -- an initiator
-phase-prop : (phase : InitPhase) → IsProp (initiations.IsAwaiting phase)
-phase-prop init_phases.New = λ x y. absurd x
-phase-prop (init_phases.AwaitsError kdc body) = ×_prop (fits-prop _ _ body) le_prop
-phase-prop (init_phases.AwaitsAsRep kdc salt) = Unit-prop
-phase-prop (init_phases.AwaitsTgsRep leg) = Unit-prop
-phase-prop init_phases.Over = λ x y. absurd x
+phase-prop : (asker : Asker) (phase : InitPhase) → IsProp (initiations.IsAwaiting asker phase)
+phase-prop asker init_phases.New = λ x y. absurd x
+phase-prop asker (init_phases.InAsExchange phase) = as-prop asker phase
+phase-prop asker (init_phases.AwaitsTgsRep leg) = Unit-prop
+phase-prop asker init_phases.Over = λ x y. absurd x
 
 client-prop : (client : Client) → IsProp (IsShort client)
 client-prop client x y =
@@ -102,11 +116,11 @@ seek-prop seeker x y =
     ∙ ap (λ tickets. record y { tickets = tickets; errand = x.errand }) (some-prop _ (λ tickets. fits-prop _ _ tickets) _ x.tickets y.tickets)
     ∙ ap (λ errand. record y { errand = errand }) (go-prop seeker.errand x.errand y.errand)
 
-initiation-prop : (initiation : Initiation) → IsProp (initiations.CanWait initiation)
-initiation-prop (Requests initiator token) = λ x y. absurd x
-initiation-prop (Seeks seeker) = seek-prop seeker
-initiation-prop (Hears initiator token) = λ x y. absurd x
+initiation-prop : (initiation : Initiation) (phase : InitPhase) → IsProp (initiations.Waits initiation phase)
+initiation-prop (Requests initiator token) phase = λ x y. absurd x
+initiation-prop (Seeks seeker) phase = ×_prop (phase-prop seeker.asker phase) (seek-prop seeker)
+initiation-prop (Hears initiator token) phase = λ x y. absurd x
 
 pub waiting-prop : (run : Run) → IsProp (IsWaiting run)
-waiting-prop (Accepts run) = awaiting-prop run.phase
-waiting-prop (Initiates run) = ×_prop (phase-prop run.phase) (initiation-prop run.initiation)
+waiting-prop (Accepts run) = awaiting-prop run.acceptor.asker run.phase
+waiting-prop (Initiates run) = initiation-prop run.initiation run.phase

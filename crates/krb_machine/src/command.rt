@@ -87,6 +87,35 @@ pub(crate) fn answer_lines<S: Source, K: Sink>(
     }
 }
 
+/// Takes all lines, and writes the last line.
+fn serve_lines<S: Source, K: Sink>(
+    alloc: Global,
+    session: &mut Session,
+    source: &mut S,
+    sink: &mut K,
+) -> Status
+    requires { session.old ≡ new_progress }
+    ensures words { result ≢ Status.BadWords }
+    ensures read { result ≡ Status.ReadFault → Rose (S.faults source.old) (S.faults source.new) }
+    ensures write { result ≡ Status.WriteFault → Rose (K.faults sink.old) (K.faults sink.new) }
+    ensures read_still { result ≢ Status.ReadFault → S.faults source.new ≡ S.faults source.old }
+    ensures write_still { result ≢ Status.WriteFault → K.faults sink.new ≡ K.faults sink.old }
+    ensures text { Serves (S.left source.old) (S.left source.new) (K.taken sink.old) (K.taken sink.new) result }
+{
+    let mut reader = LineReader::new(alloc);
+    match answer_lines(alloc, &mut reader, session, source, sink) {
+        Halt::ReadFault => Status::ReadFault,
+        Halt::WriteFault => Status::WriteFault,
+        halt => {
+            let line = closing(session, halt);
+            match write_line(sink, line.as_str().as_bytes()) {
+                Ok(()) => status_at(session, halt),
+                Err(_) => Status::WriteFault,
+            }
+        }
+    }
+}
+
 /// Answers each event of the input as its line comes, and writes the last line. The words are exactly `serve`.
 pub fn serve<S: Source, K: Sink>(
     alloc: Global,
@@ -109,20 +138,10 @@ pub fn serve<S: Source, K: Sink>(
     // What is taken of the input that the source had left, and what is written for it, by the status.
     ensures text { Serves (S.left source.old) (S.left source.new) (K.taken sink.old) (K.taken sink.new) result }
 {
-    if !words.are("serve") {
-        return Status::BadWords;
-    }
-    let mut reader = LineReader::new(alloc);
-    let mut session = Session::new(alloc);
-    match answer_lines(alloc, &mut reader, &mut session, source, sink) {
-        Halt::ReadFault => Status::ReadFault,
-        Halt::WriteFault => Status::WriteFault,
-        halt => {
-            let line = closing(&session, halt);
-            match write_line(sink, line.as_str().as_bytes()) {
-                Ok(()) => status_at(&session, halt),
-                Err(_) => Status::WriteFault,
-            }
-        }
+    if words.are("serve") {
+        let mut session = Session::new(alloc);
+        serve_lines(alloc, &mut session, source, sink)
+    } else {
+        Status::BadWords
     }
 }

@@ -1,97 +1,96 @@
-//! A connection's exchange with KDCs.
-
-ghost use Rattle.std.specs.Prelude.{◌≡◌, ◌≤◌, Some, None, IfOk, OnErr};
-ghost use Rattle.krb_machine.specs.Runs.{IsNew};
-ghost use Rattle.sspi_core.specs.Moments.{last_moment};
-ghost use Rattle.krb_machine.specs.Exchanges.{answer_of, LeadsTo, Opens, GoesOn};
+//! What a connection does with its exchange.
 
 use crate::connection::Connection;
 use crate::exchange::{Exchange, Step, begin_exchange, continue_exchange};
 use crate::reply::Reply;
 use crate::run::Run;
-use krb_der::{Octets, OutOfMemory, TryCopy};
-use krb_script::Input;
-use sspi_core::Draw;
+use krb_der::{Octets, OutOfMemory};
+use sspi_core::{Cause, Draw, Error};
 use sspi_generator::NetFault;
 use std::alloc::Global;
 
-/// What an event brings of the network. The event is lent, so a reply is copied.
-pub(crate) fn answer_of(
-    alloc: Global,
-    input: &Input,
-) -> Result<Option<Result<Octets, NetFault>>, OutOfMemory>
-    ensures { IfOk result (λ answer. answer ≡ answer_of input.now) }
-{
-    match input {
-        Input::KdcReply(octets) => Ok(Some(Ok(octets.copy(alloc)?))),
-        Input::KdcFault(code) => Ok(Some(Err(NetFault::Failed(*code)))),
-        Input::Token(_)
-        | Input::Start
-        | Input::Wrap(_)
-        | Input::Unwrap(_)
-        | Input::MakeMic(_)
-        | Input::VerifyMic { .. } => Ok(None),
-    }
-}
+impl Connection {
+    ghost use Rattle.std.specs.Prelude.{◌≡◌, ◌≤◌, Some, None, IfOk, OnErr};
+    ghost use Rattle.sspi_core.specs.Moments.{last_moment};
+    ghost use Rattle.krb_machine.specs.Runs.{IsNew};
+    ghost use Rattle.krb_machine.specs.Exchanges.{LeadsTo, Opens, GoesOn};
+    ghost use Rattle.krb_machine.specs.There.{TakesAnswerThere};
 
-/// What a step of its exchange makes of a connection: it awaits an answer, or its context takes what the exchange made, or stays.
-fn lead(connection: &mut Connection, step: Step) -> Reply
-    requires free { connection.old.exchange ≡ None }
-    ensures { LeadsTo connection.old step result connection.new }
-{
-    match step {
-        Step::Asks(request, exchange) => {
-            connection.exchange = Some(exchange);
-            Reply::Ask(request)
+    /// Takes a step of its exchange: it waits for an answer, or its context takes what the exchange made, or stays.
+    fn take_step(&mut self, step: Step) -> Reply
+        requires free { self.old.exchange ≡ None }
+        ensures { LeadsTo self.old step result self.new }
+    {
+        match step {
+            Step::Asks(request, exchange) => {
+                self.exchange = Some(exchange);
+                Reply::Ask(request)
+            }
+            Step::Ends(done) => {
+                self.context.settle(done.change);
+                Reply::Done {
+                    status: done.status,
+                    token: done.token,
+                    admits: false,
+                }
+            }
+            Step::Refused(error) => Reply::Refused(error),
         }
-        Step::Ends(done) => {
-            connection.context.settle(done.change);
-            Reply::Done {
-                status: done.status,
-                token: done.token,
-                admits: false,
+    }
+
+    /// Begins an exchange. Where memory runs out it does not.
+    pub(crate) fn begin_exchange(
+        &mut self,
+        alloc: Global,
+        run: Run,
+        draw: &Draw,
+    ) -> Result<Reply, OutOfMemory>
+        requires new { IsNew run }
+        requires moment { draw.now.moment ≤ last_moment }
+        requires free { self.old.exchange ≡ None }
+        ensures opens { IfOk result (λ reply. Opens self.old run draw.now reply self.new) }
+        ensures err { OnErr result (self.new ≡ self.old) }
+    {
+        match begin_exchange(alloc, run, draw) {
+            Ok(step) => Ok(self.take_step(step)),
+            Err(OutOfMemory) => Err(OutOfMemory),
+        }
+    }
+
+    /// Continues its exchange, which was taken out of it. Where memory runs out it waits as before.
+    fn continue_exchange(
+        &mut self,
+        exchange: Exchange,
+        answer: Result<Octets, NetFault>,
+        draw: &Draw,
+    ) -> Result<Reply, OutOfMemory>
+        requires moment { draw.now.moment ≤ last_moment }
+        requires taken { self.old.exchange ≡ None }
+        ensures goes_on { IfOk result (λ reply. GoesOn (record self.old { exchange = Some exchange }) exchange answer draw.now reply self.new) }
+        ensures err { OnErr result (self.new ≡ record self.old { exchange = Some exchange }) }
+    {
+        match continue_exchange(exchange, answer, draw) {
+            Ok(step) => Ok(self.take_step(step)),
+            Err(exchange) => {
+                self.exchange = Some(exchange);
+                Err(OutOfMemory)
             }
         }
-        Step::Refused(error) => Reply::Refused(error),
     }
-}
 
-/// An exchange begins. Where memory runs out it does not.
-pub(crate) fn open(
-    alloc: Global,
-    connection: &mut Connection,
-    run: Run,
-    draw: &Draw,
-) -> Result<Reply, OutOfMemory>
-    requires new { IsNew run }
-    requires moment { draw.now.moment ≤ last_moment }
-    requires free { connection.old.exchange ≡ None }
-    ensures opens { IfOk result (λ reply. Opens connection.old run draw.now reply connection.new) }
-    ensures err { OnErr result (connection.new ≡ connection.old) }
-{
-    match begin_exchange(alloc, run, draw) {
-        Ok(step) => Ok(lead(connection, step)),
-        Err(OutOfMemory) => Err(OutOfMemory),
-    }
-}
-
-/// An exchange goes on. Where memory runs out it waits as before.
-pub(crate) fn go_on(
-    connection: &mut Connection,
-    exchange: Exchange,
-    answer: Result<Octets, NetFault>,
-    draw: &Draw,
-) -> Result<Reply, OutOfMemory>
-    requires moment { draw.now.moment ≤ last_moment }
-    requires taken { connection.old.exchange ≡ None }
-    ensures goes_on { IfOk result (λ reply. GoesOn (record connection.old { exchange = Some exchange }) exchange answer draw.now reply connection.new) }
-    ensures err { OnErr result (connection.new ≡ record connection.old { exchange = Some exchange }) }
-{
-    match continue_exchange(exchange, answer, draw) {
-        Ok(step) => Ok(lead(connection, step)),
-        Err(exchange) => {
-            connection.exchange = Some(exchange);
-            Err(OutOfMemory)
+    /// Takes what the network brings. Where memory runs out it stays.
+    pub(crate) fn take_answer(
+        &mut self,
+        answer: Result<Octets, NetFault>,
+        draw: &Draw,
+    ) -> Result<Reply, OutOfMemory>
+        requires moment { draw.now.moment ≤ last_moment }
+        ensures takes { IfOk result (λ reply. TakesAnswerThere self.old.exchange self.old answer draw.now reply self.new) }
+        ensures err { OnErr result (self.new ≡ self.old) }
+    {
+        match self.exchange.take() {
+            Some(exchange) => self.continue_exchange(exchange, answer, draw),
+            None => Ok(Reply::Refused(Error::from(Cause::Sequence))),
         }
     }
 }

@@ -1,5 +1,5 @@
 //! The command `demo`: a made input, answered in memory.
-ghost use Rattle.std.specs.Prelude.{◌≡◌, ◌≤◌, ◌↔◌, None, IfSome};
+ghost use Rattle.std.specs.Prelude.{◌≡◌, ◌≢◌, ◌≤◌, ◌↔◌, None, IfSome};
 ghost use Rattle.krb_text.specs.Causes.{Rose};
 ghost use Rattle.krb_machine.specs.Demo.{event_count, demo_number, demo_line, Counts, Demonstrates};
 
@@ -76,6 +76,7 @@ pub fn demo<K: Sink>(alloc: Global, words: &Words, sink: &mut K) -> Status
     ensures words { (result ≡ Status.BadWords) ↔ (demo_number words.now ≡ None) }
     ensures untouched { result ≡ Status.BadWords → sink.new ≡ sink.old }
     ensures write { result ≡ Status.WriteFault → Rose (K.faults sink.old) (K.faults sink.new) }
+    ensures write_still { result ≢ Status.WriteFault → K.faults sink.new ≡ K.faults sink.old }
     ensures text { Demonstrates (demo_number words.now) (K.taken sink.old) (K.taken sink.new) result }
 {
     let Some(n) = demo_number(words) else {

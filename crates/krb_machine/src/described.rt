@@ -9,10 +9,10 @@ use crate::connection::Connection;
 use crate::service::Service;
 use krb_conf::KerberosConfig;
 use krb_context::{Kerberos, ServerProperties};
-use krb_der::{Name, OutOfMemory, Text, TryCopy};
+use krb_der::{Name, OutOfMemory, Text, TryCopy, boxed};
 use krb_replay::{ReplayBook, ReplayGate};
 use krb_script::{Endpoint, Role, Script, ServiceKey};
-use sspi_core::{CredentialsBuffers, Secret};
+use sspi_core::Secret;
 use std::alloc::{AllocError, Global};
 use std::collections::BTreeMap;
 use url::Url;
@@ -22,18 +22,6 @@ fn components(alloc: Global, service: &str) -> Result<Vec<&str>, AllocError>
     ensures { IfOk result (λ parts. map (λ part. part.now) parts.items ≡ components service.now) }
 {
     service.split('/').collect(alloc)
-}
-
-pub(crate) fn copied_credentials(
-    alloc: Global,
-    credentials: &Option<CredentialsBuffers>,
-) -> Result<Option<CredentialsBuffers>, OutOfMemory>
-    ensures { IfOk result (λ copy. copy ≡ credentials.now) }
-{
-    match credentials {
-        Some(credentials) => Ok(Some(credentials.copy(alloc)?)),
-        None => Ok(None),
-    }
 }
 
 fn copied_url(url: &Option<Url>) -> Result<Option<Url>, OutOfMemory>
@@ -56,19 +44,20 @@ fn config_of(alloc: Global, endpoint: &Endpoint) -> Result<KerberosConfig, OutOf
     })
 }
 
-/// A service without keys, of this user. The skew is in seconds.
+/// A service without keys, of the endpoint's user. The skew is in seconds.
 fn properties_of(
     alloc: Global,
     skew: u32,
     service: &Name,
-    user: Option<CredentialsBuffers>,
-) -> Result<ServerProperties, OutOfMemory>
-    ensures { IfOk result (λ server. server ≡ new_properties (components service.now) user skew None) }
+    endpoint: &Endpoint,
+) -> Result<Box<ServerProperties>, OutOfMemory>
+    ensures { IfOk result (λ server. server.value ≡ new_properties (components service.now) endpoint.now.credentials skew None) }
 {
     let parts = components(alloc, service.as_str())?;
+    let user = endpoint.credentials.copy(alloc)?;
     // A name is ASCII, so that memory is all that can be missing.
     match ServerProperties::new(alloc, &parts, user, skew, None) {
-        Ok(server) => Ok(server),
+        Ok(server) => boxed(alloc, server),
         Err(_) => Err(OutOfMemory),
     }
 }
@@ -127,11 +116,10 @@ fn acceptor_properties(
     skew: u32,
     service: &Name,
     endpoint: &Endpoint,
-) -> Result<ServerProperties, OutOfMemory>
-    ensures { IfOk result (λ server. server ≡ acceptor_properties skew service.now endpoint.now) }
+) -> Result<Box<ServerProperties>, OutOfMemory>
+    ensures { IfOk result (λ server. server.value ≡ acceptor_properties skew service.now endpoint.now) }
 {
-    let user = copied_credentials(alloc, &endpoint.credentials)?;
-    let mut server = properties_of(alloc, skew, service, user)?;
+    let mut server = properties_of(alloc, skew, service, endpoint)?;
     add_keys(alloc, service, endpoint.keys.as_slice(), &mut server)?;
     Ok(server)
 }
@@ -147,30 +135,19 @@ fn acceptor_context(
 {
     let server = acceptor_properties(alloc, skew, service, endpoint)?;
     let config = config_of(alloc, endpoint)?;
-    Kerberos::new_server_from_config(config, server, endpoint.number.to_be_bytes())
+    let number = endpoint.number.to_be_bytes();
+    Kerberos::new_server_from_config(config, Box::into_inner(server), number)
 }
 
 /// The context of an initiator before its exchange.
 fn initiator_context(alloc: Global, endpoint: &Endpoint) -> Result<Kerberos, OutOfMemory>
     ensures { IfOk result (λ context. context ≡ initiator_context endpoint.now) }
 {
-    let identity = copied_credentials(alloc, &endpoint.credentials)?;
+    let identity = boxed(alloc, endpoint.credentials.copy(alloc)?)?;
     let config = config_of(alloc, endpoint)?;
     let mut client = Kerberos::new_client_from_config(config, endpoint.number.to_be_bytes());
-    client.auth_identity = identity;
+    client.auth_identity = Box::into_inner(identity);
     Ok(client)
-}
-
-pub(crate) fn copied_target(
-    alloc: Global,
-    target: &Option<Name>,
-) -> Result<Option<Name>, OutOfMemory>
-    ensures { IfOk result (λ copy. copy ≡ target.now) }
-{
-    match target {
-        Some(target) => Ok(Some(target.copy(alloc)?)),
-        None => Ok(None),
-    }
 }
 
 /// The connection of an end that the lines declare, before its exchange. The skew is in seconds.
@@ -188,7 +165,7 @@ pub fn connection_of(
             exchange: None,
         }),
         Role::Initiator(target) => {
-            let target = copied_target(alloc, target)?;
+            let target = target.copy(alloc)?;
             Ok(Connection {
                 context: initiator_context(alloc, endpoint)?,
                 target,
@@ -208,8 +185,9 @@ fn put_endpoint<G: ReplayGate>(
 ) -> Result<(), OutOfMemory>
     ensures { OnOk result (service.new ≡ with_connection service.old id (connection_of skew endpoint)) }
 {
-    let connection = connection_of(alloc, skew, &endpoint)?;
-    service.put(id, connection)
+    let connection = connection_of(alloc, skew, &endpoint);
+    drop(endpoint);
+    service.put(id, connection?)
 }
 
 /// Puts each end into the service.

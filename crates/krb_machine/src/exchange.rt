@@ -42,7 +42,7 @@ pub enum Step {
     Asks(NetworkRequest, Exchange),
     /// The exchange is over: its context takes the change.
     Ends(InitDone),
-    /// It is over, and its context stays. Want of memory is never told so.
+    /// It is over, and its context stays. Running out of memory is never told so.
     Refused(Error),
 }
 

@@ -1,5 +1,7 @@
 //! Laws of the service, for all values.
 
+ghost use Rattle.std.specs.List.{IsDistinct as IsDistinctBy};
+ghost use Rattle.std.specs.Ordering.{int_eq};
 ghost use Rattle.std.specs.Prelude.{◌≡◌, ℕ, List, Result, ◌≢◌, ◌↔◌, ◌⊎◌, ◌++◌, length, true, Some, None, Ok, Err};
 ghost use Rattle.sspi_core.specs.declared.cause.Cause.{Cause};
 ghost use Rattle.sspi_core.specs.declared.draw.Draw.{Draw};
@@ -30,6 +32,7 @@ ghost use Rattle.krb_machine.specs.Described.{Remembers, with_gate};
 ghost use Rattle.krb_machine.specs.Left.{record_left, records_left};
 ghost use Rattle.krb_machine.specs.Admitted.{IsAdmissible, reply_to, service_behind};
 ghost use Rattle.krb_machine.specs.Reply.{admits_peer};
+ghost use Rattle.krb_machine.specs.Opened.{Lists, StandFor, AreJudgedBy, lists_behind, BringOctets};
 ghost use Rattle.krb_machine.specs.Serve.{Written, end_of};
 ghost use Rattle.krb_text.specs.declared.status.Status.{Status};
 ghost use Rattle.krb_text.specs.declared.status.Status.TheVariants.{Done, BadWords, ReadFault, WriteFault, OutOfMemory};
@@ -148,6 +151,19 @@ pub fn gates_refuse_by_the_clock<G: ReplayGate>()
         → clock_refusal (G.skew state.gate) (G.moment after.gate) (ask_of request event.moment) ≡ None }
     ensures skew { (state after : State G) (events : List Event) (replies : List Reply)
         → Runs G.admits state events replies after → G.skew after.gate ≡ G.skew state.gate }
+{}
+
+/// Messages by the lists that never forget, whatever the gate. Over a run of events, from connections whose windows stand for lists: a
+/// message that is opened was fresh by its connection's list, one that is refused as old or repeated was so by that list, and the
+/// windows afterwards stand for the lists with the places of the messages that were opened. So no place is opened twice.
+pub fn messages_follow_the_lists<G: ReplayGate>()
+    ensures judged { (lists : Lists) (state after : State G) (events : List Event) (replies : List Reply) → BringOctets events
+        → Runs G.admits state events replies after → StandFor state lists → AreJudgedBy lists events replies }
+    ensures stand { (lists : Lists) (state after : State G) (events : List Event) (replies : List Reply) → BringOctets events
+        → Runs G.admits state events replies after → StandFor state lists → StandFor after (lists_behind lists events replies) }
+    ensures once { (lists : Lists) (state after : State G) (events : List Event) (replies : List Reply) → BringOctets events
+        → Runs G.admits state events replies after → StandFor state lists
+        → (id : ℕ) → IsDistinctBy int_eq (lists id) → IsDistinctBy int_eq (lists_behind lists events replies id) }
 {}
 
 /// An input with no bad and no long line is answered whole, or a read or a write fails, or memory runs out.

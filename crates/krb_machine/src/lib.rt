@@ -17,9 +17,11 @@
 //! is as it was.
 #![tactic(auto)]
 
+mod acceptance;
 mod closing;
 mod command;
 mod connection;
+mod connection_event;
 mod connection_exchange;
 mod demonstration;
 mod described;

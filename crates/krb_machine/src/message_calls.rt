@@ -1,28 +1,17 @@
 //! What an event asks of a connection's context beside its exchange: messages and MIC tokens.
 
-ghost use Rattle.std.specs.Prelude.{◌≡◌, ◌≢◌, true, take, Err, IfOk, IfErr, OnErr};
+ghost use Rattle.std.specs.Prelude.{◌≡◌, ◌≢◌, take, IfOk, OnErr};
 ghost use Rattle.sspi_core.specs.Kinds.{error_of};
 ghost use Rattle.sspi_core.specs.declared.cause.Cause.TheVariants as causes;
-ghost use Rattle.krb_machine.specs.MessageCalls.{is_call, Seals, Opens, Signs, Verifies, Calls};
+ghost use Rattle.krb_machine.specs.MessageCalls.{Seals, Opens, Signs, Verifies};
 ghost use Rattle.krb_machine.specs.declared.reply.Reply.TheVariants.{Refused};
 
 use crate::exchange::is_memory;
 use crate::reply::Reply;
 use krb_context::Kerberos;
 use krb_der::{Items, Octets, OutOfMemory};
-use krb_script::Input;
 use sspi_core::{BufferType, Error, Message, SecurityBufferRef};
 use std::alloc::Global;
-
-/// Whether an event asks so.
-pub(crate) fn is_call(input: &Input) -> bool
-    ensures { result ≡ is_call input.now }
-{
-    match input {
-        Input::Wrap(_) | Input::Unwrap(_) | Input::MakeMic(_) | Input::VerifyMic { .. } => true,
-        Input::Token(_) | Input::Start | Input::KdcReply(_) | Input::KdcFault(_) => false,
-    }
-}
 
 fn copy_buffer(alloc: Global, buffer: &SecurityBufferRef) -> Result<SecurityBufferRef, OutOfMemory>
     ensures { IfOk result (λ copy. copy ≡ buffer.now) }
@@ -81,7 +70,8 @@ fn confounder_of(random: &[u8; 64]) -> [u8; 16]
     confounder
 }
 
-fn seal(
+/// Seals a copy of a message.
+pub(crate) fn seal_message(
     alloc: Global,
     context: &mut Kerberos,
     random: &[u8; 64],
@@ -97,7 +87,12 @@ fn seal(
     }
 }
 
-fn open(alloc: Global, context: &mut Kerberos, message: &Message) -> Result<Reply, OutOfMemory>
+/// Opens a copy of a message.
+pub(crate) fn open_message(
+    alloc: Global,
+    context: &mut Kerberos,
+    message: &Message,
+) -> Result<Reply, OutOfMemory>
     ensures opens { IfOk result (λ reply. Opens context.old message.now reply context.new) }
     ensures err { OnErr result (context.new ≡ context.old) }
 {
@@ -108,7 +103,12 @@ fn open(alloc: Global, context: &mut Kerberos, message: &Message) -> Result<Repl
     }
 }
 
-fn sign(alloc: Global, context: &mut Kerberos, payload: &Octets) -> Result<Reply, OutOfMemory>
+/// Makes the MIC token of a payload.
+pub(crate) fn sign(
+    alloc: Global,
+    context: &mut Kerberos,
+    payload: &Octets,
+) -> Result<Reply, OutOfMemory>
     ensures signs { IfOk result (λ reply. Signs context.old payload.now reply context.new) }
     ensures err { OnErr result (context.new ≡ context.old) }
 {
@@ -118,31 +118,12 @@ fn sign(alloc: Global, context: &mut Kerberos, payload: &Octets) -> Result<Reply
     }
 }
 
-fn verify(context: &Kerberos, token: &Octets, payload: &Octets) -> Reply
+/// Checks a MIC token over a payload.
+pub(crate) fn verify(context: &Kerberos, token: &Octets, payload: &Octets) -> Reply
     ensures { Verifies context.now token.now payload.now result context.now }
 {
     match context.verify_mic_token(token.as_slice(), payload.as_slice()) {
         Ok(()) => Reply::Verified,
         Err(error) => Reply::Refused(error),
-    }
-}
-
-/// The call that an event asks for, at its connection's context.
-pub(crate) fn call(
-    alloc: Global,
-    context: &mut Kerberos,
-    random: &[u8; 64],
-    input: &Input,
-) -> Result<Reply, OutOfMemory>
-    requires { is_call input.now ≡ true }
-    ensures calls { IfOk result (λ reply. Calls input.now context.old random.now reply context.new) }
-    ensures err { OnErr result (context.new ≡ context.old) }
-{
-    match input {
-        Input::Wrap(message) => seal(alloc, context, random, message),
-        Input::Unwrap(message) => open(alloc, context, message),
-        Input::MakeMic(payload) => sign(alloc, context, payload),
-        Input::VerifyMic { token, payload } => Ok(verify(context, token, payload)),
-        Input::Token(_) | Input::Start | Input::KdcReply(_) | Input::KdcFault(_) => unreachable!(),
     }
 }

@@ -31,7 +31,7 @@ pub enum Reply {
     Mic(Octets),
     /// A MIC token is the peer's, over the payload.
     Verified,
-    /// It was refused, for the first check that fails. Want of memory is never told so.
+    /// It was refused, for the first check that fails. Running out of memory is never told so.
     Refused(Error),
 }
 

@@ -33,7 +33,7 @@ pub(crate) fn start(
     requires moment { draw.now.moment ≤ last_moment }
     ensures step { StartsAt run.old draw.now result run.new }
     ensures waits { OnSuspended result (λ request. IsWaiting run.new) }
-    ensures want { result ≡ Completed (Err (error_of causes.Memory)) → run.new ≡ run.old }
+    ensures memory { result ≡ Completed (Err (error_of causes.Memory)) → run.new ≡ run.old }
 {
     match run {
         Run::Accepts(run) => run.start(draw),
@@ -51,7 +51,7 @@ pub(crate) fn resume(
     requires moment { draw.now.moment ≤ last_moment }
     ensures step { ResumesAt run.old answer draw.now result run.new }
     ensures waits { OnSuspended result (λ request. IsWaiting run.new) }
-    ensures want { result ≡ Completed (Err (error_of causes.Memory)) → run.new ≡ run.old }
+    ensures memory { result ≡ Completed (Err (error_of causes.Memory)) → run.new ≡ run.old }
 {
     match run {
         Run::Accepts(run) => run.resume(answer, draw),

@@ -85,7 +85,7 @@ impl Session {
     }
 
     /// Makes the service, where there is none yet and a line told the skew.
-    fn begin(&mut self, alloc: Global) -> Result<(), OutOfMemory>
+    fn make_service(&mut self, alloc: Global) -> Result<(), OutOfMemory>
         ensures begun { OnOk result (MatchOption self.new.service (CannotBegin self.old × (self.new ≡ self.old)) (Begins self.old)) }
         ensures lines { self.new.lines ≡ self.old.lines }
         ensures answered { self.new.answered ≡ self.old.answered }
@@ -120,7 +120,7 @@ impl Session {
         ensures err { OnErr result (self.new.answered ≡ self.old.answered) }
         ensures lines { self.new.lines ≡ self.old.lines }
     {
-        self.begin(alloc)?;
+        self.make_service(alloc)?;
         let Some(service) = &mut self.service else {
             return Err(FieldError::Bad);
         };
@@ -139,10 +139,12 @@ impl Session {
         ensures lines { self.new.lines ≡ self.old.lines }
     {
         if self.service.is_some() {
-            return Err(FieldError::Bad);
+            drop(declaration);
+            Err(FieldError::Bad)
+        } else {
+            self.script.set_up(declaration)?;
+            Ok(String::new(alloc))
         }
-        self.script.set_up(declaration)?;
-        Ok(String::new(alloc))
     }
 
     fn take_content(&mut self, alloc: Global, line: &[u8]) -> Result<String, FieldError>

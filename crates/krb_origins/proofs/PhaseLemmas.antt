@@ -4,11 +4,13 @@ use Rattle.std.specs.Prelude.{nat_lt}
 use Rattle.std.proofs.lemmas.Bool.{ltb-true}
 use Rattle.std.proofs.lemmas.List.{length-map}
 use Rattle.krb_der.specs.Layout.{Layout}
-use Rattle.krb_exchange.specs.declared.kdc_req.KdcReqBody.{KdcReqBody}
 use Rattle.krb_exchange.specs.declared.kdc_rep.TgsRep.{TgsRep}
 use Rattle.krb_exchange.specs.declared.result.KrbResult.{KrbResult}
 use Rattle.krb_context.proofs.ChainLemmas.{passed, gave}
-use Rattle.krb_as.specs.Asked.{AsksAgain}
+use Rattle.krb_as.proofs.AsTurns.{asked_first, error_taken, as_rep_taken}
+use Rattle.krb_as.specs.AsPhases.{TakesReplyWithin}
+use Rattle.krb_as.specs.declared.as_phase.AsPhase.{AsPhase}
+use Rattle.krb_as.specs.declared.as_phase.AsPhase.TheVariants.{AwaitsError, AwaitsAsRep}
 use Rattle.krb_as.specs.Replied.{WantsPreAuth, Grants}
 use Rattle.krb_as.specs.declared.done.InitDone.{InitDone}
 use Rattle.krb_as.specs.declared.turn.Turn.{Turn}
@@ -16,18 +18,17 @@ use Rattle.krb_as.specs.declared.turn.Turn.TheVariants.{Asks, Ends}
 use Rattle.krb_initiator.proofs.Chains.{begins, goes_on, ends}
 use Rattle.krb_initiator.specs.Came.{Came, CameWithKey, IsSession, AreGranted}
 use Rattle.krb_initiator.specs.InitRuns.{StartsNew, Continues, Next}
-use Rattle.krb_initiator.specs.InitSteps.{body_of, AsksFirst, AsksSecond, AsksFirstTgs, TakesFirst, Refers, Arrives, GoesTo, TakesNext}
+use Rattle.krb_initiator.specs.InitSteps.{body_of, AsksFirstTgs, Refers, Arrives, GoesTo, TakesNext}
 use Rattle.krb_initiator.specs.declared.seeker.InitPhase.{InitPhase}
-use Rattle.krb_initiator.specs.declared.seeker.InitPhase.TheVariants.{New, AwaitsError, AwaitsAsRep, AwaitsTgsRep, Over}
+use Rattle.krb_initiator.specs.declared.seeker.InitPhase.TheVariants.{New, InAsExchange, AwaitsTgsRep, Over}
 use Rattle.krb_initiator.specs.declared.seeker.Initiation.TheVariants.{Seeks}
 use Rattle.krb_initiator.specs.declared.seeker.Seeker.{Seeker}
 use Rattle.krb_initiator.specs.declared.seeker.TgsLeg.{TgsLeg}
 use Rattle.krb_replies.specs.Realms.{referral_realm}
 use Rattle.krb_as.specs.Replies.{brought, Unwraps, Replies}
-use Rattle.krb_as.specs.declared.kdc.Kdc.{Kdc}
-use Rattle.krb_tgs.specs.Taken.{TakesAsRep, TakesTgsRep}
+use Rattle.krb_tgs.specs.Taken.{TakesTgsRep}
 use Rattle.krb_tgs.specs.TgsAsked.{Follows}
-use Rattle.krb_tgs.specs.declared.wanted.Shown.{Shown}
+use Rattle.krb_as.specs.declared.key.Grant.{Grant}
 use Rattle.sspi_core.specs.Checks.{Holds}
 use Rattle.sspi_core.specs.declared.cause.Cause.{Cause}
 use Rattle.sspi_core.specs.declared.draw.Draw.{Draw}
@@ -41,8 +42,7 @@ use Rattle.krb_origins.proofs.BroughtLemmas.{handed_next}
 -- at most nine referrals were followed
 abbrev pub IsFew : InitPhase → Type 0
 IsFew New = Unit {0}
-IsFew (AwaitsError kdc body) = Unit {0}
-IsFew (AwaitsAsRep kdc salt) = Unit {0}
+IsFew (InAsExchange phase) = Unit {0}
 IsFew (AwaitsTgsRep leg) = leg.hops ≤ 9
 IsFew Over = Unit {0}
 
@@ -56,19 +56,17 @@ asked request made next phase e = cc
 
 -- ---- at the start
 
-first_few : (seeker : Seeker) (draw : Draw) (request : NetworkRequest) (phase : InitPhase) → AsksFirst seeker.asker (body_of seeker draw) (Ok (Asks request phase)) → IsFew phase
-unfolding AsksFirst
+first_few : (seeker : Seeker) (draw : Draw) (request : NetworkRequest) (phase : InitPhase) → StartsNew (Seeks seeker) draw (Ok (Asks request phase)) → IsFew phase
 first_few seeker draw request phase h =
-    let begun = passed _ _ _ h in
-    subst (λ (p : InitPhase). IsFew p) (sym (asked _ request phase _ (gave _ _ begun.rest_held))) tt
+    let first = asked_first InAsExchange seeker.asker (body_of seeker draw) (Asks request phase) h in
+    subst (λ (p : InitPhase). IsFew p) (sym (asked _ request phase _ first.is)) tt
 
 pub led_first : (seeker : Seeker) (draw : Draw) (request : NetworkRequest) (phase : InitPhase) → StartsNew (Seeks seeker) draw (Ok (Asks request phase)) → Led seeker [] phase
 led_first seeker draw request phase h = record { came = begins seeker draw request phase h; few = first_few seeker draw request phase h }
 
 -- the start of one that fetches a ticket does not end
 pub starts_not_ended : (seeker : Seeker) (draw : Draw) (done : InitDone) → StartsNew (Seeks seeker) draw (Ok (Ends done)) → ⊥
-unfolding AsksFirst
-starts_not_ended seeker draw done h = let begun = passed _ _ _ h in let f = gave _ _ begun.rest_held in absurd cc
+starts_not_ended seeker draw done h = let first = asked_first InAsExchange seeker.asker (body_of seeker draw) (Ends done) h in let f = first.is in absurd cc
 
 -- ---- at a reply
 
@@ -77,18 +75,17 @@ held cause true u h = refl
 held cause false u h = let e = h.is in absurd cc
 
 module _ (seeker : Seeker) (reply : Result (List ℕ) NetFault) (draw : Draw) (request : NetworkRequest) (next : InitPhase) where
-  second_few : (kdc : Kdc) (body : KdcReqBody) → AsksSecond seeker.asker kdc body reply draw (Ok (Asks request next)) → IsFew next
-  unfolding AsksSecond
-  second_few kdc body h = let again = passed _ _ _ h in subst (λ (p : InitPhase). IsFew p) (sym (asked _ request next _ (gave _ _ again.rest_held))) tt
-
-  tgs_few : (protocol : NetworkProtocol) (salt : List ℕ) → TakesFirst seeker protocol salt reply draw (Ok (Asks request next)) → IsFew next
-  unfolding TakesFirst AsksFirstTgs
-  tgs_few protocol salt h =
-      let shown = passed _ _ _ h in
-      let begun = passed _ _ _ shown.rest_held in
+  as_few : (phase : AsPhase) → TakesReplyWithin InAsExchange (λ grant. AsksFirstTgs seeker grant draw) seeker.asker phase reply draw (Ok (Asks request next)) → IsFew next
+  unfolding AsksFirstTgs
+  as_few (AwaitsError kdc body) h =
+      let second = error_taken InAsExchange (λ grant. AsksFirstTgs seeker grant draw) seeker.asker reply draw (Asks request next) kdc body h in
+      subst (λ (p : InitPhase). IsFew p) (sym (asked _ request next _ second.is)) tt
+  as_few (AwaitsAsRep sealed) h =
+      let on = as_rep_taken InAsExchange (λ grant. AsksFirstTgs seeker grant draw) seeker.asker reply draw (Asks request next) sealed h in
+      let begun = passed _ _ _ on.rest in
       subst (λ (p : InitPhase). IsFew p) (sym (asked _ request next _ (gave _ _ begun.rest_held))) (lit≤ tt)
 
-  followed : (leg : TgsLeg) (realm : List ℕ) (shown : Shown) → Refers seeker leg realm shown draw (Ok (Asks request next)) → IsFew next
+  followed : (leg : TgsLeg) (realm : List ℕ) (shown : Grant) → Refers seeker leg realm shown draw (Ok (Asks request next)) → IsFew next
   unfolding Refers Follows
   followed leg realm shown h =
       let begun = passed _ _ _ h in
@@ -97,7 +94,7 @@ module _ (seeker : Seeker) (reply : Result (List ℕ) NetFault) (draw : Draw) (r
       let more : leg.hops + 1 ≤ 9 = omega (arith, few) in
       subst (λ (p : InitPhase). IsFew p) (sym (asked _ request next _ (gave _ _ begun.rest_held))) more
 
-  goes_few : (referral : Option (List ℕ)) (leg : TgsLeg) (shown : Shown) → GoesTo referral seeker leg shown draw (Ok (Asks request next)) → IsFew next
+  goes_few : (referral : Option (List ℕ)) (leg : TgsLeg) (shown : Grant) → GoesTo referral seeker leg shown draw (Ok (Asks request next)) → IsFew next
   unfolding Arrives
   goes_few None leg shown h = let made = passed _ _ _ h in let f = gave _ _ made.rest_held in absurd cc
   goes_few (Some realm) leg shown h = followed leg realm shown h
@@ -108,8 +105,7 @@ module _ (seeker : Seeker) (reply : Result (List ℕ) NetFault) (draw : Draw) (r
 
   few_on : (phase : InitPhase) → Continues seeker phase reply draw (Ok (Asks request next)) → IsFew next
   few_on New h = absurd h
-  few_on (AwaitsError kdc body) h = second_few kdc body h
-  few_on (AwaitsAsRep kdc salt) h = tgs_few kdc.protocol salt h
+  few_on (InAsExchange phase) h = as_few phase h
   few_on (AwaitsTgsRep leg) h = next_few leg h
   few_on Over h = absurd h
 
@@ -139,17 +135,15 @@ module _ (fault : NetFault) where
   no_grant protocol layout rep h = let result = passed _ _ _ h in no_reply protocol layout result.found result.first_held
 
   module _ (seeker : Seeker) (draw : Draw) (turn : Turn InitPhase InitDone) where
-    no_second : (kdc : Kdc) (body : KdcReqBody) → AsksSecond seeker.asker kdc body (Err fault) draw (Ok turn) → ⊥
-    unfolding AsksSecond AsksAgain WantsPreAuth
-    no_second kdc body h =
-        let again = passed _ _ _ h in
-        let salt = passed _ _ _ again.first_held in
-        let result = passed _ _ _ salt.first_held in
+    no_as : (phase : AsPhase) → TakesReplyWithin InAsExchange (λ grant. AsksFirstTgs seeker grant draw) seeker.asker phase (Err fault) draw (Ok turn) → ⊥
+    unfolding WantsPreAuth
+    no_as (AwaitsError kdc body) h =
+        let second = error_taken InAsExchange (λ grant. AsksFirstTgs seeker grant draw) seeker.asker (Err fault) draw turn kdc body h in
+        let result = passed _ _ _ second.names in
         no_reply kdc.protocol _ result.found result.first_held
-
-    no_first : (protocol : NetworkProtocol) (salt : List ℕ) → TakesFirst seeker protocol salt (Err fault) draw (Ok turn) → ⊥
-    unfolding TakesFirst TakesAsRep
-    no_first protocol salt h = let shown = passed _ _ _ h in let rep = passed _ _ _ shown.first_held in no_grant protocol _ rep.found rep.first_held
+    no_as (AwaitsAsRep sealed) h =
+        let on = as_rep_taken InAsExchange (λ grant. AsksFirstTgs seeker grant draw) seeker.asker (Err fault) draw turn sealed h in
+        no_grant sealed.kdc.protocol _ on.taken.rep on.taken.granted
 
     no_next : (leg : TgsLeg) → TakesNext seeker leg (Err fault) draw (Ok turn) → ⊥
     unfolding TakesNext TakesTgsRep
@@ -157,8 +151,7 @@ module _ (fault : NetFault) where
 
     pub faults_lead_nowhere : (phase : InitPhase) → Next (Seeks seeker) phase (Err fault) draw (Ok turn) → ⊥
     faults_lead_nowhere New h = absurd h
-    faults_lead_nowhere (AwaitsError kdc body) h = no_second kdc body h
-    faults_lead_nowhere (AwaitsAsRep kdc salt) h = no_first kdc.protocol salt h
+    faults_lead_nowhere (InAsExchange phase) h = no_as phase h
     faults_lead_nowhere (AwaitsTgsRep leg) h = no_next leg h
     faults_lead_nowhere Over h = absurd h
 
@@ -181,8 +174,8 @@ with_key_short seeker replies leg came few =
 so_far_short : (seeker : Seeker) (replies : List (Result (List ℕ) NetFault)) (phase : InitPhase) (reply : Result (List ℕ) NetFault) (draw : Draw) (answer : Result (Turn InitPhase InitDone) Cause) → Came seeker replies phase → IsFew phase
     → Continues seeker phase reply draw answer → length replies ≤ 11
 so_far_short seeker replies New reply draw answer came few h = absurd h
-so_far_short seeker replies (AwaitsError kdc body) reply draw answer came few h = let all = ap length came in omega (arith, all)
-so_far_short seeker replies (AwaitsAsRep kdc salt) reply draw answer came few h = let all = ap length came.are in omega (arith, all)
+so_far_short seeker replies (InAsExchange (AwaitsError kdc body)) reply draw answer came few h = let all = ap length came in omega (arith, all)
+so_far_short seeker replies (InAsExchange (AwaitsAsRep sealed)) reply draw answer came few h = let all = ap length came.are in omega (arith, all)
 so_far_short seeker replies (AwaitsTgsRep leg) reply draw answer came few h = with_key_short seeker replies leg came few
 so_far_short seeker replies Over reply draw answer came few h = absurd h
 

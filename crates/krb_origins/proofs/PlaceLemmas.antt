@@ -60,7 +60,7 @@ placed_apart connections at id next differs = set_apart (is_at (nat_cmp at)) (is
 
 -- ---- what checks found
 
-some_same : (x y : Connection) → Some x ≡ Some y → x ≡ y
+pub some_same : (x y : Connection) → Some x ≡ Some y → x ≡ y
 some_same x y e = cc
 
 same_ok : {A : Type 0} (x y : A) → ◌≡◌ {A = Result A Cause} (Ok x) (Ok y) → x ≡ y
@@ -99,7 +99,7 @@ pub record IsReady (connections : List (ℕ × Connection)) (event : Event) (con
   pub there : at_id event.connection connections ≡ Some connection
   pub free : connection.exchange ≡ None
 
-abbrev freed : Connection → Result Connection Cause
+abbrev pub freed : Connection → Result Connection Cause
 freed connection = check causes.Sequence (not (awaits connection)) >>= (λ u. Ok connection)
 
 pub ready_there : (connections : List (ℕ × Connection)) (event : Event) (connection : Connection) → ready connections event ≡ Ok connection → IsReady connections event connection
@@ -112,7 +112,7 @@ ready_there connections event connection e =
       free = subst (λ (c : Connection). c.exchange ≡ None) is (waits_not calls.found.exchange (allowed causes.Sequence (not (awaits calls.found)) free.found free.first_is));
     }
 
-abbrev hears : Input → Connection → Result (Connection × List ℕ) Cause
+abbrev pub hears : Input → Connection → Result (Connection × List ℕ) Cause
 hears input connection = token_heard connection.context.state input >>= (λ token. Ok (connection, token))
 
 pub heard_there : (connections : List (ℕ × Connection)) (event : Event) (found : Connection × List ℕ) → heard connections event ≡ Ok found → IsReady connections event found.0
@@ -122,7 +122,7 @@ heard_there connections event found e =
     let is : is_ready.found ≡ found.0 = ap (λ (f : Connection × List ℕ). f.0) (same_ok (is_ready.found, hearing.found) found hearing.next_is) in
     subst (λ (c : Connection). IsReady connections event c) is (ready_there connections event is_ready.found is_ready.first_is)
 
-abbrev judges : Option (List ℕ) → Connection → Result (Connection × List ℕ) Cause
+abbrev pub judges : Option (List ℕ) → Connection → Result (Connection × List ℕ) Cause
 judges brought connection = check causes.Sequence (is_acceptor connection.context) >>= (λ u. ok_or causes.Sequence brought >>= (λ token. Ok (connection, token)))
 
 -- and which is an acceptor's, where a token is judged,
@@ -149,7 +149,7 @@ pub record IsAwaiting (connections : List (ℕ × Connection)) (event : Event) (
 abbrev waits_for : Connection → Option Run → Result (Connection × Run) Cause
 waits_for connection exchange = ok_or causes.Sequence exchange >>= (λ run. Ok (connection, run))
 
-abbrev waits : Connection → Result (Connection × Run) Cause
+abbrev pub waits : Connection → Result (Connection × Run) Cause
 waits connection = waits_for connection connection.exchange
 
 called_in_range : (connections : List (ℕ × Connection)) (event : Event) (connection : Connection) → called connections event ≡ Ok connection → nat_le event.moment last_moment ≡ true

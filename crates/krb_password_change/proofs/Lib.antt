@@ -2,4 +2,3 @@ pub mod Ports
 pub mod Written
 pub mod Told
 pub mod Refusals
-pub mod Tasks

@@ -1,16 +1,14 @@
 -- Port 464 is no scheme's default port, so a URL that takes a port keeps it.
-use Rattle.std.proofs.Common.{◌≡◌, ℕ, Bool, true, false, List, Option, Some, None, Result, Ok, Err, refl, ap, sym, ◌∙◌, subst}
+use Rattle.std.proofs.Common.{◌≡◌, ℕ, Bool, true, false, List, Option, Some, None, Ok, Err, refl, ap, sym, ◌∙◌, subst}
 use Rattle.std.specs.Prelude.{◌||◌, bytes_eq, codes, nat_eq, if◌then◌else◌}
 use Rattle.std.specs.Option.{option_eq}
-use Rattle.sspi_core.specs.declared.cause.Cause.{Cause}
 use Rattle.sspi_core.specs.declared.cause.Cause.TheVariants.{Port}
 use Rattle.sspi_core.specs.Checks.{Takes, Answers}
 use Rattle.krb_context.proofs.ChainLemmas.{takes_some}
 use Rattle.url.specs.Parts.{Parts, cannot_have_credentials_or_port}
 use Rattle.url.specs.Parser.{Parsed, without_default_port}
 use Rattle.url.specs.Scheme.{default_port}
-use Rattle.url.specs.Setters.{unless_bare, set_port}
-use Rattle.url.specs.declared.error.ParseError.{ParseError}
+use Rattle.url.specs.Setters.{set_port}
 use Rattle.url.specs.declared.error.ParseError.TheVariants.{CannotSet}
 use Rattle.krb_password_change.specs.Ports.{at_port}
 

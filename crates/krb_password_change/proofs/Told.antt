@@ -1,5 +1,5 @@
 -- The answer of the service: the message that it is.
-use Rattle.std.proofs.Common.{◌≡◌, ℕ, Bool, true, false, List, get_or, Result, Ok, Err, Option, Some, None, refl, ap, sym, ◌∙◌, subst}
+use Rattle.std.proofs.Common.{◌≡◌, ℕ, true, false, List, get_or, Result, Err, refl, ap, sym, ◌∙◌, subst}
 use Rattle.std.specs.Prelude.{◌==◌}
 use Rattle.krb_der.specs.Der.{tlv}
 use Rattle.krb_messages.specs.Table.{ap_req, ap_rep}

@@ -11,7 +11,6 @@ use Rattle.krb_exchange.specs.declared.priv_message.KrbPrivMessage.{KrbPrivMessa
 use Rattle.krb_exchange.specs.declared.priv_message.ApMessage.{ApMessage}
 use Rattle.krb_exchange.specs.declared.priv_message.ApMessage.TheVariants.{ApReq, ApRep}
 use Rattle.sspi_core.specs.declared.draw.Draw.{Draw}
-use Rattle.krb_requests.specs.Pieces.{spelling}
 use Rattle.krb_authenticators.specs.Passwords.{FitsRequest, FitsPriv}
 use Rattle.krb_password_change.specs.Requested.{drawn_key, ap_spelling, written}
 

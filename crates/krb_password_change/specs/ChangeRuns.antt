@@ -1,6 +1,5 @@
 -- The change of a password, as a task.
-use Rattle.std.specs.Prelude.{◌≡◌, ℕ, ◌<◌, ◌≤◌, ◌^◌, List, length, Result, Ok, Err}
-use Rattle.krb_exchange.specs.Layouts.{kdc_req_body_layout}
+use Rattle.std.specs.Prelude.{◌≡◌, ℕ, ◌+◌, List, Result, Ok, Err}
 use Rattle.krb_context.specs.declared.context.ContextChange.{ContextChange}
 use Rattle.sspi_core.specs.declared.draw.Draw.{Draw}
 use Rattle.sspi_core.specs.declared.error.Error.{Error}
@@ -9,29 +8,29 @@ use Rattle.sspi_core.specs.Kinds.{error_of}
 use Rattle.sspi_generator.specs.declared.network.NetworkRequest.{NetworkRequest}
 use Rattle.sspi_generator.specs.declared.network.NetFault.{NetFault}
 use Rattle.sspi_generator.specs.declared.task.GeneratorState.{GeneratorState}
-use Rattle.krb_requests.specs.Pieces.{Fits}
+use Rattle.krb_as.specs.declared.asker.Asker.{Asker}
 use Rattle.krb_as.specs.declared.turn.Turn.{Turn}
-use Rattle.krb_as.specs.declared.turn.Turn.TheVariants.{Asks, Ends}
+use Rattle.krb_as.specs.AsPhases as as_phases
+use Rattle.krb_as.specs.AsPhases.{BeginsWithin, TakesReplyWithin, kdc_of}
 use Rattle.krb_as.specs.Turns.{Turns}
 use Rattle.krb_password_change.specs.declared.change.Changer.{Changer}
 use Rattle.krb_password_change.specs.declared.phase.ChangePhase.{ChangePhase}
-use Rattle.krb_password_change.specs.declared.phase.ChangePhase.TheVariants.{New, AwaitsError, AwaitsAsRep, AwaitsAnswer, Over}
+use Rattle.krb_password_change.specs.declared.phase.ChangePhase.TheVariants.{New, InAsExchange, AwaitsAnswer, Over}
 use Rattle.krb_password_change.specs.declared.change_run.ChangePasswordRun.{ChangePasswordRun}
 use Rattle.krb_password_change.specs.Changes.{IsReady}
-use Rattle.krb_password_change.specs.ChangeSteps.{body_of, AsksFirst, AsksSecond, TakesAsRep, TakesAnswer}
+use Rattle.krb_password_change.specs.ChangeSteps.{body_of, AsksChange, TakesAnswer}
 
 -- what the start leads to, and what an answer leads to, in each phase
 abbrev pub Starts : Changer → ChangePhase → Draw → Result (Turn ChangePhase ContextChange) Cause → Type 0
-Starts changer New draw answer = AsksFirst changer.asker (body_of changer.client draw) answer
-Starts changer (AwaitsError kdc body) draw answer = ⊥
-Starts changer (AwaitsAsRep kdc salt) draw answer = ⊥
+Starts changer New draw answer = BeginsWithin InAsExchange changer.asker (body_of changer.client draw) answer
+Starts changer (InAsExchange phase) draw answer = ⊥
 Starts changer (AwaitsAnswer leg) draw answer = ⊥
 Starts changer Over draw answer = ⊥
 
 abbrev pub Next : Changer → ChangePhase → Result (List ℕ) NetFault → Draw → Result (Turn ChangePhase ContextChange) Cause → Type 0
 Next changer New reply draw answer = ⊥
-Next changer (AwaitsError kdc body) reply draw answer = AsksSecond changer.asker kdc body reply draw answer
-Next changer (AwaitsAsRep kdc salt) reply draw answer = TakesAsRep changer kdc salt reply draw answer
+Next changer (InAsExchange phase) reply draw answer =
+    TakesReplyWithin InAsExchange (AsksChange changer (kdc_of phase) draw) changer.asker phase reply draw answer
 Next changer (AwaitsAnswer leg) reply draw answer = TakesAnswer changer leg reply answer
 Next changer Over reply draw answer = ⊥
 
@@ -49,22 +48,19 @@ pub record ResumesAt (old : ChangePasswordRun) (reply : Result (List ℕ) NetFau
 -- it is not started; it awaits an answer; and how often it may still ask. What is to be sent can be
 abbrev pub IsNewPhase : ChangePhase → Type 0
 IsNewPhase New = Unit {0}
-IsNewPhase (AwaitsError kdc body) = ⊥
-IsNewPhase (AwaitsAsRep kdc salt) = ⊥
+IsNewPhase (InAsExchange phase) = ⊥
 IsNewPhase (AwaitsAnswer leg) = ⊥
 IsNewPhase Over = ⊥
 
-abbrev pub IsAwaiting : ChangePhase → Type 0
-IsAwaiting New = ⊥
-IsAwaiting (AwaitsError kdc body) = Fits kdc_req_body_layout (2 ^ 28) body × (length kdc.realm ≤ 2 ^ 24)
-IsAwaiting (AwaitsAsRep kdc salt) = length kdc.realm ≤ 2 ^ 24
-IsAwaiting (AwaitsAnswer leg) = Unit {0}
-IsAwaiting Over = ⊥
+abbrev pub IsAwaiting : Asker → ChangePhase → Type 0
+IsAwaiting asker New = ⊥
+IsAwaiting asker (InAsExchange phase) = as_phases.IsAwaiting asker phase
+IsAwaiting asker (AwaitsAnswer leg) = Unit {0}
+IsAwaiting asker Over = ⊥
 
 abbrev pub turns_left : ChangePhase → ℕ
 turns_left New = 3
-turns_left (AwaitsError kdc body) = 2
-turns_left (AwaitsAsRep kdc salt) = 1
+turns_left (InAsExchange phase) = as_phases.turns_left phase + 1
 turns_left (AwaitsAnswer leg) = 0
 turns_left Over = 0
 
@@ -72,12 +68,7 @@ abbrev pub IsNew : ChangePasswordRun → Type 0
 IsNew run = IsNewPhase run.phase × IsReady run.changer
 
 abbrev pub IsWaiting : ChangePasswordRun → Type 0
-IsWaiting run = IsAwaiting run.phase × IsReady run.changer
-
--- a step that ends at a request leaves fewer turns, and a phase that awaits
-abbrev pub GoesDown : ℕ → Turn ChangePhase ContextChange → Type 0
-GoesDown turns (Asks request phase) = IsAwaiting phase × (turns_left phase < turns)
-GoesDown turns (Ends value) = Unit {0}
+IsWaiting run = IsAwaiting run.changer.asker run.phase × IsReady run.changer
 
 -- the run that begins so, or the refusal with its kind
 abbrev pub BeginsSo : Result Changer Cause → Result ChangePasswordRun Error → Type 0

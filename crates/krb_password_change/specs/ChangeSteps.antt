@@ -1,14 +1,12 @@
 -- How a password is changed, step by step: an AS exchange (RFC 4120, section 3.1), and the request for a new password (RFC 3244,
 -- section 2).
-use Rattle.std.specs.Prelude.{◌≡◌, ℕ, ◌==◌, List, length, take, Option, Some, None, Result}
+use Rattle.std.specs.Prelude.{ℕ, ◌==◌, List, length, Option, Some, None, Result}
 use Rattle.krb_crypto.specs.Suite.{key_size}
 use Rattle.krb_messages.specs.declared.ap_rep.ApRep.{ApRep as Reply}
 use Rattle.krb_exchange.specs.declared.kdc_req.KdcReqBody.{KdcReqBody}
-use Rattle.krb_exchange.specs.declared.kdc_rep.KdcRep.{KdcRep}
 use Rattle.krb_exchange.specs.declared.krb_priv.KrbPriv.{KrbPriv}
 use Rattle.krb_exchange.specs.declared.priv_message.ApMessage.{ApMessage}
 use Rattle.krb_exchange.specs.declared.priv_message.ApMessage.TheVariants.{ApReq, ApRep}
-use Rattle.krb_exchange.specs.Layouts.{as_rep_layout}
 use Rattle.krb_exchange.specs.PrivMessages.{IsPrivMessage}
 use Rattle.krb_context.specs.declared.context.ContextChange.{ContextChange}
 use Rattle.sspi_core.specs.declared.protocol.NetworkProtocol.{NetworkProtocol}
@@ -22,54 +20,31 @@ use Rattle.krb_as.specs.Replies.{Unwraps}
 use Rattle.krb_replies.specs.Answered.{TellsStatus}
 use Rattle.krb_as.specs.declared.turn.Turn.{Turn}
 use Rattle.krb_as.specs.declared.turn.Turn.TheVariants.{Asks, Ends}
-use Rattle.krb_as.specs.declared.asker.Asker.{Asker}
-use Rattle.krb_as.specs.Replied.{Grants}
-use Rattle.krb_as.specs.Asked.{Begins, AsksAgain}
 use Rattle.krb_as.specs.declared.client.Client.{Client}
 use Rattle.krb_as.specs.declared.body.FirstService.TheVariants.{PasswordChange}
-use Rattle.krb_as.specs.declared.key.ReplyKey.{ReplyKey}
+use Rattle.krb_as.specs.declared.key.Grant.{Grant}
 use Rattle.krb_as.specs.FirstBodies.{first_body}
-use Rattle.krb_as.specs.ReplyKeys.{TakesReplyKey}
 use Rattle.krb_password_change.specs.declared.change.Changer.{Changer}
 use Rattle.krb_password_change.specs.declared.phase.AnswerLeg.{AnswerLeg}
 use Rattle.krb_password_change.specs.declared.phase.ChangePhase.{ChangePhase}
-use Rattle.krb_password_change.specs.declared.phase.ChangePhase.TheVariants.{AwaitsError, AwaitsAsRep, AwaitsAnswer}
+use Rattle.krb_password_change.specs.declared.phase.ChangePhase.TheVariants.{AwaitsAnswer}
 use Rattle.krb_password_change.specs.Ports.{password_kdc}
 use Rattle.krb_password_change.specs.Requested.{drawn_key, number_after, change_request}
 
--- what is asked for: a ticket to the service that changes passwords; the first four random octets are the nonce
-unfoldable pub body_of : Client → Draw → KdcReqBody
-body_of client draw = first_body client PasswordChange 0 (take 4 draw.random) draw.moment
+-- what is asked for: a ticket to the service that changes passwords
+abbrev pub body_of : Client → Draw → KdcReqBody
+body_of client draw = first_body client PasswordChange 0 draw
 
--- the start: the first request, and an error is awaited
-unfoldable pub AsksFirst : Asker → KdcReqBody → Result (Turn ChangePhase ContextChange) Cause → Type 0
-AsksFirst asker body = do
-  begun ← Begins asker body
-  Gives (Asks begun.request (AwaitsError begun.kdc body))
+-- the answer to the request that a ticket lets go: it is sealed under the drawn key
+abbrev pub answer_leg : Grant → Kdc → Draw → AnswerLeg
+answer_leg grant kdc draw = record { protocol = kdc.protocol; suite = grant.suite; subkey = drawn_key grant.suite draw; realm = grant.rep.crealm }
 
--- the first reply: the second request, and an AS-REP is awaited
-unfoldable pub AsksSecond : Asker → Kdc → KdcReqBody → Result (List ℕ) NetFault → Draw → Result (Turn ChangePhase ContextChange) Cause → Type 0
-AsksSecond asker kdc body reply draw = do
-  again ← AsksAgain asker kdc body reply draw
-  Gives (Asks again.request (AwaitsAsRep kdc again.salt))
-
--- the answer to the request that this AS-REP lets go: it is sealed under the drawn key
-abbrev pub answer_leg : KdcRep → ReplyKey → Kdc → Draw → AnswerLeg
-answer_leg rep key kdc draw = record { protocol = kdc.protocol; suite = key.suite; subkey = drawn_key key.suite draw; realm = rep.crealm }
-
--- a ticket whose key has its length: the new password goes to the service beside the KDC
-unfoldable pub AsksChange : Changer → Kdc → KdcRep → ReplyKey → Draw → Result (Turn ChangePhase ContextChange) Cause → Type 0
-AsksChange changer kdc rep key draw = do
-  Holds KeyLength (length key.key == key_size key.suite)
+-- behind the AS exchange, a ticket whose key has its length: the new password goes to the service beside the KDC
+unfoldable pub AsksChange : Changer → Kdc → Draw → Grant → Result (Turn ChangePhase ContextChange) Cause → Type 0
+AsksChange changer kdc draw grant = do
+  Holds KeyLength (length grant.key == key_size grant.suite)
   service ← Takes Port (password_kdc kdc)
-  Gives (Asks (change_request changer key.suite key.key rep service draw) (AwaitsAnswer (answer_leg rep key service draw)))
-
--- the second reply
-unfoldable pub TakesAsRep : Changer → Kdc → List ℕ → Result (List ℕ) NetFault → Draw → Result (Turn ChangePhase ContextChange) Cause → Type 0
-TakesAsRep changer kdc salt reply draw = do
-  as_rep ← Grants kdc.protocol as_rep_layout reply
-  key ← TakesReplyKey changer.asker.credentials salt as_rep
-  AsksChange changer kdc as_rep.0 key draw
+  Gives (Asks (change_request changer grant service draw) (AwaitsAnswer (answer_leg grant service draw)))
 
 -- what stands behind an AP-REP, which is not looked at
 abbrev pub behind_reply : ApMessage → KrbPriv → Option KrbPriv
@@ -104,7 +79,7 @@ Concludes changer leg code = do
   Holds (ResultCode code) (code == 0)
   Gives (Ends (change_of changer leg))
 
--- the third reply ends the exchange
+-- the answer ends the exchange
 unfoldable pub TakesAnswer : Changer → AnswerLeg → Result (List ℕ) NetFault → Result (Turn ChangePhase ContextChange) Cause → Type 0
 TakesAnswer changer leg reply = do
   answer ← ReadsAnswer leg.protocol reply

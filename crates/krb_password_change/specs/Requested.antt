@@ -14,6 +14,7 @@ use Rattle.krb_exchange.specs.PrivMessages.{message_octets}
 use Rattle.sspi_core.specs.declared.draw.Draw.{Draw}
 use Rattle.sspi_generator.specs.declared.network.NetworkRequest.{NetworkRequest}
 use Rattle.krb_as.specs.declared.kdc.Kdc.{Kdc}
+use Rattle.krb_as.specs.declared.key.Grant.{Grant}
 use Rattle.krb_as.specs.Requests.{request_to}
 use Rattle.krb_requests.specs.Pieces.{spelling}
 use Rattle.krb_authenticators.specs.declared.options.EncKey.{EncKey}
@@ -47,9 +48,10 @@ message_by changer suite key ticket authenticator draw =
     priv_request suite key (first_confounder suite draw) (second_confounder suite draw) ticket authenticator
     (priv_part changer.new_password (number_after changer.number) changer.client.host)
 
--- with the ticket of the reply
-abbrev pub change_message : Changer → CipherSuite → List ℕ → KdcRep → Draw → KrbPrivMessage
-change_message changer suite key rep draw = message_by changer suite key rep.ticket (change_authenticator (number_after changer.number) suite rep draw) draw
+-- with the ticket that was granted
+abbrev pub change_message : Changer → Grant → Draw → KrbPrivMessage
+change_message changer grant draw =
+    message_by changer grant.suite grant.key grant.rep.ticket (change_authenticator (number_after changer.number) grant.suite grant.rep draw) draw
 
 -- its octets
 abbrev pub ap_spelling : ApMessage → List ℕ
@@ -60,5 +62,5 @@ abbrev pub written : KrbPrivMessage → List ℕ
 written message = message_octets (ap_spelling message.ap_message) (spelling krb_priv_layout message.krb_priv)
 
 -- the request to the service
-unfoldable pub change_request : Changer → CipherSuite → List ℕ → KdcRep → Kdc → Draw → NetworkRequest
-change_request changer suite key rep kdc draw = request_to kdc (written (change_message changer suite key rep draw))
+unfoldable pub change_request : Changer → Grant → Kdc → Draw → NetworkRequest
+change_request changer grant kdc draw = request_to kdc (written (change_message changer grant draw))

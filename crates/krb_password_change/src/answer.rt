@@ -6,7 +6,8 @@ ghost use Rattle.sspi_core.specs.Checks.{Answers, Finds, Gives, Holds, Takes};
 ghost use Rattle.krb_replies.specs.Answered.{TellsStatus};
 ghost use Rattle.krb_as.specs.declared.turn.Turn.TheVariants as turns;
 ghost use Rattle.krb_password_change.specs.ChangeSteps.{behind_reply, IsAnswer, ReadsAnswer, change_of, Concludes, TakesAnswer};
-ghost use Rattle.krb_password_change.specs.ChangeRuns.{GoesDown};
+ghost use Rattle.krb_as.specs.Turns.{GoesDown};
+ghost use Rattle.krb_password_change.specs.ChangeRuns.{IsAwaiting, turns_left};
 
 use crate::change::Changer;
 use crate::phase::{AnswerLeg, ChangePhase};
@@ -115,7 +116,7 @@ fn end(
     leg: &AnswerLeg,
 ) -> Result<Turn<ChangePhase, ContextChange>, Cause>
     ensures step { Answers (Gives (turns.Ends (change_of changer.now leg.now))) result }
-    ensures down { IfOk result (λ turn. GoesDown 0 turn) }
+    ensures down { IfOk result (λ turn. GoesDown (IsAwaiting changer.now.asker) turns_left 0 turn) }
 {
     Ok(Turn::Ends(change_of(alloc, changer, leg)?))
 }
@@ -128,7 +129,7 @@ fn conclude(
     code: u16,
 ) -> Result<Turn<ChangePhase, ContextChange>, Cause>
     ensures step { Answers (Concludes changer.now leg.now code) result }
-    ensures down { IfOk result (λ turn. GoesDown 0 turn) }
+    ensures down { IfOk result (λ turn. GoesDown (IsAwaiting changer.now.asker) turns_left 0 turn) }
 {
     check_code(code)?;
     end(alloc, changer, leg)
@@ -143,7 +144,7 @@ pub(crate) fn take_answer(
     reply: Result<Octets, NetFault>,
 ) -> Result<Turn<ChangePhase, ContextChange>, Cause>
     ensures step { Answers (TakesAnswer changer.now leg.now reply) result }
-    ensures down { IfOk result (λ turn. GoesDown 0 turn) }
+    ensures down { IfOk result (λ turn. GoesDown (IsAwaiting changer.now.asker) turns_left 0 turn) }
 {
     let answer = read_answer(alloc, leg.protocol, reply)?;
     let code = told_code(alloc, leg, &answer)?;

@@ -6,16 +6,16 @@ ghost use Rattle.sspi_core.specs.declared.cause.Cause.TheVariants as causes;
 ghost use Rattle.sspi_core.specs.Moments.{last_moment};
 ghost use Rattle.sspi_core.specs.Kinds.{error_of};
 ghost use Rattle.sspi_core.specs.Checks.{Answers};
-ghost use Rattle.krb_as.specs.Turns.{is_want};
+ghost use Rattle.krb_as.specs.Turns.{is_want, GoesDown};
 ghost use Rattle.krb_password_change.specs.declared.change.Changer.{Changer};
 ghost use Rattle.krb_password_change.specs.declared.phase.ChangePhase.TheVariants as phases;
 ghost use Rattle.krb_password_change.specs.Changes.{BeginsChange, IsReady};
-ghost use Rattle.krb_password_change.specs.ChangeRuns.{Starts, Next, IsNewPhase, IsAwaiting, IsNew, turns_left, GoesDown, StartsAt, ResumesAt, BeginsSo};
+ghost use Rattle.krb_password_change.specs.ChangeRuns.{Starts, Next, IsNewPhase, IsAwaiting, IsNew, turns_left, StartsAt, ResumesAt, BeginsSo};
 
 use crate::answer::take_answer;
 use crate::change::{ChangePassword, Changer, begin_change};
 use crate::phase::ChangePhase;
-use crate::steps::{ask_first, ask_second, body_of, take_as_rep};
+use crate::steps::{ask_first, take_as_reply};
 use krb_as::{Turn, go_on, is_want};
 use krb_conf::Env;
 use krb_context::{ContextChange, Kerberos};
@@ -84,17 +84,13 @@ fn started(
     requires changer { IsReady changer.now }
     requires moment { draw.now.moment ≤ last_moment }
     ensures step { Answers (Starts changer.now phase.now draw.now) result }
-    ensures down { IfOk result (λ turn. GoesDown (turns_left phase.now) turn) }
+    ensures down { IfOk result (λ turn. GoesDown (IsAwaiting changer.now.asker) turns_left (turns_left phase.now) turn) }
 {
     match phase {
-        ChangePhase::New => {
-            let body = body_of(alloc, &changer.client, draw)?;
-            ask_first(alloc, &changer.asker, body)
+        ChangePhase::New => ask_first(alloc, changer, draw),
+        ChangePhase::InAsExchange(_) | ChangePhase::AwaitsAnswer(_) | ChangePhase::Over => {
+            unreachable!()
         }
-        ChangePhase::AwaitsError(_, _)
-        | ChangePhase::AwaitsAsRep(_, _)
-        | ChangePhase::AwaitsAnswer(_)
-        | ChangePhase::Over => unreachable!(),
     }
 }
 
@@ -106,19 +102,14 @@ fn in_phase(
     reply: Result<Octets, NetFault>,
     draw: &Draw,
 ) -> Result<Turn<ChangePhase, ContextChange>, Cause>
-    requires awaiting { IsAwaiting phase.now }
+    requires awaiting { IsAwaiting changer.now.asker phase.now }
     requires changer { IsReady changer.now }
     requires moment { draw.now.moment ≤ last_moment }
     ensures step { Answers (Next changer.now phase.now reply draw.now) result }
-    ensures down { IfOk result (λ turn. GoesDown (turns_left phase.now) turn) }
+    ensures down { IfOk result (λ turn. GoesDown (IsAwaiting changer.now.asker) turns_left (turns_left phase.now) turn) }
 {
     match phase {
-        ChangePhase::AwaitsError(kdc, body) => {
-            ask_second(alloc, &changer.asker, kdc, body, reply, draw)
-        }
-        ChangePhase::AwaitsAsRep(kdc, salt) => {
-            take_as_rep(alloc, changer, kdc, salt, reply, draw)
-        }
+        ChangePhase::InAsExchange(phase) => take_as_reply(alloc, changer, phase, reply, draw),
         ChangePhase::AwaitsAnswer(leg) => take_answer(alloc, changer, leg, reply),
         ChangePhase::New | ChangePhase::Over => unreachable!(),
     }
@@ -132,11 +123,11 @@ fn next(
     reply: Result<Octets, NetFault>,
     draw: &Draw,
 ) -> Result<Turn<ChangePhase, ContextChange>, Cause>
-    requires awaiting { IsAwaiting phase.now }
+    requires awaiting { IsAwaiting changer.now.asker phase.now }
     requires changer { IsReady changer.now }
     requires moment { draw.now.moment ≤ last_moment }
     ensures step { Answers (Next changer.now phase.now reply draw.now) result }
-    ensures down { IfOk result (λ turn. GoesDown (turns_left phase.now) turn) }
+    ensures down { IfOk result (λ turn. GoesDown (IsAwaiting changer.now.asker) turns_left (turns_left phase.now) turn) }
     ensures memory { is_want reply ≡ true → result ≡ Err causes.Memory }
 {
     if is_want(&reply) {
@@ -172,10 +163,9 @@ impl Task for ChangePasswordRun {
     }
 
     fn turns(&self) -> u32 {
-        match self.phase {
+        match &self.phase {
             ChangePhase::New => 3,
-            ChangePhase::AwaitsError(_, _) => 2,
-            ChangePhase::AwaitsAsRep(_, _) => 1,
+            ChangePhase::InAsExchange(phase) => phase.turns() + 1,
             ChangePhase::AwaitsAnswer(_) | ChangePhase::Over => 0,
         }
     }

@@ -1,9 +1,8 @@
 //! How far a change of a password has come.
 
-use krb_as::Kdc;
+use krb_as::AsPhase;
 use krb_crypto::CipherSuite;
-use krb_der::{Name, Octets, Text};
-use krb_exchange::KdcReqBody;
+use krb_der::{Name, Octets};
 use sspi_core::{NetworkProtocol, Secret};
 
 /// The answer of the service that changes passwords, as it is awaited.
@@ -22,10 +21,8 @@ pub struct AnswerLeg {
 #[derive(Drop)]
 pub enum ChangePhase {
     New,
-    /// The first request was sent there.
-    AwaitsError(Kdc, KdcReqBody),
-    /// The second one was sent there, under a key with this salt.
-    AwaitsAsRep(Kdc, Text),
+    /// The AS exchange waits for a reply.
+    InAsExchange(AsPhase),
     /// The new password was sent.
     AwaitsAnswer(AnswerLeg),
     Over,

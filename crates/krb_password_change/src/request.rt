@@ -12,7 +12,7 @@ ghost use Rattle.krb_password_change.specs.Changes.{IsReady};
 ghost use Rattle.krb_password_change.specs.Requested.{drawn_key, first_confounder, second_confounder, number_after, change_authenticator, message_by, change_message, written, change_request};
 
 use crate::change::Changer;
-use krb_as::{Kdc, request_to};
+use krb_as::{Grant, Kdc, request_to};
 use krb_authenticators::{
     EncKey, GenerateAuthenticatorOptions, generate_authenticator, generate_krb_priv_request,
 };
@@ -36,24 +36,6 @@ pub(crate) fn drawn_key(
 {
     let key = &draw.random[..suite.key_size()];
     Ok(Secret::new(Octets::from_slice(alloc, key)?))
-}
-
-fn first_confounder(suite: CipherSuite, draw: &Draw) -> [u8; 16]
-    ensures { result ≡ first_confounder suite draw.now }
-{
-    let start = suite.key_size();
-    let mut confounder = [0; 16];
-    confounder.copy_from_slice(&draw.random[start..start + 16]);
-    confounder
-}
-
-fn second_confounder(suite: CipherSuite, draw: &Draw) -> [u8; 16]
-    ensures { result ≡ second_confounder suite draw.now }
-{
-    let start = suite.key_size() + 16;
-    let mut confounder = [0; 16];
-    confounder.copy_from_slice(&draw.random[start..start + 16]);
-    confounder
 }
 
 /// The number after the context's own, going round at 2^32.
@@ -108,10 +90,8 @@ fn confounders(suite: CipherSuite, draw: &Draw) -> [[u8; 16]; 2]
     ensures first { get_or result 0 [] ≡ first_confounder suite draw.now }
     ensures second { get_or result 1 [] ≡ second_confounder suite draw.now }
 {
-    [
-        first_confounder(suite, draw),
-        second_confounder(suite, draw),
-    ]
+    let start = suite.key_size();
+    [draw.octets(start), draw.octets(start + 16)]
 }
 
 /// The AP-REQ with this authenticator, and the new password.
@@ -152,21 +132,20 @@ fn message_by(
 fn change_message(
     alloc: Global,
     changer: &Changer,
-    suite: CipherSuite,
-    key: &Secret<Octets>,
-    rep: &KdcRep,
+    grant: &Grant,
     draw: &Draw,
 ) -> Result<KrbPrivMessage, OutOfMemory>
     requires changer { IsReady changer.now }
-    requires rep { IsSendable rep.now }
+    requires rep { IsSendable grant.now.rep }
     requires moment { draw.now.moment ≤ last_moment }
-    ensures made { IfOk result (λ message. message ≡ change_message changer.now suite key.now rep.now draw.now) }
+    ensures made { IfOk result (λ message. message ≡ change_message changer.now grant.now draw.now) }
     ensures fits { IfOk result FitsPriv }
 {
+    let Grant { suite, key, rep } = grant;
     let number = number_after(changer.number);
-    let authenticator = change_authenticator(alloc, number, suite, rep, draw)?;
+    let authenticator = change_authenticator(alloc, number, *suite, rep, draw)?;
     let ticket = rep.ticket.copy(alloc)?;
-    message_by(alloc, changer, suite, key, ticket, &authenticator, draw)
+    message_by(alloc, changer, *suite, key, ticket, &authenticator, draw)
 }
 
 /// Its octets.
@@ -183,22 +162,18 @@ fn written(alloc: Global, message: &KrbPrivMessage) -> Result<Octets, OutOfMemor
 pub(crate) fn change_request(
     alloc: Global,
     changer: &Changer,
-    suite: CipherSuite,
-    key: &Secret<Octets>,
-    rep: &KdcRep,
+    grant: &Grant,
     service: &Kdc,
     draw: &Draw,
 ) -> Result<NetworkRequest, OutOfMemory>
     requires changer { IsReady changer.now }
-    requires rep { IsSendable rep.now }
+    requires rep { IsSendable grant.now.rep }
     requires realm { length service.now.realm ≤ 2 ^ 24 }
     requires moment { draw.now.moment ≤ last_moment }
-    ensures { IfOk result (λ request. request ≡ change_request changer.now suite key.now rep.now service.now draw.now) }
+    ensures { IfOk result (λ request. request ≡ change_request changer.now grant.now service.now draw.now) }
 {
-    let message = boxed(
-        alloc,
-        change_message(alloc, changer, suite, key, rep, draw)?,
-    )?;
+    let message = change_message(alloc, changer, grant, draw)?;
+    let message = boxed(alloc, message)?;
     let octets = written(alloc, &message)?;
     request_to(alloc, service, octets)
 }

@@ -3,8 +3,8 @@
 // What a service answers to events, over any gate and over a replay book.
 pub use krb_machine::laws::{
     admitted_exactly_where, books_admit_a_record_once, completeness, completeness_over_a_book,
-    gates_refuse_by_the_clock, one_outcome, one_reply, one_reply_an_event, one_text,
-    records_are_left_once, runs_never_forget,
+    gates_refuse_by_the_clock, messages_follow_the_lists, one_outcome, one_reply,
+    one_reply_an_event, one_text, records_are_left_once, runs_never_forget,
 };
 
 // How an input is answered, on one thread and on two.
@@ -19,6 +19,12 @@ pub use krb_ends::laws::{
     honest_kdcs_lead_to_an_offer, honest_requests_are_admitted, honest_requests_are_answered,
     initiators_begin, messages_open_in_any_order, messages_open_in_their_order,
     messages_open_where_others_are_lost, runs_have_one_end,
+};
+
+// The same over services, event by event.
+pub use krb_served::laws::{
+    both_ends_reach_one_context_by_events, established_connections_understand_each_other,
+    events_leave_other_connections, one_list_of_events_brings_both_to_one_context,
 };
 
 // Where the session keys of initiators come from.

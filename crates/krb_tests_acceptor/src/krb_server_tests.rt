@@ -12,10 +12,10 @@ mod third_leg;
 use bitflags::Flags;
 use krb_conf::{Env, KerberosConfig};
 use krb_context::{Kerberos, ServerProperties};
-use krb_der::{Items, Octets, Text};
+use krb_der::{Octets, Text, boxed};
 use krb_replay::{ReplayBook, ReplayGate};
 use krb_server::{Accepted, accept_security_context};
-use sspi_core::{Cause, Draw, Error, Secret, ServerRequestFlags};
+use sspi_core::{Cause, Draw, Secret, ServerRequestFlags};
 use std::alloc::Global;
 use std::test::Fail;
 
@@ -37,34 +37,28 @@ fn config(alloc: Global) -> Result<KerberosConfig, Fail> {
     Ok(KerberosConfig::new(alloc, "", name)?)
 }
 
-fn properties(alloc: Global) -> Result<ServerProperties, Fail> {
+fn properties(alloc: Global) -> Result<Box<ServerProperties>, Fail> {
     let key = Secret::new(octets(alloc, 0, 32)?);
-    Ok(ServerProperties::new(alloc, &["host", "server.example.com"], None, 300, Some(key))?)
+    let service = ["host", "server.example.com"];
+    let server = ServerProperties::new(alloc, &service, None, 300, Some(key))?;
+    Ok(boxed(alloc, server)?)
 }
 
 /// An acceptor of this service with this number.
-fn context_with(alloc: Global, server: ServerProperties, number: u32) -> Result<Kerberos, Fail> {
+fn context_with(
+    alloc: Global,
+    server: Box<ServerProperties>,
+    number: u32,
+) -> Result<Box<Kerberos>, Fail> {
     let config = config(alloc)?;
-    Ok(Kerberos::new_server_from_config(config, server, number.to_be_bytes())?)
+    let server = Box::into_inner(server);
+    let context = Kerberos::new_server_from_config(config, server, number.to_be_bytes())?;
+    Ok(boxed(alloc, context)?)
 }
 
 /// An acceptor of host/server.example.com with this number.
-fn context_of(alloc: Global, number: u32) -> Result<Kerberos, Fail> {
+fn context_of(alloc: Global, number: u32) -> Result<Box<Kerberos>, Fail> {
     context_with(alloc, properties(alloc)?, number)
-}
-
-fn no_env(alloc: Global) -> Env {
-    Env {
-        vars: Items::new(Vec::new(alloc)),
-        files: Items::new(Vec::new(alloc)),
-    }
-}
-
-fn cause_of<T: Drop>(answer: Result<T, Error>) -> Option<Cause> {
-    match answer {
-        Ok(_) => None,
-        Err(error) => Some(error.cause),
-    }
 }
 
 /// The octets 0 to 63, at 1700000000 s.
@@ -89,7 +83,7 @@ fn answer_at<G: ReplayGate>(
     token: &[u8],
     flags: ServerRequestFlags,
 ) -> Result<Octets, Cause> {
-    match accept_security_context(alloc, server, gate, token, flags, &no_env(alloc), &draw()) {
+    match accept_security_context(alloc, server, gate, token, flags, &Env::new(alloc), &draw()) {
         Ok(Accepted::Done { token, .. }) => Ok(token),
         // The service is no user, so no token begins an exchange.
         Ok(Accepted::Run(_)) => Err(Cause::Credentials),

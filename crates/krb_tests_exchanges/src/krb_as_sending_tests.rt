@@ -3,7 +3,7 @@
 use crate::rows::octets;
 use krb_as::{Kdc, find_kdc, read_reply, request_to, unwrap_reply};
 use krb_conf::Env;
-use krb_der::{Octets, OutOfMemory};
+use krb_der::{Octets, OutOfMemory, boxed};
 use krb_exchange::{AsRep, KrbResult};
 use krb_requests::name_of;
 use sspi_core::{Cause, NetworkProtocol};
@@ -178,31 +178,28 @@ fn a_fault_keeps_its_number(rt: HostRuntime) {
 }
 
 /// Whether a reply is a KRB-ERROR with this code.
-fn is_error(found: &Result<KrbResult<AsRep>, Cause>, code: u32) -> bool {
+fn is_error(found: &KrbResult<AsRep>, code: u32) -> bool {
     match found {
-        Ok(KrbResult::Err(error)) => error.error_code.value() == code,
-        _ => false,
-    }
-}
-
-fn is_refused(found: &Result<KrbResult<AsRep>, Cause>, wanted: Cause) -> bool {
-    match found {
-        Err(cause) => *cause == wanted,
-        _ => false,
+        KrbResult::Err(error) => error.error_code.value() == code,
+        KrbResult::Ok(_) => false,
     }
 }
 
 /// What a reply over TCP is read as.
-fn read_at(alloc: Global, octets: &[u8]) -> Result<KrbResult<AsRep>, Cause> {
-    read_reply::<AsRep>(alloc, NetworkProtocol::Tcp, reply_of(alloc, octets))
+fn read_at(alloc: Global, octets: &[u8]) -> Result<Box<KrbResult<AsRep>>, Cause> {
+    let read = read_reply::<AsRep>(alloc, NetworkProtocol::Tcp, reply_of(alloc, octets))?;
+    Ok(boxed(alloc, read)?)
 }
 
 fn has_code(alloc: Global, octets: &[u8], code: u32) -> bool {
-    is_error(&read_at(alloc, octets), code)
+    match read_at(alloc, octets) {
+        Ok(found) => is_error(&found, code),
+        Err(_) => false,
+    }
 }
 
 fn is_no_reply(alloc: Global, octets: &[u8]) -> bool {
-    is_refused(&read_at(alloc, octets), Cause::Shape)
+    read_at(alloc, octets).err() == Some(Cause::Shape)
 }
 
 /// A KRB-ERROR with the code 6.

@@ -21,7 +21,7 @@ use krb_as::{
 use krb_conf::{Env, KerberosConfig};
 use krb_context::Kerberos;
 use krb_crypto::CipherSuite;
-use krb_der::{Octets, OutOfMemory, Text};
+use krb_der::{Octets, OutOfMemory, Text, TryCopy, boxed};
 use krb_exchange::KdcReqBody;
 use krb_requests::name_of;
 use proxies::{PROXIED, PROXIED_FIRST, PROXIED_SECOND};
@@ -80,10 +80,13 @@ pub struct Exchange {
     pub end: &'static str,
 }
 
-fn kerberos(alloc: Global, who: &Who) -> Result<Kerberos, OutOfMemory> {
+fn kerberos(alloc: Global, who: &Who) -> Result<Box<Kerberos>, OutOfMemory> {
     let name = Text::from_str(alloc, who.host)?;
     let config = KerberosConfig::new(alloc, who.url, name)?;
-    Ok(Kerberos::new_client_from_config(config, [0, 0, 0, 7]))
+    boxed(
+        alloc,
+        Kerberos::new_client_from_config(config, [0, 0, 0, 7]),
+    )
 }
 
 fn with_password(
@@ -216,12 +219,6 @@ fn draws(turns: &[Turn]) -> [Draw; 3]
     }
 }
 
-fn nonce(draw: &Draw) -> [u8; 4] {
-    let mut nonce = [0; 4];
-    nonce.copy_from_slice(&draw.random[..4]);
-    nonce
-}
-
 fn client(alloc: Global, who: &Who, credentials: &CredentialsBuffers) -> Result<Client, Cause>
     ensures { IfOk result (λ client. IsShort client) }
 {
@@ -239,8 +236,7 @@ fn body(alloc: Global, client: &Client, draw: &Draw) -> Result<KdcReqBody, OutOf
         client,
         FirstService::TicketGranting,
         ClientRequestFlags::MUTUAL_AUTH,
-        nonce(draw),
-        draw.moment,
+        draw,
     )
 }
 
@@ -248,7 +244,7 @@ fn body(alloc: Global, client: &Client, draw: &Draw) -> Result<KdcReqBody, OutOf
 fn exchange_of(
     alloc: Global,
     kerberos: &Kerberos,
-    credentials: CredentialsBuffers,
+    credentials: &CredentialsBuffers,
     client: &Client,
     draw: &Draw,
 ) -> Result<AsExchange, Cause>
@@ -257,8 +253,10 @@ fn exchange_of(
     ensures new { IfOk result (λ exchange. IsNew exchange) }
     ensures turns { IfOk result (λ exchange. turns_left exchange.phase < 3) }
 {
-    let body = body(alloc, client, draw)?;
     let realm = short_name(alloc, &client.realm)?;
+    let body = boxed(alloc, body(alloc, client, draw)?)?;
+    let credentials = credentials.copy(alloc)?;
+    let body = Box::into_inner(body);
     Ok(AsExchange::new(alloc, kerberos, body, credentials, realm, Env::new(alloc))?)
 }
 
@@ -272,9 +270,9 @@ fn exchange_at(
     ensures new { IfOk result (λ exchange. IsNew exchange) }
     ensures turns { IfOk result (λ exchange. turns_left exchange.phase < 3) }
 {
-    let credentials = credentials(alloc, &who.has)?;
+    let credentials = boxed(alloc, credentials(alloc, &who.has)?)?;
     let client = client(alloc, who, &credentials)?;
-    exchange_of(alloc, kerberos, credentials, &client, draw)
+    exchange_of(alloc, kerberos, &credentials, &client, draw)
 }
 
 fn new_exchange(alloc: Global, who: &Who, draw: &Draw) -> Result<AsExchange, Cause>
@@ -288,16 +286,18 @@ fn new_exchange(alloc: Global, who: &Who, draw: &Draw) -> Result<AsExchange, Cau
 
 /// Runs an exchange over a network.
 fn run(
+    alloc: Global,
     exchange: AsExchange,
     network: &mut dyn NetworkClient,
     draws: &[Draw],
-) -> Result<AsDone, Error>
+) -> Result<Box<AsDone>, Error>
     requires new { IsNew exchange }
     requires turns { turns_left exchange.phase < length draws.now }
     requires moments { AreInRange draws.now }
 {
-    let mut run = Generator::new(exchange);
-    run.resolve_with_client(network, draws)
+    let mut run = boxed(alloc, Generator::new(exchange))?;
+    let done = run.resolve_with_client(network, draws)?;
+    Ok(boxed(alloc, done)?)
 }
 
 /// A client that asks no KDC any more.
@@ -328,7 +328,7 @@ fn end_over(
 ) -> Result<ReplyKey, Cause> {
     let draws = draws(turns);
     let exchange = new_exchange(alloc, who, &draws[0])?;
-    match run(exchange, network, &draws) {
+    match run(alloc, exchange, network, &draws) {
         Ok(done) => key_in(alloc, who, &done),
         Err(error) => Err(error.cause),
     }
@@ -455,27 +455,27 @@ fn keys_of_another_length_are_refused(rt: HostRuntime) {
 fn refusal_unsent(alloc: Global) -> Result<AsDone, Error> {
     let draw = draw(&FIRST);
     let exchange = new_exchange(alloc, &ALICE, &draw)?;
-    let mut run = Generator::new(exchange);
+    let mut run = boxed(alloc, Generator::new(exchange))?;
     run.resolve_to_result(&draw)
 }
 
-fn is_refused(answer: &Result<AsDone, Error>, cause: Cause) -> bool {
+fn is_refused<T: Drop>(answer: Result<T, Error>, cause: Cause) -> bool {
     match answer {
         Ok(_) => false,
-        Err(error) => *error == Error::from(cause),
+        Err(error) => error == Error::from(cause),
     }
 }
 
 #[test]
 fn an_exchange_sends_nothing_itself(rt: HostRuntime) {
-    assert!(rt; is_refused(&refusal_unsent(rt.alloc()), Cause::Suspended));
+    assert!(rt; is_refused(refusal_unsent(rt.alloc()), Cause::Suspended));
 }
 
 /// What an exchange ends with over a client that fails at once.
-fn end_of_failed(alloc: Global, client: &mut MemClient) -> Result<AsDone, Error> {
+fn end_of_failed(alloc: Global, client: &mut MemClient) -> Result<Box<AsDone>, Error> {
     let draws = draws(&[FIRST]);
     let exchange = new_exchange(alloc, &ALICE, &draws[0])?;
-    run(exchange, client, &draws)
+    run(alloc, exchange, client, &draws)
 }
 
 #[test]
@@ -483,7 +483,7 @@ fn a_failure_of_the_network_is_told(rt: HostRuntime) -> Result<(), Fail> {
     let mut answers = VecDeque::new(rt.alloc());
     answers.push_back(Err(NetFault::Failed(5)))?;
     let mut client = MemClient::new(answers);
-    assert!(rt; is_refused(&end_of_failed(rt.alloc(), &mut client), Cause::Network(5)));
+    assert!(rt; is_refused(end_of_failed(rt.alloc(), &mut client), Cause::Network(5)));
     assert_eq!(rt; client.faults(), 1);
     Ok(())
 }

@@ -6,7 +6,7 @@ pub mod replies;
 use crate::rows::{is_row, octets};
 use answers::Found;
 use krb_context::EncryptionParams;
-use krb_der::{Asn1, Name, Octets, OutOfMemory, Text};
+use krb_der::{Asn1, Fault, Name, Octets, OutOfMemory, Text, boxed};
 use krb_exchange::{AsRep, KrbError, KrbPrivMessage, TgsRep};
 use krb_messages::{ApRep, Oid, PrincipalName, Ticket};
 use krb_replies::{
@@ -19,6 +19,14 @@ use krb_replies::{
 use sspi_core::{Cause, Error, Secret};
 use std::alloc::Global;
 use std::test::Fail;
+
+/// What was read, on the heap; None where nothing was.
+fn found<T: Drop>(alloc: Global, read: Result<T, Fault>) -> Option<Box<T>> {
+    match read {
+        Ok(value) => boxed(alloc, value).ok(),
+        Err(_) => None,
+    }
+}
 
 /// The key 20 to 3f hex.
 fn key_20(alloc: Global) -> Result<Secret<Octets>, OutOfMemory> {
@@ -41,9 +49,9 @@ fn is_salt(answer: &Result<Option<Text>, Error>, end: &Result<Option<&str>, Caus
 }
 
 fn names_salt(alloc: Global, octets: &[u8], end: &Result<Option<&str>, Cause>) -> bool {
-    match KrbError::read(alloc, octets) {
-        Ok(error) => is_salt(&extract_salt_from_krb_error(alloc, &error), end),
-        Err(_) => false,
+    match found(alloc, KrbError::read(alloc, octets)) {
+        Some(error) => is_salt(&extract_salt_from_krb_error(alloc, &error), end),
+        None => false,
     }
 }
 
@@ -66,12 +74,12 @@ fn is_told(answer: &Result<(u8, Text), Error>, end: &Result<(u8, &str), Cause>) 
 }
 
 fn tells(alloc: Global, octets: &[u8], end: &Result<(u8, &str), Cause>) -> bool {
-    match AsRep::read(alloc, octets) {
-        Ok(as_rep) => is_told(
+    match found(alloc, AsRep::read(alloc, octets)) {
+        Some(as_rep) => is_told(
             &extract_encryption_params_from_as_rep(alloc, &as_rep, "used"),
             end,
         ),
-        Err(_) => false,
+        None => false,
     }
 }
 
@@ -96,12 +104,12 @@ fn is_key(answer: &Result<Secret<Octets>, Error>, end: &Result<&str, Cause>) -> 
 /// Whether an AS-REP under alice's key brings this key.
 fn brings(alloc: Global, octets: &[u8], end: &Result<&str, Cause>) -> bool {
     let params = EncryptionParams::default_for_client();
-    match AsRep::read(alloc, octets) {
-        Ok(reply) => is_key(
+    match found(alloc, AsRep::read(alloc, octets)) {
+        Some(reply) => is_key(
             &extract_session_key_from_as_rep(alloc, &reply, "EXAMPLE.COMalice", "secret", &params),
             end,
         ),
-        Err(_) => false,
+        None => false,
     }
 }
 
@@ -117,12 +125,12 @@ fn as_reps_bring_keys(rt: HostRuntime) -> Result<(), Fail> {
 /// Whether an AS-REP is refused so under a key of the caller's.
 fn is_refused_under(alloc: Global, octets: &[u8], key: &[u8], cause: Cause) -> bool {
     let params = EncryptionParams::default_for_client();
-    match AsRep::read(alloc, octets) {
-        Ok(reply) => is_key(
+    match found(alloc, AsRep::read(alloc, octets)) {
+        Some(reply) => is_key(
             &extract_session_key_from_as_rep_with_key(alloc, &reply, key, &params),
             &Err(cause),
         ),
-        Err(_) => false,
+        None => false,
     }
 }
 
@@ -138,12 +146,12 @@ fn keys_of_another_length_or_client_open_no_as_rep(rt: HostRuntime) -> Result<()
 
 fn hands_on(alloc: Global, octets: &[u8], key: &Secret<Octets>, end: &Result<&str, Cause>) -> bool {
     let params = EncryptionParams::default_for_client();
-    match TgsRep::read(alloc, octets) {
-        Ok(reply) => is_key(
+    match found(alloc, TgsRep::read(alloc, octets)) {
+        Some(reply) => is_key(
             &extract_session_key_from_tgs_rep(alloc, &reply, key, &params),
             end,
         ),
-        Err(_) => false,
+        None => false,
     }
 }
 
@@ -168,12 +176,12 @@ fn is_number(answer: &Result<Octets, Error>, end: &Result<&str, Cause>) -> bool 
 
 fn numbers(alloc: Global, octets: &[u8], key: &Secret<Octets>, end: &Result<&str, Cause>) -> bool {
     let params = EncryptionParams::default_for_client();
-    match ApRep::read(alloc, octets) {
-        Ok(reply) => is_number(
+    match found(alloc, ApRep::read(alloc, octets)) {
+        Some(reply) => is_number(
             &extract_seq_number_from_ap_rep(alloc, &reply, key, &params),
             end,
         ),
-        Err(_) => false,
+        None => false,
     }
 }
 
@@ -184,12 +192,12 @@ fn has_sub_key(
     end: &Result<&str, Cause>,
 ) -> bool {
     let params = EncryptionParams::default_for_client();
-    match ApRep::read(alloc, octets) {
-        Ok(reply) => is_key(
+    match found(alloc, ApRep::read(alloc, octets)) {
+        Some(reply) => is_key(
             &extract_sub_session_key_from_ap_rep(alloc, &reply, key, &params),
             end,
         ),
-        Err(_) => false,
+        None => false,
     }
 }
 
@@ -227,12 +235,12 @@ fn is_status(answer: &Result<u16, Error>, end: &Result<u16, Cause>) -> bool {
 
 fn has_status(alloc: Global, octets: &[u8], key: &[u8], end: &Result<u16, Cause>) -> bool {
     let params = EncryptionParams::default_for_client();
-    match KrbPrivMessage::read(alloc, octets) {
-        Ok(message) => is_status(
+    match found(alloc, KrbPrivMessage::read(alloc, octets)) {
+        Some(message) => is_status(
             &extract_status_code_from_krb_priv_response(alloc, &message.krb_priv, key, &params),
             end,
         ),
-        Err(_) => false,
+        None => false,
     }
 }
 
@@ -280,9 +288,9 @@ fn is_realm(found: Option<&Name>, wanted: Option<&str>) -> bool {
 }
 
 fn refers(alloc: Global, octets: &[u8], wanted: Option<&str>) -> bool {
-    match PrincipalName::read(alloc, octets) {
-        Ok(name) => is_realm(referral_target_realm(&name), wanted),
-        Err(_) => false,
+    match found(alloc, PrincipalName::read(alloc, octets)) {
+        Some(name) => is_realm(referral_target_realm(&name), wanted),
+        None => false,
     }
 }
 

@@ -23,7 +23,7 @@ use krb_authenticators::{
 };
 use krb_context::{ApOptions, EncryptionParams, GssFlags};
 use krb_crypto::CipherSuite;
-use krb_der::{Asn1, Items, Octets, OutOfMemory, TryCopy};
+use krb_der::{Asn1, Items, Octets, OutOfMemory, TryCopy, boxed};
 use krb_exchange::{AsRep, KdcRep, KrbPrivMessage, TgsRep, TgsReq};
 use krb_messages::{ApReq, Authenticator, Ticket};
 use sspi_core::{Cause, ChannelBindings, ClientRequestFlags, Error, NetworkProtocol, Secret};
@@ -203,16 +203,20 @@ fn behind_four(alloc: Global, digits: &str) -> Result<Octets, OutOfMemory> {
     Ok(Octets::new(octets))
 }
 
-fn as_rep(alloc: Global) -> Result<AsRep, Cause>
-    ensures { IfOk result (λ as_rep. IsSendable as_rep.0) }
+fn as_rep(alloc: Global) -> Result<Box<KdcRep>, Cause>
+    ensures { IfOk result (λ rep. IsSendable rep.value) }
 {
-    granted_as_rep(alloc, NetworkProtocol::Udp, reply(alloc, messages::AS_REP))
+    let reply = reply(alloc, messages::AS_REP);
+    let AsRep(rep) = granted_as_rep(alloc, NetworkProtocol::Udp, reply)?;
+    Ok(boxed(alloc, rep)?)
 }
 
-fn tgs_rep(alloc: Global) -> Result<TgsRep, Cause>
-    ensures { IfOk result (λ tgs_rep. IsSendable tgs_rep.0) }
+fn tgs_rep(alloc: Global) -> Result<Box<KdcRep>, Cause>
+    ensures { IfOk result (λ rep. IsSendable rep.value) }
 {
-    granted_tgs_rep(alloc, NetworkProtocol::Udp, reply(alloc, messages::TGS_REP))
+    let reply = reply(alloc, messages::TGS_REP);
+    let TgsRep(rep) = granted_tgs_rep(alloc, NetworkProtocol::Udp, reply)?;
+    Ok(boxed(alloc, rep)?)
 }
 
 static AUTHENTICATORS: [(Shown, Result<&str, Cause>); 4] = [
@@ -247,7 +251,7 @@ static AUTHENTICATORS: [(Shown, Result<&str, Cause>); 4] = [
 #[tactic(auto, using(crate::proofs::Fitting::from_27))]
 fn is_shown(alloc: Global, shown: &Shown, end: &Result<&str, Cause>) -> bool {
     match as_rep(alloc) {
-        Ok(as_rep) => ends(alloc, &authenticator(alloc, &as_rep.0, shown), end),
+        Ok(rep) => ends(alloc, authenticator(alloc, &rep, shown), end),
         Err(_) => false,
     }
 }
@@ -395,29 +399,25 @@ fn tickets(
     Ok(Some(list_of(alloc, ticket)?))
 }
 
-fn tgs_req_with(
-    alloc: Global,
-    ticket: Ticket,
-    authenticator: Authenticator,
-    wanted: &Wanted,
-) -> Result<TgsReq, Error>
-    requires ticket { Fits ticket_layout (2 ^ 24) ticket }
-    requires authenticator { Fits authenticator_layout (2 ^ 27) authenticator }
+fn tgs_req_of(alloc: Global, rep: &KdcRep, wanted: &Wanted) -> Result<TgsReq, Error>
+    requires { IsSendable rep.now }
     ensures { IfOk result (λ made. Fits tgs_req_layout (2 ^ 29) made) }
 {
     if wanted.realm.len() > 64 || wanted.service.len() > 64 {
         return Err(Error::from(OutOfMemory));
     }
-    let additional_tickets = tickets(alloc, &ticket, wanted.is_user_to_user)?;
     let session_key = key_of(alloc, 0x20, wanted.length)?;
+    let authenticator = boxed(alloc, authenticator(alloc, rep, &SHOWN)?)?;
+    let ticket = boxed(alloc, rep.ticket.copy(alloc)?)?;
+    let additional_tickets = tickets(alloc, &rep.ticket, wanted.is_user_to_user)?;
     let flags = if wanted.is_user_to_user { 0x21 } else { 0 };
     let enc_params = EncryptionParams::default_for_client();
     let options = GenerateTgsReqOptions {
         realm: wanted.realm,
         service_principal: wanted.service,
         session_key: &session_key,
-        ticket,
-        authenticator,
+        ticket: Box::into_inner(ticket),
+        authenticator: Box::into_inner(authenticator),
         additional_tickets,
         enc_params: &enc_params,
         context_requirements: ClientRequestFlags::from_bits_retain(flags),
@@ -425,17 +425,9 @@ fn tgs_req_with(
     generate_tgs_req(alloc, options, behind(BEHIND), [0, 1, 2, 3], counted(0))
 }
 
-fn tgs_req_of(alloc: Global, rep: KdcRep, wanted: &Wanted) -> Result<TgsReq, Error>
-    requires { IsSendable rep }
-    ensures { IfOk result (λ made. Fits tgs_req_layout (2 ^ 29) made) }
-{
-    let authenticator = authenticator(alloc, &rep, &SHOWN)?;
-    tgs_req_with(alloc, rep.ticket, authenticator, wanted)
-}
-
 fn is_wanted(alloc: Global, wanted: &Wanted, end: &Result<&str, Cause>) -> bool {
     match as_rep(alloc) {
-        Ok(as_rep) => ends(alloc, &tgs_req_of(alloc, as_rep.0, wanted), end),
+        Ok(rep) => ends(alloc, tgs_req_of(alloc, &rep, wanted), end),
         Err(_) => false,
     }
 }
@@ -448,8 +440,8 @@ fn tgs_reqs(rt: HostRuntime) {
 }
 
 /// The AP-REQ of a TGS-REQ, whose authenticator has the MD5 of the body.
-fn tgs_ap_req(alloc: Global, rep: KdcRep, length: usize) -> Result<ApReq, Error>
-    requires { IsSendable rep }
+fn tgs_ap_req(alloc: Global, rep: &KdcRep, length: usize) -> Result<ApReq, Error>
+    requires { IsSendable rep.now }
     ensures { IfOk result (λ made. Fits ap_req_layout (2 ^ 28) made) }
 {
     let shown = Shown {
@@ -457,11 +449,12 @@ fn tgs_ap_req(alloc: Global, rep: KdcRep, length: usize) -> Result<ApReq, Error>
         ..SHOWN
     };
     let session_key = key_of(alloc, 0x20, length)?;
-    let authenticator = authenticator(alloc, &rep, &shown)?;
+    let authenticator = boxed(alloc, authenticator(alloc, rep, &shown)?)?;
+    let ticket = rep.ticket.copy(alloc)?;
     let enc_params = EncryptionParams::default_for_client();
     generate_tgs_ap_req(
         alloc,
-        rep.ticket,
+        ticket,
         &session_key,
         &authenticator,
         &enc_params,
@@ -472,7 +465,7 @@ fn tgs_ap_req(alloc: Global, rep: KdcRep, length: usize) -> Result<ApReq, Error>
 #[tactic(auto, using(crate::proofs::Fitting::from_28))]
 fn is_tgs_ap_req(alloc: Global, length: usize, end: &Result<&str, Cause>) -> bool {
     match as_rep(alloc) {
-        Ok(as_rep) => ends(alloc, &tgs_ap_req(alloc, as_rep.0, length), end),
+        Ok(rep) => ends(alloc, tgs_ap_req(alloc, &rep, length), end),
         Err(_) => false,
     }
 }
@@ -485,8 +478,8 @@ fn ap_reqs_to_ticket_granting_services(rt: HostRuntime) {
 }
 
 /// The AP-REQ to a service, under the key of the TGS-REP.
-fn ap_req(alloc: Global, rep: KdcRep, key: &str) -> Result<ApReq, Error>
-    requires { IsSendable rep }
+fn ap_req(alloc: Global, rep: &KdcRep, key: &str) -> Result<ApReq, Error>
+    requires { IsSendable rep.now }
     ensures { IfOk result (λ made. Fits ap_req_layout (2 ^ 28) made) }
 {
     let shown = Shown {
@@ -497,11 +490,12 @@ fn ap_req(alloc: Global, rep: KdcRep, key: &str) -> Result<ApReq, Error>
         is_bound: false,
     };
     let session_key = Secret::new(owned(alloc, key)?);
-    let authenticator = authenticator(alloc, &rep, &shown)?;
+    let authenticator = boxed(alloc, authenticator(alloc, rep, &shown)?)?;
+    let ticket = rep.ticket.copy(alloc)?;
     let enc_params = EncryptionParams::default_for_client();
     generate_ap_req(
         alloc,
-        rep.ticket,
+        ticket,
         &session_key,
         &authenticator,
         &enc_params,
@@ -513,7 +507,7 @@ fn ap_req(alloc: Global, rep: KdcRep, key: &str) -> Result<ApReq, Error>
 #[tactic(auto, using(crate::proofs::Fitting::from_28))]
 fn is_ap_req(alloc: Global, key: &str, end: &Result<&str, Cause>) -> bool {
     match tgs_rep(alloc) {
-        Ok(tgs_rep) => ends(alloc, &ap_req(alloc, tgs_rep.0, key), end),
+        Ok(rep) => ends(alloc, ap_req(alloc, &rep, key), end),
         Err(_) => false,
     }
 }
@@ -527,8 +521,8 @@ fn ap_reqs_to_services(rt: HostRuntime) {
 }
 
 /// The request for a new password, with a key that the client chose or with none.
-fn new_password(alloc: Global, rep: KdcRep, has_key: bool) -> Result<KrbPrivMessage, Error>
-    requires { IsSendable rep }
+fn new_password(alloc: Global, rep: &KdcRep, has_key: bool) -> Result<KrbPrivMessage, Error>
+    requires { IsSendable rep.now }
     ensures { IfOk result FitsPriv }
 {
     let shown = Shown {
@@ -537,11 +531,12 @@ fn new_password(alloc: Global, rep: KdcRep, has_key: bool) -> Result<KrbPrivMess
         ..SHOWN
     };
     let session_key = key_of(alloc, 0x40, 32)?;
-    let authenticator = authenticator(alloc, &rep, &shown)?;
+    let authenticator = boxed(alloc, authenticator(alloc, rep, &shown)?)?;
+    let ticket = rep.ticket.copy(alloc)?;
     let enc_params = EncryptionParams::default_for_client();
     generate_krb_priv_request(
         alloc,
-        rep.ticket,
+        ticket,
         &session_key,
         b"newpass",
         &authenticator,
@@ -572,7 +567,7 @@ fn is_message(
 
 fn is_new_password(alloc: Global, has_key: bool, end: &Result<&str, Cause>) -> bool {
     match as_rep(alloc) {
-        Ok(as_rep) => is_message(alloc, &new_password(alloc, as_rep.0, has_key), end),
+        Ok(rep) => is_message(alloc, &new_password(alloc, &rep, has_key), end),
         Err(_) => false,
     }
 }

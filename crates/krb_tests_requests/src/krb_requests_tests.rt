@@ -76,7 +76,7 @@ fn is_body(alloc: Global, asked: &Asked, end: &Result<&str, Cause>) -> bool {
         && is_short(asked.user)
         && is_short(asked.host)
         && is_short_pair(&asked.service)
-        && ends(alloc, &body_of(alloc, asked, &asked.service), end)
+        && ends(alloc, body_of(alloc, asked, &asked.service), end)
 }
 
 #[test]
@@ -95,7 +95,7 @@ fn tgt_req_of(alloc: Global, service: &[&str; 2]) -> Result<TgtReq, Error>
 
 #[tactic(auto, using(crate::proofs::Fitting::from_25))]
 fn is_tgt_req(alloc: Global, service: &[&str; 2], end: &Result<&str, Cause>) -> bool {
-    is_short_pair(service) && ends(alloc, &tgt_req_of(alloc, service), end)
+    is_short_pair(service) && ends(alloc, tgt_req_of(alloc, service), end)
 }
 
 #[test]
@@ -129,8 +129,8 @@ fn with_password(alloc: Global, with_pre_auth: bool) -> Result<Items<PaData>, Er
 #[tactic(auto, using(crate::proofs::Fitting::from_12))]
 fn pre_authentication_with_a_password(rt: HostRuntime) {
     let alloc = rt.alloc();
-    assert!(rt; ends(alloc, &with_password(alloc, false), &Ok(pa_datas::PLAIN)));
-    assert!(rt; ends(alloc, &with_password(alloc, true), &Ok(pa_datas::TIMED)));
+    assert!(rt; ends(alloc, with_password(alloc, false), &Ok(pa_datas::PLAIN)));
+    assert!(rt; ends(alloc, with_password(alloc, true), &Ok(pa_datas::TIMED)));
 }
 
 /// The pre-authentication under a key, which is of AES-128 or else of AES-256.
@@ -154,7 +154,7 @@ fn with_key(
 fn is_keyed(alloc: Global, row: &pa_datas::Keyed) -> bool {
     let (key, is_weak, with_pre_auth, end) = row;
     match owned(alloc, key) {
-        Ok(key) => ends(alloc, &with_key(alloc, key, *is_weak, *with_pre_auth), end),
+        Ok(key) => ends(alloc, with_key(alloc, key, *is_weak, *with_pre_auth), end),
         Err(OutOfMemory) => false,
     }
 }

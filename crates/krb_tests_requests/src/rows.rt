@@ -62,10 +62,10 @@ fn is_spelled<T: Asn1>(alloc: Global, value: &T, digits: &str) -> bool
 }
 
 /// Whether an answer is the record that the digits spell, or the refusal.
-pub fn ends<T: Asn1>(alloc: Global, answer: &Result<T, Error>, end: &Result<&str, Cause>) -> bool
-    requires { IfOk answer.now (λ value. Fits T.layout (2 ^ 29) value) }
+pub fn ends<T: Asn1>(alloc: Global, answer: Result<T, Error>, end: &Result<&str, Cause>) -> bool
+    requires { IfOk answer (λ value. Fits T.layout (2 ^ 29) value) }
 {
-    match (answer, end) {
+    match (&answer, end) {
         (Ok(value), Ok(digits)) => is_spelled(alloc, value, digits),
         (Err(error), Err(cause)) => error.cause == *cause,
         _ => false,

@@ -9,6 +9,7 @@ use crate::rows::is_hex;
 use crate::services::{Service, acceptor_of, draw, flags_of};
 use krb_conf::Env;
 use krb_context::Kerberos;
+use krb_der::boxed;
 use krb_replay::ReplayBook;
 use krb_server::{Accepted, accept_security_context};
 use sspi_core::{Cause, Error, SecurityStatus};
@@ -63,10 +64,10 @@ fn is_refused(error: &Error, wanted: &Answer) -> bool {
     }
 }
 
-fn is_answer(alloc: Global, answer: Result<Accepted, Error>, wanted: &Answer) -> bool {
+fn is_answer(alloc: Global, answer: &Result<Accepted, Error>, wanted: &Answer) -> bool {
     match answer {
-        Ok(accepted) => is_done(alloc, &accepted, wanted),
-        Err(error) => is_refused(&error, wanted),
+        Ok(accepted) => is_done(alloc, accepted, wanted),
+        Err(error) => is_refused(error, wanted),
     }
 }
 
@@ -81,7 +82,8 @@ fn is_answered_so(
     let flags = flags_of(step.dce);
     let env = Env::new(alloc);
     let answer = accept_security_context(alloc, server, book, &token, flags, &env, &draw());
-    Ok(is_answer(alloc, answer, &step.answer))
+    let answer = boxed(alloc, answer)?;
+    Ok(is_answer(alloc, &answer, &step.answer))
 }
 
 /// The first token that is not answered so, if any.

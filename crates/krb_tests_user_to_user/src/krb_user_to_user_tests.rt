@@ -5,9 +5,9 @@ mod tgt_reps;
 use crate::services::{acceptor_for, flags_of, user_with_key, user_with_password};
 use krb_conf::Env;
 use krb_context::Kerberos;
-use krb_der::Asn1;
+use krb_der::{Asn1, boxed};
 use krb_exchange::TgtReq;
-use krb_user_to_user::{AcceptRun, request_tgt};
+use krb_user_to_user::request_tgt;
 use sspi_core::{Cause, CredentialsBuffers, Error};
 use std::alloc::Global;
 use std::test::Fail;
@@ -70,9 +70,9 @@ fn requests() -> &'static [Request] {
     &REQUESTS
 }
 
-fn tgt_req_of(alloc: Global, digits: &str) -> Result<TgtReq, Fail> {
+fn tgt_req_of(alloc: Global, digits: &str) -> Result<Box<TgtReq>, Fail> {
     let octets = hex::decode(alloc, digits)?;
-    Ok(TgtReq::read(alloc, &octets)?)
+    Ok(boxed(alloc, TgtReq::read(alloc, &octets)?)?)
 }
 
 fn user_of(alloc: Global, row: &Request) -> Result<CredentialsBuffers, Fail> {
@@ -83,10 +83,10 @@ fn user_of(alloc: Global, row: &Request) -> Result<CredentialsBuffers, Fail> {
     }
 }
 
-fn cause_of(answer: Result<AcceptRun, Error>) -> Option<Cause> {
-    match answer {
-        Ok(_) => None,
-        Err(error) => Some(error.cause),
+fn cause_of(error: Option<Error>) -> Option<Cause> {
+    match error {
+        None => None,
+        Some(error) => Some(error.cause),
     }
 }
 
@@ -99,7 +99,8 @@ fn refusal_for(
 ) -> Result<Option<Cause>, Fail> {
     let tgt_req = tgt_req_of(alloc, row.tgt_req)?;
     let (flags, env) = (flags_of(false), Env::new(alloc));
-    Ok(cause_of(request_tgt(alloc, server, user, &tgt_req, flags, &env)))
+    let answer = request_tgt(alloc, server, user, &tgt_req, flags, &env);
+    Ok(cause_of(answer.err()))
 }
 
 fn refusal_at(alloc: Global, server: &Kerberos, row: &Request) -> Result<Option<Cause>, Fail> {

@@ -5,7 +5,7 @@ ghost use Rattle.sspi_generator.specs.Draws.{IsInRange};
 use bitflags::Flags;
 use krb_conf::KerberosConfig;
 use krb_context::{Kerberos, ServerProperties};
-use krb_der::{Octets, OutOfMemory, Text};
+use krb_der::{Octets, OutOfMemory, Text, boxed};
 use sspi_core::{
     AuthIdentityBuffers, CredentialsBuffers, Draw, Error, KeytabIdentity, Secret,
     ServerRequestFlags, Username,
@@ -85,13 +85,14 @@ fn named(
     alloc: Global,
     user: Option<CredentialsBuffers>,
     key: Option<Secret<Octets>>,
-) -> Result<ServerProperties, Error> {
-    ServerProperties::new(alloc, &["host", "server.example.com"], user, 300, key)
+) -> Result<Box<ServerProperties>, Error> {
+    let name = ["host", "server.example.com"];
+    Ok(boxed(alloc, ServerProperties::new(alloc, &name, user, 300, key)?)?)
 }
 
-fn properties(alloc: Global, service: &Service) -> Result<ServerProperties, Fail> {
-    let user = user_of(alloc, &service.user)?;
+fn properties(alloc: Global, service: &Service) -> Result<Box<ServerProperties>, Fail> {
     let key = key_if_any(alloc, service.key)?;
+    let user = user_of(alloc, &service.user)?;
     Ok(named(alloc, user, key)?)
 }
 
@@ -111,10 +112,12 @@ fn config(alloc: Global, kdc: &str) -> Result<KerberosConfig, OutOfMemory> {
 pub fn acceptor_with(
     alloc: Global,
     kdc: &str,
-    properties: ServerProperties,
-) -> Result<Kerberos, Fail> {
+    properties: Box<ServerProperties>,
+) -> Result<Box<Kerberos>, Fail> {
     let config = config(alloc, kdc)?;
-    Ok(Kerberos::new_server_from_config(config, properties, [0, 0, 0, 100])?)
+    let properties = Box::into_inner(properties);
+    let acceptor = Kerberos::new_server_from_config(config, properties, [0, 0, 0, 100])?;
+    Ok(boxed(alloc, acceptor)?)
 }
 
 /// The acceptor of the service with this user and without a key, with this KDC.
@@ -122,13 +125,13 @@ pub fn acceptor_for(
     alloc: Global,
     kdc: &str,
     user: Option<CredentialsBuffers>,
-) -> Result<Kerberos, Fail> {
+) -> Result<Box<Kerberos>, Fail> {
     let properties = named(alloc, user, None)?;
     acceptor_with(alloc, kdc, properties)
 }
 
 /// The service's acceptor.
-pub fn acceptor_of(alloc: Global, service: &Service) -> Result<Kerberos, Fail> {
+pub fn acceptor_of(alloc: Global, service: &Service) -> Result<Box<Kerberos>, Fail> {
     let properties = properties(alloc, service)?;
     acceptor_with(alloc, service.kdc, properties)
 }

@@ -9,12 +9,11 @@ use Rattle.sspi_generator.specs.declared.network.NetFault.{NetFault}
 use Rattle.sspi_core.specs.declared.identity.CredentialsBuffers.{CredentialsBuffers}
 use Rattle.krb_replies.specs.Keys.{HandsOnKey}
 use Rattle.krb_context.proofs.ChainLemmas.{passed, gave}
-use Rattle.krb_exchange.specs.Layouts.{as_rep_layout, tgs_rep_layout}
+use Rattle.krb_exchange.specs.Layouts.{tgs_rep_layout}
 use Rattle.krb_as.specs.Replied.{Grants}
-use Rattle.krb_as.specs.declared.key.ReplyKey.{ReplyKey}
 use Rattle.krb_as.specs.ReplyKeys.{TakesReplyKey}
-use Rattle.krb_tgs.specs.declared.wanted.Shown.{Shown}
-use Rattle.krb_tgs.specs.Taken.{TakesAsRep, TakesTgsRep}
+use Rattle.krb_as.specs.declared.key.Grant.{Grant}
+use Rattle.krb_tgs.specs.Taken.{TakesTgsRep}
 use Rattle.krb_tgs.specs.Chain.{HandsOn, IsChain}
 
 module _ (suite : CipherSuite) (reply : TgsRep) (middle last : List ℕ) (opened : HandsOnKey suite middle reply (Ok last)) where
@@ -34,45 +33,19 @@ pub chain_goes_on : (credentials : CredentialsBuffers) (used : List ℕ) (as_rep
 chain_goes_on credentials used as_rep suite replies reply middle last chain opened =
     record { start = chain.start; begins = chain.begins; hands_on = one_more suite reply middle last opened chain.start replies chain.hands_on }
 
--- what was taken from an AS-REP
-pub record AsTaken (credentials : CredentialsBuffers) (protocol : NetworkProtocol) (used : List ℕ) (reply : Result (List ℕ) NetFault) (shown : Shown) : Type 0 where
-  pub rep : AsRep
-  pub granted : Grants protocol as_rep_layout reply (Ok rep)
-  pub opened : TakesReplyKey credentials used rep (Ok (record { suite = shown.suite; key = shown.key }))
-  pub brought : shown.rep ≡ rep.0
-
-as_given : (rep : AsRep) (taken : ReplyKey) (shown : Shown) → Gives (record { suite = taken.suite; key = taken.key; rep = rep.0 }) (Ok shown)
-    → shown ≡ record { suite = taken.suite; key = taken.key; rep = rep.0 }
-as_given rep taken shown h = gave _ _ h
-
-pub taken_as : (credentials : CredentialsBuffers) (protocol : NetworkProtocol) (used : List ℕ) (reply : Result (List ℕ) NetFault) (shown : Shown)
-    → TakesAsRep credentials protocol used reply (Ok shown) → AsTaken credentials protocol used reply shown
-unfolding TakesAsRep
-taken_as credentials protocol used reply shown h =
-    let rep = passed _ _ _ h in
-    let taken = passed _ _ _ rep.rest_held in
-    let is = as_given rep.found taken.found shown taken.rest_held in
-    record {
-      rep = rep.found;
-      granted = rep.first_held;
-      opened =
-          subst (λ (s : Shown). TakesReplyKey credentials used rep.found (Ok (record { suite = s.suite; key = s.key }))) (sym is) taken.first_held;
-      brought = ap (λ (s : Shown). s.rep) is;
-    }
-
 -- what was taken from a TGS-REP: the key that it hands on
-pub record TgsTaken (protocol : NetworkProtocol) (suite : CipherSuite) (key : List ℕ) (reply : Result (List ℕ) NetFault) (shown : Shown) : Type 0 where
+pub record TgsTaken (protocol : NetworkProtocol) (suite : CipherSuite) (key : List ℕ) (reply : Result (List ℕ) NetFault) (shown : Grant) : Type 0 where
   pub rep : TgsRep
   pub granted : Grants protocol tgs_rep_layout reply (Ok rep)
   pub opened : HandsOnKey suite key rep (Ok shown.key)
   pub brought : shown.rep ≡ rep.0
   pub same : shown.suite ≡ suite
 
-tgs_given : (suite : CipherSuite) (key : List ℕ) (rep : TgsRep) (shown : Shown) → Gives (record { suite = suite; key = key; rep = rep.0 }) (Ok shown)
+tgs_given : (suite : CipherSuite) (key : List ℕ) (rep : TgsRep) (shown : Grant) → Gives (record { suite = suite; key = key; rep = rep.0 }) (Ok shown)
     → shown ≡ record { suite = suite; key = key; rep = rep.0 }
 tgs_given suite key rep shown h = gave _ _ h
 
-pub taken_tgs : (protocol : NetworkProtocol) (suite : CipherSuite) (key : List ℕ) (reply : Result (List ℕ) NetFault) (shown : Shown)
+pub taken_tgs : (protocol : NetworkProtocol) (suite : CipherSuite) (key : List ℕ) (reply : Result (List ℕ) NetFault) (shown : Grant)
     → TakesTgsRep protocol suite key reply (Ok shown) → TgsTaken protocol suite key reply shown
 unfolding TakesTgsRep
 taken_tgs protocol suite key reply shown h =
@@ -82,7 +55,7 @@ taken_tgs protocol suite key reply shown h =
     record {
       rep = rep.found;
       granted = rep.first_held;
-      opened = subst (λ (k : List ℕ). HandsOnKey suite key rep.found (Ok k)) (sym (ap (λ (s : Shown). s.key) is)) next.first_held;
-      brought = ap (λ (s : Shown). s.rep) is;
-      same = ap (λ (s : Shown). s.suite) is;
+      opened = subst (λ (k : List ℕ). HandsOnKey suite key rep.found (Ok k)) (sym (ap (λ (s : Grant). s.key) is)) next.first_held;
+      brought = ap (λ (s : Grant). s.rep) is;
+      same = ap (λ (s : Grant). s.suite) is;
     }

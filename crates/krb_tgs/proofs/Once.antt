@@ -9,33 +9,26 @@ use Rattle.krb_exchange.specs.declared.kdc_rep.TgsRep.{TgsRep}
 use Rattle.krb_exchange.proofs.Results.{one_result_of}
 use Rattle.sspi_core.proofs.Once.{Once, then_once, holds_once, gives_once}
 use Rattle.sspi_core.specs.declared.draw.Draw.{Draw}
-use Rattle.sspi_core.specs.declared.identity.CredentialsBuffers.{CredentialsBuffers}
 use Rattle.sspi_core.specs.declared.protocol.NetworkProtocol.{NetworkProtocol}
 use Rattle.sspi_generator.specs.declared.network.NetFault.{NetFault}
 use Rattle.krb_replies.specs.Keys.{HandsOnKey}
 use Rattle.krb_replies.proofs.Once.{opens_once}
-use Rattle.krb_as.proofs.Once.{finds_kdc_once, grants_once, grants_as_rep_once}
+use Rattle.krb_as.proofs.Once.{finds_kdc_once, grants_once}
 use Rattle.krb_as.specs.declared.asker.Asker.{Asker}
-use Rattle.krb_as.proofs.FirstOnce.{takes_reply_key_once}
 use Rattle.krb_tgs.specs.declared.wanted.Wanted.{Wanted}
-use Rattle.krb_tgs.specs.declared.wanted.Shown.{Shown}
+use Rattle.krb_as.specs.declared.key.Grant.{Grant}
 use Rattle.krb_tgs.specs.TgsAsked.{AsksTgs, Follows}
-use Rattle.krb_tgs.specs.Taken.{TakesAsRep, TakesTgsRep}
+use Rattle.krb_tgs.specs.Taken.{TakesTgsRep}
 
-pub asks_tgs_once : (asker : Asker) (wanted : Wanted) (shown : Shown) (home realm : List ℕ) (tickets : Option (List Ticket)) (draw : Draw) → Once (AsksTgs asker wanted shown home realm tickets draw)
+pub asks_tgs_once : (asker : Asker) (wanted : Wanted) (shown : Grant) (home realm : List ℕ) (tickets : Option (List Ticket)) (draw : Draw) → Once (AsksTgs asker wanted shown home realm tickets draw)
 unfolding AsksTgs
 asks_tgs_once asker wanted shown home realm tickets draw =
     then_once _ _ (holds_once _ _) (λ _. then_once _ _ (finds_kdc_once _ asker.env realm) (λ kdc. gives_once _))
 
-pub follows_once : (asker : Asker) (wanted : Wanted) (shown : Shown) (hops : ℕ) (home asked realm : List ℕ) (draw : Draw) → Once (Follows asker wanted shown hops home asked realm draw)
+pub follows_once : (asker : Asker) (wanted : Wanted) (shown : Grant) (hops : ℕ) (home asked realm : List ℕ) (draw : Draw) → Once (Follows asker wanted shown hops home asked realm draw)
 unfolding Follows
 follows_once asker wanted shown hops home asked realm draw =
     then_once _ _ (holds_once _ _) (λ _. then_once _ _ (holds_once _ _) (λ _. asks_tgs_once asker wanted shown home realm None draw))
-
-pub takes_as_rep_once : (credentials : CredentialsBuffers) (protocol : NetworkProtocol) (used : List ℕ) (reply : Result (List ℕ) NetFault) → Once (TakesAsRep credentials protocol used reply)
-unfolding TakesAsRep
-takes_as_rep_once credentials protocol used reply =
-    then_once _ _ (grants_as_rep_once protocol reply) (λ as_rep. then_once _ _ (takes_reply_key_once credentials used as_rep) (λ taken. gives_once _))
 
 -- a reply is of one kind
 tgs_rep_once : HasOneResult tgs_rep_layout

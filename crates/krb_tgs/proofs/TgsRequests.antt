@@ -9,7 +9,7 @@ use Rattle.krb_conf.specs.Names.{target_parts}
 use Rattle.sspi_core.specs.declared.draw.Draw.{Draw}
 use Rattle.krb_authenticators.specs.TgsRequests.{tgs_body, tgs_req, IsTgsReq}
 use Rattle.krb_tgs.specs.declared.wanted.Wanted.{Wanted}
-use Rattle.krb_tgs.specs.declared.wanted.Shown.{Shown}
+use Rattle.krb_as.specs.declared.key.Grant.{Grant}
 use Rattle.krb_tgs.specs.TgsAsked.{drawn_nonce, drawn_confounder, tgs_authenticator, parts_of, tgs_req_for}
 
 behind : (suite : CipherSuite) (key confounder : List ℕ) (ticket : Ticket) (authenticator : Authenticator) (body : List ℕ → List ℕ → KdcReqBody)
@@ -18,7 +18,7 @@ behind : (suite : CipherSuite) (key confounder : List ℕ) (ticket : Ticket) (au
 behind suite key confounder ticket authenticator body (Some parts) made h = h
 behind suite key confounder ticket authenticator body None made h = absurd h
 
-module _ (wanted : Wanted) (shown : Shown) (realm : List ℕ) (tickets : Option (List Ticket)) (draw : Draw) where
+module _ (wanted : Wanted) (shown : Grant) (realm : List ℕ) (tickets : Option (List Ticket)) (draw : Draw) where
   same : (suite : CipherSuite) (confounder nonce text target : List ℕ) (ticket : Ticket) (authenticator : Authenticator)
       → suite ≡ shown.suite → confounder ≡ drawn_confounder draw → nonce ≡ drawn_nonce draw → text ≡ realm → target ≡ wanted.target
       → ticket ≡ shown.rep.ticket → authenticator ≡ tgs_authenticator wanted shown.rep draw

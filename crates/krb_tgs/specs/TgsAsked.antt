@@ -23,9 +23,9 @@ use Rattle.krb_requests.specs.Pieces.{spelling}
 use Rattle.krb_authenticators.specs.Authenticators.{authenticator}
 use Rattle.krb_authenticators.specs.TgsRequests.{tgs_body, tgs_req}
 use Rattle.krb_as.specs.declared.asker.Asker.{Asker}
-use Rattle.krb_as.specs.declared.request.Begun.{Begun}
+use Rattle.krb_tgs.specs.declared.tgs.Begun.{Begun}
 use Rattle.krb_tgs.specs.declared.wanted.Wanted.{Wanted}
-use Rattle.krb_tgs.specs.declared.wanted.Shown.{Shown}
+use Rattle.krb_as.specs.declared.key.Grant.{Grant}
 
 -- the random octets of a request, in their order: four of a number, the highest first, four of a nonce, sixteen of a confounder
 abbrev pub drawn_number : Draw → ℕ
@@ -50,13 +50,13 @@ abbrev pub wanted_body : Wanted → List ℕ → Option (List Ticket) → Draw �
 wanted_body wanted realm tickets draw service host = tgs_body realm service host tickets wanted.flags.0 draw.moment (drawn_nonce draw)
 
 -- the request to the ticket-granting service of a realm, with the ticket that was brought
-unfoldable pub tgs_req_for : Wanted → Shown → List ℕ → Option (List Ticket) → Draw → TgsReq
+unfoldable pub tgs_req_for : Wanted → Grant → List ℕ → Option (List Ticket) → Draw → TgsReq
 tgs_req_for wanted shown realm tickets draw =
     tgs_req shown.suite shown.key (drawn_confounder draw) shown.rep.ticket (tgs_authenticator wanted shown.rep draw)
     (wanted_body wanted realm tickets draw (parts_of (target_parts wanted.target)).0 (parts_of (target_parts wanted.target)).1)
 
 -- the same, sent to a realm's KDC
-unfoldable pub tgs_request : Wanted → Shown → Option (List Ticket) → Draw → Kdc → NetworkRequest
+unfoldable pub tgs_request : Wanted → Grant → Option (List Ticket) → Draw → Kdc → NetworkRequest
 tgs_request wanted shown tickets draw kdc = request_to kdc (spelling tgs_req_layout (tgs_req_for wanted shown kdc.realm tickets draw))
 
 -- the URL that the client has is that of a KDC of its own realm, by the same octets: for any other realm one is looked for
@@ -64,7 +64,7 @@ abbrev pub url_for : Option Parts → List ℕ → List ℕ → Option Parts
 url_for own home realm = if bytes_eq home realm then own else None
 
 -- the session key has its length, the realm has a KDC, and the request goes to it
-unfoldable pub AsksTgs : Asker → Wanted → Shown → List ℕ → List ℕ → Option (List Ticket) → Draw → Result Begun Cause → Type 0
+unfoldable pub AsksTgs : Asker → Wanted → Grant → List ℕ → List ℕ → Option (List Ticket) → Draw → Result Begun Cause → Type 0
 AsksTgs asker wanted shown home realm tickets draw = do
   Holds KeyLength (length shown.key == key_size shown.suite)
   kdc ← FindsKdc (url_for asker.kdc_url home realm) asker.env realm
@@ -75,7 +75,7 @@ abbrev pub is_same_realm : List ℕ → List ℕ → Bool
 is_same_realm x y = bytes_eq (str_to_ascii_lowercase x) (str_to_ascii_lowercase y)
 
 -- a referral is followed, at most nine of them, and none to the realm that was asked; no additional ticket goes along
-unfoldable pub Follows : Asker → Wanted → Shown → ℕ → List ℕ → List ℕ → List ℕ → Draw → Result Begun Cause → Type 0
+unfoldable pub Follows : Asker → Wanted → Grant → ℕ → List ℕ → List ℕ → List ℕ → Draw → Result Begun Cause → Type 0
 Follows asker wanted shown hops home asked realm draw = do
   Holds Hops (nat_lt hops 9)
   Holds SameRealm (not (is_same_realm asked realm))

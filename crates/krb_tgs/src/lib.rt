@@ -2,14 +2,14 @@
 //! section 8).
 //!
 //! [`ask_tgs`] is the request to the KDC of a realm, [`follow`] that behind a referral. Each is one chain of ordered checks in
-//! `specs/TgsAsked`. [`take_as_rep`] and [`take_tgs_rep`] say what the replies bring (`specs/Taken`), and `specs/Chain` how each key
-//! comes from the one before it.
+//! `specs/TgsAsked`. [`take_tgs_rep`] says what a reply brings (`specs/Taken`), and `specs/Chain` how each key comes from the one
+//! before it.
 #![tactic(auto)]
 
 mod replies;
 mod tgs;
 mod wanted;
 
-pub use replies::{take_as_rep, take_tgs_rep};
-pub use tgs::{ask_tgs, follow};
-pub use wanted::{Shown, Wanted};
+pub use replies::take_tgs_rep;
+pub use tgs::{Begun, ask_tgs, follow};
+pub use wanted::Wanted;

@@ -14,13 +14,12 @@ ghost use Rattle.krb_as.specs.Kdcs.{FindsKdc};
 ghost use Rattle.krb_as.specs.Granted.{IsSendable};
 ghost use Rattle.krb_tgs.specs.TgsAsked.{tgs_authenticator, tgs_req_for, tgs_request, url_for, AsksTgs, is_same_realm, Follows};
 
-use crate::wanted::{Shown, Wanted};
-use krb_as::{Asker, Begun, Kdc, find_kdc, request_to};
+use crate::wanted::Wanted;
+use krb_as::{Asker, Grant, Kdc, find_kdc, request_to};
 use krb_authenticators::{
     GenerateAuthenticatorOptions, GenerateTgsReqOptions, generate_authenticator, generate_tgs_req,
 };
 use krb_context::EncryptionParams;
-use krb_crypto::CipherSuite;
 use krb_der::{Asn1, Items, Name, OutOfMemory, TryCopy};
 use krb_exchange::{KdcRep, TgsReq};
 use krb_messages::{Authenticator, Ticket};
@@ -30,6 +29,14 @@ use std::alloc::Global;
 
 /// The most referrals that are followed.
 const MAX_HOPS: u8 = 9;
+
+/// A request to a ticket-granting service.
+#[derive(Drop)]
+pub struct Begun {
+    pub request: NetworkRequest,
+    /// Where it goes.
+    pub kdc: Kdc,
+}
 
 /// Who asks. An authenticator without a checksum has no room to lack.
 fn tgs_authenticator(
@@ -62,7 +69,7 @@ fn tgs_authenticator(
 fn tgs_req_by(
     alloc: Global,
     wanted: &Wanted,
-    shown: &Shown,
+    shown: &Grant,
     realm: &Name,
     tickets: Option<Items<Ticket>>,
     authenticator: Authenticator,
@@ -102,7 +109,7 @@ fn tgs_req_by(
 fn tgs_req_for(
     alloc: Global,
     wanted: &Wanted,
-    shown: &Shown,
+    shown: &Grant,
     realm: &Name,
     tickets: Option<Items<Ticket>>,
     draw: &Draw,
@@ -124,7 +131,7 @@ fn tgs_req_for(
 fn tgs_request(
     alloc: Global,
     wanted: &Wanted,
-    shown: &Shown,
+    shown: &Grant,
     tickets: Option<Items<Ticket>>,
     draw: &Draw,
     kdc: &Kdc,
@@ -146,7 +153,7 @@ fn tgs_request(
 fn sent_tgs_request(
     alloc: Global,
     wanted: &Wanted,
-    shown: &Shown,
+    shown: &Grant,
     tickets: Option<Items<Ticket>>,
     draw: &Draw,
     kdc: Kdc,
@@ -163,7 +170,7 @@ fn sent_tgs_request(
     Ok(Begun { request, kdc })
 }
 
-fn check_key(shown: &Shown) -> Result<(), Cause>
+fn check_key(shown: &Grant) -> Result<(), Cause>
     ensures { Holds causes.KeyLength (length shown.now.key == key_size shown.now.suite) result }
 {
     hold(
@@ -194,7 +201,7 @@ pub fn ask_tgs(
     alloc: Global,
     asker: &Asker,
     wanted: &Wanted,
-    shown: &Shown,
+    shown: &Grant,
     home: &Name,
     realm: &Name,
     tickets: Option<Items<Ticket>>,
@@ -242,7 +249,7 @@ pub fn follow(
     alloc: Global,
     asker: &Asker,
     wanted: &Wanted,
-    shown: &Shown,
+    shown: &Grant,
     hops: u8,
     home: &Name,
     asked: &Name,

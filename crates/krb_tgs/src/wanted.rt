@@ -1,9 +1,7 @@
-//! What a client wants, and what it shows for it.
+//! What a client wants.
 
-use krb_crypto::CipherSuite;
-use krb_der::{Name, Octets};
-use krb_exchange::KdcRep;
-use sspi_core::{ChannelBindings, ClientRequestFlags, Secret};
+use krb_der::Name;
+use sspi_core::{ChannelBindings, ClientRequestFlags};
 
 /// What a client wants of ticket-granting services. A step never changes it.
 #[derive(Drop)]
@@ -13,15 +11,4 @@ pub struct Wanted {
     pub flags: ClientRequestFlags,
     /// The bindings of the channel below.
     pub channel_bindings: Option<ChannelBindings>,
-}
-
-/// What is shown to a ticket-granting service.
-#[derive(Drop)]
-pub struct Shown {
-    /// The suite of the key.
-    pub suite: CipherSuite,
-    /// The session key of the ticket.
-    pub key: Secret<Octets>,
-    /// The reply that brought the ticket.
-    pub rep: KdcRep,
 }

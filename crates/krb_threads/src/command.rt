@@ -10,7 +10,7 @@ ghost use Rattle.krb_threads.specs.Threads.{Answers, Runs};
 
 use crate::described::Described;
 use crate::ending::Ending;
-use crate::going::let_go;
+use crate::going::drop_all;
 use crate::known::Known;
 use crate::parting::{numbers, parted};
 use crate::pause::Pause;
@@ -46,7 +46,7 @@ fn answer_text<R: Threads + Wait + Sync, P: Pause + Send, Q: Pause + Send>(
     let (one, two) = parted(alloc, events)?;
     let answers = answers_of(rt, alloc, &described, one, two, first, second)?;
     let text = text_of(rt, alloc, &low, &high, &answers);
-    let_go(rt, described, answers);
+    drop_all(rt, described, answers);
     text
 }
 

@@ -1,17 +1,17 @@
-//! What is let go of beside other work.
+//! What is dropped beside other work.
 
 use crate::described::Described;
 use crate::workers::{Answers, Left};
 use std::thread::{JoinHandle, Threads, spawn};
 
-/// A thread that lets go of a value, or none where none could be made.
+/// A thread that drops a value, or none where none could be made.
 #[derive(Drop)]
 pub struct Going {
     thread: Option<JoinHandle<()>>,
 }
 
 impl Going {
-    /// Begins to let go of a value. Where no thread can be made, it is gone at once.
+    /// Begins to drop a value. Where no thread can be made, it is dropped at once.
     pub fn start<R: Threads, T: Drop + Send + 'static>(rt: &R, value: T) -> Going {
         let go = move || {
             let _gone = value;
@@ -24,7 +24,7 @@ impl Going {
         }
     }
 
-    /// Returns once the value is gone.
+    /// Returns once the value is dropped.
     pub fn wait<R: Threads>(self, rt: &R) {
         if let Some(thread) = self.thread {
             thread.join(rt);
@@ -32,9 +32,9 @@ impl Going {
     }
 }
 
-/// Lets go of all that was needed for the answers. Each of two threads gives back what it took itself, since the C library's
+/// Drops all that was needed for the answers. Each of two threads gives back what it took itself, since the C library's
 /// allocator has one lock for all that a thread has taken; what both took is given back last.
-pub fn let_go<R: Threads>(rt: &R, described: Described, answers: Answers) {
+pub fn drop_all<R: Threads>(rt: &R, described: Described, answers: Answers) {
     let Answers {
         first,
         second,

@@ -61,11 +61,13 @@ impl Known {
         ensures err { OnErr result (self.new ≡ self.old) }
         ensures lines { self.new.lines ≡ self.old.lines }
     {
-        if !self.script.has_begun() {
-            return Err(FieldError::Bad);
+        if self.script.has_begun() {
+            self.events.push(event)?;
+            Ok(())
+        } else {
+            drop(event);
+            Err(FieldError::Bad)
         }
-        self.events.push(event)?;
-        Ok(())
     }
 
     /// One line before the first event.
@@ -74,10 +76,12 @@ impl Known {
         ensures err { OnErr result (self.new ≡ self.old) }
         ensures lines { self.new.lines ≡ self.old.lines }
     {
-        if !self.events.is_empty() {
-            return Err(FieldError::Bad);
+        if self.events.is_empty() {
+            self.script.set_up(declaration)
+        } else {
+            drop(declaration);
+            Err(FieldError::Bad)
         }
-        self.script.set_up(declaration)
     }
 
     fn declare(&mut self, item: Item) -> Result<(), FieldError>
@@ -103,11 +107,10 @@ impl Known {
         ensures err { OnErr result (self.new ≡ self.old) }
         ensures lines { self.new.lines ≡ self.old.lines }
     {
-        let item = match ahead {
-            Some(held) => held.into_item(),
-            None => parse_item(alloc, line)?,
-        };
-        self.declare(item)
+        match ahead {
+            Some(held) => self.declare(held.into_item()),
+            None => self.declare(parse_item(alloc, line)?),
+        }
     }
 
     /// One line more, with what was read of it ahead, if it was. At `Err` nothing is taken.

@@ -1,4 +1,3 @@
 pub mod Refusals
-pub mod Tasks
 pub mod Lengths
 pub mod Once

@@ -1,6 +1,5 @@
 -- The exchange in which a service fetches its ticket, as a task.
-use Rattle.std.specs.Prelude.{◌≡◌, ℕ, ◌<◌, ◌≤◌, ◌^◌, List, length, Result, Ok, Err}
-use Rattle.krb_exchange.specs.Layouts.{kdc_req_body_layout}
+use Rattle.std.specs.Prelude.{◌≡◌, ℕ, ◌≤◌, ◌^◌, List, length, Result, Ok, Err}
 use Rattle.sspi_core.specs.declared.draw.Draw.{Draw}
 use Rattle.sspi_core.specs.declared.error.Error.{Error}
 use Rattle.sspi_core.specs.declared.cause.Cause.{Cause}
@@ -8,30 +7,30 @@ use Rattle.sspi_core.specs.Kinds.{error_of}
 use Rattle.sspi_generator.specs.declared.network.NetworkRequest.{NetworkRequest}
 use Rattle.sspi_generator.specs.declared.network.NetFault.{NetFault}
 use Rattle.sspi_generator.specs.declared.task.GeneratorState.{GeneratorState}
-use Rattle.krb_requests.specs.Pieces.{Fits}
 use Rattle.krb_as.specs.declared.turn.Turn.{Turn}
-use Rattle.krb_as.specs.declared.turn.Turn.TheVariants.{Asks, Ends}
+use Rattle.krb_as.specs.declared.asker.Asker.{Asker}
 use Rattle.krb_as.specs.declared.done.InitDone.{InitDone}
 use Rattle.krb_as.specs.Turns.{Turns}
 use Rattle.krb_as.specs.Clients.{IsShort}
+use Rattle.krb_as.specs.AsPhases as as_phases
+use Rattle.krb_as.specs.AsPhases.{BeginsWithin, TakesReplyWithin}
 use Rattle.krb_user_to_user.specs.declared.request.Acceptor.{Acceptor}
 use Rattle.krb_user_to_user.specs.declared.request.Beginning.{Beginning}
 use Rattle.krb_user_to_user.specs.declared.steps.AcceptPhase.{AcceptPhase}
-use Rattle.krb_user_to_user.specs.declared.steps.AcceptPhase.TheVariants.{New, AwaitsError, AwaitsAsRep, Over}
+use Rattle.krb_user_to_user.specs.declared.steps.AcceptPhase.TheVariants.{New, InAsExchange, Over}
 use Rattle.krb_user_to_user.specs.declared.accept_run.AcceptRun.{AcceptRun}
-use Rattle.krb_user_to_user.specs.AcceptSteps.{body_of, AsksFirst, AsksSecond, TakesAsRep}
+use Rattle.krb_user_to_user.specs.AcceptSteps.{body_of, EndsWithTicket}
 
 -- what the start leads to, and what an answer leads to, in each phase
 abbrev pub Starts : Acceptor → AcceptPhase → Draw → Result (Turn AcceptPhase InitDone) Cause → Type 0
-Starts acceptor (New client) draw answer = AsksFirst acceptor.asker (body_of client draw) answer
-Starts acceptor (AwaitsError kdc body) draw answer = ⊥
-Starts acceptor (AwaitsAsRep kdc salt) draw answer = ⊥
+Starts acceptor (New client) draw answer = BeginsWithin InAsExchange acceptor.asker (body_of client draw) answer
+Starts acceptor (InAsExchange phase) draw answer = ⊥
 Starts acceptor Over draw answer = ⊥
 
 abbrev pub Next : Acceptor → AcceptPhase → Result (List ℕ) NetFault → Draw → Result (Turn AcceptPhase InitDone) Cause → Type 0
 Next acceptor (New client) reply draw answer = ⊥
-Next acceptor (AwaitsError kdc body) reply draw answer = AsksSecond acceptor.asker kdc body reply draw answer
-Next acceptor (AwaitsAsRep kdc salt) reply draw answer = TakesAsRep acceptor kdc.protocol salt reply answer
+Next acceptor (InAsExchange phase) reply draw answer =
+    TakesReplyWithin InAsExchange (EndsWithTicket acceptor) acceptor.asker phase reply draw answer
 Next acceptor Over reply draw answer = ⊥
 
 -- the two steps of the task: who asks stays, and the phase goes on
@@ -47,32 +46,24 @@ pub record ResumesAt (old : AcceptRun) (reply : Result (List ℕ) NetFault) (dra
 -- it is not started; it awaits an answer; and how often it may still ask. What is to be sent can be
 abbrev pub IsNewPhase : AcceptPhase → Type 0
 IsNewPhase (New client) = IsShort client
-IsNewPhase (AwaitsError kdc body) = ⊥
-IsNewPhase (AwaitsAsRep kdc salt) = ⊥
+IsNewPhase (InAsExchange phase) = ⊥
 IsNewPhase Over = ⊥
 
-abbrev pub IsAwaiting : AcceptPhase → Type 0
-IsAwaiting (New client) = ⊥
-IsAwaiting (AwaitsError kdc body) = Fits kdc_req_body_layout (2 ^ 28) body × (length kdc.realm ≤ 2 ^ 24)
-IsAwaiting (AwaitsAsRep kdc salt) = Unit {0}
-IsAwaiting Over = ⊥
+abbrev pub IsAwaiting : Asker → AcceptPhase → Type 0
+IsAwaiting asker (New client) = ⊥
+IsAwaiting asker (InAsExchange phase) = as_phases.IsAwaiting asker phase
+IsAwaiting asker Over = ⊥
 
 abbrev pub turns_left : AcceptPhase → ℕ
 turns_left (New client) = 2
-turns_left (AwaitsError kdc body) = 1
-turns_left (AwaitsAsRep kdc salt) = 0
+turns_left (InAsExchange phase) = as_phases.turns_left phase
 turns_left Over = 0
 
 abbrev pub IsNew : AcceptRun → Type 0
 IsNew run = IsNewPhase run.phase × (length run.acceptor.asker.realm ≤ 2 ^ 24)
 
 abbrev pub IsWaiting : AcceptRun → Type 0
-IsWaiting run = IsAwaiting run.phase
-
--- a step that ends at a request leaves fewer turns, and a phase that awaits
-abbrev pub GoesDown : ℕ → Turn AcceptPhase InitDone → Type 0
-GoesDown turns (Asks request phase) = IsAwaiting phase × (turns_left phase < turns)
-GoesDown turns (Ends value) = Unit {0}
+IsWaiting run = IsAwaiting run.acceptor.asker run.phase
 
 -- the run that begins so, or the refusal with its kind
 abbrev pub BeginsSo : Result Beginning Cause → Result AcceptRun Error → Type 0

@@ -6,14 +6,14 @@ ghost use Rattle.sspi_core.specs.declared.cause.Cause.TheVariants as causes;
 ghost use Rattle.sspi_core.specs.Moments.{last_moment};
 ghost use Rattle.sspi_core.specs.Kinds.{error_of};
 ghost use Rattle.sspi_core.specs.Checks.{Answers};
-ghost use Rattle.krb_as.specs.Turns.{is_want};
+ghost use Rattle.krb_as.specs.Turns.{is_want, GoesDown};
 ghost use Rattle.krb_user_to_user.specs.declared.request.Beginning.{Beginning};
 ghost use Rattle.krb_user_to_user.specs.declared.steps.AcceptPhase.TheVariants as phases;
 ghost use Rattle.krb_user_to_user.specs.TgtRequests.{is_bare, RequestsTgt, CanBegin};
-ghost use Rattle.krb_user_to_user.specs.AcceptRuns.{Starts, Next, IsNewPhase, IsAwaiting, IsNew, turns_left, GoesDown, StartsAt, ResumesAt, BeginsSo};
+ghost use Rattle.krb_user_to_user.specs.AcceptRuns.{Starts, Next, IsNewPhase, IsAwaiting, IsNew, turns_left, StartsAt, ResumesAt, BeginsSo};
 
 use crate::request::{Acceptor, Beginning, begin_accept};
-use crate::steps::{AcceptPhase, ask_first, ask_second, body_of, take_as_rep};
+use crate::steps::{AcceptPhase, ask_first, take_as_reply};
 use bitflags::Flags;
 use krb_as::{InitDone, Turn, go_on, is_want};
 use krb_conf::Env;
@@ -87,16 +87,11 @@ fn started(
     requires realm { length acceptor.now.asker.realm ≤ 2 ^ 24 }
     requires moment { draw.now.moment ≤ last_moment }
     ensures step { Answers (Starts acceptor.now phase.now draw.now) result }
-    ensures down { IfOk result (λ turn. GoesDown (turns_left phase.now) turn) }
+    ensures down { IfOk result (λ turn. GoesDown (IsAwaiting acceptor.now.asker) turns_left (turns_left phase.now) turn) }
 {
     match phase {
-        AcceptPhase::New(client) => {
-            let body = body_of(alloc, client, draw)?;
-            ask_first(alloc, &acceptor.asker, body)
-        }
-        AcceptPhase::AwaitsError(_, _) | AcceptPhase::AwaitsAsRep(_, _) | AcceptPhase::Over => {
-            unreachable!()
-        }
+        AcceptPhase::New(client) => ask_first(alloc, &acceptor.asker, client, draw),
+        AcceptPhase::InAsExchange(_) | AcceptPhase::Over => unreachable!(),
     }
 }
 
@@ -108,18 +103,13 @@ fn in_phase(
     reply: Result<Octets, NetFault>,
     draw: &Draw,
 ) -> Result<Turn<AcceptPhase, InitDone>, Cause>
-    requires awaiting { IsAwaiting phase.now }
+    requires awaiting { IsAwaiting acceptor.now.asker phase.now }
     requires moment { draw.now.moment ≤ last_moment }
     ensures step { Answers (Next acceptor.now phase.now reply draw.now) result }
-    ensures down { IfOk result (λ turn. GoesDown (turns_left phase.now) turn) }
+    ensures down { IfOk result (λ turn. GoesDown (IsAwaiting acceptor.now.asker) turns_left (turns_left phase.now) turn) }
 {
     match phase {
-        AcceptPhase::AwaitsError(kdc, body) => {
-            ask_second(alloc, &acceptor.asker, kdc, body, reply, draw)
-        }
-        AcceptPhase::AwaitsAsRep(kdc, salt) => {
-            take_as_rep(alloc, acceptor, kdc.protocol, salt, reply)
-        }
+        AcceptPhase::InAsExchange(phase) => take_as_reply(alloc, acceptor, phase, reply, draw),
         AcceptPhase::New(_) | AcceptPhase::Over => unreachable!(),
     }
 }
@@ -132,10 +122,10 @@ fn next(
     reply: Result<Octets, NetFault>,
     draw: &Draw,
 ) -> Result<Turn<AcceptPhase, InitDone>, Cause>
-    requires awaiting { IsAwaiting phase.now }
+    requires awaiting { IsAwaiting acceptor.now.asker phase.now }
     requires moment { draw.now.moment ≤ last_moment }
     ensures step { Answers (Next acceptor.now phase.now reply draw.now) result }
-    ensures down { IfOk result (λ turn. GoesDown (turns_left phase.now) turn) }
+    ensures down { IfOk result (λ turn. GoesDown (IsAwaiting acceptor.now.asker) turns_left (turns_left phase.now) turn) }
     ensures memory { is_want reply ≡ true → result ≡ Err causes.Memory }
 {
     if is_want(&reply) {
@@ -168,10 +158,10 @@ impl Task for AcceptRun {
     }
 
     fn turns(&self) -> u32 {
-        match self.phase {
+        match &self.phase {
             AcceptPhase::New(_) => 2,
-            AcceptPhase::AwaitsError(_, _) => 1,
-            AcceptPhase::AwaitsAsRep(_, _) | AcceptPhase::Over => 0,
+            AcceptPhase::InAsExchange(phase) => phase.turns(),
+            AcceptPhase::Over => 0,
         }
     }
 }

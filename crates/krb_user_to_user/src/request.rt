@@ -5,14 +5,13 @@ ghost use Rattle.sspi_core.specs.declared.cause.Cause.{Cause};
 ghost use Rattle.sspi_core.specs.declared.cause.Cause.TheVariants as causes;
 ghost use Rattle.sspi_core.specs.Kinds.{error_of};
 ghost use Rattle.sspi_core.specs.Checks.{Answers, Gives, Holds};
-ghost use Rattle.krb_as.specs.Askers.{asker_of};
 ghost use Rattle.krb_as.specs.Clients.{IsShort};
 ghost use Rattle.krb_user_to_user.specs.TgtRequests.{is_bare, is_own, has_password, acceptor_of, RequestsTgt, CanBegin};
 
-use krb_as::{Asker, Client, client_of};
+use krb_as::{Asker, Client, asker_of, client_of};
 use krb_conf::Env;
 use krb_context::{EncryptionParams, Kerberos};
-use krb_der::{OutOfMemory, TryCopy};
+use krb_der::TryCopy;
 use krb_exchange::TgtReq;
 use krb_messages::PrincipalName;
 use sspi_core::{Cause, CredentialsBuffers, hold};
@@ -63,30 +62,6 @@ fn check_user(credentials: &CredentialsBuffers) -> Result<(), Cause>
         matches!(credentials, CredentialsBuffers::AuthIdentity(_)),
         Cause::KeytabUser,
     )
-}
-
-fn env_of(alloc: Global, env: &Env) -> Result<Env, OutOfMemory>
-    ensures { IfOk result (λ copy. copy ≡ env.now) }
-{
-    Ok(Env {
-        vars: env.vars.copy(alloc)?,
-        files: env.files.copy(alloc)?,
-    })
-}
-
-fn asker_of(
-    alloc: Global,
-    server: &Kerberos,
-    credentials: &CredentialsBuffers,
-    env: &Env,
-    client: &Client,
-) -> Result<Asker, OutOfMemory>
-    ensures { IfOk result (λ asker. asker ≡ asker_of server.now credentials.now client.now.realm env.now) }
-{
-    let credentials = credentials.copy(alloc)?;
-    let realm = client.realm.copy(alloc)?;
-    let env = env_of(alloc, env)?;
-    Asker::new(server, credentials, realm, env)
 }
 
 /// The exchange of this client.

@@ -1,30 +1,31 @@
 //! The steps in which a service fetches its ticket.
 
-ghost use Rattle.std.specs.Prelude.{◌≡◌, ◌≤◌, ◌^◌, IfOk, Some, length, take};
+ghost use Rattle.std.specs.Prelude.{◌≡◌, ℕ, ◌≤◌, ◌^◌, IfOk, Some, length};
 ghost use Rattle.sspi_core.specs.Moments.{last_moment};
-ghost use Rattle.sspi_core.specs.Checks.{Answers, Gives};
+ghost use Rattle.sspi_core.specs.Checks.{Answers};
 ghost use Rattle.krb_exchange.specs.Layouts.{kdc_req_body_layout};
 ghost use Rattle.krb_requests.specs.Pieces.{Fits};
-ghost use Rattle.krb_as.specs.declared.turn.Turn.TheVariants as turns;
+ghost use Rattle.krb_as.specs.AsPhases.{BeginsWithin, TakesReplyWithin, EndsSendable, IsAwaiting as AwaitsReply, turns_left as as_turns};
 ghost use Rattle.krb_as.specs.Clients.{IsShort};
 ghost use Rattle.krb_as.specs.Granted.{IsSendable};
+ghost use Rattle.krb_as.specs.Turns.{Within, GoesDown};
 ghost use Rattle.krb_user_to_user.specs.declared.steps.AcceptPhase.TheVariants as phases;
-ghost use Rattle.krb_user_to_user.specs.AcceptSteps.{body_of, AsksFirst, AsksSecond, done_of, TakesAsRep};
-ghost use Rattle.krb_user_to_user.specs.AcceptRuns.{GoesDown};
+ghost use Rattle.krb_user_to_user.specs.AcceptSteps.{body_of, done_of, EndsWithTicket};
+ghost use Rattle.krb_user_to_user.specs.AcceptRuns.{IsAwaiting, turns_left};
 
 use crate::request::Acceptor;
 use crate::tgt_rep::token_of;
 use bitflags::Flags;
 use krb_as::{
-    Asker, Client, FirstService, InitDone, Kdc, ReplyKey, Turn, ask_again, begin, first_body,
-    granted_as_rep, reply_key,
+    AsPhase, Asker, Client, FirstService, Grant, InitDone, Turn, begin_exchange, first_body,
+    take_reply,
 };
 use krb_context::{ContextChange, EncryptionParams, KerberosState};
 use krb_crypto::CipherSuite;
 use krb_der::{Name, Octets, OutOfMemory, Text, TryCopy};
-use krb_exchange::{AsRep, KdcRep, KdcReqBody};
-use sspi_core::{Cause, ClientRequestFlags, Draw, NetworkProtocol, SecurityStatus};
-use sspi_generator::{NetFault, NetworkRequest};
+use krb_exchange::{KdcRep, KdcReqBody};
+use sspi_core::{Cause, ClientRequestFlags, Draw, SecurityStatus};
+use sspi_generator::NetFault;
 use std::alloc::Global;
 
 /// How far the exchange has come.
@@ -32,101 +33,53 @@ use std::alloc::Global;
 pub enum AcceptPhase {
     /// It is not started, and is to ask for this client.
     New(Client),
-    /// The first request was sent there.
-    AwaitsError(Kdc, KdcReqBody),
-    /// The second one was sent there, under a key with this salt.
-    AwaitsAsRep(Kdc, Text),
+    /// The AS exchange waits for a reply.
+    InAsExchange(AsPhase),
     Over,
 }
 
-fn drawn_nonce(draw: &Draw) -> [u8; 4]
-    ensures { result ≡ take 4 draw.now.random }
-{
-    let mut nonce = [0; 4];
-    nonce.copy_from_slice(&draw.random[..4]);
-    nonce
-}
-
-/// What is asked for.
-#[tactic(auto, unfolding(crate::specs::AcceptSteps::body_of))]
-pub(crate) fn body_of(
-    alloc: Global,
-    client: &Client,
-    draw: &Draw,
-) -> Result<KdcReqBody, OutOfMemory>
+/// What is asked for: a ticket to the ticket-granting service.
+fn body_of(alloc: Global, client: &Client, draw: &Draw) -> Result<KdcReqBody, OutOfMemory>
     requires client { IsShort client.now }
     requires moment { draw.now.moment ≤ last_moment }
     ensures made { IfOk result (λ body. body ≡ body_of client.now draw.now) }
     ensures fits { IfOk result (λ body. Fits kdc_req_body_layout (2 ^ 28) body) }
 {
-    let nonce = drawn_nonce(draw);
     let flags = ClientRequestFlags::empty();
-    let service = FirstService::TicketGranting;
-    first_body(alloc, client, service, flags, nonce, draw.moment)
+    first_body(alloc, client, FirstService::TicketGranting, flags, draw)
 }
 
-/// The phase behind the first request.
-fn sent_first(
-    request: NetworkRequest,
-    kdc: Kdc,
-    body: KdcReqBody,
-) -> Result<Turn<AcceptPhase, InitDone>, Cause>
-    requires body { Fits kdc_req_body_layout (2 ^ 28) body }
-    requires realm { length kdc.realm ≤ 2 ^ 24 }
-    ensures step { Answers (Gives (turns.Asks request (phases.AwaitsError kdc body))) result }
-    ensures down { IfOk result (λ turn. GoesDown 2 turn) }
-{
-    Ok(Turn::Asks(request, AcceptPhase::AwaitsError(kdc, body)))
-}
-
-/// The start.
-#[tactic(auto, unfolding(crate::specs::AcceptSteps::AsksFirst))]
-pub(crate) fn ask_first(
+/// The first request, with this body.
+#[tactic(auto, unfolding(krb_as::specs::AsPhases::BeginsWithin))]
+fn ask_for(
     alloc: Global,
     asker: &Asker,
     body: KdcReqBody,
 ) -> Result<Turn<AcceptPhase, InitDone>, Cause>
     requires body { Fits kdc_req_body_layout (2 ^ 28) body }
     requires realm { length asker.now.realm ≤ 2 ^ 24 }
-    ensures step { Answers (AsksFirst asker.now body) result }
-    ensures down { IfOk result (λ turn. GoesDown 2 turn) }
+    ensures step { Answers (BeginsWithin phases.InAsExchange asker.now body) result }
+    ensures down { IfOk result (λ turn. GoesDown (IsAwaiting asker.now) turns_left 2 turn) }
 {
-    let begun = begin(alloc, asker, &body)?;
-    sent_first(begun.request, begun.kdc, body)
+    let (request, phase) = begin_exchange(alloc, asker, body)?;
+    Ok(Turn::Asks(request, AcceptPhase::InAsExchange(phase)))
 }
 
-/// The phase behind the second request.
-fn sent_second(
-    alloc: Global,
-    request: NetworkRequest,
-    kdc: &Kdc,
-    salt: Text,
-) -> Result<Turn<AcceptPhase, InitDone>, Cause>
-    ensures step { Answers (Gives (turns.Asks request (phases.AwaitsAsRep kdc.now salt))) result }
-    ensures down { IfOk result (λ turn. GoesDown 1 turn) }
-{
-    let kdc = kdc.copy(alloc)?;
-    Ok(Turn::Asks(request, AcceptPhase::AwaitsAsRep(kdc, salt)))
-}
-
-/// What follows the first reply.
-#[tactic(auto, unfolding(crate::specs::AcceptSteps::AsksSecond))]
-pub(crate) fn ask_second(
+/// The start.
+pub(crate) fn ask_first(
     alloc: Global,
     asker: &Asker,
-    kdc: &Kdc,
-    body: &KdcReqBody,
-    reply: Result<Octets, NetFault>,
+    client: &Client,
     draw: &Draw,
 ) -> Result<Turn<AcceptPhase, InitDone>, Cause>
+    requires client { IsShort client.now }
     requires moment { draw.now.moment ≤ last_moment }
-    requires body { Fits kdc_req_body_layout (2 ^ 28) body.now }
-    requires realm { length kdc.now.realm ≤ 2 ^ 24 }
-    ensures step { Answers (AsksSecond asker.now kdc.now body.now reply draw.now) result }
-    ensures down { IfOk result (λ turn. GoesDown 1 turn) }
+    requires realm { length asker.now.realm ≤ 2 ^ 24 }
+    ensures step { Answers (BeginsWithin phases.InAsExchange asker.now (body_of client.now draw.now)) result }
+    ensures down { IfOk result (λ turn. GoesDown (IsAwaiting asker.now) turns_left 2 turn) }
 {
-    let again = ask_again(alloc, asker, kdc, body, reply, draw)?;
-    sent_second(alloc, again.request, kdc, again.salt)
+    let body = body_of(alloc, client, draw)?;
+    ask_for(alloc, asker, body)
 }
 
 fn text_of(alloc: Global, name: &Name) -> Result<Text, OutOfMemory>
@@ -149,19 +102,14 @@ fn params_with(
 
 /// What the exchange ends with.
 #[tactic(auto, unfolding(crate::specs::AcceptSteps::done_of))]
-fn done_of(
-    alloc: Global,
-    acceptor: &Acceptor,
-    as_rep: AsRep,
-    reply: ReplyKey,
-) -> Result<InitDone, OutOfMemory>
-    requires { IsSendable as_rep.0 }
-    ensures { IfOk result (λ done. done ≡ done_of acceptor.now as_rep reply) }
+fn done_of(alloc: Global, acceptor: &Acceptor, grant: Grant) -> Result<InitDone, OutOfMemory>
+    requires { IsSendable grant.rep }
+    ensures { IfOk result (λ done. done ≡ done_of acceptor.now grant) }
 {
-    let AsRep(rep) = as_rep;
+    let Grant { suite, key, rep } = grant;
     let KdcRep { crealm, ticket, .. } = rep;
     let realm = text_of(alloc, &crealm)?;
-    let encryption_params = params_with(alloc, &acceptor.params, reply.suite)?;
+    let encryption_params = params_with(alloc, &acceptor.params, suite)?;
     let token = token_of(alloc, acceptor.dce, ticket)?;
     Ok(InitDone {
         status: SecurityStatus::ContinueNeeded,
@@ -172,37 +120,42 @@ fn done_of(
             encryption_params,
             seq_number: acceptor.number,
             krb5_user_to_user: true,
-            ticket_decryption_key: Some(reply.key),
+            ticket_decryption_key: Some(key),
         },
     })
 }
 
-fn end(
+/// What a step of the AS exchange leads to.
+fn behind_turn(
     alloc: Global,
     acceptor: &Acceptor,
-    as_rep: AsRep,
-    reply: ReplyKey,
+    turn: Turn<AsPhase, Grant>,
 ) -> Result<Turn<AcceptPhase, InitDone>, Cause>
-    requires { IsSendable as_rep.0 }
-    ensures step { Answers (Gives (turns.Ends (done_of acceptor.now as_rep reply))) result }
-    ensures down { IfOk result (λ turn. GoesDown 0 turn) }
+    requires sendable { EndsSendable turn }
+    ensures step { Answers (Within phases.InAsExchange (EndsWithTicket acceptor.now) turn) result }
+    ensures down { (turns : ℕ) → GoesDown (AwaitsReply acceptor.now.asker) as_turns turns turn
+        → IfOk result (λ made. GoesDown (IsAwaiting acceptor.now.asker) turns_left turns made) }
 {
-    Ok(Turn::Ends(done_of(alloc, acceptor, as_rep, reply)?))
+    match turn {
+        Turn::Asks(request, phase) => { Ok(Turn::Asks(request, AcceptPhase::InAsExchange(phase))) }
+        Turn::Ends(grant) => Ok(Turn::Ends(done_of(alloc, acceptor, grant)?)),
+    }
 }
 
-/// What follows the second reply.
-#[tactic(auto, unfolding(crate::specs::AcceptSteps::TakesAsRep))]
-pub(crate) fn take_as_rep(
+/// What follows a reply of the AS exchange.
+#[tactic(auto, unfolding(krb_as::specs::AsPhases::TakesReplyWithin))]
+pub(crate) fn take_as_reply(
     alloc: Global,
     acceptor: &Acceptor,
-    protocol: NetworkProtocol,
-    salt: &Text,
+    phase: &AsPhase,
     reply: Result<Octets, NetFault>,
+    draw: &Draw,
 ) -> Result<Turn<AcceptPhase, InitDone>, Cause>
-    ensures step { Answers (TakesAsRep acceptor.now protocol salt.now reply) result }
-    ensures down { IfOk result (λ turn. GoesDown 0 turn) }
+    requires awaiting { AwaitsReply acceptor.now.asker phase.now }
+    requires moment { draw.now.moment ≤ last_moment }
+    ensures step { Answers (TakesReplyWithin phases.InAsExchange (EndsWithTicket acceptor.now) acceptor.now.asker phase.now reply draw.now) result }
+    ensures down { IfOk result (λ turn. GoesDown (IsAwaiting acceptor.now.asker) turns_left (as_turns phase.now) turn) }
 {
-    let as_rep = granted_as_rep(alloc, protocol, reply)?;
-    let key = reply_key(alloc, &acceptor.asker, salt, &as_rep)?;
-    end(alloc, acceptor, as_rep, key)
+    let turn = take_reply(alloc, &acceptor.asker, phase, reply, draw)?;
+    behind_turn(alloc, acceptor, turn)
 }

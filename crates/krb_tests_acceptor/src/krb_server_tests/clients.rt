@@ -1,10 +1,9 @@
 //! Names of clients, by their type.
 
-use super::cause_of;
 use krb_der::{IntegerAsn1, Items, Name};
 use krb_messages::PrincipalName;
 use krb_server::client_upn;
-use sspi_core::{Cause, Username};
+use sspi_core::{Cause, Error, Username};
 use std::alloc::{AllocError, Global};
 use std::test::Fail;
 
@@ -105,16 +104,24 @@ fn principal(alloc: Global, row: &Client) -> Result<PrincipalName, Fail> {
     })
 }
 
+/// The user that the row's client is.
+fn user_of(alloc: Global, row: &Client) -> Result<Result<Username, Error>, Fail> {
+    let realm = name(alloc, "EXAMPLE.COM")?;
+    let cname = principal(alloc, row)?;
+    Ok(client_upn(alloc, &cname, &realm))
+}
+
+fn is_user(alloc: Global, user: &Username, text: &str) -> Result<bool, Fail> {
+    let wanted = Username::parse(alloc, text)?;
+    Ok(*user == wanted)
+}
+
 /// Whether the row's client is the row's user, or is refused.
 fn is_known_so(alloc: Global, row: &Client) -> Result<bool, Fail> {
-    let cname = principal(alloc, row)?;
-    let realm = name(alloc, "EXAMPLE.COM")?;
-    let user = client_upn(alloc, &cname, &realm);
-    if row.user.is_empty() {
-        return Ok(cause_of(user) == Some(Cause::ClientName));
+    match user_of(alloc, row)? {
+        Ok(user) => Ok(!row.user.is_empty() && is_user(alloc, &user, row.user)?),
+        Err(error) => Ok(row.user.is_empty() && error.cause == Cause::ClientName),
     }
-    let wanted = Username::parse(alloc, row.user)?;
-    Ok(user? == wanted)
 }
 
 #[test]

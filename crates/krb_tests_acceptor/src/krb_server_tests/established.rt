@@ -4,7 +4,7 @@
 use super::{answer, context_with, octets, properties};
 use bitflags::Flags;
 use krb_context::{Kerberos, ServerProperties};
-use krb_der::{Items, Octets};
+use krb_der::{Items, Octets, boxed};
 use sspi_core::{Message, Part, Secret, SecurityBufferRef, ServerRequestFlags};
 use std::alloc::{AllocError, Global};
 use std::test::Fail;
@@ -44,9 +44,10 @@ fn broker() -> &'static Exchange {
 }
 
 /// The service kafka/a, without a key of its own, with one for kafka/localhost.
-fn with_a_further_key(alloc: Global) -> Result<ServerProperties, Fail> {
+fn with_a_further_key(alloc: Global) -> Result<Box<ServerProperties>, Fail> {
+    let server = ServerProperties::new(alloc, &["kafka", "a"], None, 300, None)?;
+    let mut server = boxed(alloc, server)?;
     let key = Secret::new(octets(alloc, 0x40, 32)?);
-    let mut server = ServerProperties::new(alloc, &["kafka", "a"], None, 300, None)?;
     server.add_service_key(alloc, &["kafka", "localhost"], key)?;
     Ok(server)
 }
@@ -111,7 +112,7 @@ fn answers_and_seals(
 /// Whether the exchange goes so at an acceptor of this service with this number.
 fn goes_so(
     alloc: Global,
-    service: ServerProperties,
+    service: Box<ServerProperties>,
     number: u32,
     exchange: &Exchange,
 ) -> Result<bool, Fail> {

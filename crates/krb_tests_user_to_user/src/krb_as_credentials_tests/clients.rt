@@ -1,6 +1,6 @@
 //! Clients of credentials, and the bodies of their first requests.
 
-ghost use Rattle.std.specs.Prelude.{◌^◌, IfOk};
+ghost use Rattle.std.specs.Prelude.{◌≡◌, ◌^◌, IfOk};
 ghost use Rattle.krb_exchange.specs.Layouts.{kdc_req_body_layout};
 ghost use Rattle.krb_requests.specs.Pieces.{Fits};
 ghost use Rattle.krb_as.specs.Clients.{IsShort};
@@ -12,7 +12,7 @@ use krb_as::{Client, FirstService, client_of, first_body, short_name};
 use krb_conf::Env;
 use krb_der::{Asn1, Name, Octets, OutOfMemory, Text};
 use krb_exchange::KdcReqBody;
-use sspi_core::{Cause, ClientRequestFlags};
+use sspi_core::{Cause, ClientRequestFlags, Draw};
 use std::alloc::Global;
 use std::test::Fail;
 
@@ -88,20 +88,26 @@ fn written(alloc: Global, body: &KdcReqBody) -> Result<Octets, OutOfMemory>
     body.write(alloc)
 }
 
+/// The nonce and the moment of the bodies.
+fn draw() -> Draw
+    ensures { result.moment ≡ 1_700_000_000_123_456 }
+{
+    let mut random = [0; 64];
+    random[1] = 1;
+    random[2] = 2;
+    random[3] = 3;
+    Draw {
+        moment: 1_700_000_000_123_456,
+        random,
+    }
+}
+
 /// Whether the client asks so.
 fn asks_so(alloc: Global, client: &Client, first: &First) -> Result<bool, Fail>
     requires { IsShort client.now }
 {
-    let nonce = [0, 1, 2, 3];
     let flags = flags_of(first.delegates);
-    let body = first_body(
-        alloc,
-        client,
-        first.service,
-        flags,
-        nonce,
-        1_700_000_000_123_456,
-    )?;
+    let body = first_body(alloc, client, first.service, flags, &draw())?;
     let made = written(alloc, &body)?;
     Ok(is_hex(alloc, made.as_slice(), first.body))
 }

@@ -5,7 +5,7 @@ use crate::services::{user_with_key, user_with_password};
 use krb_as::{Asker, ReplyKey, reply_key};
 use krb_conf::Env;
 use krb_crypto::CipherSuite;
-use krb_der::{Asn1, Name, Text};
+use krb_der::{Asn1, Name, Text, boxed};
 use krb_exchange::AsRep;
 use sspi_core::{Cause, CredentialsBuffers};
 use std::alloc::Global;
@@ -113,9 +113,9 @@ fn asker_of(alloc: Global, row: &AsReply) -> Result<Asker, Fail> {
     })
 }
 
-fn as_rep_of(alloc: Global, digits: &str) -> Result<AsRep, Fail> {
+fn as_rep_of(alloc: Global, digits: &str) -> Result<Box<AsRep>, Fail> {
     let octets = hex::decode(alloc, digits)?;
-    Ok(AsRep::read(alloc, &octets)?)
+    Ok(boxed(alloc, AsRep::read(alloc, &octets)?)?)
 }
 
 /// What the AS-REP brings who asks.

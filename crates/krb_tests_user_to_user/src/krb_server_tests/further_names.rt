@@ -3,6 +3,7 @@
 use super::{Answer, Step, first_other_at};
 use crate::services::{acceptor_with, key_of};
 use krb_context::{Kerberos, ServerProperties};
+use krb_der::boxed;
 use sspi_core::{Cause, SecurityStatus};
 use std::alloc::Global;
 use std::test::Fail;
@@ -29,11 +30,12 @@ fn with_a_further_key() -> &'static [Step] {
     &WITH_A_FURTHER_KEY
 }
 
-fn properties(alloc: Global) -> Result<ServerProperties, Fail> {
-    Ok(ServerProperties::new(alloc, &["kafka", "a"], None, 300, None)?)
+fn properties(alloc: Global) -> Result<Box<ServerProperties>, Fail> {
+    let properties = ServerProperties::new(alloc, &["kafka", "a"], None, 300, None)?;
+    Ok(boxed(alloc, properties)?)
 }
 
-fn acceptor(alloc: Global) -> Result<Kerberos, Fail> {
+fn acceptor(alloc: Global) -> Result<Box<Kerberos>, Fail> {
     let properties = properties(alloc)?;
     acceptor_with(alloc, "", properties)
 }
@@ -41,14 +43,14 @@ fn acceptor(alloc: Global) -> Result<Kerberos, Fail> {
 /// The octets 0 to 31.
 const FURTHER_KEY: &str = "000102030405060708090a0b0c0d0e0f101112131415161718191a1b1c1d1e1f";
 
-fn with_further_key(alloc: Global) -> Result<ServerProperties, Fail> {
+fn with_further_key(alloc: Global) -> Result<Box<ServerProperties>, Fail> {
     let key = key_of(alloc, FURTHER_KEY)?;
     let mut properties = properties(alloc)?;
     properties.add_service_key(alloc, &["kafka", "localhost"], key)?;
     Ok(properties)
 }
 
-fn acceptor_with_further_key(alloc: Global) -> Result<Kerberos, Fail> {
+fn acceptor_with_further_key(alloc: Global) -> Result<Box<Kerberos>, Fail> {
     let properties = with_further_key(alloc)?;
     acceptor_with(alloc, "", properties)
 }

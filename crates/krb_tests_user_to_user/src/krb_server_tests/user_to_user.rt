@@ -12,6 +12,7 @@ use krb_as::InitDone;
 use krb_conf::Env;
 use krb_context::{Kerberos, KerberosState};
 use krb_crypto::CipherSuite;
+use krb_der::boxed;
 use krb_replay::ReplayBook;
 use krb_server::{Accepted, accept_security_context};
 use krb_user_to_user::{AcceptRun, GeneratorAcceptSecurityContext};
@@ -238,10 +239,10 @@ fn fetches() -> &'static [Fetch] {
 
 /// What a run that is not started ends with over the KDC.
 #[tactic(auto, using(crate::proofs::Asks::asks_twice))]
-fn end_over(run: AcceptRun, kdc: &mut Kdc) -> Result<InitDone, Error>
+fn end_over(alloc: Global, run: AcceptRun, kdc: &mut Kdc) -> Result<InitDone, Error>
     requires { IsNew run }
 {
-    let mut run: GeneratorAcceptSecurityContext = GeneratorAcceptSecurityContext::new(run);
+    let mut run = boxed(alloc, GeneratorAcceptSecurityContext::new(run))?;
     run.resolve_with(kdc, &[draw(), draw(), draw()])
 }
 
@@ -267,7 +268,7 @@ fn end_of(
     dce: bool,
 ) -> Result<Result<InitDone, Error>, Fail> {
     match begun(alloc, server, dce)? {
-        Ok(run) => Ok(end_over(run, kdc)),
+        Ok(run) => Ok(end_over(alloc, run, kdc)),
         Err(error) => Ok(Err(error)),
     }
 }

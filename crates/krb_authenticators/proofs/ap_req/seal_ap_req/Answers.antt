@@ -8,4 +8,4 @@ use Rattle.krb_authenticators.proofs.ap_req.seal_ap_req.Goals as goal
 pub returns-clause-within : goal.returns-clause-within
 returns-clause-within c =
     ok_is (Fits ap_req_layout (2 ^ 28)) _ _ c.ap_req_with.ensures
-    (ap_req_within c.args.suite c.args.options c.args.ticket _ c.in_ok-sealed.sealed c.in_ok-sealed.ensures.made c.requires.ticket c.in_ok-sealed.ensures.short)
+    (ap_req_within c.args.suite c.args.options c.into_inner.result _ c.in_ok-sealed.sealed c.in_ok-sealed.ensures.made (rw c.into_inner.ensures c.requires.ticket) c.in_ok-sealed.ensures.short)

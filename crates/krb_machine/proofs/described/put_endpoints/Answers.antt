@@ -1,6 +1,4 @@
-use Rattle.std.proofs.Common.{◌≡◌, ℕ, refl, ap, ◌∙◌}
-use Rattle.std.specs.Ordering.{nat_cmp}
-use Rattle.std.specs.BTreeMap.{insert_entry}
+use Rattle.std.proofs.Common.{ℕ, refl, ap, ◌∙◌}
 use Rattle.krb_script.specs.declared.endpoint.Endpoint.{Endpoint}
 use Rattle.krb_machine.specs.Described.{connection_of, connections_with}
 use Rattle.krb_machine.proofs.OrderLemmas.{put-none, put-next}

@@ -1,10 +1,10 @@
-use Rattle.std.proofs.Common.{◌≡◌, ℕ, List, ◌++◌, ap, ◌∙◌}
+use Rattle.std.proofs.Common.{ℕ, List, ◌++◌, ap, ◌∙◌}
 use Rattle.std.specs.Prelude.{codes}
 use Rattle.std.specs.Fmt.{decimal}
 use Rattle.std.proofs.lemmas.Result.{IfOk-weaker}
 use Rattle.hex.specs.Hex.{encode_lower}
 use Rattle.sspi_core.specs.Buffer.{has_checksum_flag}
-use Rattle.krb_machine.specs.Reply.{letter_of, buffer_text}
+use Rattle.krb_machine.specs.Reply.{letter_of}
 use Rattle.krb_machine.proofs.reply.buffer_text.Goals as goal
 
 abbrev shown : List ℕ → List ℕ → ℕ → List ℕ

@@ -1,17 +1,19 @@
 use Rattle.std.proofs.Common.{refl, ap}
-use Rattle.krb_as.proofs.Tasks.{turns_of, kept_of, faulted_of, refused}
+use Rattle.krb_as.proofs.Tasks.{turns_of, awaits_of, kept_of, faulted_of, refused}
 use Rattle.krb_password_change.specs.declared.phase.ChangePhase.{ChangePhase}
+use Rattle.krb_password_change.specs.declared.phase.ChangePhase.TheVariants.{Over}
 use Rattle.krb_password_change.specs.Changes.{IsReady}
-use Rattle.krb_password_change.specs.ChangeRuns.{turns_left}
+use Rattle.krb_password_change.specs.ChangeRuns.{IsAwaiting, turns_left}
 use Rattle.krb_password_change.proofs.Refusals.{starts_refuse}
-use Rattle.krb_password_change.proofs.Tasks.{awaits_of}
 use Rattle.krb_password_change.proofs.change_run.ChangePasswordRunTask.start.Goals as goal
 
 pub returns-clause-step : goal.returns-clause-step
 returns-clause-step c = record { turn = turns_of _ _ c.started-answer.result _ _ c.started-answer.ensures.step c.go_on.ensures.state c.go_on.ensures.phase; stays = refl }
 
 pub returns-clause-turns : goal.returns-clause-turns
-returns-clause-turns c = awaits_of (IsReady c.args.self.now.changer) c.requires.new.1 c.started-answer.result _ (turns_left c.args.self.now.phase) _ c.go_on.ensures.state c.started-answer.ensures.down c.go_on.ensures.phase
+returns-clause-turns c =
+    awaits_of (IsAwaiting c.args.self.now.changer.asker) turns_left (λ phase. IsAwaiting c.args.self.now.changer.asker phase × IsReady c.args.self.now.changer) (λ phase waits. (waits, c.requires.new.1)) Over
+    c.started-answer.result _ (turns_left c.args.self.now.phase) _ c.go_on.ensures.state c.started-answer.ensures.down c.go_on.ensures.phase
 
 pub returns-clause-want : goal.returns-clause-want
 returns-clause-want c = kept_of c.started-answer.result _ _ c.go_on.ensures.state (λ z. ap (λ (p : ChangePhase). record c.args.self.now { phase = p }) (c.go_on.ensures.want z))

@@ -1,16 +1,17 @@
 use Rattle.std.proofs.Common.{refl, ap}
-use Rattle.krb_as.proofs.Tasks.{turns_of, kept_of, faulted_of, refused}
+use Rattle.krb_as.proofs.Tasks.{turns_of, awaits_of, kept_of, faulted_of, refused}
 use Rattle.krb_user_to_user.specs.declared.steps.AcceptPhase.{AcceptPhase}
-use Rattle.krb_user_to_user.specs.AcceptRuns.{turns_left}
+use Rattle.krb_user_to_user.specs.declared.steps.AcceptPhase.TheVariants.{Over}
+use Rattle.krb_user_to_user.specs.AcceptRuns.{IsAwaiting, turns_left}
 use Rattle.krb_user_to_user.proofs.Refusals.{next_refuses}
-use Rattle.krb_user_to_user.proofs.Tasks.{awaits_of}
 use Rattle.krb_user_to_user.proofs.accept_run.AcceptRunResumable.resume.Goals as goal
 
 pub returns-clause-step : goal.returns-clause-step
 returns-clause-step c = record { turn = turns_of _ _ c.next-answer.result _ _ c.next-answer.ensures.step c.go_on.ensures.state c.go_on.ensures.phase; stays = refl }
 
 pub returns-clause-turns : goal.returns-clause-turns
-returns-clause-turns c = awaits_of c.next-answer.result _ (turns_left c.args.self.now.phase) _ c.go_on.ensures.state c.next-answer.ensures.down c.go_on.ensures.phase
+returns-clause-turns c =
+    awaits_of (IsAwaiting c.args.self.now.acceptor.asker) turns_left (IsAwaiting c.args.self.now.acceptor.asker) (λ phase waits. waits) Over c.next-answer.result _ (turns_left c.args.self.now.phase) _ c.go_on.ensures.state c.next-answer.ensures.down c.go_on.ensures.phase
 
 pub returns-clause-want : goal.returns-clause-want
 returns-clause-want c = kept_of c.next-answer.result _ _ c.go_on.ensures.state (λ z. ap (λ (p : AcceptPhase). record c.args.self.now { phase = p }) (c.go_on.ensures.want z))

@@ -1,0 +1,212 @@
+//! The AS exchange (RFC 4120, section 3.1), as each run contains it.
+
+ghost use Rattle.std.specs.Prelude.{◌≡◌, ◌≤◌, ◌^◌, IfOk, length};
+ghost use Rattle.krb_crypto.specs.Suite.{key_size};
+ghost use Rattle.sspi_core.specs.Moments.{last_moment};
+ghost use Rattle.sspi_core.specs.Checks.{Answers, Gives};
+ghost use Rattle.krb_exchange.specs.Layouts.{kdc_req_body_layout};
+ghost use Rattle.krb_requests.specs.Pieces.{Fits};
+ghost use Rattle.krb_as.specs.declared.as_phase.AsPhase.TheVariants as phases;
+ghost use Rattle.krb_as.specs.declared.asker.Asker.{Asker};
+ghost use Rattle.krb_as.specs.Askers.{asker_suite, client_key};
+ghost use Rattle.krb_as.specs.Asked.{first_request, second_request};
+ghost use Rattle.krb_as.specs.Turns.{GoesDown};
+ghost use Rattle.krb_as.specs.AsPhases.{IsSealed, IsAwaiting, turns_left, kdc_of, EndsSendable, sealed_time, BeginsExchange, SealsTime, AsksSecond, TakesAsRep, TakesReply};
+
+use crate::asker::{Asker, asker_suite, sized_key};
+use crate::kdc::{Kdc, find_kdc};
+use crate::key::{Grant, SealedTime, kept_reply_key};
+use crate::reply::{granted_as_rep, wanted_salt};
+use crate::request::{first_request, second_request};
+use crate::turn::Turn;
+use krb_der::{Octets, Text, TryCopy};
+use krb_exchange::KdcReqBody;
+use sspi_core::{Cause, Draw, Secret};
+use sspi_generator::{NetFault, NetworkRequest};
+use std::alloc::Global;
+
+/// What an AS exchange waits for.
+#[derive(Drop)]
+pub enum AsPhase {
+    /// The error that answers the first request, which was sent there and asked for this.
+    AwaitsError(Kdc, KdcReqBody),
+    /// The AS-REP that answers the second one.
+    AwaitsAsRep(SealedTime),
+}
+
+impl AsPhase {
+    /// The KDC that both requests go to.
+    pub fn kdc(&self) -> &Kdc
+        ensures { result.now ≡ kdc_of self.entry.now }
+    {
+        match self {
+            AsPhase::AwaitsError(kdc, _) => kdc,
+            AsPhase::AwaitsAsRep(sealed) => &sealed.kdc,
+        }
+    }
+
+    /// How often the exchange may still ask.
+    pub fn turns(&self) -> u32
+        ensures left { result ≡ turns_left self.now }
+        ensures few { result ≤ 1 }
+    {
+        match self {
+            AsPhase::AwaitsError(_, _) => 1,
+            AsPhase::AwaitsAsRep(_) => 0,
+        }
+    }
+}
+
+/// The first request to this KDC.
+fn sent_first(alloc: Global, kdc: Kdc, body: KdcReqBody) -> Result<(NetworkRequest, AsPhase), Cause>
+    requires body { Fits kdc_req_body_layout (2 ^ 28) body }
+    requires realm { length kdc.realm ≤ 2 ^ 24 }
+    ensures step { Answers (Gives (first_request kdc body, phases.AwaitsError kdc body)) result }
+    ensures waits { (asker : Asker) → IfOk result (λ sent. IsAwaiting asker sent.1) }
+    ensures turns { IfOk result (λ sent. turns_left sent.1 ≡ 1) }
+{
+    let request = first_request(alloc, &kdc, &body)?;
+    Ok((request, AsPhase::AwaitsError(kdc, body)))
+}
+
+/// The start of an AS exchange: a request without pre-authentication to the KDC of the realm, at the URL that is known, else at
+/// the one that is found. Refused as `NoKdc`, then as `Scheme`, as `find_kdc` refuses.
+#[tactic(auto, unfolding(crate::specs::AsPhases::BeginsExchange))]
+pub fn begin_exchange(
+    alloc: Global,
+    asker: &Asker,
+    body: KdcReqBody,
+) -> Result<(NetworkRequest, AsPhase), Cause>
+    requires body { Fits kdc_req_body_layout (2 ^ 28) body }
+    requires realm { length asker.now.realm ≤ 2 ^ 24 }
+    ensures step { Answers (BeginsExchange asker.now body) result }
+    ensures waits { IfOk result (λ sent. IsAwaiting asker.now sent.1) }
+    ensures turns { IfOk result (λ sent. turns_left sent.1 ≡ 1) }
+{
+    let kdc = find_kdc(alloc, &asker.kdc_url, &asker.env, &asker.realm)?;
+    sent_first(alloc, kdc, body)
+}
+
+/// The second request to this KDC, under this key.
+fn sent_second(
+    alloc: Global,
+    asker: &Asker,
+    kdc: &Kdc,
+    body: &KdcReqBody,
+    salt: Text,
+    key: Octets,
+    draw: &Draw,
+) -> Result<(NetworkRequest, SealedTime), Cause>
+    requires key { key ≡ client_key (asker_suite asker.now) salt asker.now.credentials }
+    requires size { length key ≡ key_size (asker_suite asker.now) }
+    requires moment { draw.now.moment ≤ last_moment }
+    requires body { Fits kdc_req_body_layout (2 ^ 28) body.now }
+    requires realm { length kdc.now.realm ≤ 2 ^ 24 }
+    ensures step { Answers (Gives (second_request (asker_suite asker.now) key draw.now kdc.now body.now, sealed_time asker.now kdc.now salt key)) result }
+    ensures sealed { IfOk result (λ sent. IsSealed asker.now sent.1) }
+{
+    let suite = asker_suite(asker);
+    let request = second_request(alloc, suite, &key, draw, kdc, body)?;
+    let kdc = kdc.copy(alloc)?;
+    let key = Secret::new(key);
+    Ok((
+        request,
+        SealedTime {
+            kdc,
+            suite,
+            salt,
+            key,
+        },
+    ))
+}
+
+/// What follows the first reply: a request with the same body to the same KDC, with the time sealed under the client's key. The
+/// confounder is the first 16 random octets of the draw.
+///
+/// Refused as `wanted_salt` refuses the reply, and then as `KeyLength` where the key is a keytab's and has not the length of its
+/// suite's keys.
+#[tactic(auto, unfolding(crate::specs::AsPhases::SealsTime))]
+pub(crate) fn seal_time(
+    alloc: Global,
+    asker: &Asker,
+    kdc: &Kdc,
+    body: &KdcReqBody,
+    reply: Result<Octets, NetFault>,
+    draw: &Draw,
+) -> Result<(NetworkRequest, SealedTime), Cause>
+    requires moment { draw.now.moment ≤ last_moment }
+    requires body { Fits kdc_req_body_layout (2 ^ 28) body.now }
+    requires realm { length kdc.now.realm ≤ 2 ^ 24 }
+    ensures step { Answers (SealsTime asker.now kdc.now body.now reply draw.now) result }
+    ensures sealed { IfOk result (λ sent. IsSealed asker.now sent.1) }
+{
+    let salt = wanted_salt(alloc, kdc.protocol, &asker.credentials, reply)?;
+    let key = sized_key(alloc, asker, &salt)?;
+    sent_second(alloc, asker, kdc, body, salt, key, draw)
+}
+
+/// The phase behind the second request.
+#[tactic(auto, unfolding(crate::specs::AsPhases::AsksSecond))]
+fn ask_second(
+    alloc: Global,
+    asker: &Asker,
+    kdc: &Kdc,
+    body: &KdcReqBody,
+    reply: Result<Octets, NetFault>,
+    draw: &Draw,
+) -> Result<Turn<AsPhase, Grant>, Cause>
+    requires moment { draw.now.moment ≤ last_moment }
+    requires body { Fits kdc_req_body_layout (2 ^ 28) body.now }
+    requires realm { length kdc.now.realm ≤ 2 ^ 24 }
+    ensures step { Answers (AsksSecond (λ phase. phase) asker.now kdc.now body.now reply draw.now) result }
+    ensures down { IfOk result (λ turn. GoesDown (IsAwaiting asker.now) turns_left 1 turn) }
+    ensures sendable { IfOk result (λ turn. EndsSendable turn) }
+{
+    let (request, sealed) = seal_time(alloc, asker, kdc, body, reply, draw)?;
+    Ok(Turn::Asks(request, AsPhase::AwaitsAsRep(sealed)))
+}
+
+/// What follows the second reply.
+#[tactic(auto, unfolding(crate::specs::AsPhases::TakesAsRep))]
+fn take_as_rep(
+    alloc: Global,
+    asker: &Asker,
+    sealed: &SealedTime,
+    reply: Result<Octets, NetFault>,
+) -> Result<Turn<AsPhase, Grant>, Cause>
+    requires sealed { IsSealed asker.now sealed.now }
+    ensures step { Answers (TakesAsRep asker.now.credentials sealed.now.kdc.protocol sealed.now.salt reply) result }
+    ensures down { IfOk result (λ turn. GoesDown (IsAwaiting asker.now) turns_left 0 turn) }
+    ensures sendable { IfOk result (λ turn. EndsSendable turn) }
+{
+    let as_rep = granted_as_rep(alloc, sealed.kdc.protocol, reply)?;
+    let taken = kept_reply_key(alloc, asker, sealed, &as_rep)?;
+    Ok(Turn::Ends(Grant {
+        suite: taken.suite,
+        key: taken.key,
+        rep: as_rep.0,
+    }))
+}
+
+/// What a reply leads to: the second request behind the first reply, and behind the second one the ticket that it brings.
+///
+/// The first reply is refused as `wanted_salt` refuses, and then as `KeyLength` where the key is a keytab's and has not the length
+/// of its suite's keys; the second one as `granted_as_rep` refuses, and then as `reply_key` refuses.
+pub fn take_reply(
+    alloc: Global,
+    asker: &Asker,
+    phase: &AsPhase,
+    reply: Result<Octets, NetFault>,
+    draw: &Draw,
+) -> Result<Turn<AsPhase, Grant>, Cause>
+    requires awaiting { IsAwaiting asker.now phase.now }
+    requires moment { draw.now.moment ≤ last_moment }
+    ensures step { Answers (TakesReply asker.now phase.now reply draw.now) result }
+    ensures down { IfOk result (λ turn. GoesDown (IsAwaiting asker.now) turns_left (turns_left phase.now) turn) }
+    ensures sendable { IfOk result (λ turn. EndsSendable turn) }
+{
+    match phase {
+        AsPhase::AwaitsError(kdc, body) => ask_second(alloc, asker, kdc, body, reply, draw),
+        AsPhase::AwaitsAsRep(sealed) => take_as_rep(alloc, asker, sealed, reply),
+    }
+}
