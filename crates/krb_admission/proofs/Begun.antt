@@ -20,7 +20,8 @@ use Rattle.sspi_core.specs.declared.cause.Cause.{Cause}
 use Rattle.sspi_core.specs.Checks.{Goes, Then}
 use Rattle.sspi_core.proofs.Chain.{held}
 use Rattle.krb_admission.specs.declared.request.Request.{Request}
-use Rattle.krb_replies.specs.Unseals.{IsRead, Unseals, Opens, OpensData}
+use Rattle.krb_replies.specs.Unseals.{IsRead, Unseals, Opens}
+use Rattle.krb_admission.specs.Opens.{OpensData}
 use Rattle.krb_admission.specs.Tokens.{ap_req_id, IsApReq, Receives}
 use Rattle.krb_admission.specs.Requests.{OpensAuthenticator, Requests}
 use Rattle.krb_admission.specs.Admission.{IsAnswerable}

@@ -20,8 +20,9 @@ use Rattle.sspi_core.proofs.Once.{Once, then_once, finds_once, takes_once, holds
 use Rattle.krb_admission.specs.declared.request.Request.{Request}
 use Rattle.krb_admission.specs.declared.admission.Admission.{Admission}
 use Rattle.krb_replies.specs.declared.unseal.Refusals.{Refusals}
-use Rattle.krb_replies.specs.Unseals.{IsRead, own_key, session_key, Unseals, Opens, OpensData}
+use Rattle.krb_replies.specs.Unseals.{IsRead, own_key, session_key, Unseals, Opens}
 use Rattle.krb_replies.specs.Answered.{OpensApRep, TellsNumber}
+use Rattle.krb_admission.specs.Opens.{OpensData}
 use Rattle.krb_admission.specs.Tokens.{IsApReq, Receives}
 use Rattle.krb_admission.specs.Requests.{OpensTicket, OpensAuthenticator, Requests}
 use Rattle.krb_admission.specs.Complete.{Completes}

@@ -1,3 +1,4 @@
+pub mod Opens
 pub mod Tokens
 pub mod Requests
 pub mod Clients

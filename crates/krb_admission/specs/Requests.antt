@@ -10,7 +10,7 @@ use Rattle.krb_replay.specs.declared.ask.Ask.{Ask}
 use Rattle.krb_context.specs.declared.server.ServerProperties.{ServerProperties}
 use Rattle.krb_context.specs.ServiceKeys.{service_key}
 use Rattle.krb_admission.specs.declared.request.Request.{Request}
-use Rattle.krb_replies.specs.Unseals.{OpensData}
+use Rattle.krb_admission.specs.Opens.{OpensData}
 use Rattle.krb_admission.specs.Tokens.{Receives}
 use Rattle.sspi_core.specs.declared.cause.Cause.{Cause}
 use Rattle.sspi_core.specs.declared.cause.Cause.TheVariants.{NoServiceKey, Names}

@@ -3,7 +3,7 @@
 ghost use Rattle.std.specs.Prelude.{◌≡◌, ◌+◌, ◌<◌, ◌≤◌, ◌^◌, ◌%◌, option_map, length, IfOk};
 ghost use Rattle.krb_der.specs.Reading.{number_of};
 ghost use Rattle.krb_messages.specs.Oid.{contents_of};
-ghost use Rattle.krb_admission.specs.Admission.{framed, ap_rep_id, drawn_key, mechanism, reply_part, reply_message, token_with, state_behind, status_in, mutual_admission, subkey_suite, number_before, one_way_admission, admission_of, answer_for, with_client, settled, IsAnswerable};
+ghost use Rattle.krb_admission.specs.Admission.{framed, ap_rep_id, drawn_key, drawn_confounder, mechanism, reply_part, reply_message, token_with, state_behind, status_in, mutual_admission, subkey_suite, number_before, one_way_admission, admission_of, answer_for, with_client, settled, IsAnswerable};
 
 use crate::ap_rep::{ap_rep_part, seal_ap_rep};
 use crate::complete::is_mutual;
@@ -49,6 +49,15 @@ pub(crate) struct Acceptor<'a> {
     /// The context's own number.
     pub(crate) number: u32,
     pub(crate) draw: &'a Draw,
+}
+
+fn drawn_confounder(suite: CipherSuite, draw: &Draw) -> [u8; 16]
+    ensures { result ≡ drawn_confounder suite draw.now }
+{
+    let start = suite.key_size();
+    let mut confounder = [0; 16];
+    confounder.copy_from_slice(&draw.random[start..start + 16]);
+    confounder
 }
 
 fn drawn_key(suite: CipherSuite, draw: &Draw) -> &[u8]
@@ -98,7 +107,7 @@ fn reply_message(
     ensures short { IfOk result (λ message. length message ≤ 2 ^ 28) }
 {
     let part = reply_part(alloc, acceptor.number, acceptor.draw, request)?;
-    let confounder = acceptor.draw.octets::<16>(request.suite.key_size());
+    let confounder = drawn_confounder(request.suite, acceptor.draw);
     let key = request.part.key.key_value.as_slice();
     let reply = seal_ap_rep(alloc, request.suite, key, confounder, &part)?;
     Ok(reply.write(alloc)?)

@@ -11,10 +11,11 @@ ghost use Rattle.krb_admission.specs.Admission.{number_after};
 ghost use Rattle.krb_admission.specs.ThirdLeg.{ReadsApRep, TellsLast, IsLastWord, concluded, last_answer, Concludes};
 
 use crate::admission::Answer;
+use crate::token::check_token_length;
 use krb_context::{Kerberos, KerberosState, ServerProperties};
 use krb_der::Octets;
 use krb_messages::ApRep;
-use krb_replies::{check_token_length, extract_seq_number_from_ap_rep, read_or};
+use krb_replies::{extract_seq_number_from_ap_rep, read_or};
 use sspi_core::{Cause, Secret, SecurityStatus, hold};
 use std::alloc::Global;
 

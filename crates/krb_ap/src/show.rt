@@ -7,6 +7,7 @@ ghost use Rattle.sspi_core.specs.Checks.{Answers, Gives, Holds};
 ghost use Rattle.krb_crypto.specs.Suite.{key_size};
 ghost use Rattle.krb_messages.specs.Layouts.{authenticator_layout, ticket_layout, ap_req_layout};
 ghost use Rattle.krb_context.specs.Options.{ap_options_of};
+ghost use Rattle.krb_context.specs.Params.{suite_of};
 ghost use Rattle.krb_requests.specs.Pieces.{Fits};
 ghost use Rattle.krb_authenticators.specs.Authenticators.{IsShortChecksum};
 ghost use Rattle.krb_authenticators.specs.ApRequests.{ap_req, service_usage};
@@ -38,6 +39,15 @@ fn drawn_key(alloc: Global, suite: CipherSuite, draw: &Draw) -> Result<Secret<Oc
 {
     let key = &draw.random[..suite.key_size()];
     Ok(Secret::new(Octets::from_slice(alloc, key)?))
+}
+
+fn drawn_confounder(suite: CipherSuite, draw: &Draw) -> [u8; 16]
+    ensures { result ≡ drawn_confounder suite draw.now }
+{
+    let start = suite.key_size();
+    let mut confounder = [0; 16];
+    confounder.copy_from_slice(&draw.random[start..start + 16]);
+    confounder
 }
 
 /// The flags of the context, but never delegation, for which there would have to be a KRB-CRED.
@@ -88,6 +98,15 @@ fn service_authenticator(
     }
 }
 
+/// Parameters of a suite, without keys.
+fn params_in(suite: CipherSuite) -> EncryptionParams
+    ensures { suite_of result ≡ suite }
+{
+    let mut params = EncryptionParams::default_for_client();
+    params.encryption_type = Some(suite);
+    params
+}
+
 /// The AP-REQ of this authenticator. The session key has its length, so nothing is refused.
 fn ap_req_by(
     alloc: Global,
@@ -105,8 +124,8 @@ fn ap_req_by(
     ensures within { IfOk result (λ made. Fits ap_req_layout (2 ^ 28) made) }
 {
     let options = ApOptions::from_client_flags(exchange_flags(&errand.initiator));
-    let params = EncryptionParams::of_suite(suite);
-    let confounder = draw.octets::<16>(suite.key_size());
+    let params = params_in(suite);
+    let confounder = drawn_confounder(suite, draw);
     let made = generate_ap_req(
         alloc,
         ticket,

@@ -49,16 +49,6 @@ impl EncryptionParams {
         EncryptionParams::with_usages(INITIATOR_SEAL_USAGE, ACCEPTOR_SEAL_USAGE)
     }
 
-    /// Those of an initiator whose suite is known: no keys and no filler.
-    pub fn of_suite(suite: CipherSuite) -> EncryptionParams
-        ensures made { result ≡ record (default_params 24 22) { encryption_type = Some suite } }
-        ensures suite { suite_of result ≡ suite }
-    {
-        let mut params = EncryptionParams::default_for_client();
-        params.encryption_type = Some(suite);
-        params
-    }
-
     /// Those of an acceptor before the exchange: no suite, no keys and no filler.
     pub fn default_for_server() -> EncryptionParams
         ensures { result ≡ default_params 22 24 }

@@ -30,7 +30,7 @@ use Rattle.krb_replay.specs.declared.ask.Verdict.{Verdict}
 use Rattle.krb_replay.specs.declared.ask.Verdict.TheVariants.{Admitted}
 use Rattle.krb_exchange.specs.declared.user_to_user.TgtReq.{TgtReq}
 use Rattle.krb_replies.specs.declared.unseal.Refusals.{Refusals}
-use Rattle.krb_replies.specs.Unseals.{suite_of, own_key, IsRead, Unseals, Opens, OpensData}
+use Rattle.krb_replies.specs.Unseals.{suite_of, own_key, IsRead, Unseals, Opens}
 use Rattle.krb_requests.specs.Pieces.{spelling}
 use Rattle.krb_ap.specs.Shown.{framed}
 use Rattle.krb_admission.specs.declared.admission.Answer.{Answer}
@@ -39,6 +39,7 @@ use Rattle.krb_admission.specs.declared.request.Request.{Request}
 use Rattle.krb_admission.specs.Accepts.{Begins, Finishes, Judged, Accepts, Asks}
 use Rattle.krb_admission.specs.Clients.{client_of}
 use Rattle.krb_admission.specs.Complete.{is_known_options, is_mutual, has_good_subkey, Completes}
+use Rattle.krb_admission.specs.Opens.{OpensData}
 use Rattle.krb_admission.specs.Requests.{is_same_client, OpensTicket, OpensAuthenticator, Requests, ask_of}
 use Rattle.krb_admission.specs.Tokens.{ap_req_id, IsApReq, Receives}
 use Rattle.krb_admission.proofs.Once.{begins_once}

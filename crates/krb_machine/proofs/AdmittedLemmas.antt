@@ -26,11 +26,12 @@ use Rattle.krb_replay.specs.History.{History, verdict_of}
 use Rattle.krb_replay.specs.Verdicts.{is_admitted}
 use Rattle.krb_replay.specs.declared.ask.Verdict.{Verdict}
 use Rattle.krb_replay.specs.declared.ask.Verdict.TheVariants.{Admitted, Skew, NotYet, Expired, Replayed}
-use Rattle.krb_replies.specs.Unseals.{suite_of, own_key, Unseals, Opens, OpensData}
+use Rattle.krb_replies.specs.Unseals.{suite_of, own_key, Unseals, Opens}
 use Rattle.krb_admission.specs.Accepts.{asks_dce_style, Begins, Finishes, Judged, Asks, refusal}
 use Rattle.krb_admission.specs.Admission.{reply_message, token_with, state_behind, status_in, admission_of, answer_for, mutual_admission, one_way_admission}
 use Rattle.krb_admission.specs.Clients.{client_of}
 use Rattle.krb_admission.specs.Complete.{is_known_options, is_mutual, has_good_subkey, Completes}
+use Rattle.krb_admission.specs.Opens.{OpensData}
 use Rattle.krb_admission.specs.Requests.{is_same_client, OpensTicket, OpensAuthenticator, Requests, ask_of}
 use Rattle.krb_admission.specs.Tokens.{IsApReq, Receives}
 use Rattle.krb_admission.specs.declared.admission.Answer.{Answer}

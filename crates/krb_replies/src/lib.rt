@@ -12,7 +12,6 @@ mod keys;
 mod realms;
 mod salts;
 mod ticket;
-mod token;
 mod told;
 mod unseal;
 
@@ -29,6 +28,5 @@ pub use salts::{
     extract_encryption_params_from_as_rep, extract_salt_from_krb_error, named_salt, told_etype,
 };
 pub use ticket::extract_tgt_ticket_with_oid;
-pub use token::{MAX_TOKEN_LEN, check_token_length};
 pub use told::tell;
-pub use unseal::{OWN_KEY, Refusals, SESSION_KEY, open, open_data, read_or, suite_of};
+pub use unseal::{OWN_KEY, Refusals, SESSION_KEY, open, read_or, suite_of};

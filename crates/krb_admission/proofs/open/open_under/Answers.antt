@@ -1,7 +1,7 @@
 use Rattle.std.proofs.Common.{rules}
 use Rattle.krb_replies.specs.Unseals.{Opens}
 use Rattle.sspi_core.proofs.Chain.{chain}
-use Rattle.krb_replies.proofs.unseal.open_kept.Goals as goal
+use Rattle.krb_admission.proofs.open.open_under.Goals as goal
 
 pub returns-in_err-plain : goal.returns-in_err-plain
 unfolding Opens

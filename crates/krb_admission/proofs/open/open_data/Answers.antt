@@ -1,7 +1,7 @@
 use Rattle.std.proofs.Common.{rules}
-use Rattle.krb_replies.specs.Unseals.{OpensData}
+use Rattle.krb_admission.specs.Opens.{OpensData}
 use Rattle.sspi_core.proofs.Chain.{chain}
-use Rattle.krb_replies.proofs.unseal.open_data.Goals as goal
+use Rattle.krb_admission.proofs.open.open_data.Goals as goal
 
 pub returns-in_err-suite : goal.returns-in_err-suite
 unfolding OpensData
