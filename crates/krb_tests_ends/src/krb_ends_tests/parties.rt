@@ -17,7 +17,7 @@ use std::alloc::Global;
 use std::test::Fail;
 
 /// What an initiator's caller asks for.
-fn client_flags(all: bool, dce: bool) -> ClientRequestFlags {
+pub fn client_flags(all: bool, dce: bool) -> ClientRequestFlags {
     let mut flags = ClientRequestFlags::MUTUAL_AUTH;
     if all {
         flags.insert(ClientRequestFlags::REPLAY_DETECT);
@@ -56,11 +56,18 @@ fn draw_from(first: u8) -> Draw
     }
 }
 
-/// What a client draws at each of the steps that a run may take: the octets 0 to 63.
+/// What a client draws: the octets 0 to 63.
+pub fn client_draw() -> Draw
+    ensures { IsInRange result }
+{
+    draw_from(0)
+}
+
+/// What a client draws at each of the steps that a run may take.
 pub fn draws() -> [Draw; 13]
     ensures { AreInRange result }
 {
-    let draw = draw_from(0);
+    let draw = client_draw();
     [
         draw, draw, draw, draw, draw, draw, draw, draw, draw, draw, draw, draw, draw,
     ]
