@@ -75,7 +75,7 @@ fn is_key(alloc: Global, key: &Option<Secret<Octets>>, digits: &str) -> bool {
 }
 
 /// Whether an end is established as the session says.
-pub fn is_established(alloc: Global, session: &Session, context: &Kerberos) -> bool {
+fn is_established(alloc: Global, session: &Session, context: &Kerberos) -> bool {
     let params = &context.encryption_params;
     let filler = if session.dce { 16 } else { 0 };
     context.state.is_final()

@@ -1,7 +1,7 @@
 //! Where the session key of an initiator comes from: the replies that its own events brought.
 
 use crate::krb_ends_tests::Session;
-use crate::krb_ends_tests::parties::{client_draw, credentials, env, initiator_of, octets};
+use crate::krb_ends_tests::parties::{credentials, env, initiator_of, octets};
 use crate::krb_ends_tests::sessions::OVER_A_REFERRAL;
 use crate::krb_ends_tests::tokens::is_hex;
 use krb_der::Octets;
@@ -91,6 +91,17 @@ fn moment(brought: &Brought) -> u64 {
     }
 }
 
+/// The octets 0 to 63.
+fn random() -> [u8; 64] {
+    let mut random = [0; 64];
+    let mut octet = 0u8;
+    for place in random.iter_mut() {
+        *place = octet;
+        octet = octet.wrapping_add(1);
+    }
+    random
+}
+
 fn event(
     alloc: Global,
     session: &Session,
@@ -100,7 +111,7 @@ fn event(
     Ok(Event {
         connection,
         moment: moment(brought),
-        random: client_draw().random,
+        random: random(),
         flags: ClientRequestFlags::MUTUAL_AUTH,
         input: input(alloc, session, brought)?,
     })

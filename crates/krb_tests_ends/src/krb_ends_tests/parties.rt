@@ -17,7 +17,7 @@ use std::alloc::Global;
 use std::test::Fail;
 
 /// What an initiator's caller asks for.
-pub fn client_flags(all: bool, dce: bool) -> ClientRequestFlags {
+fn client_flags(all: bool, dce: bool) -> ClientRequestFlags {
     let mut flags = ClientRequestFlags::MUTUAL_AUTH;
     if all {
         flags.insert(ClientRequestFlags::REPLAY_DETECT);
@@ -56,18 +56,11 @@ fn draw_from(first: u8) -> Draw
     }
 }
 
-/// What a client draws: the octets 0 to 63.
-pub fn client_draw() -> Draw
-    ensures { IsInRange result }
-{
-    draw_from(0)
-}
-
-/// What a client draws at each of the steps that a run may take.
+/// What a client draws at each of the steps that a run may take: the octets 0 to 63.
 pub fn draws() -> [Draw; 13]
     ensures { AreInRange result }
 {
-    let draw = client_draw();
+    let draw = draw_from(0);
     [
         draw, draw, draw, draw, draw, draw, draw, draw, draw, draw, draw, draw, draw,
     ]
