@@ -1,7 +1,8 @@
 //! Connections that are added to a service.
 
-use super::{acceptor, config};
+use super::{acceptor, config, new_service};
 use krb_context::Kerberos;
+use krb_der::boxed;
 use krb_machine::Service;
 use krb_replay::ReplayBook;
 use sspi_core::{Cause, Error};
@@ -28,9 +29,10 @@ fn additions() -> &'static [Addition] {
     &ADDITIONS
 }
 
-fn context(alloc: Global, is_client: bool) -> Result<Kerberos, Fail> {
+fn context(alloc: Global, is_client: bool) -> Result<Box<Kerberos>, Fail> {
     if is_client {
-        Ok(Kerberos::new_client_from_config(config(alloc)?, [0; 4]))
+        let config = config(alloc)?;
+        Ok(boxed(alloc, Kerberos::new_client_from_config(config, [0; 4]))?)
     } else {
         acceptor(alloc)
     }
@@ -49,7 +51,7 @@ fn refusal(
     service: &mut Service<ReplayBook>,
     &(id, is_client, as_client, _): &Addition,
 ) -> Result<Option<Cause>, Fail> {
-    let context = context(alloc, is_client)?;
+    let context = Box::into_inner(context(alloc, is_client)?);
     if as_client {
         Ok(cause_of(service.add_initiator(id, context, None)))
     } else {
@@ -67,7 +69,7 @@ fn is_client(service: &Service<ReplayBook>, id: u32) -> Option<bool> {
 
 #[test]
 fn connections_are_added_once_and_in_their_role(rt: HostRuntime) -> Result<(), Fail> {
-    let mut service = Service::new(rt.alloc(), ReplayBook::new(rt.alloc(), 300)?);
+    let mut service = new_service(rt.alloc())?;
     for addition in additions() {
         assert_eq!(rt; refusal(rt.alloc(), &mut service, addition)?, addition.3);
     }
