@@ -5,7 +5,7 @@ use anyhow::{Context, Result};
 use krb_conf::KerberosConfig;
 use krb_context::{Kerberos, KerberosState};
 use krb_crypto::CipherSuite;
-use krb_der::{Items, Octets, Text, boxed};
+use krb_der::{Items, Octets, Text};
 use sspi_core::{Error, Message, Part, Secret, SecurityBufferRef};
 use std::alloc::Global;
 use std::rt::Clock;
@@ -33,11 +33,11 @@ fn plain_message(alloc: Global) -> Result<Message, Error> {
 }
 
 /// The client once it is admitted, with the same key at each connection.
-fn client(alloc: Global) -> Result<Box<Kerberos>, Error> {
-    let key = Octets::from_slice(alloc, &SESSION_KEY)?;
+fn client(alloc: Global) -> Result<Kerberos, Error> {
     let name = Text::from_str(alloc, "bench")?;
     let config = KerberosConfig::new(alloc, "", name)?;
-    let mut client = boxed(alloc, Kerberos::new_client_from_config(config, [0; 4]))?;
+    let key = Octets::from_slice(alloc, &SESSION_KEY)?;
+    let mut client = Kerberos::new_client_from_config(config, [0; 4]);
     client.state = KerberosState::Final;
     client.encryption_params.encryption_type = Some(CipherSuite::Aes256CtsHmacSha196);
     client.encryption_params.session_key = Some(Secret::new(key));

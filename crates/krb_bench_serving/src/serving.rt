@@ -72,38 +72,22 @@ fn sender_of(k: u32, repeats: bool) -> u32 {
     }
 }
 
-/// Puts the lines of so many acceptors behind an input.
-fn put_acceptors(alloc: Global, count: u32, input: &mut Vec<u8>) -> Option<()> {
-    for k in 1..count.saturating_add(1) {
-        let lines = acceptor_lines(alloc, k)?;
-        input.extend_from_slice(lines.as_bytes()).ok()?;
-    }
-    Some(())
-}
-
-/// Puts an event at each of them there.
-fn put_events(
-    alloc: Global,
-    client: &DemoClient,
-    count: u32,
-    repeats: bool,
-    input: &mut Vec<u8>,
-) -> Option<()> {
-    for k in 1..count.saturating_add(1) {
-        let line = event_line(alloc, client, k, sender_of(k, repeats))?;
-        input.extend_from_slice(line.as_bytes()).ok()?;
-    }
-    Some(())
-}
-
 /// An input of so many acceptors, and an event at each, ten in a second.
 pub(crate) fn admissions(alloc: Global, count: u32, repeats: bool) -> Option<Vec<u8>> {
     let room = (count as usize).saturating_mul(OCTETS_A_CONNECTION);
     let mut input = Vec::with_capacity(alloc, room).ok()?;
     input.extend_from_slice(b"skew 300\n").ok()?;
-    put_acceptors(alloc, count, &mut input)?;
+    let last = count.saturating_add(1);
+    for k in 1..last {
+        input
+            .extend_from_slice(acceptor_lines(alloc, k)?.as_bytes())
+            .ok()?;
+    }
     let client = DemoClient::new(alloc).ok()?;
-    put_events(alloc, &client, count, repeats, &mut input)?;
+    for k in 1..last {
+        let line = event_line(alloc, &client, k, sender_of(k, repeats))?;
+        input.extend_from_slice(line.as_bytes()).ok()?;
+    }
     Some(input)
 }
 

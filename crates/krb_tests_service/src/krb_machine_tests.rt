@@ -7,7 +7,7 @@ mod stopped;
 use bitflags::Flags;
 use krb_conf::{Env, KerberosConfig};
 use krb_context::{Kerberos, ServerProperties};
-use krb_der::{Octets, Text, boxed};
+use krb_der::{Items, Octets, Text};
 use krb_machine::{Event, Input, Service};
 use krb_replay::ReplayBook;
 use sspi_core::{ClientRequestFlags, Secret};
@@ -28,25 +28,18 @@ fn key(alloc: Global) -> Result<Secret<Octets>, Fail> {
 }
 
 fn config(alloc: Global) -> Result<KerberosConfig, Fail> {
-    let host = Text::from_str(alloc, "server")?;
+    let host = Text::new(String::from_str(alloc, "server")?);
     Ok(KerberosConfig::new(alloc, "", host)?)
 }
 
-fn properties(alloc: Global) -> Result<Box<ServerProperties>, Fail> {
+fn properties(alloc: Global) -> Result<ServerProperties, Fail> {
     let name = ["host", "server.example.com"];
-    let key = key(alloc)?;
-    Ok(boxed(
-        alloc,
-        ServerProperties::new(alloc, &name, None, 300, Some(key))?,
-    )?)
+    Ok(ServerProperties::new(alloc, &name, None, 300, Some(key(alloc)?))?)
 }
 
-fn acceptor(alloc: Global) -> Result<Box<Kerberos>, Fail> {
+fn acceptor(alloc: Global) -> Result<Kerberos, Fail> {
     let server = properties(alloc)?;
-    let config = config(alloc)?;
-    let server = Box::into_inner(server);
-    let acceptor = Kerberos::new_server_from_config(config, server, [0, 0, 0, 100])?;
-    Ok(boxed(alloc, acceptor)?)
+    Ok(Kerberos::new_server_from_config(config(alloc)?, server, [0, 0, 0, 100])?)
 }
 
 /// The token comes at a connection.
@@ -60,18 +53,15 @@ fn event(alloc: Global, connection: u32) -> Result<Event, Fail> {
     })
 }
 
-/// A service without connections.
-fn new_service(alloc: Global) -> Result<Box<Service<ReplayBook>>, Fail> {
-    let book = ReplayBook::new(alloc, 300)?;
-    Ok(boxed(alloc, Service::new(alloc, book))?)
-}
-
 /// Two acceptors over one replay book.
-fn service(alloc: Global) -> Result<Box<Service<ReplayBook>>, Fail> {
-    let mut service = new_service(alloc)?;
-    service.set_env(Env::new(alloc));
-    service.add_acceptor(1, Box::into_inner(acceptor(alloc)?))?;
-    service.add_acceptor(2, Box::into_inner(acceptor(alloc)?))?;
+fn service(alloc: Global) -> Result<Service<ReplayBook>, Fail> {
+    let mut service = Service::new(alloc, ReplayBook::new(alloc, 300)?);
+    service.set_env(Env {
+        vars: Items::new(Vec::new(alloc)),
+        files: Items::new(Vec::new(alloc)),
+    });
+    service.add_acceptor(1, acceptor(alloc)?)?;
+    service.add_acceptor(2, acceptor(alloc)?)?;
     Ok(service)
 }
 

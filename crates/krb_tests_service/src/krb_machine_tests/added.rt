@@ -1,8 +1,7 @@
 //! Connections that are added to a service.
 
-use super::{acceptor, config, new_service};
+use super::{acceptor, config};
 use krb_context::Kerberos;
-use krb_der::boxed;
 use krb_machine::Service;
 use krb_replay::ReplayBook;
 use sspi_core::{Cause, Error};
@@ -29,10 +28,9 @@ fn additions() -> &'static [Addition] {
     &ADDITIONS
 }
 
-fn context(alloc: Global, is_client: bool) -> Result<Box<Kerberos>, Fail> {
+fn context(alloc: Global, is_client: bool) -> Result<Kerberos, Fail> {
     if is_client {
-        let config = config(alloc)?;
-        Ok(boxed(alloc, Kerberos::new_client_from_config(config, [0; 4]))?)
+        Ok(Kerberos::new_client_from_config(config(alloc)?, [0; 4]))
     } else {
         acceptor(alloc)
     }
@@ -51,7 +49,7 @@ fn refusal(
     service: &mut Service<ReplayBook>,
     &(id, is_client, as_client, _): &Addition,
 ) -> Result<Option<Cause>, Fail> {
-    let context = Box::into_inner(context(alloc, is_client)?);
+    let context = context(alloc, is_client)?;
     if as_client {
         Ok(cause_of(service.add_initiator(id, context, None)))
     } else {
@@ -69,7 +67,7 @@ fn is_client(service: &Service<ReplayBook>, id: u32) -> Option<bool> {
 
 #[test]
 fn connections_are_added_once_and_in_their_role(rt: HostRuntime) -> Result<(), Fail> {
-    let mut service = new_service(rt.alloc())?;
+    let mut service = Service::new(rt.alloc(), ReplayBook::new(rt.alloc(), 300)?);
     for addition in additions() {
         assert_eq!(rt; refusal(rt.alloc(), &mut service, addition)?, addition.3);
     }

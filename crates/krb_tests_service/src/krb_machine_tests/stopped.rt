@@ -3,11 +3,10 @@
 ghost use Rattle.krb_replay.specs.Book.{Follows, StandsFor, IsUnchanged, IsUnchanged-same, goes_on};
 
 use super::{acceptor, event};
-use krb_der::{OutOfMemory, boxed};
+use krb_der::OutOfMemory;
 use krb_machine::{Event, Reply, Service, Stopped};
 use krb_replay::{Ask, ReplayBook, ReplayGate, Verdict};
 use std::alloc::{AllocError, Global};
-use std::process::Abort;
 use std::test::Fail;
 
 /// A replay book that has no memory at its third call, and has some again at the next.
@@ -52,11 +51,11 @@ impl ReplayGate for ScantGate {
 }
 
 /// Two acceptors over such a gate.
-fn scant_service(alloc: Global) -> Result<Box<Service<ScantGate>>, Fail> {
+fn scant_service(alloc: Global) -> Result<Service<ScantGate>, Fail> {
     let book = ReplayBook::new(alloc, 300)?;
-    let mut service = boxed(alloc, Service::new(alloc, ScantGate { book, calls: 0 }))?;
-    service.add_acceptor(1, Box::into_inner(acceptor(alloc)?))?;
-    service.add_acceptor(2, Box::into_inner(acceptor(alloc)?))?;
+    let mut service = Service::new(alloc, ScantGate { book, calls: 0 });
+    service.add_acceptor(1, acceptor(alloc)?)?;
+    service.add_acceptor(2, acceptor(alloc)?)?;
     Ok(service)
 }
 
@@ -101,35 +100,24 @@ static FIRST_LINES: &str = "ok -\nrefused InvalidParameter Moment\nrefused Inval
 static ALL_LINES: &str = "ok -\nrefused InvalidParameter Moment\nrefused InvalidToken Replayed\n\
 refused InvalidToken Replayed\nrefused InvalidParameter Moment\n";
 
-/// Runs the events up to where memory ends, and then the others.
-fn check_runs(
-    rt: &(impl AllocGlobal + Abort),
-    service: &mut Service<ScantGate>,
-    events: &[Event],
-    replies: &mut Vec<Reply>,
-) -> Result<(), Fail> {
+#[test]
+fn a_run_stops_where_memory_ends_and_goes_on_behind(rt: HostRuntime) -> Result<(), Fail> {
     let alloc = rt.alloc();
-    let ran = service.run(alloc, events, replies);
+    let mut service = scant_service(alloc)?;
+    let events = five_events(alloc)?;
+    let mut replies = Vec::new(alloc);
+    let ran = service.run(alloc, &events, &mut replies);
     assert_eq!(rt; ran, Err(Stopped { taken: 3 }));
-    assert_eq!(rt; lines(alloc, replies)?.as_str(), FIRST_LINES);
+    assert_eq!(rt; lines(alloc, &replies)?.as_str(), FIRST_LINES);
     assert_eq!(rt; service.gate().book.kept(), 1);
     assert_eq!(rt;
-        (number_of(service, 1), number_of(service, 2)),
+        (number_of(&service, 1), number_of(&service, 2)),
         (Some(100), Some(41))
     );
     // The events that were not taken are answered as if memory had not run out.
-    assert_eq!(rt; events.len(), 5);
-    let ran = service.run(alloc, &events[3..], replies);
+    let ran = service.run(alloc, &events[3..], &mut replies);
     assert_eq!(rt; ran, Ok(()));
-    assert_eq!(rt; lines(alloc, replies)?.as_str(), ALL_LINES);
+    assert_eq!(rt; lines(alloc, &replies)?.as_str(), ALL_LINES);
     assert_eq!(rt; service.gate().book.kept(), 1);
     Ok(())
-}
-
-#[test]
-fn a_run_stops_where_memory_ends_and_goes_on_behind(rt: HostRuntime) -> Result<(), Fail> {
-    let mut service = scant_service(rt.alloc())?;
-    let events = five_events(rt.alloc())?;
-    let mut replies = Vec::new(rt.alloc());
-    check_runs(&rt, &mut service, &events, &mut replies)
 }
