@@ -1,9 +1,9 @@
 # `make run` runs an example with every check at run time and no proof, `make build` proves and builds the program, `make test` is the
-# merge gate. Another example: make run EXAMPLE=examples/real-client
+# merge gate, and `make bench` measures and reads the machine code. Another example: make run EXAMPLE=examples/real-client
 EXAMPLE ?= examples/one-client
 PROGRAM = crates/krb_run/out/krb_run
 
-.PHONY: run build test
+.PHONY: run build test bench
 run:
 	@cd crates/krb_run && rt try -- serve < $(abspath $(EXAMPLE))
 	@echo "This was not proved: it ran with every check at run time. make build proves."
@@ -14,3 +14,7 @@ build:
 
 test:
 	rt ci
+
+bench:
+	cd crates/krb_bench && rt run -- full
+	tests/machine-code/run crates/krb_bench/out/krb_bench

@@ -20,12 +20,11 @@ use Rattle.sspi_core.specs.declared.cause.Cause.{Cause}
 use Rattle.sspi_core.specs.Checks.{Goes, Then}
 use Rattle.sspi_core.proofs.Chain.{held}
 use Rattle.krb_admission.specs.declared.request.Request.{Request}
-use Rattle.krb_replies.specs.Unseals.{IsRead, Unseals, Opens}
-use Rattle.krb_admission.specs.Opens.{OpensData}
-use Rattle.krb_admission.specs.Tokens.{ap_req_id, IsApReq, Receives}
+use Rattle.krb_replies.specs.Unseals.{IsRead, Unseals, OpensSealed, OpensData}
+use Rattle.krb_admission.specs.Tokens.{ap_req_id, IsApReq, ReceivesApReq}
 use Rattle.krb_admission.specs.Requests.{OpensAuthenticator, Requests}
 use Rattle.krb_admission.specs.Admission.{IsAnswerable}
-use Rattle.krb_admission.specs.Accepts.{Begins}
+use Rattle.krb_admission.specs.Accepts.{BeginsAdmission}
 
 -- both checks passed
 pub record Passed {A B : Type 0} (first : Result A Cause → Type 0) (next : A → Result B Cause → Type 0) (value : B) : Type 0 where
@@ -54,7 +53,7 @@ is_key : (key : List ℕ) (suite : CipherSuite) → IsTrue (length key == key_si
 is_key key suite h = grind (arith, nat_tests)
 
 pub opened : {A : Type 0} (layout : Layout A) (key : List ℕ) (usage : ℕ) (part : EncryptedData) (x : CipherSuite × A) → OpensData layout key usage part (Ok x) → Opened layout key usage part x.0 x.1
-unfolding OpensData Opens Unseals
+unfolding OpensData OpensSealed Unseals
 opened {A} layout key usage part x h =
     let a = passed _ _ _ h in
     let b = passed _ _ _ a.rest in
@@ -87,8 +86,8 @@ received_in : (dce : Bool) (token : List ℕ) (message : ApReq) → length token
 received_in true token message short is = record { octets = token; read = is; short = short }
 received_in false token message short is = record { octets = is.octets; read = is.read; short = omega (arith, short, message_within is.oid ap_req_id is.octets token is.frame) }
 
-pub received : (dce : Bool) (token : List ℕ) (message : ApReq) → Receives dce token (Ok message) → Received message
-unfolding Receives
+pub received : (dce : Bool) (token : List ℕ) (message : ApReq) → ReceivesApReq dce token (Ok message) → Received message
+unfolding ReceivesApReq
 received dce token message h =
     let a = passed _ _ _ h in
     received_in dce token message (is_short token (held _ _ _ a.held)) a.rest.is
@@ -98,8 +97,8 @@ pub record Begun (request : Request) : Type 0 where
   pub received : Received request.message
   pub opened : Opened authenticator_layout request.part.key.key_value 11 request.message.authenticator request.suite request.authenticator
 
-pub begun : (server : Kerberos) (dce : Bool) (token : List ℕ) (request : Request) → Begins server dce token (Ok request) → Begun request
-unfolding Begins Requests OpensAuthenticator
+pub begun : (server : Kerberos) (dce : Bool) (token : List ℕ) (request : Request) → BeginsAdmission server dce token (Ok request) → Begun request
+unfolding BeginsAdmission Requests OpensAuthenticator
 begun server dce token request h =
     let a = passed _ _ _ h in
     let b = passed _ _ _ a.rest in

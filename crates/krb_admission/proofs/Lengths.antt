@@ -14,7 +14,9 @@ use Rattle.krb_crypto.specs.declared.suite.CipherSuite.TheVariants.{Aes128CtsHma
 use Rattle.sspi_core.specs.declared.draw.Draw.{Draw}
 use Rattle.krb_admission.specs.declared.request.Request.{Request}
 use Rattle.krb_crypto.specs.declared.suite.CipherSuite.{CipherSuite}
-use Rattle.krb_admission.specs.Admission.{key_with, ap_rep_part, ap_rep_with, ap_rep_id, number_after, IsShortPart, IsAnswerable, drawn_key, reply_part, mechanism}
+use Rattle.krb_context.specs.Drawn.{drawn_key}
+use Rattle.krb_context.proofs.DrawnLemmas.{drawn_short}
+use Rattle.krb_admission.specs.Admission.{key_with, ap_rep_part, ap_rep_with, ap_rep_id, next_number_octets, IsShortPart, IsAnswerable, reply_part, mechanism}
 
 le_trans : (a b c : ℕ) → a ≤ b → b ≤ c → a ≤ c
 le_trans a b c h k = omega arith
@@ -70,15 +72,11 @@ rep_complete suite cipher = (lit< tt, (lit< tt, ((lit< tt, (tt, (tt, tt))), tt))
 length-number : (n : ℕ) → length (to_be_bytes w32 n) ≡ 4
 length-number n = refl
 
-key_size_small : (suite : CipherSuite) → key_size suite ≤ 32
-key_size_small Aes128CtsHmacSha196 = lit≤ tt
-key_size_small Aes256CtsHmacSha196 = lit≤ tt
-
 -- what the AP-REP to a request seals
 pub reply_short : (number : ℕ) (draw : Draw) (request : Request) → IsAnswerable request → IsShortPart (reply_part number draw request)
 reply_short number draw request h =
-    let k : length (drawn_key request.suite draw) ≤ 2 ^ 24 = omega (arith, key_size_small request.suite, length-take (key_size request.suite) draw.random) in
-    part_short request.suite request.authenticator.ctime request.authenticator.cusec (number_after number) (Some (drawn_key request.suite draw)) h.some h.short (length-number ((number + 1) % 2 ^ 32)) k
+    let k : length (drawn_key request.suite draw) ≤ 2 ^ 24 = omega (arith, drawn_short request.suite draw) in
+    part_short request.suite request.authenticator.ctime request.authenticator.cusec (next_number_octets number) (Some (drawn_key request.suite draw)) h.some h.short (length-number ((number + 1) % 2 ^ 32)) k
 
 mechanism_short : (user_to_user : Bool) → length (mechanism user_to_user) ≤ 10
 mechanism_short true = lit≤ tt

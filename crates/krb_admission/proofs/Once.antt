@@ -20,14 +20,13 @@ use Rattle.sspi_core.proofs.Once.{Once, then_once, finds_once, takes_once, holds
 use Rattle.krb_admission.specs.declared.request.Request.{Request}
 use Rattle.krb_admission.specs.declared.admission.Admission.{Admission}
 use Rattle.krb_replies.specs.declared.unseal.Refusals.{Refusals}
-use Rattle.krb_replies.specs.Unseals.{IsRead, own_key, session_key, Unseals, Opens}
+use Rattle.krb_replies.specs.Unseals.{IsRead, own_key, session_key, Unseals, OpensSealed, OpensData}
 use Rattle.krb_replies.specs.Answered.{OpensApRep, TellsNumber}
-use Rattle.krb_admission.specs.Opens.{OpensData}
-use Rattle.krb_admission.specs.Tokens.{IsApReq, Receives}
+use Rattle.krb_admission.specs.Tokens.{IsApReq, ReceivesApReq}
 use Rattle.krb_admission.specs.Requests.{OpensTicket, OpensAuthenticator, Requests}
 use Rattle.krb_admission.specs.Complete.{Completes}
 use Rattle.krb_admission.specs.ThirdLeg.{ReadsApRep, TellsLast, IsLastWord, Closes, Concludes}
-use Rattle.krb_admission.specs.Accepts.{Begins, Finishes, Judged}
+use Rattle.krb_admission.specs.Accepts.{BeginsAdmission, FinishesAdmission, Judged}
 use Rattle.krb_admission.proofs.Frames.{same_message}
 
 -- octets spell one record
@@ -40,8 +39,8 @@ unfolding Unseals
 unseals_once refusals suite key usage text =
     then_once _ _ (holds_once _ _) (λ _. then_once _ _ (holds_once _ _) (λ _. finds_once _ _ (sealed_once suite key usage text)))
 
-opens_once : {A : Type 0} (layout : Layout A) (refusals : Refusals) (suite : CipherSuite) (key : List ℕ) (usage : ℕ) (text : List ℕ) → Once (Opens layout refusals suite key usage text)
-unfolding Opens
+opens_once : {A : Type 0} (layout : Layout A) (refusals : Refusals) (suite : CipherSuite) (key : List ℕ) (usage : ℕ) (text : List ℕ) → Once (OpensSealed layout refusals suite key usage text)
+unfolding OpensSealed
 opens_once layout refusals suite key usage text = then_once _ _ (unseals_once refusals suite key usage text) (λ plain. finds_once _ _ (read_once layout plain))
 
 opens_data_once : {A : Type 0} (layout : Layout A) (key : List ℕ) (usage : ℕ) (part : EncryptedData) → Once (OpensData layout key usage part)
@@ -54,8 +53,8 @@ same_ap_req true token m n h k = read_once ap_req_layout token m n h k
 same_ap_req false token m n h k =
     read_once ap_req_layout k.octets m n (subst (λ (octets : List ℕ). IsRead ap_req_layout octets m) (same_message _ _ _ _ _ token h.frame k.frame) h.read) k.read
 
-receives_once : (dce : Bool) (token : List ℕ) → Once (Receives dce token)
-unfolding Receives
+receives_once : (dce : Bool) (token : List ℕ) → Once (ReceivesApReq dce token)
+unfolding ReceivesApReq
 receives_once dce token = then_once _ _ (holds_once _ _) (λ _. finds_once _ _ (same_ap_req dce token))
 
 opens_ticket_once : (server : ServerProperties) (message : ApReq) → Once (OpensTicket server message)
@@ -74,8 +73,8 @@ requests_once server dce token =
     then_once _ _ (receives_once dce token) (λ message. then_once _ _ (opens_ticket_once server message) (λ part.
     then_once _ _ (opens_authenticator_once message part) (λ _. gives_once _)))
 
-pub begins_once : (server : Kerberos) (dce : Bool) (token : List ℕ) → Once (Begins server dce token)
-unfolding Begins
+pub begins_once : (server : Kerberos) (dce : Bool) (token : List ℕ) → Once (BeginsAdmission server dce token)
+unfolding BeginsAdmission
 begins_once server dce token =
     then_once _ _ (holds_once _ _) (λ _. then_once _ _ (takes_once _ _) (λ p. requests_once p dce token))
 
@@ -83,8 +82,8 @@ completes_once : (request : Request) → Once (Completes request)
 unfolding Completes
 completes_once request = then_once _ _ (takes_once _ _) (λ client. then_once _ _ (holds_once _ _) (λ _. then_once _ _ (holds_once _ _) (λ _. gives_once _)))
 
-finishes_once : (server : Kerberos) (dce : Bool) (draw : Draw) (request : Request) → Once (Finishes server dce draw request)
-unfolding Finishes
+finishes_once : (server : Kerberos) (dce : Bool) (draw : Draw) (request : Request) → Once (FinishesAdmission server dce draw request)
+unfolding FinishesAdmission
 finishes_once server dce draw request = then_once _ _ (completes_once request) (λ client. gives_once _)
 
 judged_once : (server : Kerberos) (dce : Bool) (token : List ℕ) (draw : Draw) (verdict : Verdict) → Once (Judged server dce token draw verdict)

@@ -15,7 +15,7 @@ use Rattle.krb_admission.specs.declared.admission.Admission.{Admission}
 use Rattle.krb_admission.specs.declared.admission.Answer.{Answer}
 use Rattle.krb_admission.specs.Requests.{ask_of}
 use Rattle.krb_admission.specs.Complete.{Completes}
-use Rattle.krb_admission.specs.Accepts.{Begins, Finishes, Judged, Accepts, Makes, Ends, awaits_last_word, refusal}
+use Rattle.krb_admission.specs.Accepts.{BeginsAdmission, FinishesAdmission, Judged, Accepts, MakesAnswer, Ends, awaits_last_word, refusal}
 use Rattle.krb_admission.specs.ThirdLeg.{Concludes}
 use Rattle.krb_context.specs.States.{is_waiting}
 use Rattle.krb_context.specs.declared.state.KerberosState.{KerberosState}
@@ -49,21 +49,21 @@ waits_at dce ApExchange request (Err e) next p q = absurd cc
 waits_at dce Final request m next p q = refl
 
 -- a request that passed the checks before the gate came where no last word is awaited
-pub waits : (server : Kerberos) (dce : Bool) (token : List ℕ) (request : Request) → Begins server dce token (Ok request) → awaits_last_word dce server.state ≡ false
-unfolding Begins
+pub waits : (server : Kerberos) (dce : Bool) (token : List ℕ) (request : Request) → BeginsAdmission server dce token (Ok request) → awaits_last_word dce server.state ≡ false
+unfolding BeginsAdmission
 waits server dce token request h = waits_at dce server.state request h.middle _ h.held h.rest
 
 module _ {G : Type 0} (admits : G → Ask → Verdict → G → Type 0) (server : Kerberos) (dce : Bool) (token : List ℕ) (draw : Draw) (old : G) where
   -- what is made of an AP-REQ
-  ends : (outcome : Result Admission Cause) (answer : Result Answer Cause) (server' : Kerberos) → awaits_last_word dce server.state ≡ false → Makes server outcome answer server'
+  ends : (outcome : Result Admission Cause) (answer : Result Answer Cause) (server' : Kerberos) → awaits_last_word dce server.state ≡ false → MakesAnswer server outcome answer server'
       → Ends (awaits_last_word dce server.state) server token outcome answer server'
   ends outcome answer server' last made = subst (λ (b : Bool). Ends b server token outcome answer server') (sym last) made
 
   -- the last word, at which no gate is asked
   pub last_word : (answer : Result Answer Cause) (server' : Kerberos) → awaits_last_word dce server.state ≡ true → Concludes server token answer server' → Accepts admits server dce token draw old answer server' old
-  unfolding Judged Begins
+  unfolding Judged BeginsAdmission
   last_word answer server' last concludes =
-      let begun : Begins server dce token (Err Sequence) = halts _ _ Sequence _ (record { is = rw (not_waiting dce server.state last) refl }) refl in record {
+      let begun : BeginsAdmission server dce token (Err Sequence) = halts _ _ Sequence _ (record { is = rw (not_waiting dce server.state last) refl }) refl in record {
         verdict = Admitted;
         request = Err Sequence;
         begun = begun;
@@ -73,10 +73,10 @@ module _ {G : Type 0} (admits : G → Ask → Verdict → G → Type 0) (server 
         made = subst (λ (b : Bool). Ends b server token (Err Sequence) answer server') (sym last) concludes;
       }
 
-  pub refused_before : (e : Cause) (answer : Result Answer Cause) → awaits_last_word dce server.state ≡ false → Answers (Begins server dce token) (Err e) → IsErrAnd answer (λ d. d ≡ e) → (answer ≡ Err Memory → ⊥) → Accepts admits server dce token draw old answer server old
+  pub refused_before : (e : Cause) (answer : Result Answer Cause) → awaits_last_word dce server.state ≡ false → Answers (BeginsAdmission server dce token) (Err e) → IsErrAnd answer (λ d. d ≡ e) → (answer ≡ Err Memory → ⊥) → Accepts admits server dce token draw old answer server old
   unfolding Judged
   refused_before e answer last h is ne =
-      let begun : Begins server dce token (Err e) = h.so (λ z. ne (is_err answer e is ∙ ap Err (same_err {A = Request} e Memory z))) in record {
+      let begun : BeginsAdmission server dce token (Err e) = h.so (λ z. ne (is_err answer e is ∙ ap Err (same_err {A = Request} e Memory z))) in record {
         verdict = Admitted;
         request = Err e;
         begun = begun;
@@ -88,8 +88,8 @@ module _ {G : Type 0} (admits : G → Ask → Verdict → G → Type 0) (server 
 
   -- a request that came to the gate: what is judged behind the gate's verdict, and what is made of it
   pub answered_at_gate : (request : Request) (ask : Ask) (verdict : Verdict) (new : G) (outcome : Result Admission Cause) (answer : Result Answer Cause) (server' : Kerberos)
-      → awaits_last_word dce server.state ≡ false → Answers (Begins server dce token) (Ok request) → ask ≡ ask_of request draw.moment → admits old ask verdict new
-      → (Passes (refusal verdict) >> Finishes server dce draw request) outcome → Makes server outcome answer server' → Accepts admits server dce token draw old answer server' new
+      → awaits_last_word dce server.state ≡ false → Answers (BeginsAdmission server dce token) (Ok request) → ask ≡ ask_of request draw.moment → admits old ask verdict new
+      → (Passes (refusal verdict) >> FinishesAdmission server dce draw request) outcome → MakesAnswer server outcome answer server' → Accepts admits server dce token draw old answer server' new
   unfolding Judged
   answered_at_gate request ask verdict new outcome answer server' last h asked step judged made =
       let begun = answered _ _ h in record {
@@ -104,16 +104,16 @@ module _ {G : Type 0} (admits : G → Ask → Verdict → G → Type 0) (server 
 
   -- an AP-REQ that passes every check is accepted
   pub completed : (new : G) (answer : Result Answer Cause) (server' : Kerberos) (admission : Admission) (step : Accepts admits server dce token draw old answer server' new) → step.verdict ≡ Admitted → Judged server dce token draw Admitted (Ok admission)
-      → Makes server (Ok admission) answer server'
+      → MakesAnswer server (Ok admission) answer server'
   unfolding Judged
   completed new answer server' admission step admits_it passes =
       let begun = goes_on _ _ admission passes in
       let last = waits server dce token begun.0 begun.1 in
       let made = subst (λ (b : Bool). Ends b server token step.outcome answer server') last step.made in
       let e = one_outcome_lem server dce token draw Admitted step.outcome (Ok admission) (subst (λ (v : Verdict). Judged server dce token draw v step.outcome) admits_it step.judged) passes in
-      subst (λ (r : Result Admission Cause). Makes server r answer server') e made
+      subst (λ (r : Result Admission Cause). MakesAnswer server r answer server') e made
 
--- ---- no check behind the gate is refused for want of memory
+-- ---- no check behind the gate is refused because memory ran out
 
 record Refuses {A : Type 0} (checks : Result A Cause → Type 0) : Type 0 where
   pub not : (e : Cause) → checks (Err e) → e ≡ Memory → ⊥
@@ -136,8 +136,8 @@ hold_refuses cause true ne e h z = let i = h.is in absurd cc
 gives_refuses : {A : Type 0} (value : A) → Refuses (λ r. Gives value r)
 gives_refuses value = record { not = λ e h z. let i = h.is in absurd cc }
 
-pub finishes_refuses : (server : Kerberos) (dce : Bool) (draw : Draw) (request : Request) (e : Cause) → Finishes server dce draw request (Err e) → e ≡ Memory → ⊥
-unfolding Finishes Completes
+pub finishes_refuses : (server : Kerberos) (dce : Bool) (draw : Draw) (request : Request) (e : Cause) → FinishesAdmission server dce draw request (Err e) → e ≡ Memory → ⊥
+unfolding FinishesAdmission Completes
 finishes_refuses server dce draw request =
     (then_refuses _ _ (then_refuses _ _ (record { not = take_refuses ClientName _ (λ z. cc) }) (λ client. then_refuses _ _ (record { not = hold_refuses ApOptions _ (λ z. cc) })
     (λ _. then_refuses _ _ (record { not = hold_refuses SubKey _ (λ z. cc) }) (λ _. gives_refuses _)))) (λ client. gives_refuses _)).not

@@ -41,24 +41,24 @@ refusal verdicts.Expired = Some Expired
 refusal verdicts.Replayed = Some Replayed
 
 -- the state in which an AP-REQ may come, and the checks before the gate
-unfoldable pub Begins : Kerberos → Bool → List ℕ → Result Request Cause → Type 0
-Begins server dce token = do
+unfoldable pub BeginsAdmission : Kerberos → Bool → List ℕ → Result Request Cause → Type 0
+BeginsAdmission server dce token = do
   Holds Sequence (is_waiting server.state)
   properties ← Takes Sequence server.server
   Requests properties dce token
 
 -- the checks behind the gate, and what admission makes
-unfoldable pub Finishes : Kerberos → Bool → Draw → Request → Result Admission Cause → Type 0
-Finishes server dce draw request = do
+unfoldable pub FinishesAdmission : Kerberos → Bool → Draw → Request → Result Admission Cause → Type 0
+FinishesAdmission server dce draw request = do
   client ← Completes request
   Gives (admission_of dce server.krb5_user_to_user server.seq_number draw request client)
 
 -- an AP-REQ, judged by the ordered checks, with this verdict of the gate
 unfoldable pub Judged : Kerberos → Bool → List ℕ → Draw → Verdict → Result Admission Cause → Type 0
 Judged server dce token draw verdict = do
-  request ← Begins server dce token
+  request ← BeginsAdmission server dce token
   Passes (refusal verdict)
-  Finishes server dce draw request
+  FinishesAdmission server dce draw request
 
 -- the gate takes one step for a request that reaches it, and else stays
 abbrev pub Asks : {G : Type 0} → (G → Ask → Verdict → G → Type 0) → ℕ → G → Result Request Cause → Verdict → G → Type 0
@@ -66,14 +66,14 @@ Asks admits moment old (Ok request) verdict new = admits old (ask_of request mom
 Asks admits moment old (Err cause) verdict new = new ≡ old
 
 -- what the caller gets for an AP-REQ, and the context afterwards: a refusal leaves it
-abbrev pub Makes : Kerberos → Result Admission Cause → Result Answer Cause → Kerberos → Type 0
-Makes server (Ok admission) answer server' = (answer ≡ Ok (answer_for admission)) × (server' ≡ settled server admission)
-Makes server (Err cause) answer server' = (answer ≡ Err cause) × (server' ≡ server)
+abbrev pub MakesAnswer : Kerberos → Result Admission Cause → Result Answer Cause → Kerberos → Type 0
+MakesAnswer server (Ok admission) answer server' = (answer ≡ Ok (answer_for admission)) × (server' ≡ settled server admission)
+MakesAnswer server (Err cause) answer server' = (answer ≡ Err cause) × (server' ≡ server)
 
 -- the last word where it is awaited, and else the outcome of an AP-REQ
 abbrev pub Ends : Bool → Kerberos → List ℕ → Result Admission Cause → Result Answer Cause → Kerberos → Type 0
 Ends true server token outcome answer server' = Concludes server token answer server'
-Ends false server token outcome answer server' = Makes server outcome answer server'
+Ends false server token outcome answer server' = MakesAnswer server outcome answer server'
 
 -- a token at an acceptor, over any gate. Where the last word is awaited no AP-REQ may come: the checks of one end at the
 -- first of them, so that the gate is not asked
@@ -81,7 +81,7 @@ pub record Accepts {G : Type 0} (admits : G → Ask → Verdict → G → Type 0
     (old : G) (answer : Result Answer Cause) (server' : Kerberos) (new : G) : Type 0 where
   pub verdict : Verdict
   pub request : Result Request Cause
-  pub begun : Begins server dce token request
+  pub begun : BeginsAdmission server dce token request
   pub gate : Asks admits draw.moment old request verdict new
   pub outcome : Result Admission Cause
   pub judged : Judged server dce token draw verdict outcome

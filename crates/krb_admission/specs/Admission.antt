@@ -1,10 +1,11 @@
 -- What an admission makes (RFC 4120, sections 3.2.4 and 3.2.5).
-use Rattle.std.specs.Prelude.{◌≡◌, ℕ, ◌+◌, ◌-◌, ◌%◌, ◌^◌, ◌<◌, ◌≤◌, ℤ, length, Bool, true, List, [], ◌∷◌, ◌++◌, take, drop, Option, Some, None, option_map, unwrap_or, if◌then◌else◌}
+use Rattle.std.specs.Prelude.{◌≡◌, ℕ, ◌+◌, ◌-◌, ◌%◌, ◌^◌, ◌<◌, ◌≤◌, ℤ, length, Bool, true, List, [], ◌∷◌}
+use Rattle.std.specs.Prelude.{◌++◌, take, drop, Option, Some, None, option_map, unwrap_or, if◌then◌else◌}
 use Rattle.std.specs.Int.{w32, to_be_bytes}
 use Rattle.krb_der.specs.Der.{tlv}
 use Rattle.krb_der.specs.Reading.{number_of}
 use Rattle.krb_der.specs.Schema.{tag_of, contents, IsComplete}
-use Rattle.krb_der.specs.Layout.{Layout}
+use Rattle.krb_der.specs.Layout.{spelling}
 use Rattle.krb_crypto.specs.Suite.{key_size, suite_number}
 use Rattle.krb_crypto.specs.Sealed.{sealed}
 use Rattle.krb_crypto.specs.declared.suite.CipherSuite.{CipherSuite}
@@ -13,6 +14,7 @@ use Rattle.krb_messages.specs.declared.ap_rep.ApRep.{ApRep}
 use Rattle.krb_messages.specs.declared.ap_rep.EncApRepPart.{EncApRepPart}
 use Rattle.krb_messages.specs.Layouts.{ap_rep_layout, enc_ap_rep_part_layout}
 use Rattle.krb_messages.specs.Table.{enc_ap_rep_part}
+use Rattle.krb_messages.specs.Frame.{framed}
 use Rattle.krb_context.specs.declared.context.Kerberos.{Kerberos}
 use Rattle.krb_context.specs.declared.server.ServerProperties.{ServerProperties}
 use Rattle.krb_context.specs.declared.state.KerberosState.{KerberosState}
@@ -24,16 +26,9 @@ use Rattle.sspi_core.specs.declared.results.SecurityStatus.TheVariants.{Ok as Co
 use Rattle.krb_admission.specs.declared.request.Request.{Request}
 use Rattle.krb_admission.specs.declared.admission.Admission.{Admission}
 use Rattle.krb_admission.specs.declared.admission.Answer.{Answer}
-use Rattle.krb_replies.specs.Unseals.{suite_of}
+use Rattle.krb_replies.specs.Unseals.{suite_of_integer}
 use Rattle.krb_admission.specs.Complete.{is_mutual}
-
--- the spelling of a record
-unfoldable pub spelling : {A : Type 0} → Layout A → A → List ℕ
-spelling layout value = tlv (tag_of layout.kind) (contents layout.kind (layout.view value))
-
--- the frame of a message (RFC 2743, section 3.1; RFC 4121, section 4.1)
-unfoldable pub framed : List ℕ → List ℕ → List ℕ → List ℕ
-framed oid token_id message = tlv 0x60 (tlv 0x06 oid ++ (token_id ++ message))
+use Rattle.krb_context.specs.Drawn.{drawn_key}
 
 -- a key of a suite
 abbrev pub key_with : CipherSuite → List ℕ → EncryptionKey
@@ -55,10 +50,6 @@ ap_rep_with suite cipher = record {
 abbrev pub ap_rep : CipherSuite → List ℕ → List ℕ → EncApRepPart → ApRep
 ap_rep suite key confounder part = ap_rep_with suite (sealed suite key 12 confounder (spelling enc_ap_rep_part_layout part))
 
--- the sub-session key that is drawn, and the confounder behind it
-abbrev pub drawn_key : CipherSuite → Draw → List ℕ
-drawn_key suite draw = take (key_size suite) draw.random
-
 abbrev pub drawn_confounder : CipherSuite → Draw → List ℕ
 drawn_confounder suite draw = take 16 (drop (key_size suite) draw.random)
 
@@ -75,13 +66,13 @@ abbrev pub ap_rep_id : List ℕ
 ap_rep_id = 2 ∷ 0 ∷ []
 
 -- the number in four octets, the highest first, after the context's own
-abbrev pub number_after : ℕ → List ℕ
-number_after number = to_be_bytes w32 ((number + 1) % 2 ^ 32)
+abbrev pub next_number_octets : ℕ → List ℕ
+next_number_octets number = to_be_bytes w32 ((number + 1) % 2 ^ 32)
 
 -- what the AP-REP to a request seals: its authenticator's time, the drawn subkey, and the number after the context's own
 abbrev pub reply_part : ℕ → Draw → Request → EncApRepPart
 reply_part number draw request =
-    ap_rep_part request.suite request.authenticator.ctime request.authenticator.cusec (number_after number) (Some (drawn_key request.suite draw))
+    ap_rep_part request.suite request.authenticator.ctime request.authenticator.cusec (next_number_octets number) (Some (drawn_key request.suite draw))
 
 -- the AP-REP to a request
 unfoldable pub reply_message : ℕ → Draw → Request → List ℕ
@@ -111,7 +102,7 @@ mutual_admission dce user_to_user number draw request client = record {
 -- the suite of a subkey that is there
 abbrev pub subkey_suite : CipherSuite → Option EncryptionKey → CipherSuite
 subkey_suite suite None = suite
-subkey_suite suite (Some key) = unwrap_or (suite_of key.key_type) suite
+subkey_suite suite (Some key) = unwrap_or (suite_of_integer key.key_type) suite
 
 -- the own number from an authenticator's: the one before its low four octets, zero octets standing in front of a shorter one
 abbrev pub number_before : ℕ → Option (List ℕ) → ℕ

@@ -6,7 +6,7 @@ use Rattle.krb_crypto.specs.declared.suite.CipherSuite.{CipherSuite}
 use Rattle.krb_context.specs.Options.{use_session_key, mutual_required}
 use Rattle.krb_messages.specs.declared.encryption.EncryptionKey.{EncryptionKey}
 use Rattle.krb_admission.specs.declared.request.Request.{Request}
-use Rattle.krb_replies.specs.Unseals.{suite_of}
+use Rattle.krb_replies.specs.Unseals.{suite_of_integer}
 use Rattle.krb_admission.specs.Clients.{client_of}
 use Rattle.sspi_core.specs.Usernames.{UserName}
 use Rattle.sspi_core.specs.declared.cause.Cause.{Cause}
@@ -39,7 +39,7 @@ fits (Some suite) key = length key == key_size suite
 
 -- a key of a known type and of its type's length
 abbrev pub is_good_key : EncryptionKey → Bool
-is_good_key key = fits (suite_of key.key_type) key.key_value
+is_good_key key = fits (suite_of_integer key.key_type) key.key_value
 
 abbrev pub is_good_if_there : Option EncryptionKey → Bool
 is_good_if_there None = true

@@ -1,4 +1,3 @@
-pub mod Opens
 pub mod Tokens
 pub mod Requests
 pub mod Clients

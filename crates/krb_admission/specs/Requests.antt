@@ -10,8 +10,8 @@ use Rattle.krb_replay.specs.declared.ask.Ask.{Ask}
 use Rattle.krb_context.specs.declared.server.ServerProperties.{ServerProperties}
 use Rattle.krb_context.specs.ServiceKeys.{service_key}
 use Rattle.krb_admission.specs.declared.request.Request.{Request}
-use Rattle.krb_admission.specs.Opens.{OpensData}
-use Rattle.krb_admission.specs.Tokens.{Receives}
+use Rattle.krb_replies.specs.Unseals.{OpensData}
+use Rattle.krb_admission.specs.Tokens.{ReceivesApReq}
 use Rattle.sspi_core.specs.declared.cause.Cause.{Cause}
 use Rattle.sspi_core.specs.declared.cause.Cause.TheVariants.{NoServiceKey, Names}
 use Rattle.sspi_core.specs.Checks.{Holds, Takes, Gives, ◌>>=◌, ◌>>◌}
@@ -41,7 +41,7 @@ OpensAuthenticator message part = do
 -- the AP-REQ in a token, with what is sealed in it
 unfoldable pub Requests : ServerProperties → Bool → List ℕ → Result Request Cause → Type 0
 Requests server dce token = do
-  message ← Receives dce token
+  message ← ReceivesApReq dce token
   part ← OpensTicket server message
   sealed ← OpensAuthenticator message part
   Gives (record { message = message; part = part; suite = sealed.0; authenticator = sealed.1 })

@@ -8,7 +8,7 @@ use Rattle.krb_context.specs.declared.context.Kerberos.{Kerberos}
 use Rattle.krb_context.specs.declared.state.KerberosState.TheVariants.{Final}
 use Rattle.krb_replies.specs.Unseals.{IsRead}
 use Rattle.krb_replies.specs.Answered.{TellsNumber}
-use Rattle.krb_admission.specs.Admission.{number_after}
+use Rattle.krb_admission.specs.Admission.{next_number_octets}
 use Rattle.krb_admission.specs.declared.admission.Answer.{Answer}
 use Rattle.sspi_core.specs.declared.results.SecurityStatus.TheVariants.{Ok as Complete}
 use Rattle.sspi_core.specs.declared.cause.Cause.{Cause}
@@ -34,7 +34,7 @@ unfoldable pub IsLastWord : Kerberos → List ℕ → Result (Unit {0}) Cause �
 IsLastWord server token = do
   properties ← Takes Sequence server.server
   number ← TellsLast server token
-  Holds Number (pointwise ◌==◌ number (number_after server.seq_number))
+  Holds Number (pointwise ◌==◌ number (next_number_octets server.seq_number))
 
 -- the context is established, and its sealed messages have 16 octets of filler
 abbrev pub concluded : Kerberos → Kerberos

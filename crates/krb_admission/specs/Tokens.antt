@@ -26,7 +26,7 @@ IsApReq true token message = IsRead ap_req_layout token message
 IsApReq false token message = IsFramedApReq token message
 
 -- the AP-REQ in a token, which has at most 2^24 octets
-unfoldable pub Receives : Bool → List ℕ → Result ApReq Cause → Type 0
-Receives dce token = do
+unfoldable pub ReceivesApReq : Bool → List ℕ → Result ApReq Cause → Type 0
+ReceivesApReq dce token = do
   Holds Shape (nat_le (length token) 16777216)
   Finds Shape (IsApReq dce token)

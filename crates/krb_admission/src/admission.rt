@@ -3,12 +3,30 @@
 ghost use Rattle.std.specs.Prelude.{◌≡◌, ◌+◌, ◌<◌, ◌≤◌, ◌^◌, ◌%◌, option_map, length, IfOk};
 ghost use Rattle.krb_der.specs.Reading.{number_of};
 ghost use Rattle.krb_messages.specs.Oid.{contents_of};
-ghost use Rattle.krb_admission.specs.Admission.{framed, ap_rep_id, drawn_key, drawn_confounder, mechanism, reply_part, reply_message, token_with, state_behind, status_in, mutual_admission, subkey_suite, number_before, one_way_admission, admission_of, answer_for, with_client, settled, IsAnswerable};
+ghost use Rattle.krb_messages.specs.Frame.{framed};
+ghost use Rattle.krb_admission.specs.Admission.{
+  ap_rep_id,
+  mechanism,
+  reply_part,
+  reply_message,
+  token_with,
+  state_behind,
+  status_in,
+  mutual_admission,
+  subkey_suite,
+  number_before,
+  one_way_admission,
+  admission_of,
+  answer_for,
+  with_client,
+  settled,
+  IsAnswerable,
+};
 
 use crate::ap_rep::{ap_rep_part, seal_ap_rep};
 use crate::complete::is_mutual;
 use crate::request::Request;
-use krb_context::{Kerberos, KerberosState, ServerProperties};
+use krb_context::{Kerberos, KerberosState, ServerProperties, drawn_key};
 use krb_crypto::CipherSuite;
 use krb_der::{Asn1, IntegerAsn1, Octets, OutOfMemory, TryCopy};
 use krb_messages::constants::AP_REP_TOKEN_ID;
@@ -51,21 +69,6 @@ pub(crate) struct Acceptor<'a> {
     pub(crate) draw: &'a Draw,
 }
 
-fn drawn_confounder(suite: CipherSuite, draw: &Draw) -> [u8; 16]
-    ensures { result ≡ drawn_confounder suite draw.now }
-{
-    let start = suite.key_size();
-    let mut confounder = [0; 16];
-    confounder.copy_from_slice(&draw.random[start..start + 16]);
-    confounder
-}
-
-fn drawn_key(suite: CipherSuite, draw: &Draw) -> &[u8]
-    ensures { result.now ≡ drawn_key suite draw.now }
-{
-    &draw.random[..suite.key_size()]
-}
-
 /// The mechanism that a token names.
 fn mechanism(user_to_user: bool) -> Oid<'static>
     ensures { contents_of result ≡ mechanism user_to_user }
@@ -96,7 +99,7 @@ fn reply_part(
 }
 
 /// The AP-REP to a request.
-#[tactic(auto, unfolding(crate::specs::Admission::spelling, crate::specs::Admission::reply_message))]
+#[tactic(auto, unfolding(crate::specs::Admission::reply_message))]
 fn reply_message(
     alloc: Global,
     acceptor: &Acceptor,
@@ -107,14 +110,14 @@ fn reply_message(
     ensures short { IfOk result (λ message. length message ≤ 2 ^ 28) }
 {
     let part = reply_part(alloc, acceptor.number, acceptor.draw, request)?;
-    let confounder = drawn_confounder(request.suite, acceptor.draw);
+    let confounder = acceptor.draw.octets::<16>(request.suite.key_size());
     let key = request.part.key.key_value.as_slice();
     let reply = seal_ap_rep(alloc, request.suite, key, confounder, &part)?;
     Ok(reply.write(alloc)?)
 }
 
 /// A message behind the mechanism's name.
-#[tactic(auto, unfolding(crate::specs::Admission::framed))]
+#[tactic(auto, unfolding(krb_messages::specs::Frame::framed))]
 fn framed_reply(alloc: Global, user_to_user: bool, message: &Octets) -> Result<Octets, OutOfMemory>
     requires { length message.now ≤ 2 ^ 28 }
     ensures { IfOk result (λ token. token ≡ framed (mechanism user_to_user) ap_rep_id message.now) }

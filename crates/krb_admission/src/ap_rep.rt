@@ -7,8 +7,8 @@ ghost use Rattle.sspi_core.specs.Kinds.{error_of};
 ghost use Rattle.krb_crypto.specs.Suite.{key_size};
 ghost use Rattle.krb_crypto.specs.Sealed.{sealed};
 ghost use Rattle.krb_messages.specs.Layouts.{enc_ap_rep_part_layout};
-ghost use Rattle.krb_context.specs.Params.{suite_of as context_suite};
-ghost use Rattle.krb_admission.specs.Admission.{spelling, key_with, ap_rep_part, ap_rep_with, ap_rep, IsShortPart};
+ghost use Rattle.krb_context.specs.Params.{suite_of};
+ghost use Rattle.krb_admission.specs.Admission.{key_with, ap_rep_part, ap_rep_with, ap_rep, IsShortPart};
 
 use krb_context::EncryptionParams;
 use krb_crypto::{CipherSuite, CryptoError, encrypt};
@@ -98,7 +98,6 @@ fn seal(
 }
 
 /// An AP-REP in which the part is sealed under the session key.
-#[tactic(auto, unfolding(crate::specs::Admission::spelling))]
 pub(crate) fn seal_ap_rep(
     alloc: Global,
     suite: CipherSuite,
@@ -121,7 +120,7 @@ pub(crate) fn seal_ap_rep(
 ///
 /// `ctime` and `cusec` are those of the authenticator that is answered, in seconds since 1970-01-01T00:00:00Z and in
 /// microseconds; `seq_number` has its highest octet first. Refused as InvalidParameter KeyLength exactly where the session key
-/// has not the length of the suite's keys; else only memory can be wanting.
+/// has not the length of the suite's keys; else it fails only if memory runs out.
 pub fn generate_ap_rep(
     alloc: Global,
     session_key: &Secret<Octets>,
@@ -134,9 +133,9 @@ pub fn generate_ap_rep(
     requires some { 0 < length cusec.now }
     requires short { length cusec.now ≤ 2 ^ 24 }
     requires subkey { IfSome enc_params.now.sub_session_key (λ key. length key ≤ 2 ^ 24) }
-    ensures made { let suite = context_suite enc_params.now in
+    ensures made { let suite = suite_of enc_params.now in
         IfOk result (λ reply. reply ≡ ap_rep suite session_key.now confounder (ap_rep_part suite ctime cusec.now seq_number enc_params.now.sub_session_key)) }
-    ensures key_length { (result ≡ Err (error_of causes.KeyLength)) ↔ ¬ (length session_key.now ≡ key_size (context_suite enc_params.now)) }
+    ensures key_length { (result ≡ Err (error_of causes.KeyLength)) ↔ ¬ (length session_key.now ≡ key_size (suite_of enc_params.now)) }
     ensures errors { IfErr result (λ e. (e ≡ error_of causes.KeyLength) ⊎ (e ≡ error_of causes.Memory)) }
 {
     let suite = enc_params.suite();

@@ -5,7 +5,7 @@ ghost use Rattle.sspi_core.specs.declared.cause.Cause.TheVariants as causes;
 ghost use Rattle.sspi_core.specs.Checks.{Answers, Holds, Passes};
 ghost use Rattle.krb_admission.specs.Admission.{IsAnswerable};
 ghost use Rattle.krb_context.specs.States.{is_waiting};
-ghost use Rattle.krb_admission.specs.Accepts.{awaits_last_word, refusal, Begins, Finishes, Accepts};
+ghost use Rattle.krb_admission.specs.Accepts.{awaits_last_word, refusal, BeginsAdmission, FinishesAdmission, Accepts};
 
 use crate::admission::{Acceptor, Admission, Answer, admission_of, settle};
 use crate::complete::complete;
@@ -37,7 +37,7 @@ fn check_state(server: &Kerberos) -> Result<(), Cause>
 /// The checks before the gate. The keys that open a ticket are kept in the context.
 fn begin(alloc: Global, server: &mut Kerberos, dce: bool, token: &[u8]) -> Result<Request, Cause>
     ensures stays { server.new ≡ server.old }
-    ensures begins { Answers (Begins server.old dce token.now) result }
+    ensures begins { Answers (BeginsAdmission server.old dce token.now) result }
 {
     check_state(server)?;
     let properties = properties(&server.server)?;
@@ -66,7 +66,7 @@ fn finish(
     request: &Request,
 ) -> Result<Result<Admission, Cause>, OutOfMemory>
     requires { IsAnswerable request.now }
-    ensures { IfOk result (Finishes server.now dce draw.now request.now) }
+    ensures { IfOk result (FinishesAdmission server.now dce draw.now request.now) }
 {
     let completed = complete(alloc, request)?;
     let acceptor = Acceptor {

@@ -8,7 +8,7 @@ ghost use Rattle.krb_replay.specs.declared.ask.Verdict.TheVariants.{Admitted};
 ghost use Rattle.krb_context.specs.declared.context.Kerberos.{Kerberos};
 ghost use Rattle.krb_admission.specs.declared.admission.Answer.{Answer};
 ghost use Rattle.krb_admission.specs.declared.admission.Admission.{Admission};
-ghost use Rattle.krb_admission.specs.Accepts.{Judged, Accepts, Makes};
+ghost use Rattle.krb_admission.specs.Accepts.{Judged, Accepts, MakesAnswer};
 ghost use Rattle.krb_admission.specs.ThirdLeg.{Concludes};
 
 use krb_replay::ReplayGate;
@@ -24,7 +24,7 @@ pub fn one_outcome()
 pub fn completeness<G: ReplayGate>()
     ensures { (server server' : Kerberos) (dce : Bool) (token : List ℕ) (draw : Draw) (old new : G) (answer : Result Answer Cause) (admission : Admission)
         → (step : Accepts G.admits server dce token draw old answer server' new) → step.verdict ≡ Admitted
-        → Judged server dce token draw Admitted (Ok admission) → Makes server (Ok admission) answer server' }
+        → Judged server dce token draw Admitted (Ok admission) → MakesAnswer server (Ok admission) answer server' }
 {}
 
 /// Each context and last word of an initiator has at most one answer, and one context afterwards.

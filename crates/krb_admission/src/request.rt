@@ -7,7 +7,6 @@ ghost use Rattle.sspi_core.specs.Checks.{Answers, Holds, Takes};
 ghost use Rattle.krb_context.specs.ServiceKeys.{service_key};
 ghost use Rattle.krb_admission.specs.Requests.{is_same_client, OpensTicket, OpensAuthenticator, Requests, ask_of};
 
-use crate::open::open_data;
 use crate::token::receive;
 use krb_context::{KeptKey, ServerProperties};
 use krb_crypto::CipherSuite;
@@ -15,6 +14,7 @@ use krb_der::{Blank, Octets, OutOfMemory, boxed};
 use krb_messages::constants::{AP_REQ_AUTHENTICATOR_USAGE, TICKET_USAGE};
 use krb_messages::{ApReq, Authenticator, EncTicketPart, PrincipalName};
 use krb_replay::{Ask, Record};
+use krb_replies::open_data;
 use sspi_core::{Cause, hold};
 use std::alloc::Global;
 use std::mem;

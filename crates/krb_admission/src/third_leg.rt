@@ -7,15 +7,14 @@ ghost use Rattle.sspi_core.specs.declared.cause.Cause.TheVariants as causes;
 ghost use Rattle.sspi_core.specs.Checks.{Answers, Holds, Takes};
 ghost use Rattle.krb_context.specs.Params.{suite_of};
 ghost use Rattle.krb_replies.specs.Answered.{TellsNumber};
-ghost use Rattle.krb_admission.specs.Admission.{number_after};
+ghost use Rattle.krb_admission.specs.Admission.{next_number_octets};
 ghost use Rattle.krb_admission.specs.ThirdLeg.{ReadsApRep, TellsLast, IsLastWord, concluded, last_answer, Concludes};
 
 use crate::admission::Answer;
-use crate::token::check_token_length;
 use krb_context::{Kerberos, KerberosState, ServerProperties};
 use krb_der::Octets;
 use krb_messages::ApRep;
-use krb_replies::{extract_seq_number_from_ap_rep, read_or};
+use krb_replies::{check_token_length, extract_seq_number_from_ap_rep, read_or};
 use sspi_core::{Cause, Secret, SecurityStatus, hold};
 use std::alloc::Global;
 
@@ -74,7 +73,7 @@ fn last_number(alloc: Global, server: &Kerberos, token: &[u8]) -> Result<Octets,
 }
 
 fn check_number(own: u32, number: &Octets) -> Result<(), Cause>
-    ensures { Holds causes.Number (pointwise ◌==◌ number.now (number_after own)) result }
+    ensures { Holds causes.Number (pointwise ◌==◌ number.now (next_number_octets own)) result }
 {
     let awaited = own.wrapping_add(1).to_be_bytes();
     hold(number.as_slice() == awaited.as_slice(), Cause::Number)

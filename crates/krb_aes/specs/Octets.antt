@@ -1,5 +1,5 @@
 -- Octets, and blocks of them. A list of numbers is not octets by itself.
-use Rattle.std.specs.Prelude.{◌≡◌, ℕ, ◌<◌, List, length, slice_index}
+use Rattle.std.specs.Prelude.{◌≡◌, ℕ, ◌<◌, ◌*◌, List, length, slice_index, take, drop}
 
 -- each element is an octet
 pub record IsOctets (s : List ℕ) : Type 0 where
@@ -9,3 +9,7 @@ pub record IsOctets (s : List ℕ) : Type 0 where
 pub record IsBlock (s : List ℕ) : Type 0 where
   pub size : length s ≡ 16
   pub octets : IsOctets s
+
+-- block b of the blocks that stand side by side
+abbrev pub block_at : ℕ → List ℕ → List ℕ
+block_at b v = take 16 (drop (16 * b) v)

@@ -4,7 +4,8 @@ ghost use Rattle.std.specs.Prelude.{◌≡◌, ◌⊎◌, ◌+◌, ◌*◌, ◌/
 ghost use Rattle.krb_aes.specs.Word.{sub_word, word_at, added_word};
 ghost use Rattle.krb_aes.specs.Aes.{IsKey, round_count, key_expansion};
 
-use crate::tables::substituted;
+use crate::lanes::substituted;
+use std::simd::prelude::*;
 
 /// The octets x^0 to x^9 of the field, each in front of three zero octets (section 5.2).
 static ROUND_CONSTANTS: [u32; 10] = [
@@ -24,12 +25,9 @@ fn sub_word(word: u32) -> u32
     ensures { result ≡ sub_word word }
 {
     let [a, b, c, d] = word.to_be_bytes();
-    u32::from_be_bytes([
-        substituted(a),
-        substituted(b),
-        substituted(c),
-        substituted(d),
-    ])
+    let octets = u8x16::from_array([a, b, c, d, 0, 0, 0, 0, 0, 0, 0, 0, 0, 0, 0, 0]);
+    let out = substituted(octets).to_array();
+    u32::from_be_bytes([out[0], out[1], out[2], out[3]])
 }
 
 pub fn load_word(octets: &[u8], at: usize) -> u32

@@ -14,7 +14,7 @@ use Rattle.krb_messages.specs.declared.ap_rep.ApRep.{ApRep}
 use Rattle.krb_messages.specs.declared.ap_rep.EncApRepPart.{EncApRepPart}
 use Rattle.krb_messages.proofs.FrameLemmas.{one_frame_lem}
 use Rattle.krb_context.proofs.ChainLemmas.{passed}
-use Rattle.krb_replies.specs.Unseals.{IsRead, Unseals, Opens}
+use Rattle.krb_replies.specs.Unseals.{IsRead, Unseals, OpensSealed}
 use Rattle.krb_replies.specs.Answered.{OpensApRep}
 use Rattle.krb_ap.specs.Answered.{IsApRep, ReadsApRep}
 
@@ -29,7 +29,7 @@ framed_read token oid octets answer frame h = record { so = λ ne. framed_found 
 
 -- what was opened was sealed under a key of the suite's length
 opened_under : (suite : CipherSuite) (key : List ℕ) (message : ApRep) (part : EncApRepPart) → OpensApRep suite key message (Ok part) → length key ≡ key_size suite
-unfolding OpensApRep Opens Unseals
+unfolding OpensApRep OpensSealed Unseals
 opened_under suite key message part h =
     let size = passed _ _ _ (passed _ _ _ h).first_held in
     eqb-true (length key) (key_size suite) (held Reply (length key == key_size suite) size.found size.first_held)

@@ -7,6 +7,7 @@ use Rattle.krb_der.specs.Der.{tlv}
 use Rattle.krb_der.specs.Moment.{time_octets}
 use Rattle.krb_der.specs.Schema.{tag_of, contents}
 use Rattle.krb_der.proofs.Lengths.{contents_shorter}
+use Rattle.krb_der.specs.Layout.{spelling}
 use Rattle.krb_crypto.specs.Sealed.{IsSealed}
 use Rattle.krb_crypto.specs.declared.suite.CipherSuite.{CipherSuite}
 use Rattle.krb_crypto.proofs.SealedLemmas.{plain_shorter}
@@ -20,8 +21,7 @@ use Rattle.sspi_core.specs.declared.cause.Cause.TheVariants.{Shape}
 use Rattle.sspi_core.specs.Checks.{Answers}
 use Rattle.sspi_core.proofs.Chain.{held}
 use Rattle.krb_context.proofs.ChainLemmas.{passed}
-use Rattle.krb_replies.specs.Unseals.{IsRead, Unseals, Opens, session_key}
-use Rattle.krb_requests.specs.Pieces.{spelling}
+use Rattle.krb_replies.specs.Unseals.{IsRead, Unseals, OpensSealed, session_key}
 use Rattle.krb_ap.specs.ApReps.{IsSendableNumber}
 use Rattle.krb_ap.specs.Answered.{IsApRep, ReadsApRep}
 
@@ -81,14 +81,14 @@ read_number plain part h k =
     number_of part.seq_number (first_le (2 ^ 24) number [] (rest_le (2 ^ 24) subkey (number ++ []) (behind_le (2 ^ 24) 0x7b 0x30 stamp micro (subkey ++ (number ++ [])) whole)))
     h.sound.1.1.1.0
 
-opened : (suite : CipherSuite) (key text : List ℕ) (part : EncApRepPart) → Opens enc_ap_rep_part_layout session_key suite key 12 text (Ok part) → length text ≤ 2 ^ 24 → IfSome part.seq_number IsSendableNumber
-unfolding Opens Unseals
+opened : (suite : CipherSuite) (key text : List ℕ) (part : EncApRepPart) → OpensSealed enc_ap_rep_part_layout session_key suite key 12 text (Ok part) → length text ≤ 2 ^ 24 → IfSome part.seq_number IsSendableNumber
+unfolding OpensSealed Unseals
 opened suite key text part h k =
     let inner = passed _ _ _ h in
     let sealed : IsSealed suite key 12 text inner.found = (passed _ _ _ (passed _ _ _ inner.first_held).rest_held).rest_held.is in
     read_number inner.found part inner.rest_held.is (omega (arith, plain_shorter suite key 12 text inner.found sealed, k))
 
-pub opened_number : (suite : CipherSuite) (key text cipher : List ℕ) (answer : Result EncApRepPart Cause) → text ≡ cipher → Answers (Opens enc_ap_rep_part_layout session_key suite key 12 text) answer → length cipher ≤ 2 ^ 24
+pub opened_number : (suite : CipherSuite) (key text cipher : List ℕ) (answer : Result EncApRepPart Cause) → text ≡ cipher → Answers (OpensSealed enc_ap_rep_part_layout session_key suite key 12 text) answer → length cipher ≤ 2 ^ 24
     → IfOk answer (λ part. IfSome part.seq_number IsSendableNumber)
 opened_number suite key text cipher (Ok part) e h k = opened suite key text part (h.so (λ z. absurd cc)) (subst (λ (o : List ℕ). length o ≤ 2 ^ 24) (sym e) k)
 opened_number suite key text cipher (Err cause) e h k = tt

@@ -16,7 +16,7 @@ use Rattle.krb_ap.specs.declared.initiator.Initiator.{Initiator}
 use Rattle.krb_ap.specs.declared.errand.Errand.{Errand}
 use Rattle.krb_ap.specs.Initiators.{is_bare}
 use Rattle.krb_ap.specs.Shown.{ShowsTicket}
-use Rattle.krb_ap.specs.Answered.{IsApRep, ReadsApRep, Confirms, Replies, Finishes, TakesApRep}
+use Rattle.krb_ap.specs.Answered.{IsApRep, ReadsApRep, Confirms, Replies, FinishesInitiation, TakesApRep}
 
 pub shows_ticket_once : (errand : Errand) (suite : CipherSuite) (key : List ℕ) (rep : KdcRep) (home : List ℕ) (draw : Draw) → Once (ShowsTicket errand suite key rep home draw)
 unfolding ShowsTicket
@@ -46,7 +46,7 @@ replies_once : (initiator : Initiator) (key : List ℕ) (part : EncApRepPart) (d
 unfolding Replies
 replies_once initiator key part draw = then_once _ _ (takes_once _ _) (λ subkey. then_once _ _ (takes_once _ _) (λ number. gives_once _))
 
-finishes_once : (dce : Bool) (initiator : Initiator) (key : List ℕ) (part : EncApRepPart) (draw : Draw) → Once (λ r. Finishes dce initiator key part draw r)
+finishes_once : (dce : Bool) (initiator : Initiator) (key : List ℕ) (part : EncApRepPart) (draw : Draw) → Once (λ r. FinishesInitiation dce initiator key part draw r)
 finishes_once true initiator key part draw = record { same = λ r s h k. (replies_once initiator key part draw).same r s h k }
 finishes_once false initiator key part draw = record { same = λ r s h k. (confirms_once initiator part).same r s h k }
 

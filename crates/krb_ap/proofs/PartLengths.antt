@@ -2,10 +2,11 @@
 use Rattle.std.proofs.Common.{◌≡◌, ℕ, ◌<◌, ◌≤◌, ◌^◌, List, [], ◌∷◌, length, lit≤, lit<, sym, subst}
 use Rattle.krb_der.specs.Moment.{time_octets}
 use Rattle.krb_der.proofs.Lengths.{tlv_le, field_le, append_le}
+use Rattle.krb_der.specs.Layout.{spelling}
 use Rattle.krb_messages.specs.Table.{enc_ap_rep_part, ap_rep as ap_rep_kind}
 use Rattle.krb_messages.specs.Layouts.{enc_ap_rep_part_row, enc_ap_rep_part_layout, ap_rep_row, ap_rep_layout, encrypted_data_layout}
 use Rattle.krb_messages.specs.declared.encryption.EncryptedData.{EncryptedData}
-use Rattle.krb_requests.specs.Pieces.{Fits, spelling, sealed_data}
+use Rattle.krb_requests.specs.Pieces.{Fits, sealed_data}
 use Rattle.krb_authenticators.proofs.Lengths.{le_trans, time_short}
 use Rattle.krb_authenticators.specs.Authenticators.{microseconds}
 use Rattle.krb_authenticators.proofs.ApLengths.{data_le, data_complete}

@@ -17,24 +17,13 @@ use Rattle.sspi_core.specs.declared.draw.Draw.{Draw}
 use Rattle.krb_requests.specs.Pieces.{Fits}
 use Rattle.krb_authenticators.specs.declared.options.ChecksumOptions.{ChecksumOptions}
 use Rattle.krb_authenticators.specs.Authenticators.{authenticator}
-use Rattle.krb_ap.specs.Shown.{drawn_key}
+use Rattle.krb_context.specs.Drawn.{drawn_key}
 
 -- what is framed, behind the mechanism's name
 pub framed_short : (mechanism oid message : List ℕ) → oid ≡ mechanism → length mechanism ≤ 2 ^ 24 → length message ≤ 2 ^ 28 → length (tlv 0x06 oid ++ ((1 ∷ 0 ∷ []) ++ message)) < 2 ^ 31
 framed_short mechanism oid message e h k =
     let name : length oid ≤ 2 ^ 24 = subst (λ (o : List ℕ). length o ≤ 2 ^ 24) (sym e) h in
     omega (arith, append_le (tlv 0x06 oid) ((1 ∷ 0 ∷ []) ++ message) _ (2 + 2 ^ 28) (tlv_le 0x06 oid (2 ^ 24) name) (append_le (1 ∷ 0 ∷ []) message 2 (2 ^ 28) (lit≤ tt) k))
-
-pub key_size_small : (suite : CipherSuite) → key_size suite ≤ 32
-key_size_small Aes128CtsHmacSha196 = lit≤ tt
-key_size_small Aes256CtsHmacSha196 = lit≤ tt
-
--- a key that was drawn
-drawn_short : (suite : CipherSuite) (draw : Draw) → length (drawn_key suite draw) ≤ 2 ^ 24
-drawn_short suite draw = omega (arith, key_size_small suite, length-take (key_size suite) draw.random)
-
-pub key_short : (suite : CipherSuite) (draw : Draw) (key : List ℕ) → key ≡ drawn_key suite draw → length key ≤ 2 ^ 24
-key_short suite draw key e = subst (λ (o : List ℕ). length o ≤ 2 ^ 24) (sym e) (drawn_short suite draw)
 
 -- the octets of an AP-REQ
 pub written_short : (request : ApReq) (written : Result (List ℕ) OutOfMemory) → Fits ap_req_layout (2 ^ 28) request

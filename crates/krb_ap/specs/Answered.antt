@@ -1,6 +1,7 @@
 -- The answer of the service: an AP-REP (RFC 4120, section 3.2.5; RFC 4121, section 4.1), which DCE style answers in turn
 -- (MS-KILE, section 3.4.5.1).
 use Rattle.std.specs.Prelude.{ℕ, ◌+◌, ◌%◌, ◌^◌, nat_le, Bool, true, false, List, [], ◌∷◌, length, take, Option, Some, None, option_map, Result}
+use Rattle.krb_der.specs.Layout.{spelling}
 use Rattle.krb_crypto.specs.declared.suite.CipherSuite.{CipherSuite}
 use Rattle.krb_messages.specs.Frame.{IsFrame}
 use Rattle.krb_messages.specs.Layouts.{ap_rep_layout}
@@ -17,7 +18,6 @@ use Rattle.sspi_core.specs.declared.cause.Cause.TheVariants.{Shape, Reply, NoSub
 use Rattle.sspi_core.specs.Checks.{Finds, Gives, Holds, Takes, ◌>>=◌, ◌>>◌}
 use Rattle.krb_replies.specs.Unseals.{IsRead}
 use Rattle.krb_replies.specs.Answered.{OpensApRep}
-use Rattle.krb_requests.specs.Pieces.{spelling}
 use Rattle.krb_as.specs.declared.done.InitDone.{InitDone}
 use Rattle.krb_ap.specs.declared.initiator.Initiator.{Initiator}
 use Rattle.krb_ap.specs.Initiators.{is_bare}
@@ -89,9 +89,9 @@ Replies initiator key subkey number draw = do
   number ← Takes NoNumber number
   Gives (replied initiator key subkey number draw)
 
-abbrev pub Finishes : Bool → Initiator → List ℕ → EncApRepPart → Draw → Result InitDone Cause → Type 0
-Finishes true initiator key part draw answer = Replies initiator key part.subkey part.seq_number draw answer
-Finishes false initiator key part draw answer = Confirms initiator part.subkey answer
+abbrev pub FinishesInitiation : Bool → Initiator → List ℕ → EncApRepPart → Draw → Result InitDone Cause → Type 0
+FinishesInitiation true initiator key part draw answer = Replies initiator key part.subkey part.seq_number draw answer
+FinishesInitiation false initiator key part draw answer = Confirms initiator part.subkey answer
 
 -- the answer of the service: what has the subkey and the number is sealed under the session key, in the context's suite, and
 -- nothing is sealed under a key that is not there
@@ -100,4 +100,4 @@ TakesApRep initiator token draw = do
   message ← ReadsApRep (is_bare initiator.flags) token
   key ← Takes Reply initiator.params.session_key
   part ← OpensApRep (suite_of initiator.params) key message
-  Finishes (is_bare initiator.flags) initiator key part draw
+  FinishesInitiation (is_bare initiator.flags) initiator key part draw

@@ -1,11 +1,12 @@
 -- The client's AP-REP, its last word in DCE style (MS-KILE, section 3.4.5.1; RFC 4120, section 5.5.2).
 use Rattle.std.specs.Prelude.{ℕ, ◌<◌, ◌≤◌, ◌^◌, List, [], ◌∷◌, length, Some, None}
+use Rattle.krb_der.specs.Layout.{spelling}
 use Rattle.krb_crypto.specs.declared.suite.CipherSuite.{CipherSuite}
 use Rattle.krb_messages.specs.declared.encryption.EncryptedData.{EncryptedData}
 use Rattle.krb_messages.specs.declared.ap_rep.ApRep.{ApRep}
 use Rattle.krb_messages.specs.declared.ap_rep.EncApRepPart.{EncApRepPart}
 use Rattle.krb_messages.specs.Layouts.{enc_ap_rep_part_layout}
-use Rattle.krb_requests.specs.Pieces.{spelling, sealed_under, whole_second}
+use Rattle.krb_requests.specs.Pieces.{sealed_under, whole_second}
 use Rattle.krb_authenticators.specs.Authenticators.{microseconds}
 
 -- the time of a moment and a number, and no subkey

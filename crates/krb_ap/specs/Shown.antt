@@ -1,8 +1,9 @@
 -- What an initiator shows to a service: an AP-REQ with the ticket that a KDC gave (RFC 4120, sections 3.2.2 and 5.5.1; RFC 4121,
 -- section 4.1).
-use Rattle.std.specs.Prelude.{ℕ, ◌+◌, ◌%◌, ◌^◌, ◌<◌, ◌≤◌, ◌==◌, List, [], ◌∷◌, ◌++◌, length, take, drop, Some, None, IfSome, Result, if◌then◌else◌}
+use Rattle.std.specs.Prelude.{ℕ, ◌+◌, ◌^◌, ◌<◌, ◌≤◌, ◌==◌, List, [], ◌∷◌, ◌++◌, length, take, drop, Some, None, IfSome, Result, if◌then◌else◌}
 use Rattle.bitflags.specs.Sets.{without}
 use Rattle.krb_der.specs.Der.{tlv}
+use Rattle.krb_der.specs.Layout.{spelling}
 use Rattle.krb_crypto.specs.Suite.{key_size}
 use Rattle.krb_crypto.specs.declared.suite.CipherSuite.{CipherSuite}
 use Rattle.krb_messages.specs.Layouts.{ap_req_layout}
@@ -17,7 +18,6 @@ use Rattle.sspi_core.specs.declared.draw.Draw.{Draw}
 use Rattle.sspi_core.specs.declared.cause.Cause.{Cause}
 use Rattle.sspi_core.specs.declared.cause.Cause.TheVariants.{KeyLength}
 use Rattle.sspi_core.specs.Checks.{Gives, Holds, ◌>>◌}
-use Rattle.krb_requests.specs.Pieces.{spelling}
 use Rattle.krb_authenticators.specs.declared.options.ChecksumOptions.{ChecksumOptions}
 use Rattle.krb_authenticators.specs.declared.options.EncKey.{EncKey}
 use Rattle.krb_authenticators.specs.Bindings.{AreShortBindings}
@@ -28,17 +28,11 @@ use Rattle.krb_as.specs.declared.done.InitDone.{InitDone}
 use Rattle.krb_ap.specs.Initiators.{is_bare, exchange_flags}
 use Rattle.krb_ap.specs.declared.initiator.Initiator.{Initiator}
 use Rattle.krb_ap.specs.declared.errand.Errand.{Errand}
-
--- the subkey that is drawn, and the confounder behind it
-abbrev pub drawn_key : CipherSuite → Draw → List ℕ
-drawn_key suite draw = take (key_size suite) draw.random
+use Rattle.krb_context.specs.Drawn.{drawn_key}
+use Rattle.krb_context.specs.Contexts.{next_number}
 
 abbrev pub drawn_confounder : CipherSuite → Draw → List ℕ
 drawn_confounder suite draw = take 16 (drop (key_size suite) draw.random)
-
--- the number after the context's own
-abbrev pub number_after : ℕ → ℕ
-number_after number = (number + 1) % 2 ^ 32
 
 -- a checksum of type 8003 hex with the flags of the context, but without GSS_C_DELEG_FLAG, which a KRB-CRED would follow (RFC 4121,
 -- section 4.1.1)
@@ -52,7 +46,7 @@ gss_checksum flags = record {
 abbrev pub service_authenticator : Errand → CipherSuite → KdcRep → Draw → Authenticator
 service_authenticator errand suite rep draw =
     let key : EncKey = record { key_type = suite; key_value = drawn_key suite draw } in
-    authenticator rep (Some (number_after errand.initiator.number)) (Some key) (Some (gss_checksum errand.initiator.flags.0)) errand.bindings draw.moment
+    authenticator rep (Some (next_number errand.initiator.number)) (Some key) (Some (gss_checksum errand.initiator.flags.0)) errand.bindings draw.moment
 
 -- the AP-REQ, with the options that the exchange goes by: its authenticator is sealed under the session key of its ticket
 abbrev pub service_request : Errand → CipherSuite → List ℕ → KdcRep → Draw → ApReq
@@ -65,12 +59,12 @@ unfoldable pub message : Errand → CipherSuite → List ℕ → KdcRep → Draw
 message errand suite key rep draw = spelling ap_req_layout (service_request errand suite key rep draw)
 
 -- in a frame (RFC 2743, section 3.1; RFC 4121, section 4.1): the token id 01 00
-unfoldable pub framed : List ℕ → List ℕ → List ℕ
-framed mechanism octets = tlv 0x60 (tlv 0x06 mechanism ++ (1 ∷ 0 ∷ [] ++ octets))
+unfoldable pub framed_ap_req : List ℕ → List ℕ → List ℕ
+framed_ap_req mechanism octets = tlv 0x60 (tlv 0x06 mechanism ++ (1 ∷ 0 ∷ [] ++ octets))
 
 -- the token: bare in DCE style (MS-KILE, section 3.4.5.1), else framed
-abbrev pub token_of : Errand → List ℕ → List ℕ
-token_of errand octets = if is_bare errand.initiator.flags then octets else framed errand.mechanism octets
+abbrev pub shown_token : Errand → List ℕ → List ℕ
+shown_token errand octets = if is_bare errand.initiator.flags then octets else framed_ap_req errand.mechanism octets
 
 -- the service's answer is awaited; the session key of the ticket is the context's, in the suite of the exchange, and the context's
 -- realm is the client's own; all else of it stays
@@ -87,7 +81,7 @@ change_of initiator suite key home = record {
 unfoldable pub shown : Errand → CipherSuite → List ℕ → KdcRep → List ℕ → Draw → InitDone
 shown errand suite key rep home draw = record {
   status = ContinueNeeded;
-  token = token_of errand (message errand suite key rep draw);
+  token = shown_token errand (message errand suite key rep draw);
   change = change_of errand.initiator suite key home;
 }
 

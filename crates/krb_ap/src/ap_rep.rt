@@ -1,13 +1,14 @@
 //! The client's AP-REP, its last word in DCE style (MS-KILE, section 3.4.5.1; RFC 4120, section 5.5.2).
 
 ghost use Rattle.std.specs.Prelude.{◌≡◌, ◌↔◌, ◌⊎◌, ◌<◌, ◌≤◌, ◌^◌, length, IfOk, IfErr, Err};
+ghost use Rattle.krb_der.specs.Layout.{spelling};
 ghost use Rattle.sspi_core.specs.declared.cause.Cause.TheVariants as causes;
 ghost use Rattle.sspi_core.specs.Moments.{last_moment};
 ghost use Rattle.sspi_core.specs.Kinds.{error_of};
 ghost use Rattle.krb_crypto.specs.Suite.{key_size};
 ghost use Rattle.krb_messages.specs.Layouts.{enc_ap_rep_part_layout, ap_rep_layout};
 ghost use Rattle.krb_context.specs.Params.{suite_of};
-ghost use Rattle.krb_requests.specs.Pieces.{spelling, sealed_under, Fits};
+ghost use Rattle.krb_requests.specs.Pieces.{sealed_under, Fits};
 ghost use Rattle.krb_ap.specs.ApReps.{ap_rep_part, ap_rep_with, ap_rep};
 
 use krb_context::EncryptionParams;
@@ -96,8 +97,8 @@ pub(crate) fn seal_ap_rep(
 /// An AP-REP with this number, by the octets of its INTEGER, with the time of `now` and without a subkey, sealed under the
 /// session key in the parameters' suite (AES-256 where there is none), with usage 12.
 ///
-/// Refused as InvalidParameter KeyLength exactly where the session key has not the length of the suite's keys; else only memory
-/// can be wanting.
+/// Refused as InvalidParameter KeyLength exactly where the session key has not the length of the suite's keys; else it fails only if memory
+/// runs out.
 pub fn generate_ap_rep(
     alloc: Global,
     session_key: &Secret<Octets>,

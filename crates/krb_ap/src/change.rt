@@ -9,7 +9,7 @@ use krb_der::{Octets, OutOfMemory, TryCopy};
 use sspi_core::Secret;
 use std::alloc::Global;
 
-fn params_with(
+fn established_params(
     alloc: Global,
     params: &EncryptionParams,
     subkey: Secret<Octets>,
@@ -34,7 +34,7 @@ pub(crate) fn established(
     ensures { IfOk result (λ change. change ≡ established initiator.now subkey ec number) }
 {
     let realm = initiator.realm.copy(alloc)?;
-    let encryption_params = params_with(alloc, &initiator.params, subkey, ec)?;
+    let encryption_params = established_params(alloc, &initiator.params, subkey, ec)?;
     Ok(ContextChange {
         state: KerberosState::Final,
         realm,

@@ -1,17 +1,17 @@
 //! The answer of the service: an AP-REP (RFC 4120, section 3.2.5), which DCE style answers in turn (MS-KILE, section 3.4.5.1).
 
-ghost use Rattle.std.specs.Prelude.{◌≡◌, ◌≤◌, ◌^◌, length, nat_le, take, true, false, [], option_map, IfOk, IfSome, Result};
+ghost use Rattle.std.specs.Prelude.{◌≡◌, ◌≤◌, ◌^◌, length, true, false, [], option_map, IfOk, IfSome, Result};
 ghost use Rattle.std.specs.Result.{result_map_both};
 ghost use Rattle.krb_crypto.specs.Suite.{key_size};
 ghost use Rattle.sspi_core.specs.declared.cause.Cause.TheVariants as causes;
 ghost use Rattle.sspi_core.specs.Moments.{last_moment};
-ghost use Rattle.sspi_core.specs.Checks.{Answers, Finds, Gives, Holds, Takes};
+ghost use Rattle.sspi_core.specs.Checks.{Answers, Finds, Gives, Takes};
 ghost use Rattle.krb_messages.specs.declared.encryption.EncryptionKey.{EncryptionKey};
 ghost use Rattle.krb_context.specs.Params.{suite_of};
 ghost use Rattle.krb_replies.specs.Answered.{OpensApRep};
 ghost use Rattle.krb_ap.specs.Initiators.{is_bare};
 ghost use Rattle.krb_ap.specs.ApReps.{IsSendableNumber};
-ghost use Rattle.krb_ap.specs.Answered.{IsApRep, ReadsApRep, confirmed, replied, last_word, Confirms, Replies, Finishes, TakesApRep};
+ghost use Rattle.krb_ap.specs.Answered.{IsApRep, ReadsApRep, confirmed, replied, last_word, Confirms, Replies, FinishesInitiation, TakesApRep};
 
 use crate::ap_rep::seal_ap_rep;
 use crate::change::established;
@@ -21,21 +21,12 @@ use krb_crypto::CipherSuite;
 use krb_der::{Asn1, IntegerAsn1, Octets, OutOfMemory};
 use krb_messages::constants::{AP_REP_TOKEN_ID, AP_REP_USAGE};
 use krb_messages::{ApRep, EncApRepPart, EncryptionKey, read_framed};
-use krb_replies::{SESSION_KEY, open, read_or};
-use sspi_core::{Cause, Draw, Secret, SecurityStatus, hold};
+use krb_replies::{SESSION_KEY, check_token_length, open, read_or};
+use sspi_core::{Cause, Draw, Secret, SecurityStatus};
 use std::alloc::Global;
-
-/// The longest token of the handshake, in octets.
-const MAX_TOKEN: usize = 16_777_216;
 
 /// The filler of sealed messages in DCE style, in octets.
 const EXTRA_COUNT: u16 = 16;
-
-fn check_token_length(token: &[u8]) -> Result<(), Cause>
-    ensures { Holds causes.Shape (nat_le (length token.now) 16777216) result }
-{
-    hold(token.len() <= MAX_TOKEN, Cause::Shape)
-}
 
 /// The AP-REP in a frame.
 fn framed_ap_rep(alloc: Global, token: &[u8]) -> Result<ApRep, Cause>
@@ -149,14 +140,6 @@ fn confirm(
     confirmed(alloc, initiator, subkey)
 }
 
-fn drawn_confounder(draw: &Draw) -> [u8; 16]
-    ensures { result ≡ take 16 draw.now.random }
-{
-    let mut confounder = [0; 16];
-    confounder.copy_from_slice(&draw.random[..16]);
-    confounder
-}
-
 /// The last word, an AP-REP with this number.
 #[tactic(auto, unfolding(crate::specs::Answered::last_word))]
 fn last_word(
@@ -171,7 +154,7 @@ fn last_word(
     requires number { IsSendableNumber number }
     ensures { IfOk result (λ token. token ≡ last_word suite key.now number draw.now) }
 {
-    let confounder = drawn_confounder(draw);
+    let confounder = draw.octets::<16>(0);
     let key = key.as_ref().as_slice();
     let message = seal_ap_rep(alloc, suite, key, number, draw.moment, confounder)?;
     message.write(alloc)
@@ -230,7 +213,7 @@ fn finish(
     requires key { length key.now ≡ key_size (suite_of initiator.now.params) }
     requires number { IfSome part.seq_number IsSendableNumber }
     requires moment { draw.now.moment ≤ last_moment }
-    ensures { Answers (Finishes dce initiator.now key.now part draw.now) result }
+    ensures { Answers (FinishesInitiation dce initiator.now key.now part draw.now) result }
 {
     if dce {
         reply(alloc, initiator, key, part, draw)

@@ -7,13 +7,24 @@ ghost use Rattle.sspi_core.specs.Checks.{Answers, Gives, Holds};
 ghost use Rattle.krb_crypto.specs.Suite.{key_size};
 ghost use Rattle.krb_messages.specs.Layouts.{authenticator_layout, ticket_layout, ap_req_layout};
 ghost use Rattle.krb_context.specs.Options.{ap_options_of};
-ghost use Rattle.krb_context.specs.Params.{suite_of};
 ghost use Rattle.krb_requests.specs.Pieces.{Fits};
 ghost use Rattle.krb_authenticators.specs.Authenticators.{IsShortChecksum};
 ghost use Rattle.krb_authenticators.specs.ApRequests.{ap_req, service_usage};
 ghost use Rattle.krb_as.specs.Granted.{IsSendable};
 ghost use Rattle.krb_ap.specs.Initiators.{exchange_flags};
-ghost use Rattle.krb_ap.specs.Shown.{drawn_key, drawn_confounder, gss_checksum, service_authenticator, service_request, message, framed, token_of, change_of, shown, ShowsTicket, CanGo};
+ghost use Rattle.krb_ap.specs.Shown.{
+  drawn_confounder,
+  gss_checksum,
+  service_authenticator,
+  service_request,
+  message,
+  framed_ap_req,
+  shown_token,
+  change_of,
+  shown,
+  ShowsTicket,
+  CanGo,
+};
 
 use crate::errand::Errand;
 use crate::initiator::{Initiator, exchange_flags, is_bare};
@@ -23,7 +34,9 @@ use krb_authenticators::{
     ChecksumOptions, ChecksumValues, EncKey, GenerateAuthenticatorOptions, generate_ap_req,
     generate_authenticator,
 };
-use krb_context::{ApOptions, ContextChange, EncryptionParams, GssFlags, KerberosState};
+use krb_context::{
+    ApOptions, ContextChange, EncryptionParams, GssFlags, KerberosState, drawn_secret,
+};
 use krb_crypto::CipherSuite;
 use krb_der::{Asn1, Items, Name, Octets, OutOfMemory, Text, TryCopy};
 use krb_exchange::KdcRep;
@@ -31,24 +44,6 @@ use krb_messages::constants::{AP_REQ_TOKEN_ID, GSS_CHECKSUM_TYPE};
 use krb_messages::{ApReq, Authenticator, Oid, Ticket, write_framed};
 use sspi_core::{Cause, ClientRequestFlags, Draw, Secret, SecurityStatus, hold};
 use std::alloc::Global;
-
-/// The key that the client chooses.
-fn drawn_key(alloc: Global, suite: CipherSuite, draw: &Draw) -> Result<Secret<Octets>, OutOfMemory>
-    ensures drawn { IfOk result (λ key. key ≡ drawn_key suite draw.now) }
-    ensures short { IfOk result (λ key. length key ≤ 2 ^ 24) }
-{
-    let key = &draw.random[..suite.key_size()];
-    Ok(Secret::new(Octets::from_slice(alloc, key)?))
-}
-
-fn drawn_confounder(suite: CipherSuite, draw: &Draw) -> [u8; 16]
-    ensures { result ≡ drawn_confounder suite draw.now }
-{
-    let start = suite.key_size();
-    let mut confounder = [0; 16];
-    confounder.copy_from_slice(&draw.random[start..start + 16]);
-    confounder
-}
 
 /// The flags of the context, but never delegation, for which there would have to be a KRB-CRED.
 fn gss_checksum(alloc: Global, flags: ClientRequestFlags) -> Result<ChecksumOptions, OutOfMemory>
@@ -79,7 +74,7 @@ fn service_authenticator(
     ensures made { IfOk result (λ made. made ≡ service_authenticator errand.now suite rep.now draw.now) }
     ensures within { IfOk result (λ made. Fits authenticator_layout (2 ^ 27) made) }
 {
-    let key_value = drawn_key(alloc, suite, draw)?;
+    let key_value = drawn_secret(alloc, suite, draw)?;
     let checksum = gss_checksum(alloc, errand.initiator.flags)?;
     let options = GenerateAuthenticatorOptions {
         kdc_rep: rep,
@@ -96,15 +91,6 @@ fn service_authenticator(
         Ok(authenticator) => Ok(authenticator),
         Err(_) => Err(OutOfMemory),
     }
-}
-
-/// Parameters of a suite, without keys.
-fn params_in(suite: CipherSuite) -> EncryptionParams
-    ensures { suite_of result ≡ suite }
-{
-    let mut params = EncryptionParams::default_for_client();
-    params.encryption_type = Some(suite);
-    params
 }
 
 /// The AP-REQ of this authenticator. The session key has its length, so nothing is refused.
@@ -124,8 +110,8 @@ fn ap_req_by(
     ensures within { IfOk result (λ made. Fits ap_req_layout (2 ^ 28) made) }
 {
     let options = ApOptions::from_client_flags(exchange_flags(&errand.initiator));
-    let params = params_in(suite);
-    let confounder = drawn_confounder(suite, draw);
+    let params = EncryptionParams::of_suite(suite);
+    let confounder = draw.octets::<16>(suite.key_size());
     let made = generate_ap_req(
         alloc,
         ticket,
@@ -181,12 +167,12 @@ fn message(
 }
 
 /// An AP-REQ in a frame.
-#[tactic(auto, unfolding(crate::specs::Shown::framed))]
+#[tactic(auto, unfolding(crate::specs::Shown::framed_ap_req))]
 fn framed(alloc: Global, mechanism: &Octets, message: &Octets) -> Result<Octets, OutOfMemory>
     requires named { 0 < length mechanism.now }
     requires mechanism { length mechanism.now ≤ 2 ^ 24 }
     requires message { length message.now ≤ 2 ^ 28 }
-    ensures { IfOk result (λ token. token ≡ framed mechanism.now message.now) }
+    ensures { IfOk result (λ token. token ≡ framed_ap_req mechanism.now message.now) }
 {
     let oid = Oid::from_contents(mechanism.as_slice());
     write_framed(alloc, oid, AP_REQ_TOKEN_ID, message.as_slice())
@@ -196,7 +182,7 @@ fn framed(alloc: Global, mechanism: &Octets, message: &Octets) -> Result<Octets,
 fn token_of(alloc: Global, errand: &Errand, message: Octets) -> Result<Octets, OutOfMemory>
     requires errand { CanGo errand.now }
     requires message { length message ≤ 2 ^ 28 }
-    ensures { IfOk result (λ token. token ≡ token_of errand.now message) }
+    ensures { IfOk result (λ token. token ≡ shown_token errand.now message) }
 {
     if is_bare(errand.initiator.flags) {
         Ok(message)
@@ -205,7 +191,7 @@ fn token_of(alloc: Global, errand: &Errand, message: Octets) -> Result<Octets, O
     }
 }
 
-fn params_with(
+fn keyed_params(
     alloc: Global,
     params: &EncryptionParams,
     suite: CipherSuite,
@@ -213,8 +199,7 @@ fn params_with(
 ) -> Result<EncryptionParams, OutOfMemory>
     ensures { IfOk result (λ made. made ≡ record params.now { encryption_type = Some suite; session_key = Some key }) }
 {
-    let mut made = params.copy(alloc)?;
-    made.encryption_type = Some(suite);
+    let mut made = params.copy_for(alloc, suite)?;
     made.session_key = Some(key);
     Ok(made)
 }
@@ -230,7 +215,7 @@ fn change_of(
     ensures { IfOk result (λ change. change ≡ change_of initiator.now suite key home.now) }
 {
     let realm = Text::from_str(alloc, home.as_str())?;
-    let encryption_params = params_with(alloc, &initiator.params, suite, key)?;
+    let encryption_params = keyed_params(alloc, &initiator.params, suite, key)?;
     Ok(ContextChange {
         state: KerberosState::ApExchange,
         realm: Some(realm),

@@ -19,7 +19,7 @@ use Rattle.krb_as.specs.Clients.{IsShort}
 use Rattle.krb_as.specs.FirstBodies.{service_components, first_body}
 
 -- the components of the service's name can be sent
-pub service_short : (service : FirstService) (realm : List ℕ) → length realm + 64 ≤ 2 ^ 24 → length (component_octets (service_components service realm)) ≤ 2 ^ 24
+pub service_short : (service : FirstService) (realm : List ℕ) → length realm ≤ 2 ^ 24 → length (component_octets (service_components service realm)) ≤ 2 ^ 24 + 2 ^ 6
 service_short TicketGranting realm short =
     let first : length (tlv 0x1b (codes "krbtgt")) ≤ 12 = tlv_le 0x1b (codes "krbtgt") 6 (lit≤ tt) in
     let second : length (tlv 0x1b realm) ≤ length realm + 6 = tlv_le 0x1b realm (length realm) (omega arith) in

@@ -4,6 +4,7 @@ use Rattle.std.specs.Prelude.{IsTrue, if◌then◌else◌}
 use Rattle.std.proofs.lemmas.Bool.{le-leb}
 use Rattle.krb_der.specs.Schema.{Spells, IsSound, contents, is_ascii, tag_of}
 use Rattle.krb_der.proofs.Lengths.{contents_shorter}
+use Rattle.krb_der.specs.Layout.{spelling}
 use Rattle.krb_messages.specs.Frame.{with_length}
 use Rattle.krb_exchange.specs.Table.{kdc_proxy_message}
 use Rattle.krb_exchange.specs.Layouts.{kdc_proxy_message_row, kdc_proxy_message_layout}
@@ -16,7 +17,6 @@ use Rattle.sspi_core.specs.declared.protocol.NetworkProtocol.{NetworkProtocol}
 use Rattle.sspi_core.specs.declared.protocol.NetworkProtocol.TheVariants.{Tcp, Udp, Http, Https}
 use Rattle.sspi_generator.specs.declared.network.NetFault.{NetFault}
 use Rattle.krb_exchange.proofs.Spelled.{same_record}
-use Rattle.krb_as.specs.Spelling.{spelling}
 use Rattle.krb_as.specs.Requests.{proxied, carried}
 use Rattle.krb_as.specs.Replies.{Unproxies, Strips, Skips, Unpacks, Unwraps}
 use Rattle.krb_as.proofs.ProxyLengths.{with_length_le, proxied_le}

@@ -12,3 +12,4 @@ pub mod Complete
 pub mod ReplyLengths
 pub mod BodyNames
 pub mod AsTurns
+pub mod Few

@@ -2,10 +2,10 @@
 use Rattle.std.proofs.Common.{ℕ, ◌+◌, ◌<◌, ◌≤◌, ◌^◌, List, [], length, arith, lit≤}
 use Rattle.krb_der.specs.Schema.{IsComplete}
 use Rattle.krb_der.proofs.Lengths.{tlv_le, field_le, append_le}
+use Rattle.krb_der.specs.Layout.{spelling}
 use Rattle.krb_messages.specs.Frame.{with_length}
 use Rattle.krb_exchange.specs.Table.{kdc_proxy_message}
 use Rattle.krb_exchange.specs.Layouts.{kdc_proxy_message_row, kdc_proxy_message_layout}
-use Rattle.krb_as.specs.Spelling.{spelling}
 use Rattle.krb_as.specs.Requests.{proxied}
 
 pub with_length_le : (message : List ℕ) → length (with_length message) ≤ length message + 4

@@ -23,7 +23,7 @@ use Rattle.krb_exchange.specs.declared.kdc_rep.AsRep.{AsRep}
 use Rattle.krb_exchange.specs.declared.pa_data.EtypeInfo2Entry.{EtypeInfo2Entry}
 use Rattle.krb_replies.specs.Keys.{BringsKey}
 use Rattle.krb_replies.specs.Salts.{NamesSalt, entry_hint, first_hint, TellsEtype}
-use Rattle.krb_replies.specs.Unseals.{Unseals, Opens}
+use Rattle.krb_replies.specs.Unseals.{Unseals, OpensSealed}
 use Rattle.sspi_core.specs.declared.identity.CredentialsBuffers.{CredentialsBuffers}
 use Rattle.krb_as.specs.declared.asker.Asker.{Asker}
 use Rattle.krb_as.specs.declared.as_phase.AsPhase.{AsPhase}
@@ -141,7 +141,7 @@ module _ (P : Type 0) where
       (λ hint. then_refuses P _ _ (takes_refuses P Etype _ (λ z. let e = z.1 in absurd cc)) (λ suite. gives_refuses P _)))
 
   brings_refuse : (suite : CipherSuite) (key : List ℕ) (as_rep : AsRep) → Refuses P (BringsKey suite key as_rep)
-  unfolding BringsKey Opens Unseals
+  unfolding BringsKey OpensSealed Unseals
   brings_refuse suite key as_rep =
       then_refuses P _ _ (then_refuses P _ _ (then_refuses P _ _ (holds_refuses P KeyLength _ (λ z. let e = z.1 in absurd cc))
       (λ _. then_refuses P _ _ (holds_refuses P Short _ (λ z. let e = z.1 in absurd cc)) (λ _. finds_refuses P Altered _ (λ z. let e = z.1 in absurd cc))))

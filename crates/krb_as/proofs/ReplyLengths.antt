@@ -6,7 +6,7 @@ use Rattle.std.proofs.lemmas.Bool.{leb-true}
 use Rattle.std.proofs.lemmas.List.{length-drop}
 use Rattle.krb_der.specs.Der.{tlv}
 use Rattle.krb_der.specs.Schema.{Spells, tag_of, contents, IsComplete, sequence_of}
-use Rattle.krb_der.specs.Layout.{Layout}
+use Rattle.krb_der.specs.Layout.{Layout, spelling}
 use Rattle.krb_der.proofs.Lengths.{contents_shorter}
 use Rattle.krb_messages.specs.Table.{encrypted_data}
 use Rattle.krb_messages.specs.Layouts.{principal_name_layout, ticket_layout, encrypted_data_row}
@@ -27,7 +27,7 @@ use Rattle.sspi_generator.specs.declared.network.NetFault.{NetFault}
 use Rattle.krb_as.specs.Replies.{is_short, Skips, Unpacks, Unwraps, Replies}
 use Rattle.krb_context.proofs.ChainLemmas.{passed, gave}
 use Rattle.krb_replies.specs.Told.{Hands}
-use Rattle.krb_requests.specs.Pieces.{Fits, spelling}
+use Rattle.krb_requests.specs.Pieces.{Fits}
 use Rattle.krb_as.specs.Replied.{reply_in, Grants}
 use Rattle.krb_as.specs.Granted.{IsSendable}
 use Rattle.krb_as.proofs.Complete.{complete_spelled}

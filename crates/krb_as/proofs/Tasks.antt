@@ -9,6 +9,7 @@ use Rattle.sspi_core.specs.Checks.{Answers}
 use Rattle.sspi_core.proofs.Chain.{same_err}
 use Rattle.sspi_generator.specs.declared.network.NetworkRequest.{NetworkRequest}
 use Rattle.sspi_generator.specs.declared.task.GeneratorState.{GeneratorState}
+use Rattle.sspi_generator.specs.declared.task.GeneratorState.TheVariants.{Suspended, Completed}
 use Rattle.sspi_generator.specs.Steps.{OnSuspended, OnCompleted}
 use Rattle.krb_as.specs.declared.turn.Turn.{Turn}
 use Rattle.krb_as.specs.declared.turn.Turn.TheVariants.{Asks, Ends}
@@ -36,6 +37,19 @@ module _ {P O : Type 0} (waits : P → Type 0) (left : P → ℕ) (R : P → Typ
       → IfOk answer (λ turn. GoesDown waits left n turn) → ((answer ≡ Err Memory → ⊥) → new ≡ phase_of over answer) → OnSuspended state (λ request. R new × (left new < n))
   awaits_of answer state n new is down goes =
       subst (λ (s : GeneratorState NetworkRequest (Result O Error)). OnSuspended s (λ request. R new × (left new < n))) (sym is) (awaits answer n new down goes)
+
+-- a step whose checks leave fewer turns where they ask leaves fewer turns
+module _ {P O : Type 0} (over : P) (checks : Result (Turn P O) Cause → Type 0) (left : P → ℕ) (n : ℕ)
+    (down : (request : NetworkRequest) (phase : P) → checks (Ok (Asks request phase)) → left phase < n) where
+  behind_answer : (request : NetworkRequest) (new : P) (answer : Result (Turn P O) Cause) → checks answer → ◌≡◌ {A = GeneratorState NetworkRequest (Result O Error)} (Suspended request) (state_of answer)
+      → new ≡ phase_of over answer → Unit {0} × (left new < n)
+  behind_answer request new (Ok (Asks made phase)) h is goes = (tt, subst (λ (p : P). left p < n) (sym goes) (down made phase h))
+  behind_answer request new (Ok (Ends value)) h is goes = absurd cc
+  behind_answer request new (Err cause) h is goes = absurd cc
+
+  pub turns_down : (state : GeneratorState NetworkRequest (Result O Error)) (new : P) → Turns over checks state new → OnSuspended state (λ request. Unit {0} × (left new < n))
+  turns_down (Completed out) new t = tt
+  turns_down (Suspended request) new t = let s = t.so (λ z. absurd cc) in behind_answer request new s.0 s.1 s.2 s.3
 
 -- a step that leaves few turns leaves no more than that
 module _ {P O : Type 0} (waits R : P → Type 0) (left : P → ℕ) (m n : ℕ) (leads : (phase : P) → waits phase → R phase) (few : m ≤ n) where
@@ -69,7 +83,7 @@ faulted {P} {O} (Err cause) Q refuses = λ z. refuses cause refl (z.0, same_caus
 pub faulted_of : {P O : Type 0} (answer : Result (Turn P O) Cause) (state : GeneratorState NetworkRequest (Result O Error)) (Q : Type 0) → state ≡ state_of answer → ((cause : Cause) → answer ≡ Err cause → IsNetwork cause → Q) → OnCompleted state (λ out. IsFault out → Q)
 faulted_of {P} {O} answer state Q is refuses = subst (λ (s : GeneratorState NetworkRequest (Result O Error)). OnCompleted s (λ out. IsFault out → Q)) (sym is) (faulted answer Q refuses)
 
--- checks that were answered so, where that is no want of memory
+-- checks that were answered so, where that is not out of memory
 pub refused : {A : Type 0} (checks : Result A Cause → Type 0) (answer : Result A Cause) (cause : Cause) → Answers checks answer → answer ≡ Err cause → IsNetwork cause → checks (Err cause)
 refused {A} checks answer cause h is network =
     subst (λ (r : Result A Cause). checks r) is (h.so (λ z. let e : cause ≡ Memory = same_err {A = A} cause Memory (sym is ∙ z) in let f = network.1 in absurd cc))

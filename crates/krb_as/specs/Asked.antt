@@ -1,5 +1,6 @@
 -- The two requests of an AS exchange (RFC 4120, sections 3.1.1 and 5.4.1).
 use Rattle.std.specs.Prelude.{ℕ, List, take}
+use Rattle.krb_der.specs.Layout.{spelling}
 use Rattle.krb_crypto.specs.declared.suite.CipherSuite.{CipherSuite}
 use Rattle.krb_exchange.specs.declared.kdc_req.AsReq.{AsReq}
 use Rattle.krb_exchange.specs.declared.kdc_req.KdcReqBody.{KdcReqBody}
@@ -8,7 +9,6 @@ use Rattle.sspi_core.specs.declared.draw.Draw.{Draw}
 use Rattle.sspi_generator.specs.declared.network.NetworkRequest.{NetworkRequest}
 use Rattle.krb_as.specs.declared.kdc.Kdc.{Kdc}
 use Rattle.krb_as.specs.Requests.{request_to}
-use Rattle.krb_requests.specs.Pieces.{spelling}
 use Rattle.krb_requests.specs.PaDatas.{plain_pa_datas, timed_pa_datas}
 use Rattle.krb_requests.specs.Bodies.{as_req_with}
 

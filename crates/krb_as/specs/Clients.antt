@@ -1,5 +1,5 @@
 -- The client of credentials, as a KDC is told of it (RFC 4120, sections 5.4.1 and 6.2; RFC 6806, section 5).
-use Rattle.std.specs.Prelude.{ℕ, ◌+◌, ◌≤◌, ◌^◌, List, length, Result}
+use Rattle.std.specs.Prelude.{ℕ, ◌≤◌, ◌^◌, List, length, Result}
 use Rattle.krb_conf.specs.Names.{name_type, client_name}
 use Rattle.krb_conf.specs.Realm.{client_realm}
 use Rattle.krb_conf.specs.declared.env.Env.{Env}
@@ -29,8 +29,8 @@ NamesClient credentials machine env = do
   host ← Takes NotAscii (name_of machine)
   Gives (record { name = name; name_type = (stated credentials).2; realm = realm; host = host })
 
--- texts of at most 2^24 octets each; the realm and the name of its ticket-granting service have together no more
+-- texts of at most 2^24 octets each
 pub record IsShort (client : Client) : Type 0 where
   pub name : length client.name ≤ 2 ^ 24
-  pub realm : length client.realm + 64 ≤ 2 ^ 24
+  pub realm : length client.realm ≤ 2 ^ 24
   pub host : length client.host ≤ 2 ^ 24

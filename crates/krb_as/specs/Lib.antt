@@ -1,4 +1,3 @@
-pub mod Spelling
 pub mod Kdcs
 pub mod Requests
 pub mod Replies

@@ -1,5 +1,6 @@
 -- The octets that are sent to a KDC (RFC 4120 7.2.1 and 7.2.2; MS-KKDCP 2.2.2).
 use Rattle.std.specs.Prelude.{ℕ, List, Some, None}
+use Rattle.krb_der.specs.Layout.{spelling}
 use Rattle.krb_messages.specs.Frame.{with_length}
 use Rattle.krb_exchange.specs.declared.kdc_proxy.KdcProxyMessage.{KdcProxyMessage}
 use Rattle.krb_exchange.specs.Layouts.{kdc_proxy_message_layout}
@@ -7,7 +8,6 @@ use Rattle.sspi_core.specs.declared.protocol.NetworkProtocol.{NetworkProtocol}
 use Rattle.sspi_core.specs.declared.protocol.NetworkProtocol.TheVariants.{Tcp, Udp, Http, Https}
 use Rattle.sspi_generator.specs.declared.network.NetworkRequest.{NetworkRequest}
 use Rattle.krb_as.specs.declared.kdc.Kdc.{Kdc}
-use Rattle.krb_as.specs.Spelling.{spelling}
 
 -- a message for a proxy: behind its length, and the realm whose KDC is to have it
 abbrev pub proxied : List ℕ → List ℕ → KdcProxyMessage

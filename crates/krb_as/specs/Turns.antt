@@ -40,7 +40,7 @@ abbrev pub GoesDown : {P O : Type 0} → (P → Type 0) → (P → ℕ) → ℕ 
 GoesDown waits turns_left turns (Asks request phase) = waits phase × (turns_left phase < turns)
 GoesDown waits turns_left turns (Ends value) = Unit {0}
 
--- an end for want of memory
+-- an end because memory ran out
 abbrev pub IsWant : {O : Type 0} → Result O Error → Type 0
 IsWant out = out ≡ Err (error_of Memory)
 

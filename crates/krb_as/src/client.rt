@@ -1,6 +1,6 @@
 //! Who asks a KDC.
 
-ghost use Rattle.std.specs.Prelude.{◌≡◌, ◌+◌, ◌≤◌, ◌^◌, IfOk, length};
+ghost use Rattle.std.specs.Prelude.{◌≡◌, ◌≢◌, ◌≤◌, ◌^◌, Err, IfOk, length};
 ghost use Rattle.sspi_core.specs.declared.cause.Cause.TheVariants as causes;
 ghost use Rattle.sspi_core.specs.Checks.{Answers, Takes, Gives};
 ghost use Rattle.krb_requests.specs.Pieces.{name_of};
@@ -15,11 +15,8 @@ use krb_requests::name_of;
 use sspi_core::{Cause, CredentialsBuffers};
 use std::alloc::Global;
 
-/// The most octets of a name that is sent.
-const MAX_NAME: usize = 16_777_216;
-
-/// The most octets of a realm: behind `krbtgt` it makes a name that can be sent.
-const MAX_REALM: usize = MAX_NAME - 64;
+/// The most octets of a text that is handed in.
+const MAX_TEXT: usize = 16_777_216;
 
 /// A client, as a KDC is told of it.
 #[derive(Drop)]
@@ -72,14 +69,16 @@ fn type_in(credentials: &CredentialsBuffers) -> u8
     stated(credentials).name_type
 }
 
-/// The client with these names, which are not longer than can be sent: a longer one takes more memory than there is.
+/// The client with these names. No name is longer than 2^24 octets, which is a condition of whoever hands it in; exactly where one is,
+/// there is no client, and the answer is `Memory`.
 fn sendable(name: Name, name_type: u8, realm: Name, host: Name) -> Result<Client, Cause>
     ensures made { Answers (Gives (record { name = name; name_type = name_type; realm = realm; host = host })) result }
     ensures short { IfOk result (λ client. IsShort client) }
+    ensures ample { IsShort (record { name = name; name_type = name_type; realm = realm; host = host }) → result ≢ Err causes.Memory }
 {
-    let is_short = name.as_slice().len() <= MAX_NAME
-        && realm.as_slice().len() <= MAX_REALM
-        && host.as_slice().len() <= MAX_NAME;
+    let is_short = name.as_slice().len() <= MAX_TEXT
+        && realm.as_slice().len() <= MAX_TEXT
+        && host.as_slice().len() <= MAX_TEXT;
     if !is_short {
         return Err(Cause::Memory);
     }
@@ -94,7 +93,8 @@ fn sendable(name: Name, name_type: u8, realm: Name, host: Name) -> Result<Client
 /// The client of credentials on a machine of this name: with a password the user, with a key of a keytab its principal, each
 /// in the realm that `get_client_principal_realm` finds for it.
 ///
-/// Refused as `NotAscii` exactly where the name, the realm or the machine's name is past ASCII.
+/// Refused as `NotAscii` exactly where the name, the realm or the machine's name is past ASCII. That each of them has at most 2^24
+/// octets is a condition: of longer ones no client is made, and the answer is `Memory`.
 #[tactic(auto, unfolding(crate::specs::Clients::NamesClient))]
 pub fn client_of(
     alloc: Global,
@@ -111,12 +111,12 @@ pub fn client_of(
     sendable(name, type_in(credentials), realm, host)
 }
 
-/// A copy of a name that is not longer than can be sent: a longer one takes more memory than there is.
+/// A copy of a name of at most 2^24 octets, which is a condition: there is no copy of a longer one.
 pub fn short_name(alloc: Global, name: &Name) -> Result<Name, OutOfMemory>
     ensures copied { IfOk result (λ copy. copy ≡ name.now) }
     ensures short { IfOk result (λ copy. length copy ≤ 2 ^ 24) }
 {
-    if name.as_slice().len() > MAX_NAME {
+    if name.as_slice().len() > MAX_TEXT {
         return Err(OutOfMemory);
     }
     name.copy(alloc)

@@ -1,6 +1,6 @@
 //! Laws of requests, replies and the AS exchange, for all values.
 
-ghost use Rattle.std.specs.Prelude.{◌≡◌, ◌≢◌, ◌<◌, ◌≤◌, ◌^◌, ℕ, List, Result, length, Ok, IsTrue};
+ghost use Rattle.std.specs.Prelude.{◌≡◌, ◌≢◌, ◌<◌, ◌≤◌, ◌^◌, ℕ, List, Result, length, take, Ok, IsTrue};
 ghost use Rattle.sspi_core.specs.declared.cause.Cause.{Cause};
 ghost use Rattle.sspi_core.specs.declared.protocol.NetworkProtocol.{NetworkProtocol};
 ghost use Rattle.sspi_core.specs.declared.protocol.NetworkProtocol.TheVariants as protocols;
@@ -14,7 +14,12 @@ ghost use Rattle.krb_as.specs.declared.asker.Asker.{Asker};
 ghost use Rattle.krb_as.specs.declared.as_exchange.AsDone.{AsDone};
 ghost use Rattle.krb_as.specs.declared.as_exchange.ExchangePhase.{ExchangePhase};
 ghost use Rattle.krb_as.specs.declared.turn.Turn.{Turn};
-ghost use Rattle.krb_as.specs.AsExchanges.{Starts, Next};
+ghost use Rattle.krb_as.specs.declared.as_exchange.AsExchange.{AsExchange};
+ghost use Rattle.krb_as.specs.AsExchanges.{Starts, Next, IsNew, StartsAt, ResumesAt};
+ghost use Rattle.sspi_core.specs.declared.error.Error.{Error};
+ghost use Rattle.sspi_generator.specs.Runs.{Resolves};
+
+use sspi_generator::NetworkClient;
 
 /// A message that is carried as a request is, is unwrapped as a reply to the same message. Over UDP a reply has four octets more
 /// than a request: there, the message behind its length is unwrapped to it.
@@ -37,4 +42,12 @@ pub fn one_outcome()
     ensures resumes { (asker : Asker) (phase : ExchangePhase) (reply : Result (List ℕ) NetFault) (draw : Draw)
         (r s : Result (Turn ExchangePhase AsDone) Cause)
         → Next asker phase reply draw r → Next asker phase reply draw s → r ≡ s }
+{}
+
+/// A run of an AS exchange asks twice at most, whoever sends: it ends with what it ends with over the first three of its draws.
+pub fn exchanges_ask_twice_at_most<C: NetworkClient>()
+    ensures { (exchange exchange' : AsExchange)
+        (client client' : C) (draws : List Draw) (out : Result AsDone Error) → IsNew exchange
+        → Resolves StartsAt ResumesAt C.sends exchange client draws out exchange' client'
+        → Resolves StartsAt ResumesAt C.sends exchange client (take 3 draws) out exchange' client' }
 {}

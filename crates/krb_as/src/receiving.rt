@@ -96,7 +96,7 @@ pub fn unwrap_reply(
     // A fault of the network is answered for one, and for nothing else.
     ensures network { (code : ℕ) → result ≡ Err (causes.Network code) → reply ≡ Err (Failed code) }
     ensures failed { (code : ℕ) → reply ≡ Err (Failed code) → result ≡ Err (causes.Network code) }
-    // Its want of memory is one here.
+    // Where it ran out of memory, so does this.
     ensures memory { reply ≡ Err OutOfMemory → result ≡ Err causes.Memory }
 {
     match reply {

@@ -1,8 +1,8 @@
 //! The octets that are sent.
 
 ghost use Rattle.std.specs.Prelude.{◌≡◌, ◌<◌, ◌≤◌, ◌^◌, IfOk, length};
+ghost use Rattle.krb_der.specs.Layout.{spelling};
 ghost use Rattle.krb_as.specs.Requests.{proxied, carried, request_to};
-ghost use Rattle.krb_as.specs.Spelling.{spelling};
 ghost use Rattle.krb_exchange.specs.Layouts.{kdc_proxy_message_layout};
 
 use crate::kdc::Kdc;

@@ -2,7 +2,7 @@
 use Rattle.std.proofs.Common.{ℕ, ◌+◌, ◌≤◌, ◌^◌, List, [], ◌∷◌, length, arith, lit≤, lit<, ◌≡◌, sym, subst}
 use Rattle.std.specs.Int.{w32, to_be_bytes}
 use Rattle.krb_der.specs.Schema.{IsComplete}
-use Rattle.krb_der.specs.Layout.{Layout}
+use Rattle.krb_der.specs.Layout.{Layout, spelling}
 use Rattle.krb_der.proofs.Lengths.{tlv_le, field_le, append_le}
 use Rattle.krb_crypto.specs.Suite.{suite_number}
 use Rattle.krb_crypto.specs.declared.suite.CipherSuite.{CipherSuite}
@@ -10,7 +10,7 @@ use Rattle.krb_messages.specs.declared.encryption.EncryptedData.{EncryptedData}
 use Rattle.krb_messages.specs.declared.ticket.Ticket.{Ticket}
 use Rattle.krb_messages.specs.Table.{ap_req as ap_req_kind, encrypted_data}
 use Rattle.krb_messages.specs.Layouts.{ap_req_row, encrypted_data_row, encrypted_data_layout, ap_req_layout, ticket_layout}
-use Rattle.krb_requests.specs.Pieces.{spelling, sealed_data, Fits}
+use Rattle.krb_requests.specs.Pieces.{sealed_data, Fits}
 use Rattle.krb_authenticators.specs.ApRequests.{ap_req_with}
 use Rattle.krb_authenticators.proofs.Lengths.{le_trans}
 

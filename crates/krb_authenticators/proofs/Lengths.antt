@@ -8,6 +8,7 @@ use Rattle.krb_der.specs.Der.{tlv}
 use Rattle.krb_der.specs.Moment.{time_octets}
 use Rattle.krb_der.specs.Schema.{IsComplete, contents, tag_of, sequence_of}
 use Rattle.krb_der.proofs.Lengths.{tlv_le, field_le, append_le}
+use Rattle.krb_der.specs.Layout.{spelling}
 use Rattle.krb_messages.specs.Table.{authenticator as authenticator_kind, checksum as checksum_kind, encryption_key, authorization_data_element}
 use Rattle.krb_messages.specs.Layouts.{authenticator_row, authenticator_layout, principal_name_layout, checksum_row, encryption_key_row, authorization_data_element_row}
 use Rattle.krb_crypto.specs.Suite.{suite_number}
@@ -18,7 +19,6 @@ use Rattle.krb_authenticators.specs.declared.options.ChecksumOptions.{ChecksumOp
 use Rattle.krb_authenticators.specs.Checksums.{with_hash}
 use Rattle.krb_authenticators.specs.Bindings.{bindings_hash}
 use Rattle.krb_authenticators.specs.Authenticators.{microseconds, number_octets, subkey, is_gss, bound, checksum, sign_if, authenticator, IsShortChecksum, AreShort}
-use Rattle.krb_requests.specs.Pieces.{spelling}
 use Rattle.krb_requests.specs.Pieces.{Fits}
 
 pub le_trans : (a b c : ℕ) → a ≤ b → b ≤ c → a ≤ c

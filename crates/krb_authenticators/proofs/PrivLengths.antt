@@ -2,13 +2,14 @@
 use Rattle.std.proofs.Common.{ℕ, ◌≤◌, ◌^◌, List, [], ◌∷◌, length, lit≤, lit<, ◌≡◌, sym, subst}
 use Rattle.krb_der.specs.Schema.{IsComplete}
 use Rattle.krb_der.proofs.Lengths.{tlv_le, field_le, append_le}
+use Rattle.krb_der.specs.Layout.{spelling}
 use Rattle.krb_crypto.specs.declared.suite.CipherSuite.{CipherSuite}
 use Rattle.krb_messages.specs.declared.encryption.EncryptedData.{EncryptedData}
 use Rattle.krb_messages.specs.Table.{host_address}
 use Rattle.krb_messages.specs.Layouts.{encrypted_data_layout, host_address_row}
 use Rattle.krb_exchange.specs.Table.{krb_priv as krb_priv_kind, enc_krb_priv_part}
 use Rattle.krb_exchange.specs.Layouts.{krb_priv_row, krb_priv_layout, enc_krb_priv_part_row, enc_krb_priv_part_layout}
-use Rattle.krb_requests.specs.Pieces.{spelling, sealed_data, Fits}
+use Rattle.krb_requests.specs.Pieces.{sealed_data, Fits}
 use Rattle.krb_authenticators.specs.Authenticators.{number_octets}
 use Rattle.krb_authenticators.specs.Passwords.{priv_part, krb_priv_with}
 use Rattle.krb_authenticators.proofs.Lengths.{le_trans, number_le, number_some}

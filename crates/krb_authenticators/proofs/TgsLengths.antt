@@ -8,7 +8,7 @@ use Rattle.md5.proofs.StandardFacts.{length-md5}
 use Rattle.krb_der.specs.Der.{tlv}
 use Rattle.krb_der.specs.Moment.{time_octets}
 use Rattle.krb_der.specs.Schema.{IsComplete, contents, tag_of, row_octets, integer, time, sequence_of, required, optional, nothing, ◌▸◌}
-use Rattle.krb_der.specs.Layout.{items_layout}
+use Rattle.krb_der.specs.Layout.{items_layout, spelling}
 use Rattle.krb_der.proofs.Lengths.{tlv_le, field_le, append_le, contents_shorter}
 use Rattle.krb_messages.specs.declared.ticket.Ticket.{Ticket}
 use Rattle.krb_messages.specs.declared.authenticator.Authenticator.{Authenticator}
@@ -20,7 +20,7 @@ use Rattle.krb_exchange.specs.Table.{kdc_req_body, kdc_req, tgs_req as tgs_req_k
 use Rattle.krb_exchange.specs.Layouts.{kdc_req_body_row, kdc_req_body_layout, kdc_req_row, tgs_req_row, tgs_req_layout, pa_data_row, pa_data_layout, pa_pac_options_row, pa_pac_options_layout}
 use Rattle.krb_conf.specs.Ascii.{slash}
 use Rattle.krb_conf.specs.Names.{target_parts}
-use Rattle.krb_requests.specs.Pieces.{spelling, principal, Fits}
+use Rattle.krb_requests.specs.Pieces.{principal, Fits}
 use Rattle.krb_authenticators.specs.TgsRequests.{tgs_options, tgs_body, body_checksum, over, tgs_req_with, AreShortTickets}
 use Rattle.krb_authenticators.proofs.Lengths.{le_trans, time_short}
 

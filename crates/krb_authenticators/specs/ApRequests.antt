@@ -1,13 +1,14 @@
 -- AP-REQs (RFC 4120, section 5.5.1).
 use Rattle.std.specs.Prelude.{ℕ, List, [], ◌∷◌}
 use Rattle.std.specs.Int.{w32, to_be_bytes}
+use Rattle.krb_der.specs.Layout.{spelling}
 use Rattle.krb_crypto.specs.declared.suite.CipherSuite.{CipherSuite}
 use Rattle.krb_messages.specs.declared.encryption.EncryptedData.{EncryptedData}
 use Rattle.krb_messages.specs.declared.ticket.Ticket.{Ticket}
 use Rattle.krb_messages.specs.declared.authenticator.Authenticator.{Authenticator}
 use Rattle.krb_messages.specs.declared.ap_req.ApReq.{ApReq}
 use Rattle.krb_messages.specs.Layouts.{authenticator_layout}
-use Rattle.krb_requests.specs.Pieces.{spelling, sealed_under}
+use Rattle.krb_requests.specs.Pieces.{sealed_under}
 
 -- version 5, message type 14, and the options in four octets
 abbrev pub ap_req_with : ℕ → Ticket → EncryptedData → ApReq

@@ -1,6 +1,7 @@
 -- The request for a new password (RFC 3244, section 2, with the version and the bare password of the protocol before it), record
 -- by record.
 use Rattle.std.specs.Prelude.{ℕ, ◌^◌, List, [], ◌∷◌, Bool, ◌&&◌, ◌==◌, length, Option, Some, None}
+use Rattle.krb_der.specs.Layout.{spelling}
 use Rattle.krb_crypto.specs.Suite.{key_size}
 use Rattle.krb_crypto.specs.declared.suite.CipherSuite.{CipherSuite}
 use Rattle.krb_messages.specs.declared.encryption.EncryptedData.{EncryptedData}
@@ -14,7 +15,7 @@ use Rattle.krb_exchange.specs.declared.priv_message.ApMessage.{ApMessage}
 use Rattle.krb_exchange.specs.declared.priv_message.ApMessage.TheVariants.{ApReq as Request, ApRep as Reply}
 use Rattle.krb_messages.specs.Layouts.{ap_req_layout}
 use Rattle.krb_exchange.specs.Layouts.{enc_krb_priv_part_layout, krb_priv_layout}
-use Rattle.krb_requests.specs.Pieces.{spelling, sealed_under, Fits}
+use Rattle.krb_requests.specs.Pieces.{sealed_under, Fits}
 use Rattle.krb_authenticators.specs.Authenticators.{number_octets}
 use Rattle.krb_authenticators.specs.ApRequests.{ap_req, service_usage}
 

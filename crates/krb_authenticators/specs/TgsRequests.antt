@@ -3,7 +3,7 @@ use Rattle.std.specs.Prelude.{◌≡◌, ℕ, bit_or, ◌^◌, ◌==◌, ◌&&�
 use Rattle.std.specs.Int.{w32, to_be_bytes}
 use Rattle.md5.specs.Md5.{md5}
 use Rattle.krb_der.specs.Schema.{is_ascii}
-use Rattle.krb_der.specs.Layout.{items_layout}
+use Rattle.krb_der.specs.Layout.{items_layout, spelling}
 use Rattle.krb_crypto.specs.Suite.{key_size}
 use Rattle.krb_crypto.specs.declared.suite.CipherSuite.{CipherSuite}
 use Rattle.krb_messages.specs.declared.encryption.Checksum.{Checksum}
@@ -19,7 +19,7 @@ use Rattle.krb_context.specs.Options.{option_of}
 use Rattle.sspi_core.specs.Flags as asked
 use Rattle.sspi_core.specs.declared.cause.Cause.{Cause}
 use Rattle.sspi_core.specs.declared.cause.Cause.TheVariants.{Target, NotAscii, KeyLength}
-use Rattle.krb_requests.specs.Pieces.{spelling, principal, three_days_after, etypes, Fits}
+use Rattle.krb_requests.specs.Pieces.{principal, three_days_after, etypes, Fits}
 use Rattle.krb_authenticators.specs.ApRequests.{ap_req, tgs_usage}
 
 -- RENEWABLE and CANONICALIZE

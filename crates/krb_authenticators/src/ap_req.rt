@@ -1,12 +1,13 @@
 //! AP-REQs (RFC 4120, section 5.5.1).
 
 ghost use Rattle.std.specs.Prelude.{◌≡◌, ◌↔◌, ◌⊎◌, ◌+◌, ◌≤◌, ◌^◌, length, IfOk, IfErr, Err};
+ghost use Rattle.krb_der.specs.Layout.{spelling};
 ghost use Rattle.sspi_core.specs.declared.cause.Cause.TheVariants as causes;
 ghost use Rattle.sspi_core.specs.Kinds.{error_of};
 ghost use Rattle.krb_crypto.specs.Suite.{key_size};
 ghost use Rattle.krb_messages.specs.Layouts.{authenticator_layout, ticket_layout, ap_req_layout};
 ghost use Rattle.krb_context.specs.Params.{suite_of};
-ghost use Rattle.krb_requests.specs.Pieces.{spelling, sealed_under, Fits};
+ghost use Rattle.krb_requests.specs.Pieces.{sealed_under, Fits};
 ghost use Rattle.krb_authenticators.specs.ApRequests.{ap_req_with, ap_req, tgs_usage, service_usage};
 
 use bitflags::Flags;
@@ -121,7 +122,7 @@ fn ap_req_under(
 
 /// An AP-REQ for a ticket-granting service: the authenticator is sealed under the ticket's session key in the parameters'
 /// suite (AES-256 where there is none), with usage 7, and no option is set. Refused as InvalidParameter KeyLength exactly
-/// where the key has not the length of the suite's keys; else only memory can be wanting.
+/// where the key has not the length of the suite's keys; else it fails only if memory runs out.
 pub fn generate_tgs_ap_req(
     alloc: Global,
     ticket: Ticket,
@@ -151,7 +152,7 @@ pub fn generate_tgs_ap_req(
 
 /// An AP-REQ for a service, with these options: the authenticator is sealed under the ticket's session key in the parameters'
 /// suite (AES-256 where there is none), with usage 11. Refused as InvalidParameter KeyLength exactly where the key has not
-/// the length of the suite's keys; else only memory can be wanting.
+/// the length of the suite's keys; else it fails only if memory runs out.
 pub fn generate_ap_req(
     alloc: Global,
     ticket: Ticket,

@@ -9,7 +9,19 @@ ghost use Rattle.krb_messages.specs.Layouts.{authenticator_layout};
 ghost use Rattle.krb_requests.specs.Pieces.{whole_second, Fits};
 ghost use Rattle.krb_authenticators.specs.Checksums.{with_hash};
 ghost use Rattle.krb_authenticators.specs.Bindings.{bindings_hash, AreShortBindings};
-ghost use Rattle.krb_authenticators.specs.Authenticators.{microseconds, number_octets, subkey, is_gss, bound, checksum, lacks_room, bindings_sign, sign_if, authenticator, AreShort};
+ghost use Rattle.krb_authenticators.specs.Authenticators.{
+  microseconds,
+  number_octets,
+  subkey,
+  is_gss,
+  bound,
+  checksum,
+  lacks_room,
+  bindings_sign,
+  sign_if,
+  authenticator,
+  AreShort,
+};
 
 use crate::bindings::bindings_hash;
 use crate::options::{ChecksumOptions, EncKey, GenerateAuthenticatorOptions};
@@ -220,8 +232,8 @@ fn put_together(
 /// It has the realm and the name of the reply's client, the whole second of `now` and the microseconds behind it, and the
 /// number, the key and the checksum of the options where they have one. With channel bindings it has their sign, and their
 /// hash stands in octets 4 to 19 of a checksum of type 8003 hex (RFC 4121, section 4.1.1). Refused as InvalidParameter
-/// Checksum exactly where bindings are to be put into a checksum of that type with less than 20 octets; else only memory
-/// can be wanting.
+/// Checksum exactly where bindings are to be put into a checksum of that type with less than 20 octets; else it fails only if memory
+/// runs out.
 pub fn generate_authenticator(
     alloc: Global,
     options: GenerateAuthenticatorOptions<'_>,

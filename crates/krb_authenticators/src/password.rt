@@ -1,13 +1,14 @@
 //! The request for a new password (RFC 3244, section 2).
 
 ghost use Rattle.std.specs.Prelude.{◌≡◌, ◌↔◌, ◌⊎◌, ◌+◌, ◌≤◌, ◌^◌, length, IfOk, IfErr, Err, false, get_or, []};
+ghost use Rattle.krb_der.specs.Layout.{spelling};
 ghost use Rattle.sspi_core.specs.declared.cause.Cause.TheVariants as causes;
 ghost use Rattle.sspi_core.specs.Kinds.{error_of};
 ghost use Rattle.krb_crypto.specs.Suite.{key_size};
 ghost use Rattle.krb_messages.specs.Layouts.{authenticator_layout, ticket_layout, ap_req_layout};
 ghost use Rattle.krb_exchange.specs.Layouts.{enc_krb_priv_part_layout, krb_priv_layout};
 ghost use Rattle.krb_context.specs.Params.{suite_of};
-ghost use Rattle.krb_requests.specs.Pieces.{spelling, sealed_under, Fits};
+ghost use Rattle.krb_requests.specs.Pieces.{sealed_under, Fits};
 ghost use Rattle.krb_authenticators.specs.ApRequests.{ap_req, service_usage};
 ghost use Rattle.krb_authenticators.specs.Passwords.{priv_part, krb_priv_with, krb_priv, chosen_key, are_sized, priv_request, FitsPriv};
 
@@ -128,7 +129,7 @@ fn are_sized(suite: CipherSuite, key: &[u8], subkey: &[u8]) -> bool
 /// Both are sealed in the parameters' suite (AES-256 where there is none), the authenticator under the ticket's session key
 /// with usage 11 and the first confounder, the password with usage 13 and the second one. `seq_num` numbers the KRB-PRIV, and
 /// `address` is the sender's NetBIOS name. Refused as InvalidParameter KeyLength exactly where one of the two keys has not the
-/// length of the suite's keys, or the authenticator has no subkey; else only memory can be wanting.
+/// length of the suite's keys, or the authenticator has no subkey; else it fails only if memory runs out.
 pub fn generate_krb_priv_request(
     alloc: Global,
     ticket: Ticket,

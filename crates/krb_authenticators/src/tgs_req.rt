@@ -14,7 +14,21 @@ ghost use Rattle.krb_context.specs.Options.{option_of};
 ghost use Rattle.krb_context.specs.Params.{suite_of};
 ghost use Rattle.krb_requests.specs.Pieces.{principal, Fits};
 ghost use Rattle.krb_authenticators.specs.ApRequests.{ap_req, tgs_usage};
-ghost use Rattle.krb_authenticators.specs.TgsRequests.{tgs_options, tgs_body, body_checksum, over, pa_tgs_req, pac_options, tgs_req_with, tgs_req, is_askable, refusal_of, tgs_refusal, IsTgsReq, AreShortTickets};
+ghost use Rattle.krb_authenticators.specs.TgsRequests.{
+  tgs_options,
+  tgs_body,
+  body_checksum,
+  over,
+  pa_tgs_req,
+  pac_options,
+  tgs_req_with,
+  tgs_req,
+  is_askable,
+  refusal_of,
+  tgs_refusal,
+  IsTgsReq,
+  AreShortTickets,
+};
 
 use crate::ap_req::seal_ap_req;
 use crate::options::GenerateTgsReqOptions;
@@ -404,7 +418,7 @@ fn tgs_req_for(
 /// ENC-TKT-IN-SKEY with `USE_SESSION_KEY`. The authenticator is sealed in the parameters' suite (AES-256 where there is none),
 /// with usage 7. Refused in this order: InvalidParameter Target exactly where there is no such target, InternalError NotAscii
 /// exactly where the realm or a part of the target is past ASCII, InvalidParameter KeyLength exactly where the session key has
-/// not the length of the suite's keys; else only memory can be wanting.
+/// not the length of the suite's keys; else it fails only if memory runs out.
 pub fn generate_tgs_req(
     alloc: Global,
     options: GenerateTgsReqOptions<'_>,

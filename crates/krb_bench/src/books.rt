@@ -17,6 +17,9 @@ use std::time::{Duration, Instant};
 /// The skew of each book, in seconds.
 const SKEW: u32 = 300;
 
+/// By how many microseconds the asks of one thread come behind those of the other.
+const APART: u32 = 200_000_000;
+
 /// How many batches of asks each thread has.
 const FULL_BATCHES: u32 = 50;
 
@@ -177,7 +180,7 @@ pub fn run<R: Print + Eprint + Clock + AllocGlobal + Threads + Wait + Sync>(
     let batches = if full { FULL_BATCHES } else { 1 };
     let alloc = rt.alloc();
     let first = stream(alloc, 0, batches).context("out of memory")?;
-    let second = stream(alloc, 1_000_000, batches).context("out of memory")?;
+    let second = stream(alloc, APART, batches).context("out of memory")?;
     let streams = (first, second);
     let locked = measure_locked::<Brand, R>(rt, alloc, Blank::new(2), &streams);
     let (answered, spent) = locked.context("out of memory")?;

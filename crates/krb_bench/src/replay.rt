@@ -1,5 +1,5 @@
 //! Admissions by a replay book whose window holds a thousand, a hundred thousand or a million records: asks in the order
-//! of time, replays, and asks that come late.
+//! of time, replays, asks that come late, and one after which no other record stays.
 
 use anyhow::{Context, Result};
 use krb_der::{IntegerAsn1, Items, Name, Octets, Time};
@@ -165,8 +165,8 @@ fn measure(
     Ok(())
 }
 
-/// Fills a window in the order of time, and measures in that order, then replays of its newer half, and then asks that
-/// are late by up to 2 and up to 250 seconds.
+/// Fills a window in the order of time, and measures in that order, then replays of its newer half, then asks that are
+/// late by up to 2 and up to 250 seconds, and at the end one ask that comes after all records fell out of the window.
 fn measure_stretches(
     rt: &(impl Print + Eprint + Clock + AllocGlobal),
     book: &mut ReplayBook,
@@ -213,7 +213,14 @@ fn measure_stretches(
         late: 250,
         ..late
     };
-    measure(rt, book, later)
+    measure(rt, book, later)?;
+    let behind = Stretch {
+        name: "all fall out",
+        first: end.saturating_add(late_count.saturating_add(window).saturating_mul(2)),
+        count: 1,
+        ..fill
+    };
+    measure(rt, book, behind)
 }
 
 /// Measures a new book with that window.

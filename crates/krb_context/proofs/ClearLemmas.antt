@@ -26,7 +26,7 @@ use Rattle.krb_context.specs.Peers.{ArePeers}
 use Rattle.krb_context.specs.Spelled.{spelled}
 use Rattle.krb_context.specs.Spelt.{SpeltClear}
 use Rattle.krb_context.specs.Unwraps.{has_key_size, has_room, Unwraps, message_number}
-use Rattle.krb_context.specs.Window.{judged}
+use Rattle.krb_context.specs.Window.{number_verdict}
 use Rattle.krb_context.proofs.ChainLemmas.{passed, took, gave}
 use Rattle.krb_context.proofs.OpenableLemmas.{unwraps_openable}
 use Rattle.krb_context.proofs.PeerLemmas.{header_number}
@@ -139,7 +139,7 @@ clear_spells context p token m buffers text =
 -- what one end wraps in the clear the other opens
 pub clear_opens_there : (sender receiver : Kerberos) (p token : List ℕ) (received : List Buffer) (plain : Buffer) → ArePeers sender receiver → WrapsClear sender p (Ok token)
     → spelled received ≡ token → find_part Plain received ≡ Some plain → has_room received plain (length p) ≡ true
-    → judged receiver.window (next_number sender.seq_number) ≡ Fresh → Unwraps receiver received (Ok p)
+    → number_verdict receiver.window (next_number sender.seq_number) ≡ Fresh → Unwraps receiver received (Ok p)
 clear_opens_there sender receiver p token received plain peers h text found room fresh =
     let m = is_clear sender p token h in
     let params = receiver.encryption_params in
@@ -152,4 +152,4 @@ clear_opens_there sender receiver p token received plain peers h text found room
     let number : message_number received ≡ next_number sender.seq_number = ap (λ (s : List ℕ). number_of (take 16 s)) text ∙ number-clear sender p token h in
     let sized : has_key_size params m.key ≡ true = ap (λ (s : CipherSuite). length m.key == key_size s) (sym peers.suite) ∙ m.ready.sized in
     unwraps_openable receiver m.key p received plain (sym peers.key ∙ m.ready.ready) sized found
-    (record { spelling = inr there; room = room; fresh = ap (λ (n : ℕ). judged receiver.window n) number ∙ fresh })
+    (record { spelling = inr there; room = room; fresh = ap (λ (n : ℕ). number_verdict receiver.window n) number ∙ fresh })

@@ -2,9 +2,11 @@ pub mod AsciiLemmas
 pub mod ChainLemmas
 pub mod ClearLemmas
 pub mod CompleteLemmas
+pub mod DrawnLemmas
 pub mod KdcLemmas
 pub mod MicChecks
 pub mod MicLemmas
+pub mod MicTokenLemmas
 pub mod OnceLemmas
 pub mod OpenLemmas
 pub mod OpenableLemmas

@@ -49,7 +49,7 @@ unfolding mic_header
 mic_not_own (Some server) number = refl
 mic_not_own None number = refl
 
-header_read : (token h : List ℕ) → 16 ≤ length token → take 16 token ≡ h → is_mic_header h ≡ true → mic_header_of token ≡ Some h
+pub header_read : (token h : List ℕ) → 16 ≤ length token → take 16 token ≡ h → is_mic_header h ≡ true → mic_header_of token ≡ Some h
 header_read token h long front is =
     let one : nat_le 16 (length token) ≡ true = le-leb 16 (length token) long in
     let two : is_mic_header (take 16 token) ≡ true = ap (λ (s : List ℕ). is_mic_header s) front ∙ is in

@@ -10,7 +10,7 @@ use Rattle.krb_context.specs.declared.params.EncryptionParams.{EncryptionParams}
 use Rattle.krb_context.specs.Header.{rrc_of}
 use Rattle.krb_context.specs.Spelled.{spelled}
 use Rattle.krb_context.specs.Spelt.{sealed_turn, IsSealedAs, Spelt, IsClearAs, SpeltClear}
-use Rattle.krb_context.specs.Unwraps.{Heads, SpeltBy, Opens, Receives}
+use Rattle.krb_context.specs.Unwraps.{Heads, SpeltBy, OpensBody, ReceivesMessage}
 use Rattle.krb_context.proofs.OpenLemmas.{sealed_once}
 use Rattle.krb_context.proofs.TurnLemmas.{halves, unrotated, clear_agrees}
 use Rattle.krb_context.proofs.UnwrapLemmas.{length-turned, length-spelt, length-spelt_clear, body_size}
@@ -66,14 +66,14 @@ heads_once params key peer text =
     then_once _ _ (takes_once _ _)
     (λ header. then_once _ _ (holds_once _ _) (λ a. then_once _ _ (holds_once _ _) (λ b. then_once _ _ (holds_once _ _) (λ c. gives_once _))))
 
-opens_once : (params : EncryptionParams) (key : List ℕ) (peer : Bool) (buffers : List Buffer) (plain : Buffer) (text header : List ℕ) → Once (Opens params key peer buffers plain text header)
-unfolding Opens
+opens_once : (params : EncryptionParams) (key : List ℕ) (peer : Bool) (buffers : List Buffer) (plain : Buffer) (text header : List ℕ) → Once (OpensBody params key peer buffers plain text header)
+unfolding OpensBody
 opens_once params key peer buffers plain text header =
     then_once _ _ (holds_once _ _) (λ a. then_once _ _ (holds_once _ _) (λ b. finds_once _ _ (spelt_by_once _ params key peer buffers)))
 
 -- the checks give one answer
-pub unwraps_once : (context : Kerberos) (peer : Bool) (buffers : List Buffer) (text : List ℕ) → Once (Receives context peer buffers text)
-unfolding Receives
+pub unwraps_once : (context : Kerberos) (peer : Bool) (buffers : List Buffer) (text : List ℕ) → Once (ReceivesMessage context peer buffers text)
+unfolding ReceivesMessage
 unwraps_once context peer buffers text =
     then_once _ _ (takes_once _ _)
     (λ key. then_once _ _ (takes_once _ _)

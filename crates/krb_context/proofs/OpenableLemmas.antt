@@ -17,8 +17,8 @@ use Rattle.krb_context.specs.Params.{suite_of}
 use Rattle.krb_context.specs.Parties.{ready_key, seal_usage, keys_of}
 use Rattle.krb_context.specs.Spelled.{spelled}
 use Rattle.krb_context.specs.Spelt.{Spelt, SpeltClear}
-use Rattle.krb_context.specs.Unwraps.{header_of, has_count, has_key_size, Heads, extra_of, is_long, has_room, SpeltBy, Opens, aged, Receives, Unwraps, message_number}
-use Rattle.krb_context.specs.Window.{judged}
+use Rattle.krb_context.specs.Unwraps.{header_of, has_count, has_key_size, Heads, extra_of, is_long, has_room, SpeltBy, OpensBody, aged, ReceivesMessage, Unwraps, message_number}
+use Rattle.krb_context.specs.Window.{number_verdict}
 use Rattle.krb_context.proofs.ChainLemmas.{takes_some, holds_true}
 use Rattle.krb_context.proofs.TurnLemmas.{halves}
 use Rattle.krb_context.proofs.UnwrapLemmas.{IsOpened, is_opened, length-spelt, length-spelt_clear, length-opened, number_fresh}
@@ -31,8 +31,8 @@ header_there text h long front token =
     rw (one, two) (ap Some front)
 
 -- what is known of a message that was opened is all that the checks ask
-pub receives : (context : Kerberos) (peer : Bool) (buffers : List Buffer) (text p : List ℕ) → IsOpened context peer buffers text p → Receives context peer buffers text (Ok p)
-unfolding Receives Heads Opens
+pub receives : (context : Kerberos) (peer : Bool) (buffers : List Buffer) (text p : List ℕ) → IsOpened context peer buffers text p → ReceivesMessage context peer buffers text (Ok p)
+unfolding ReceivesMessage Heads OpensBody
 receives context peer buffers text p o =
     let params = context.encryption_params in
     let h : List ℕ = o.header in
@@ -56,7 +56,7 @@ fills h n m sum some = and_from (nat_le 1 n) (nat_le (extra_of h) n) (le-leb 1 n
 -- a sealed spelling is opened
 opened_sealed : (context : Kerberos) (key p : List ℕ) (buffers : List Buffer) (plain : Buffer) → ready_key context.state context.encryption_params ≡ Some key
     → has_key_size context.encryption_params key ≡ true → find_part Plain buffers ≡ Some plain → has_room buffers plain (length p) ≡ true
-    → judged context.window (message_number buffers) ≡ Fresh
+    → number_verdict context.window (message_number buffers) ≡ Fresh
     → Spelt (keys_of context.encryption_params key (is_peer_acceptor context)) (is_peer_acceptor context) context.encryption_params.ec buffers p
     → IsOpened context (is_peer_acceptor context) buffers (spelled buffers) p
 opened_sealed context key p buffers plain ready sized found room fresh s =
@@ -85,13 +85,13 @@ opened_sealed context key p buffers plain ready sized found room fresh s =
       long = fills s.header (length text - 16) (length p) (omega (arith, size, extra)) (omega (arith, extra));
       room = ap (λ (n : ℕ). has_room buffers plain n) (sym rest) ∙ room;
       spelt = subst (λ (v : Bool). SpeltBy v params key peer buffers p) (sym s.sealed) s;
-      fresh = ap (λ (h : List ℕ). judged context.window (number_of h)) front ∙ fresh;
+      fresh = ap (λ (h : List ℕ). number_verdict context.window (number_of h)) front ∙ fresh;
     }
 
 -- a spelling in the clear is opened
 opened_clear : (context : Kerberos) (key p : List ℕ) (buffers : List Buffer) (plain : Buffer) → ready_key context.state context.encryption_params ≡ Some key
     → has_key_size context.encryption_params key ≡ true → find_part Plain buffers ≡ Some plain → has_room buffers plain (length p) ≡ true
-    → judged context.window (message_number buffers) ≡ Fresh
+    → number_verdict context.window (message_number buffers) ≡ Fresh
     → SpeltClear (kc (suite_of context.encryption_params) key (seal_usage (is_peer_acceptor context))) (is_peer_acceptor context) buffers p
     → IsOpened context (is_peer_acceptor context) buffers (spelled buffers) p
 opened_clear context key p buffers plain ready sized found room fresh s =
@@ -121,12 +121,12 @@ opened_clear context key p buffers plain ready sized found room fresh s =
       long = fills s.header (length text - 16) (length p) (omega (arith, sizes.0, extra)) (omega (arith, extra));
       room = ap (λ (n : ℕ). has_room buffers plain n) (sym rest) ∙ room;
       spelt = subst (λ (v : Bool). SpeltBy v params key peer buffers p) (sym s.sealed) s;
-      fresh = ap (λ (h : List ℕ). judged context.window (number_of h)) front ∙ fresh;
+      fresh = ap (λ (h : List ℕ). number_verdict context.window (number_of h)) front ∙ fresh;
     }
 
 opened_spelling : (context : Kerberos) (key p : List ℕ) (buffers : List Buffer) (plain : Buffer) → ready_key context.state context.encryption_params ≡ Some key
     → has_key_size context.encryption_params key ≡ true → find_part Plain buffers ≡ Some plain → has_room buffers plain (length p) ≡ true
-    → judged context.window (message_number buffers) ≡ Fresh → IsSpelling context key buffers p
+    → number_verdict context.window (message_number buffers) ≡ Fresh → IsSpelling context key buffers p
     → IsOpened context (is_peer_acceptor context) buffers (spelled buffers) p
 opened_spelling context key p buffers plain ready sized found room fresh (inl s) = opened_sealed context key p buffers plain ready sized found room fresh s
 opened_spelling context key p buffers plain ready sized found room fresh (inr s) = opened_clear context key p buffers plain ready sized found room fresh s

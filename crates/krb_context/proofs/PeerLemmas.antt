@@ -22,7 +22,7 @@ use Rattle.krb_context.specs.Peers.{ArePeers, IsDelivered}
 use Rattle.krb_context.specs.Spelled.{part_octets, spelled, covered}
 use Rattle.krb_context.specs.Spelt.{sealed_body, IsSealedAs, Spelt}
 use Rattle.krb_context.specs.Unwraps.{has_key_size, Unwraps, message_number}
-use Rattle.krb_context.specs.Window.{judged}
+use Rattle.krb_context.specs.Window.{number_verdict}
 use Rattle.krb_context.specs.Wrapped.{written_body, wrapped_by}
 use Rattle.krb_context.specs.Wraps.{wrapped}
 use Rattle.krb_context.proofs.OpenableLemmas.{unwraps_openable}
@@ -116,7 +116,7 @@ spelt_there sender receiver key confounder sent received peers size octets_c oct
 -- what one end wraps the other opens
 pub opens_there : (sender receiver : Kerberos) (key confounder : List ℕ) (sent received : List Buffer) → ArePeers sender receiver → length confounder ≡ 16 → IsOctets confounder
     → IsOctets (part_octets Plain sent) → IsReady sender.state sender.encryption_params sent key → IsDelivered (part_octets Plain sent) (wrapped sender key confounder sent) received
-    → judged receiver.window (next_number sender.seq_number) ≡ Fresh → Unwraps receiver received (Ok (part_octets Plain sent))
+    → number_verdict receiver.window (next_number sender.seq_number) ≡ Fresh → Unwraps receiver received (Ok (part_octets Plain sent))
 opens_there sender receiver key confounder sent received peers size octets_c octets_p ready delivered fresh =
     let number : ℕ = next_number sender.seq_number in
     let there : message_number received ≡ number =
@@ -126,5 +126,5 @@ opens_there sender receiver key confounder sent received peers size octets_c oct
     (record {
       spelling = inl (spelt_there sender receiver key confounder sent received peers size octets_c octets_p ready delivered);
       room = delivered.room;
-      fresh = ap (λ (n : ℕ). judged receiver.window n) there ∙ fresh;
+      fresh = ap (λ (n : ℕ). number_verdict receiver.window n) there ∙ fresh;
     })

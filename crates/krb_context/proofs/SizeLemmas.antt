@@ -7,7 +7,7 @@ use Rattle.sspi_core.specs.declared.buffer.Part.TheVariants.{Token, Plain}
 use Rattle.sspi_core.specs.Buffer.{Buffer}
 use Rattle.sspi_core.specs.Messages.{write}
 use Rattle.krb_context.specs.declared.context.Kerberos.{Kerberos}
-use Rattle.krb_context.specs.Contexts.{is_acceptor, next_number, number_after}
+use Rattle.krb_context.specs.Contexts.{is_acceptor, next_number, number_after_messages}
 use Rattle.krb_context.specs.Header.{wrap_header}
 use Rattle.krb_context.specs.Parties.{seal_flags, keys_of}
 use Rattle.krb_context.specs.Spelled.{octets_of, part_octets, has_part, spelled}
@@ -58,6 +58,6 @@ wrapped_sizes sender key confounder sent small size octets_c octets_p ready =
       number = number_made sender key confounder sent ready;
     }
 
-pub number_after-is : (number times : ℕ) → number < 2 ^ 32 → number_after number times ≡ (number + times) % 2 ^ 32
-number_after-is number zero small = omega arith
-number_after-is number (suc times) small = let so = number_after-is number times small in omega (arith, so)
+pub number_after_messages-is : (number times : ℕ) → number < 2 ^ 32 → number_after_messages number times ≡ (number + times) % 2 ^ 32
+number_after_messages-is number zero small = omega arith
+number_after_messages-is number (suc times) small = let so = number_after_messages-is number times small in omega (arith, so)

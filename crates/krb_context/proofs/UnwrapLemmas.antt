@@ -26,8 +26,8 @@ use Rattle.krb_context.specs.Params.{suite_of}
 use Rattle.krb_context.specs.Parties.{ready_key, seal_usage, keys_of}
 use Rattle.krb_context.specs.Spelled.{spelled, has_part, covered}
 use Rattle.krb_context.specs.Spelt.{inner_text, sealed_body, sealed_turn, IsSealedAs, Spelt, SpeltClear}
-use Rattle.krb_context.specs.Unwraps.{header_of, has_count, has_key_size, Heads, extra_of, is_long, has_room, SpeltBy, Opens, aged, Receives, message_number}
-use Rattle.krb_context.specs.Window.{judged}
+use Rattle.krb_context.specs.Unwraps.{header_of, has_count, has_key_size, Heads, extra_of, is_long, has_room, SpeltBy, OpensBody, aged, ReceivesMessage, message_number}
+use Rattle.krb_context.specs.Window.{number_verdict}
 use Rattle.krb_context.proofs.ChainLemmas.{passed, took, gave, no_refusal}
 
 header_known : (text header : List ℕ) (b : Bool) → b ≡ (nat_le 16 (length text) && is_wrap_header (take 16 text))
@@ -68,15 +68,15 @@ pub record IsOpened (context : Kerberos) (peer : Bool) (buffers : List Buffer) (
   pub long : is_long header (length text - 16) ≡ true
   pub room : has_room buffers plain (length text - 16 - extra_of header) ≡ true
   pub spelt : SpeltBy (is_sealed header) context.encryption_params key peer buffers p
-  pub fresh : judged context.window (number_of header) ≡ Fresh
+  pub fresh : number_verdict context.window (number_of header) ≡ Fresh
 
 not_aged : (verdict : NumberVerdict) → aged verdict ≡ None → verdict ≡ Fresh
 not_aged Fresh e = refl
 not_aged Old e = absurd cc
 not_aged Repeated e = absurd cc
 
-pub is_opened : (context : Kerberos) (peer : Bool) (buffers : List Buffer) (text p : List ℕ) → Receives context peer buffers text (Ok p) → IsOpened context peer buffers text p
-unfolding Receives Opens
+pub is_opened : (context : Kerberos) (peer : Bool) (buffers : List Buffer) (text p : List ℕ) → ReceivesMessage context peer buffers text (Ok p) → IsOpened context peer buffers text p
+unfolding ReceivesMessage OpensBody
 is_opened context peer buffers text p h =
     let params = context.encryption_params in
     let one = passed _ _ _ h in
@@ -97,7 +97,7 @@ is_opened context peer buffers text p h =
       long = held Short (is_long three.found (length text - 16)) long.found long.first_held;
       room = held Room (has_room buffers two.found (length text - 16 - extra_of three.found)) room.found room.first_held;
       spelt = subst (λ (s : List ℕ). SpeltBy (is_sealed three.found) params one.found peer buffers s) (sym same) room.rest_held.is;
-      fresh = not_aged (judged context.window (number_of three.found)) (no_refusal (aged (judged context.window (number_of three.found))) five.found five.first_held);
+      fresh = not_aged (number_verdict context.window (number_of three.found)) (no_refusal (aged (number_verdict context.window (number_of three.found))) five.found five.first_held);
     }
 
 -- a body keeps its length where it is turned
@@ -182,8 +182,8 @@ fits context peer buffers p o none =
 
 -- its number is fresh
 pub number_fresh : (context : Kerberos) (peer : Bool) (buffers : List Buffer) (p : List ℕ) → IsOpened context peer buffers (spelled buffers) p
-    → judged context.window (message_number buffers) ≡ Fresh
-number_fresh context peer buffers p o = ap (λ (h : List ℕ). judged context.window (number_of h)) (sym o.headed.front) ∙ o.fresh
+    → number_verdict context.window (message_number buffers) ≡ Fresh
+number_fresh context peer buffers p o = ap (λ (h : List ℕ). number_verdict context.window (number_of h)) (sym o.headed.front) ∙ o.fresh
 
 -- a sealed body that is long enough
 pub sealed_long : (ec : ℕ) (header : List ℕ) (n : ℕ) → is_sealed header ≡ true → has_count ec header ≡ true → is_long header n ≡ true → 44 + ec ≤ n

@@ -9,7 +9,7 @@ use Rattle.std.proofs.lemmas.Int.{ints, clamps}
 use Rattle.std.proofs.lemmas.Nat.{shr_split, pow_pos}
 use Rattle.std.proofs.lemmas.Nat.Bits.{bit_at_or, bit_at-zero, bit_at-lt, bit_at_cat_low, bit_at_cat_high, bit_at-pow_other, bit_at_set_same, bit_at_set_other}
 use Rattle.krb_context.specs.Places.{number_at, ahead, is_ahead, greatest, place_after, was_opened, verdict_after, verdict_of, opened}
-use Rattle.krb_context.specs.Window.{Window, has_newest, has_bit, IsWindowOf, StandsAfter, StandsFor, judged, moved_up, noted}
+use Rattle.krb_context.specs.Window.{Window, has_newest, has_bit, IsWindowOf, StandsAfter, StandsFor, number_verdict, moved_up, noted}
 use Rattle.krb_context.specs.declared.window.NumberVerdict.TheVariants.{Fresh, Old, Repeated}
 use Rattle.krb_context.proofs.PlaceLemmas.{or_false, number_at-lt, number_at-plus, number_at-pos, top_of, greatest-push, was_opened-push, int_eq-same, int_eq-apart, none_above, newest_opened}
 
@@ -113,7 +113,7 @@ mask_there mask newest places top bits =
 
 judged_some : (mask : ℕ) (newest : ℤ) (places : List ℤ) (n : ℕ) → greatest places ≡ Some newest
     → ((below : ℕ) → below < 64 → has_bit mask below ≡ was_opened places (newest -ℤ pos below))
-    → judged (record { newest = number_at newest; mask = mask }) n ≡ verdict_after (Some newest) places (place_after (Some newest) n)
+    → number_verdict (record { newest = number_at newest; mask = mask }) n ≡ verdict_after (Some newest) places (place_after (Some newest) n)
 judged_some mask newest places n top bits =
     let forward : ℕ = ahead (number_at newest) n in
     let behind : ℕ = ahead n (number_at newest) in
@@ -127,13 +127,13 @@ judged_some mask newest places n top bits =
     rw (mask_there mask newest places top bits) (both refl)
 
 judged_after : (newest : Option ℤ) (window : Window) (places : List ℤ) (n : ℕ) → greatest places ≡ newest → StandsAfter newest window places
-    → judged window n ≡ verdict_after newest places (place_after newest n)
+    → number_verdict window n ≡ verdict_after newest places (place_after newest n)
 judged_after None window places n top empty = rw empty refl
 judged_after (Some newest) window places n top stands =
-    ap (λ (m : ℕ). judged (record { newest = m; mask = window.mask }) n) stands.number ∙ judged_some window.mask newest places n top stands.bits
+    ap (λ (m : ℕ). number_verdict (record { newest = m; mask = window.mask }) n) stands.number ∙ judged_some window.mask newest places n top stands.bits
 
 -- a window judges as each list that it stands for
-pub judged_is : (window : Window) (places : List ℤ) (n : ℕ) → StandsFor window places → judged window n ≡ verdict_of places n
+pub judged_is : (window : Window) (places : List ℤ) (n : ℕ) → StandsFor window places → number_verdict window n ≡ verdict_of places n
 judged_is window places n stands = judged_after (greatest places) window places n refl stands
 
 -- ---- what a window is afterwards
@@ -223,7 +223,7 @@ not_old distance bit fresh =
 
 noted_some : (mask : ℕ) (newest : ℤ) (places : List ℤ) (n : ℕ) → n < 2 ^ 32 → greatest places ≡ Some newest
     → ((below : ℕ) → below < 64 → has_bit mask below ≡ was_opened places (newest -ℤ pos below))
-    → judged (record { newest = number_at newest; mask = mask }) n ≡ Fresh
+    → number_verdict (record { newest = number_at newest; mask = mask }) n ≡ Fresh
     → StandsFor (noted (record { newest = number_at newest; mask = mask }) n) (places ++ place_after (Some newest) n ∷ [])
 noted_some mask newest places n fits top bits fresh =
     let forward : ℕ = ahead (number_at newest) n in
@@ -253,19 +253,19 @@ noted_some mask newest places n fits top bits fresh =
     rw there (both refl known)
 
 noted_after : (newest : Option ℤ) (window : Window) (places : List ℤ) (n : ℕ) → n < 2 ^ 32 → greatest places ≡ newest → StandsAfter newest window places
-    → judged window n ≡ Fresh → StandsFor (noted window n) (places ++ place_after newest n ∷ [])
+    → number_verdict window n ≡ Fresh → StandsFor (noted window n) (places ++ place_after newest n ∷ [])
 noted_after None window places n fits top empty fresh =
     rw empty
     (stands_by (record { newest = n; mask = 1 }) (pos n) (places ++ pos n ∷ [])
     (greatest-push places (pos n) ∙ ap (λ (g : Option ℤ). Some (top_of g (pos n))) top)
     (record { number = sym (number_at-pos n fits); bits = λ below low. one_bits places (pos n) below (none_opened places top) }))
 noted_after (Some newest) window places n fits top stands fresh =
-    let P : ℕ → Type 0 = λ m. judged (record { newest = m; mask = window.mask }) n ≡ Fresh
+    let P : ℕ → Type 0 = λ m. number_verdict (record { newest = m; mask = window.mask }) n ≡ Fresh
     → StandsFor (noted (record { newest = m; mask = window.mask }) n) (places ++ place_after (Some newest) n ∷ []) in
     subst P (sym stands.number) (noted_some window.mask newest places n fits top stands.bits) fresh
 
 -- a window that noted a fresh number stands for each list that it stood for, with that number's place
-pub noted_is : (window : Window) (places : List ℤ) (n : ℕ) → n < 2 ^ 32 → StandsFor window places → judged window n ≡ Fresh → StandsFor (noted window n) (opened places n)
+pub noted_is : (window : Window) (places : List ℤ) (n : ℕ) → n < 2 ^ 32 → StandsFor window places → number_verdict window n ≡ Fresh → StandsFor (noted window n) (opened places n)
 noted_is window places n fits stands fresh = noted_after (greatest places) window places n fits refl stands fresh
 
 -- ---- the window keeps its newest number
@@ -283,6 +283,6 @@ added-newest mask other newest there kept =
     (has_bit-set (bit_or mask other) 0 (bit_at_or mask other 0 ∙ omega (arith, one, bit_at-lt other 0)))
 
 -- the same of a window that is what was to be noted
-pub notes_from : (window new : Window) (places : List ℤ) (n : ℕ) → new ≡ noted window n → n < 2 ^ 32 → judged window n ≡ Fresh → StandsFor window places
+pub notes_from : (window new : Window) (places : List ℤ) (n : ℕ) → new ≡ noted window n → n < 2 ^ 32 → number_verdict window n ≡ Fresh → StandsFor window places
     → StandsFor new (opened places n)
 notes_from window new places n exact fits fresh stands = let P : Window → Type 0 = λ w. StandsFor w (opened places n) in subst P (sym exact) (noted_is window places n fits stands fresh)

@@ -42,9 +42,9 @@ abbrev pub next_number : ℕ → ℕ
 next_number number = (number + 1) % 2 ^ 32
 
 -- the number so many behind a number
-abbrev pub number_after : ℕ → ℕ → ℕ
-number_after number zero = number
-number_after number (suc times) = next_number (number_after number times)
+abbrev pub number_after_messages : ℕ → ℕ → ℕ
+number_after_messages number zero = number
+number_after_messages number (suc times) = next_number (number_after_messages number times)
 
 -- the URL of the KDC of a realm: the configured one, else the one that is found
 abbrev pub kdc_url_of : KerberosConfig → Env → List ℕ → Option Parts

@@ -3,6 +3,7 @@ pub mod ClearWraps
 pub mod Configs
 pub mod Contexts
 pub mod Decrypted
+pub mod Drawn
 pub mod Headed
 pub mod Header
 pub mod KeptCodes

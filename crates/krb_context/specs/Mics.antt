@@ -1,5 +1,5 @@
 -- MIC tokens (RFC 4121, sections 4.2.4 and 4.2.6.1): a header of 16 octets, and a checksum of the payload and the header.
-use Rattle.std.specs.Prelude.{◌≡◌, ℕ, List, [], ◌∷◌, ◌++◌, length, take, Bool, not, ◌&&◌, ◌==◌, nat_le, Option, Some, None, Result, if◌then◌else◌, slice_index}
+use Rattle.std.specs.Prelude.{◌≡◌, ℕ, List, [], ◌∷◌, ◌++◌, length, take, Bool, true, not, ◌&&◌, ◌==◌, nat_le, Option, Some, None, Result, if◌then◌else◌, slice_index}
 use Rattle.std.specs.Int.{w64, to_be_bytes}
 use Rattle.krb_crypto.specs.Hmac.{hmac12}
 use Rattle.krb_crypto.specs.Suite.{kc}
@@ -65,6 +65,16 @@ MicKeys params = do
 -- this token is signed, with this header
 pub record IsSigned (key payload header token : List ℕ) : Type 0 where
   pub is : token ≡ signed key payload header
+
+-- the token is one of this side over the payload: 16 octets with the id 04 04 and the filler, of its side, in the clear, and behind
+-- them the checksum of the payload and of them; the other flags and the number are any
+pub record IsMicToken (params : EncryptionParams) (key : List ℕ) (acceptor : Bool) (payload token : List ℕ) : Type 0 where
+  pub header : List ℕ
+  pub header_size : length header ≡ 16
+  pub token_id : is_mic_header header ≡ true
+  pub side : is_from acceptor header ≡ true
+  pub clear : not (is_sealed header) ≡ true
+  pub is : token ≡ signed (sign_key params key acceptor) payload header
 
 -- the checks of a token over a payload, from a peer of this role
 unfoldable pub ReadsMic : EncryptionParams → Bool → List ℕ → List ℕ → Result (Unit {0}) Cause → Type 0

@@ -1,7 +1,8 @@
 -- The numbers of opened messages, by the list that never forgets.
 -- A number is what is left of a place modulo 2^32 (RFC 4121, section 4.2.2: sequence numbers are used modulo their size). Places have no bound.
 -- Of messages it is told whether one is a repetition, or so old that it is not told any more (RFC 2743, section 1.2.3).
-use Rattle.std.specs.Prelude.{ℕ, ◌+◌, ◌-◌, ◌%◌, ◌^◌, ℤ, pos, ◌+ℤ◌, ◌-ℤ◌, unsigned_abs, fold, Bool, ◌&&◌, nat_le, nat_lt, int_lt, List, [], ◌∷◌, ◌++◌, Option, Some, None, if◌then◌else◌}
+use Rattle.std.specs.Prelude.{ℕ, ◌+◌, ◌-◌, ◌%◌, ◌^◌, ℤ, pos, ◌+ℤ◌, ◌-ℤ◌, unsigned_abs, fold, Bool, ◌&&◌, nat_le}
+use Rattle.std.specs.Prelude.{nat_lt, int_lt, List, [], ◌∷◌, ◌++◌, Option, Some, None, if◌then◌else◌}
 use Rattle.std.specs.Int.{int_max, int_rem_euclid}
 use Rattle.std.specs.Ordering.{int_eq}
 use Rattle.std.specs.List.{list_any}

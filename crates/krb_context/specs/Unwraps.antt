@@ -2,7 +2,8 @@
 use Rattle.std.specs.Prelude.{ℕ, ◌+◌, ◌-◌, List, [], length, take, Bool, true, false, not, ◌&&◌, ◌||◌, ◌==◌, nat_le, Option, Some, None, Result, if◌then◌else◌}
 use Rattle.krb_crypto.specs.Suite.{key_size, kc}
 use Rattle.sspi_core.specs.declared.cause.Cause.{Cause}
-use Rattle.sspi_core.specs.declared.cause.Cause.TheVariants.{Sequence, Buffers, Header, Direction, ExtraCount, KeyLength, Short, Room, Altered, Old as OldCause, Repeated as RepeatedCause}
+use Rattle.sspi_core.specs.declared.cause.Cause.TheVariants.{Sequence, Buffers, Header, Direction, ExtraCount, KeyLength, Short}
+use Rattle.sspi_core.specs.declared.cause.Cause.TheVariants.{Room, Altered, Old as OldCause, Repeated as RepeatedCause}
 use Rattle.sspi_core.specs.declared.buffer.Part.TheVariants.{Stream, Plain}
 use Rattle.sspi_core.specs.Buffer.{Buffer}
 use Rattle.sspi_core.specs.Checks.{Finds, Takes, Holds, Passes, Gives, ◌>>=◌, ◌>>◌}
@@ -17,7 +18,7 @@ use Rattle.krb_context.specs.Params.{suite_of}
 use Rattle.krb_context.specs.Parties.{ready_key, seal_usage, keys_of}
 use Rattle.krb_context.specs.Spelled.{spelled, has_part}
 use Rattle.krb_context.specs.Spelt.{Spelt, SpeltClear}
-use Rattle.krb_context.specs.Window.{judged}
+use Rattle.krb_context.specs.Window.{number_verdict}
 
 -- the header of a wrap token: 16 octets with its id and its filler
 abbrev pub header_of : List ℕ → Option (List ℕ)
@@ -57,8 +58,8 @@ SpeltBy true params key peer buffers p = Spelt (keys_of params key peer) peer pa
 SpeltBy false params key peer buffers p = SpeltClear (kc (suite_of params) key (seal_usage peer)) peer buffers p
 
 -- the checks of the body, and the text that the buffers spell: sealed, or in the clear with its checksum
-unfoldable pub Opens : EncryptionParams → List ℕ → Bool → List Buffer → Buffer → List ℕ → List ℕ → Result (List ℕ) Cause → Type 0
-Opens params key peer buffers plain text header = do
+unfoldable pub OpensBody : EncryptionParams → List ℕ → Bool → List Buffer → Buffer → List ℕ → List ℕ → Result (List ℕ) Cause → Type 0
+OpensBody params key peer buffers plain text header = do
   Holds Short (is_long header (length text - 16))
   Holds Room (has_room buffers plain (length text - 16 - extra_of header))
   Finds Altered (λ p. SpeltBy (is_sealed header) params key peer buffers p)
@@ -70,18 +71,18 @@ aged Old = Some OldCause
 aged Repeated = Some RepeatedCause
 
 -- all checks of a message whose token has this text, from a peer of this role
-unfoldable pub Receives : Kerberos → Bool → List Buffer → List ℕ → Result (List ℕ) Cause → Type 0
-Receives context peer buffers text = do
+unfoldable pub ReceivesMessage : Kerberos → Bool → List Buffer → List ℕ → Result (List ℕ) Cause → Type 0
+ReceivesMessage context peer buffers text = do
   key ← Takes Sequence (ready_key context.state context.encryption_params)
   plain ← Takes Buffers (find_part Plain buffers)
   header ← Heads context.encryption_params key peer text
-  opened ← Opens context.encryption_params key peer buffers plain text header
-  Passes (aged (judged context.window (number_of header)))
+  opened ← OpensBody context.encryption_params key peer buffers plain text header
+  Passes (aged (number_verdict context.window (number_of header)))
   Gives opened
 
 -- all checks of a message, and its text
 abbrev pub Unwraps : Kerberos → List Buffer → Result (List ℕ) Cause → Type 0
-Unwraps context buffers = Receives context (is_peer_acceptor context) buffers (spelled buffers)
+Unwraps context buffers = ReceivesMessage context (is_peer_acceptor context) buffers (spelled buffers)
 
 -- the number of a message
 abbrev pub message_number : List Buffer → ℕ

@@ -34,8 +34,8 @@ abbrev pub StandsFor : Window → List ℤ → Type 0
 StandsFor window places = StandsAfter (greatest places) window places
 
 -- how a number stands to a window
-abbrev pub judged : Window → ℕ → NumberVerdict
-judged window number =
+abbrev pub number_verdict : Window → ℕ → NumberVerdict
+number_verdict window number =
     if window.mask == 0 then Fresh
     else if is_ahead (ahead window.newest number) then Fresh
     else if nat_le 64 (ahead number window.newest) then Old

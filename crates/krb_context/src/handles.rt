@@ -50,7 +50,7 @@ impl Kerberos {
         Ok(given)
     }
 
-    /// The context speaks for this identity from now on. Want of memory leaves it.
+    /// The context speaks for this identity from now on. Out of memory, it stays as it was.
     pub fn custom_set_auth_identity(
         &mut self,
         alloc: Global,

@@ -10,7 +10,7 @@ ghost use Rattle.krb_context.specs.Params.{suite_of};
 ghost use Rattle.krb_context.specs.Parties.{keys_of, seal_usage};
 ghost use Rattle.krb_context.specs.Spelled.{spelled};
 ghost use Rattle.krb_context.specs.Spelt.{Spelt, SpeltClear, sealed_turn};
-ghost use Rattle.krb_context.specs.Unwraps.{extra_of, is_long, has_room, SpeltBy, Opens};
+ghost use Rattle.krb_context.specs.Unwraps.{extra_of, is_long, has_room, SpeltBy, OpensBody};
 
 use crate::header::{ec_of, is_sealed, rrc_of};
 use crate::kept::KeptKey;
@@ -147,7 +147,7 @@ impl Headed<'_> {
         alloc: Global,
         plain: &SecurityBufferRef,
     ) -> Result<Octets, Cause>
-        ensures { Answers (Opens self.now.params.now self.now.key.now self.now.peer self.now.message.now plain.now self.now.text.now
+        ensures { Answers (OpensBody self.now.params.now self.now.key.now self.now.peer self.now.message.now plain.now self.now.text.now
             self.now.header.now) result }
     {
         self.check_long()?;

@@ -5,7 +5,7 @@ ghost use Rattle.sspi_core.specs.Checks.{Holds};
 ghost use Rattle.sspi_core.specs.declared.cause.Cause.TheVariants as causes;
 ghost use Rattle.krb_context.specs.Header.{wrap_header, is_wrap_header, is_sealed, is_from_acceptor, is_from, ec_of, rrc_of, number_of, IsCopyOf, without_counts};
 
-use crate::equal::is_equal;
+use krb_crypto::is_equal;
 use sspi_core::{Cause, hold};
 
 #[tactic(auto, unfolding(crate::specs::Header::wrap_header))]
@@ -77,7 +77,9 @@ pub(crate) fn is_copy_of(header: &[u8; 16], copy: &[u8]) -> bool
     requires { length copy.now ≡ 16 }
     ensures { IsTrue result ↔ IsCopyOf header.now copy.now }
 {
-    is_equal(&copy[..6], &header[..6]) && is_equal(&copy[8..], &header[8..])
+    let front = is_equal(&copy[..6], &header[..6]);
+    let back = is_equal(&copy[8..], &header[8..]);
+    front & back
 }
 
 /// The header with zeros for its counts.

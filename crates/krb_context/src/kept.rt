@@ -9,12 +9,11 @@ ghost use Rattle.krb_crypto.specs.Sealed.{IsSealed, IsSealedUnder};
 ghost use Rattle.sspi_core.specs.Checks.{Answers, Finds};
 ghost use Rattle.sspi_core.specs.declared.cause.Cause.TheVariants as causes;
 
-use crate::equal::is_equal;
 use crate::params::EncryptionParams;
 use crate::parties::sign_usage;
 use krb_crypto::{
-    CipherSuite, CryptoError, DerivedKey, HmacKey, HmacState, SealingKey, checksum_key, key_of,
-    start_checksum,
+    CipherSuite, CryptoError, DerivedKey, HmacKey, HmacState, SealingKey, checksum_key, is_equal,
+    key_of, start_checksum,
 };
 use krb_der::{Octets, OutOfMemory};
 use sspi_core::Cause;

@@ -15,10 +15,10 @@ ghost use Rattle.krb_context.specs.declared.context.Kerberos.{Kerberos};
 ghost use Rattle.krb_context.specs.declared.server.ServerProperties.{ServerProperties};
 ghost use Rattle.krb_context.specs.declared.window.NumberVerdict.TheVariants.{Fresh};
 ghost use Rattle.krb_context.specs.ClearWraps.{WrapsClear};
-ghost use Rattle.krb_context.specs.Contexts.{is_acceptor, is_peer_acceptor, next_number, number_after};
-ghost use Rattle.krb_context.specs.Mics.{MakesMic, ChecksMic};
+ghost use Rattle.krb_context.specs.Contexts.{is_acceptor, is_peer_acceptor, next_number, number_after_messages};
+ghost use Rattle.krb_context.specs.Mics.{MakesMic, ChecksMic, IsMicToken};
 ghost use Rattle.krb_context.specs.Openable.{IsOpenable};
-ghost use Rattle.krb_context.specs.Params.{suite_of};
+ghost use Rattle.krb_context.specs.Params.{suite_of, key_of};
 ghost use Rattle.krb_context.specs.Parties.{ready_key};
 ghost use Rattle.krb_context.specs.Peers.{ArePeers, IsDelivered};
 ghost use Rattle.krb_context.specs.Places.{verdict_of, opened};
@@ -27,7 +27,7 @@ ghost use Rattle.krb_context.specs.ServiceKeys.{service_key};
 ghost use Rattle.krb_context.specs.Spelled.{part_octets, spelled};
 ghost use Rattle.krb_context.specs.Spelt.{Spelt};
 ghost use Rattle.krb_context.specs.Unwraps.{has_key_size, has_room, Unwraps, message_number};
-ghost use Rattle.krb_context.specs.Window.{Window, StandsFor, judged, noted};
+ghost use Rattle.krb_context.specs.Window.{Window, StandsFor, number_verdict, noted};
 ghost use Rattle.krb_context.specs.Wrapped.{limit_of};
 ghost use Rattle.krb_context.specs.Wraps.{has_parts, wrapped, Wraps};
 
@@ -37,7 +37,7 @@ pub fn wrapped_messages_open()
     ensures { (sender receiver : Kerberos) (confounder : List ℕ) (sent made received : List Buffer) → ArePeers sender receiver
         → length confounder ≡ 16 → IsOctets confounder → IsOctets (part_octets Plain sent)
         → Wraps sender confounder sent (Ok made) → IsDelivered (part_octets Plain sent) made received
-        → judged receiver.window (next_number sender.seq_number) ≡ Fresh
+        → number_verdict receiver.window (next_number sender.seq_number) ≡ Fresh
         → Unwraps receiver received (Ok (part_octets Plain sent)) }
 {}
 
@@ -46,7 +46,7 @@ pub fn wrapped_messages_open()
 pub fn clear_messages_open()
     ensures { (sender receiver : Kerberos) (p token : List ℕ) (received : List Buffer) (plain : Buffer) → ArePeers sender receiver
         → WrapsClear sender p (Ok token) → spelled received ≡ token → find_part Plain received ≡ Some plain
-        → has_room received plain (length p) ≡ true → judged receiver.window (next_number sender.seq_number) ≡ Fresh
+        → has_room received plain (length p) ≡ true → number_verdict receiver.window (next_number sender.seq_number) ≡ Fresh
         → Unwraps receiver received (Ok p) }
 {}
 
@@ -61,7 +61,7 @@ pub fn wrapped_messages_have_lengths_and_numbers()
 
 /// After a number s the k-th next number is s + k modulo 2^32.
 pub fn numbers_rise_by_one()
-    ensures { (number times : ℕ) → number < 2 ^ 32 → number_after number times ≡ (number + times) % 2 ^ 32 }
+    ensures { (number times : ℕ) → number < 2 ^ 32 → number_after_messages number times ≡ (number + times) % 2 ^ 32 }
 {}
 
 /// Over a run of calls that begins at a number s, the k-th wrap or MIC token that is made has the number s + k modulo 2^32;
@@ -109,6 +109,20 @@ pub fn mic_tokens_are_accepted()
         → ChecksMic other token payload (Ok tt) }
 {}
 
+/// A MIC token is accepted over a payload exactly where it is the peer's: a header of the peer's side, in the clear, and behind it
+/// the checksum of the payload and of it (RFC 4121, sections 4.2.4 and 4.2.6.1).
+pub fn peers_mic_tokens_are_accepted()
+    ensures { (context : Kerberos) (key payload token : List ℕ) → key_of context.encryption_params ≡ Some key
+        → has_key_size context.encryption_params key ≡ true
+        → ChecksMic context token payload (Ok tt) ↔ IsMicToken context.encryption_params key (is_peer_acceptor context) payload token }
+{}
+
+/// The checks of a MIC token give one answer.
+pub fn mic_tokens_have_one_answer()
+    ensures { (context : Kerberos) (token payload : List ℕ) (one other : Result (Unit {0}) Cause) → ChecksMic context token payload one
+        → ChecksMic context token payload other → one ≡ other }
+{}
+
 /// A MIC token is refused by the side that made it, as one of the wrong direction.
 pub fn own_mic_tokens_are_refused()
     ensures { (maker : Kerberos) (payload token : List ℕ) → MakesMic maker payload (Ok token) → ChecksMic maker token payload (Err Direction) }
@@ -117,8 +131,8 @@ pub fn own_mic_tokens_are_refused()
 /// A window judges and notes a number as each list of places that it stands for.
 pub fn windows_follow_the_list()
     ensures { (window : Window) (places : List ℤ) (number : ℕ) → number < 2 ^ 32 → StandsFor window places
-        → (judged window number ≡ verdict_of places number)
-        × (judged window number ≡ Fresh → StandsFor (noted window number) (opened places number)) }
+        → (number_verdict window number ≡ verdict_of places number)
+        × (number_verdict window number ≡ Fresh → StandsFor (noted window number) (opened places number)) }
 {}
 
 /// The key for a service depends on the components of its name alone.

@@ -5,7 +5,7 @@ mod clear;
 mod config;
 mod constants;
 mod context;
-mod equal;
+mod drawn;
 mod handles;
 mod headed;
 mod header;
@@ -31,6 +31,7 @@ pub use constants::{
     PKG_NAME, RRC, SECURITY_TRAILER, TGT_SERVICE_NAME,
 };
 pub use context::{ContextChange, Kerberos};
+pub use drawn::{drawn_key, drawn_secret};
 pub use kept::KeptKey;
 pub use krb_messages::constants::KERBEROS_VERSION;
 pub use options::{ApOptions, GssFlags, KdcOptions};

@@ -16,11 +16,11 @@ ghost use Rattle.krb_context.specs.Params.{suite_of, key_of};
 ghost use Rattle.krb_context.specs.Refusals.{Refuses};
 
 use crate::context::Kerberos;
-use crate::equal::is_equal;
 use crate::header::{check_direction, is_sealed};
 use crate::kept::{KeptKey, keep_codes};
 use crate::params::EncryptionParams;
 use crate::parties::{check_key_size, sign_flags, sign_usage};
+use krb_crypto::is_equal;
 use krb_der::Octets;
 use sspi_core::{Cause, Error, Place, hold};
 use std::alloc::{AllocError, Global};

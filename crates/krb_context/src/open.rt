@@ -9,9 +9,8 @@ ghost use Rattle.krb_context.specs.Spelled.{covered, covered_of};
 ghost use Rattle.krb_context.specs.Decrypted.{IsDecrypted, HasCode};
 ghost use Rattle.krb_context.specs.Spelt.{IsSealedAs, IsClearAs, covered_code};
 
-use crate::equal::is_equal;
 use crate::header::{ec_of, is_copy_of, without_counts};
-use krb_crypto::{CipherSuite, HmacState, SealingKey, start_checksum};
+use krb_crypto::{CipherSuite, HmacState, SealingKey, is_equal, start_checksum};
 use krb_der::Octets;
 use sspi_core::{BufferType, Message, Part, SecurityBufferRef};
 

@@ -49,11 +49,34 @@ impl EncryptionParams {
         EncryptionParams::with_usages(INITIATOR_SEAL_USAGE, ACCEPTOR_SEAL_USAGE)
     }
 
+    /// Those of an initiator whose suite is known: no keys and no filler.
+    pub fn of_suite(suite: CipherSuite) -> EncryptionParams
+        ensures made { result ≡ record (default_params 24 22) { encryption_type = Some suite } }
+        ensures suite { suite_of result ≡ suite }
+    {
+        let mut params = EncryptionParams::default_for_client();
+        params.encryption_type = Some(suite);
+        params
+    }
+
     /// Those of an acceptor before the exchange: no suite, no keys and no filler.
     pub fn default_for_server() -> EncryptionParams
         ensures { result ≡ default_params 22 24 }
     {
         EncryptionParams::with_usages(ACCEPTOR_SEAL_USAGE, INITIATOR_SEAL_USAGE)
+    }
+
+    /// A copy for this suite, with the same keys and filler.
+    pub fn copy_for(
+        &self,
+        alloc: Global,
+        suite: CipherSuite,
+    ) -> Result<EncryptionParams, OutOfMemory>
+        ensures { IfOk result (λ made. made ≡ record self.now { encryption_type = Some suite }) }
+    {
+        let mut params = self.copy(alloc)?;
+        params.encryption_type = Some(suite);
+        Ok(params)
     }
 
     /// The size of the suite's keys, None exactly where no suite was chosen.

@@ -113,7 +113,7 @@ impl Kerberos {
         })
     }
 
-    /// What the package is; no refusal but want of memory.
+    /// What the package is; it is refused only if memory runs out.
     pub fn query_context_package_info(&self, alloc: Global) -> Result<PackageInfo, Error>
         ensures info { IfOk result (λ info. info ≡ kerberos_package) }
         ensures memory { IfErr result (λ error. error ≡ error_of causes.Memory) }

@@ -11,8 +11,8 @@ ghost use Rattle.krb_context.specs.Header.{number_of};
 ghost use Rattle.krb_context.specs.Places.{verdict_of, opened};
 ghost use Rattle.krb_context.specs.Refusals.{Refuses};
 ghost use Rattle.krb_context.specs.Spelled.{spelled, has_part};
-ghost use Rattle.krb_context.specs.Unwraps.{header_of, has_count, Heads, aged, Receives, Unwraps, message_number, unwrapped};
-ghost use Rattle.krb_context.specs.Window.{StandsFor, judged, noted};
+ghost use Rattle.krb_context.specs.Unwraps.{header_of, has_count, Heads, aged, ReceivesMessage, Unwraps, message_number, unwrapped};
+ghost use Rattle.krb_context.specs.Window.{StandsFor, number_verdict, noted};
 
 use crate::context::Kerberos;
 use crate::headed::Headed;
@@ -57,7 +57,7 @@ fn plain_data(message: &Message) -> Result<&SecurityBufferRef, Cause>
 }
 
 fn check_number(window: &NumberWindow, header: &[u8; 16]) -> Result<(), Cause>
-    ensures { Passes (aged (judged window.now (number_of header.now))) result }
+    ensures { Passes (aged (number_verdict window.now (number_of header.now))) result }
 {
     match window.judge(number_of(header)) {
         NumberVerdict::Fresh => Ok(()),
@@ -90,7 +90,7 @@ impl Kerberos {
     ) -> Result<Octets, Cause>
         requires { text.now ≡ spelled message.now }
         ensures stays { self.new ≡ self.old }
-        ensures receives { Answers (Receives self.old peer message.now text.now) result }
+        ensures receives { Answers (ReceivesMessage self.old peer message.now text.now) result }
     {
         let params = &self.encryption_params;
         let key = ready_key(self.state, params)?;

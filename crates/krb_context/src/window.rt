@@ -2,7 +2,7 @@
 
 ghost use Rattle.std.specs.Prelude.{◌≡◌, ◌<◌, ◌^◌, List, ℤ};
 ghost use Rattle.krb_context.specs.Places.{ahead, is_ahead, verdict_of, opened};
-ghost use Rattle.krb_context.specs.Window.{Window, new_window, judged, noted, moved_up, StandsFor};
+ghost use Rattle.krb_context.specs.Window.{Window, new_window, number_verdict, noted, moved_up, StandsFor};
 
 use std::marker::Model;
 
@@ -75,7 +75,7 @@ impl NumberWindow {
 
     /// How a number stands to those that were opened.
     pub fn judge(&self, number: u32) -> NumberVerdict
-        ensures exact { result ≡ judged self.now number }
+        ensures exact { result ≡ number_verdict self.now number }
         ensures judges { (places : List ℤ) → StandsFor self.now places → result ≡ verdict_of places number }
     {
         if self.mask == 0 {
@@ -96,7 +96,7 @@ impl NumberWindow {
 
     /// A message with this number was opened.
     pub fn note(&mut self, number: u32)
-        requires { judged self.old number ≡ NumberVerdict.Fresh }
+        requires { number_verdict self.old number ≡ NumberVerdict.Fresh }
         ensures exact { self.new ≡ noted self.old number }
         ensures notes { (places : List ℤ) → StandsFor self.old places → StandsFor self.new (opened places number) }
     {

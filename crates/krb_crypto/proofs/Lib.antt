@@ -1,3 +1,4 @@
+pub mod CbcLemmas
 pub mod CtsInjective
 pub mod CtsLemmas
 pub mod FoldLemmas

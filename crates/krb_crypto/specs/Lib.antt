@@ -2,6 +2,7 @@ pub mod Hmac
 pub mod Fold
 pub mod Suite
 pub mod Cts
+pub mod Cbc
 pub mod SealingPair
 pub mod Sealed
 pub mod Keyed

@@ -4,19 +4,10 @@ ghost use Rattle.std.specs.Prelude.{◌≡◌, ◌+◌, ◌-◌, ◌≤◌, leng
 ghost use Rattle.krb_aes.specs.Aes.{block_cipher};
 ghost use Rattle.krb_crypto.specs.Cts.{cts};
 
+use crate::cbc::{BLOCK_LEN, block_at, cbc_decrypt};
 use crate::octets::xor_octets;
-use krb_aes::{KeySchedule, add_columns, load_columns, store_columns};
-
-const BLOCK_LEN: usize = 16;
-
-pub(crate) fn block_at(text: &[u8], at: usize) -> [u8; 16]
-    requires { at + 16 ≤ length text.now }
-    ensures { result ≡ take 16 (drop at text.now) }
-{
-    let mut block = [0; 16];
-    block.copy_from_slice(&text[at..at + BLOCK_LEN]);
-    block
-}
+use krb_aes::KeySchedule;
+use std::simd::prelude::*;
 
 /// The octets from `at` on, filled up with zeros.
 fn last_block(text: &[u8], at: usize) -> [u8; 16]
@@ -40,14 +31,16 @@ pub fn cts_encrypt(key: &KeySchedule, text: &mut [u8])
         text.copy_from_slice(&block);
         return;
     }
-    let mut columns = [0; 4];
+    let mut previous = [0; 16];
     for i in 0..count - 2 {
         let at = BLOCK_LEN * i;
-        let next = key.encrypt_columns(add_columns(columns, load_columns(&block_at(text, at))));
-        text[at..at + BLOCK_LEN].copy_from_slice(&store_columns(next));
-        columns = next;
+        let block = u8x16::from_array(block_at(text, at));
+        let next = key
+            .encrypt_vector(u8x16::from_array(previous) ^ block)
+            .to_array();
+        text[at..at + BLOCK_LEN].copy_from_slice(&next);
+        previous = next;
     }
-    let previous = store_columns(columns);
     let at = BLOCK_LEN * (count - 2);
     let stolen = key.encrypt_block(xor_octets(&previous, &block_at(text, at)));
     let last = key.encrypt_block(xor_octets(&stolen, &last_block(text, at + BLOCK_LEN)));
@@ -67,15 +60,7 @@ pub fn cts_decrypt(key: &KeySchedule, text: &mut [u8])
         text.copy_from_slice(&block);
         return;
     }
-    let mut columns = [0; 4];
-    for i in 0..count - 2 {
-        let at = BLOCK_LEN * i;
-        let block = load_columns(&block_at(text, at));
-        let plain = add_columns(key.decrypt_columns(block), columns);
-        text[at..at + BLOCK_LEN].copy_from_slice(&store_columns(plain));
-        columns = block;
-    }
-    let previous = store_columns(columns);
+    let previous = cbc_decrypt(key, text, count - 2);
     let at = BLOCK_LEN * (count - 2);
     let opened = key.decrypt_block(block_at(text, at));
     let stolen = with_front(&opened, &text[at + BLOCK_LEN..]);

@@ -9,9 +9,11 @@
 //! ```
 //!
 //! Each such call derives the keys of the usage anew. Whoever seals or opens many texts keeps a `SealingKey`, which holds
-//! them derived and expanded. Nothing here runs in constant time: AES goes by table look-ups, which leak through the cache.
+//! them derived and expanded. No load and no branch of AES depends on a key or a text, and comparisons of
+//! checksums do not end early.
 #![tactic(auto)]
 
+mod cbc;
 mod checksum;
 mod cts;
 mod error;
@@ -31,6 +33,7 @@ pub use error::CryptoError;
 pub use fold::n_fold;
 pub use hmac::{HmacKey, HmacState, hmac_sha1};
 pub use krb_aes::{decrypt_block, encrypt_block};
+pub use krb_der::is_equal;
 pub use password::{generate_key_from_password, pbkdf2};
 pub use sealing::{decrypt, decrypt_no_checksum, encrypt, encrypt_no_checksum};
 pub use sealing_key::{CHECKSUM_LEN, CONFOUNDER_LEN, Opened, SEALED_EXTRA_LEN, SealingKey};

@@ -9,12 +9,13 @@ ghost use Rattle.krb_crypto.specs.Keyed.{IsHmacOf};
 ghost use Rattle.krb_crypto.specs.SealingPair.{sealing_pair};
 ghost use Rattle.krb_crypto.specs.Sealed.{sealed_text, IsSealedUnder};
 
-use crate::cts::{block_at, cts_decrypt, cts_encrypt};
+use crate::cbc::block_at;
+use crate::cts::{cts_decrypt, cts_encrypt};
 use crate::error::CryptoError;
 use crate::hmac::{HmacKey, HmacState};
 use crate::suite::{CipherSuite, DerivedKey, sealing_keys};
 use krb_aes::KeySchedule;
-use krb_der::Octets;
+use krb_der::{Octets, is_equal};
 use std::alloc::{AllocError, Global};
 use std::marker::Model;
 
@@ -98,7 +99,7 @@ fn cut(mut text: Vec<u8>, start: usize, end: usize) -> Octets
 fn is_code(octets: &[u8], code: &[u8; 12]) -> bool
     ensures { IsTrue result ↔ (code.now ≡ octets.now) }
 {
-    code.as_slice() == octets
+    is_equal(code, octets)
 }
 
 impl SealingKey {

@@ -4,12 +4,12 @@ use Rattle.krb_der.specs.Der.{length_octets, tlv}
 use Rattle.krb_der.specs.Moment.{time_octets}
 use Rattle.krb_der.specs.Schema.{IsComplete, tag_of, contents}
 use Rattle.krb_der.proofs.Lengths.{tlv_le, field_le, append_le}
+use Rattle.krb_der.specs.Layout.{spelling}
 use Rattle.krb_crypto.specs.SealingPair.{SealingPair}
 use Rattle.krb_crypto.specs.Sealed.{sealed_text}
 use Rattle.krb_messages.specs.Table.{ap_req as ap_req_kind, authenticator as authenticator_kind, enc_ticket_part, ticket, encrypted_data, encryption_key, principal_name, transited_encoding}
 use Rattle.krb_messages.specs.Layouts.{ap_req_row, ap_req_layout, authenticator_row, authenticator_layout, enc_ticket_part_row, enc_ticket_part_layout, ticket_row, encrypted_data_row, encryption_key_row, principal_name_row, transited_encoding_row}
-use Rattle.krb_messages.specs.Frame.{IsFrame}
-use Rattle.krb_demo.specs.Spelling.{spelling, framed}
+use Rattle.krb_messages.specs.Frame.{IsFrame, framed}
 use Rattle.krb_demo.specs.Client.{session_key, ticket_part, ticket_keys, authenticator_keys, client_ticket, authenticator, sealed_authenticator, ap_req, encrypted, mechanism, token_id, token}
 
 le_trans : (a b c : ℕ) → a ≤ b → b ≤ c → a ≤ c
@@ -26,11 +26,10 @@ unfolding enc_ticket_part enc_ticket_part_row encryption_key encryption_key_row 
 ticket_part_complete = (lit≤ tt, ((lit< tt, (tt, tt)), (tt, ((lit< tt, ((tt, tt), tt)), ((lit< tt, (tt, tt)), (tt, (tt, (tt, (tt, (tt, (tt, tt)))))))))))
 
 pub ticket_part_short : length (spelling enc_ticket_part_layout ticket_part) ≤ 1024
-unfolding spelling tlv length_octets time_octets enc_ticket_part enc_ticket_part_row encryption_key encryption_key_row principal_name principal_name_row transited_encoding transited_encoding_row ticket_part session_key
+unfolding tlv length_octets time_octets enc_ticket_part enc_ticket_part_row encryption_key encryption_key_row principal_name principal_name_row transited_encoding transited_encoding_row ticket_part session_key
 ticket_part_short = lit≤ tt
 
 pub ticket_part_below : length (tlv (tag_of enc_ticket_part) (contents enc_ticket_part (enc_ticket_part_row ticket_part))) < 2 ^ 31
-unfolding spelling
 ticket_part_below = let short = ticket_part_short in omega (arith, short)
 
 -- ---- the authenticator
@@ -40,7 +39,7 @@ unfolding authenticator_kind authenticator_row principal_name principal_name_row
 authenticator_complete ctime cusec four = (lit< tt, (tt, ((lit< tt, ((tt, tt), tt)), (tt, (omega arith, (tt, (tt, (lit< tt, (tt, tt)))))))))
 
 pub authenticator_short : (ctime : ℤ) (cusec : List ℕ) → length cusec ≡ 4 → length (spelling authenticator_layout (authenticator ctime cusec)) ≤ 1024
-unfolding spelling authenticator_kind authenticator_row principal_name principal_name_row
+unfolding authenticator_kind authenticator_row principal_name principal_name_row
 authenticator_short ctime cusec four =
     let body = append_le _ _ _ _ (field_le 0xa0 0x02 _ 1 (lit≤ tt))
     (append_le _ _ _ _ (field_le 0xa1 0x1b _ 11 (lit≤ tt))
@@ -53,7 +52,6 @@ authenticator_short ctime cusec four =
     le_trans _ _ _ (field_le 0x62 0x30 _ _ body) (lit≤ tt)
 
 pub authenticator_below : (ctime : ℤ) (cusec : List ℕ) → length cusec ≡ 4 → length (tlv (tag_of authenticator_kind) (contents authenticator_kind (authenticator_row (authenticator ctime cusec)))) < 2 ^ 31
-unfolding spelling
 authenticator_below ctime cusec four = let short = authenticator_short ctime cusec four in omega (arith, short)
 
 -- ---- the AP-REQ
@@ -78,7 +76,7 @@ ticket_short h =
 
 ap_req_short : (confounder plain : List ℕ) → length (sealed_text authenticator_keys (confounder ++ plain)) ≤ 2 ^ 16 → length client_ticket.enc_part.cipher ≤ 2 ^ 16
     → length (spelling ap_req_layout (ap_req (encrypted authenticator_keys confounder plain))) ≤ 2 ^ 20
-unfolding spelling ap_req_kind ap_req_row ticket encrypted_data
+unfolding ap_req_kind ap_req_row ticket encrypted_data
 ap_req_short confounder plain h k =
     let body = append_le _ _ _ _ (field_le 0xa0 0x02 _ 1 (lit≤ tt))
     (append_le _ _ _ _ (field_le 0xa1 0x02 _ 1 (lit≤ tt))
@@ -94,7 +92,7 @@ request_complete ctime cusec confounder = ap_req_complete confounder (spelling a
 
 pub request_short : (ctime : ℤ) (cusec confounder : List ℕ) → length (sealed_authenticator ctime cusec confounder).cipher ≤ 2 ^ 16 → length client_ticket.enc_part.cipher ≤ 2 ^ 16
     → length (tlv (tag_of ap_req_kind) (contents ap_req_kind (ap_req_row (ap_req (sealed_authenticator ctime cusec confounder))))) ≤ 2 ^ 20
-unfolding spelling sealed_authenticator
+unfolding sealed_authenticator
 request_short ctime cusec confounder h k = ap_req_short confounder (spelling authenticator_layout (authenticator ctime cusec)) h k
 
 pub request_below : (ctime : ℤ) (cusec confounder : List ℕ) → length (sealed_authenticator ctime cusec confounder).cipher ≤ 2 ^ 16 → length client_ticket.enc_part.cipher ≤ 2 ^ 16

@@ -3,6 +3,7 @@ use Rattle.std.specs.Prelude.{ℕ, ◌+◌, List, [], ◌∷◌, ◌++◌, codes
 use Rattle.std.specs.List.{range_with_len}
 use Rattle.std.specs.Int.{w32, to_be_bytes}
 use Rattle.krb_der.specs.declared.bits.Bits.{Bits}
+use Rattle.krb_der.specs.Layout.{spelling}
 use Rattle.krb_crypto.specs.Suite.{suite_number}
 use Rattle.krb_crypto.specs.SealingPair.{SealingPair, sealing_pair}
 use Rattle.krb_crypto.specs.Sealed.{sealed_text}
@@ -17,7 +18,7 @@ use Rattle.krb_messages.specs.declared.encryption.EncryptionKey.{EncryptionKey}
 use Rattle.krb_messages.specs.declared.principal_name.PrincipalName.{PrincipalName}
 use Rattle.krb_messages.specs.declared.ticket.Ticket.{Ticket}
 use Rattle.krb_messages.specs.Layouts.{ap_req_layout, authenticator_layout, enc_ticket_part_layout}
-use Rattle.krb_demo.specs.Spelling.{spelling, framed}
+use Rattle.krb_messages.specs.Frame.{framed}
 
 -- the protocol's version
 abbrev pub version : List ℕ

@@ -1,3 +1,2 @@
-pub mod Spelling
 pub mod Client
 pub mod Input

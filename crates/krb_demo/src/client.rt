@@ -65,7 +65,7 @@ fn ticket_part(alloc: Global) -> Result<EncTicketPart, OutOfMemory>
 }
 
 /// The ticket's part, sealed under the service's key behind a confounder of zeros.
-#[tactic(auto, unfolding(crate::specs::Spelling::spelling, crate::specs::Client::ticket_keys, crate::specs::Client::client_ticket))]
+#[tactic(auto, unfolding(crate::specs::Client::ticket_keys, crate::specs::Client::client_ticket))]
 fn sealed_part(alloc: Global) -> Result<EncryptedData, OutOfMemory>
     ensures made { IfOk result (λ part. part ≡ client_ticket.enc_part) }
     ensures short { IfOk result (λ part. length part.cipher ≤ 2 ^ 16) }
@@ -119,7 +119,7 @@ pub struct DemoClient {
 }
 
 impl DemoClient {
-    /// Seals the ticket and derives the keys of the authenticators; it fails at want of memory alone.
+    /// Seals the ticket and derives the keys of the authenticators; it fails only if memory runs out.
     #[tactic(auto, unfolding(crate::specs::Client::authenticator_keys))]
     pub fn new(alloc: Global) -> Result<DemoClient, OutOfMemory> {
         Ok(DemoClient {
@@ -142,7 +142,7 @@ impl DemoClient {
     }
 
     /// The authenticator of this time, sealed.
-    #[tactic(auto, unfolding(crate::specs::Spelling::spelling, crate::specs::Client::sealed_authenticator))]
+    #[tactic(auto, unfolding(crate::specs::Client::sealed_authenticator))]
     fn sealed(
         &self,
         alloc: Global,
@@ -160,7 +160,7 @@ impl DemoClient {
 
     /// An AP-REQ that asks for no answer, framed (RFC 4120, section 5.5.1; RFC 4121, section 4.1). `ctime` and the
     /// big-endian `cusec` are the client's clock; the number of its first message is 42.
-    #[tactic(auto, unfolding(crate::specs::Spelling::spelling, crate::specs::Spelling::framed, crate::specs::Client::token))]
+    #[tactic(auto, unfolding(krb_messages::specs::Frame::framed, crate::specs::Client::token))]
     pub fn token(
         &self,
         alloc: Global,

@@ -22,8 +22,8 @@ abbrev pub row_left : (fields : Fields) → List ℕ × Option Fault → Option 
 row_left fields at = row_unless fields at.0 at.1
 
 -- The contents of a SEQUENCE were opened.
-abbrev pub Opens : List ℕ → List ℕ × Option Fault → Type 0
-Opens contents at = (fields : Fields) → value_in (sequence fields) contents ≡ row_left fields at
+abbrev pub OpensRecord : List ℕ → List ℕ × Option Fault → Type 0
+OpensRecord contents at = (fields : Fields) → value_in (sequence fields) contents ≡ row_left fields at
 
 -- The contents of an application tag were opened, in which a SEQUENCE stands.
 abbrev pub OpensIn : List ℕ → List ℕ × Option Fault → Type 0
@@ -45,10 +45,10 @@ pub record NextOptional {A : Type 0} (layout : Layout A) (n : ℕ) (x : Option A
   pub none : old.1 ≡ None → new.1 ≡ Some Shape → NoOptionalNext n layout.kind old.0
 
 -- The answer, where no fields are left to be read.
-abbrev pub Finishes : {X : Type 0} → X → Result X Fault → List ℕ × Option Fault → Type 0
-Finishes x (Ok y) at = (y ≡ x) × (IsKnown at.1 × (row_left nothing at ≡ Some tt))
-Finishes x (Err Shape) at = IsKnown at.1 × (row_left nothing at ≡ None)
-Finishes x (Err OutOfMemory) at = Unit {0}
+abbrev pub FinishesRecord : {X : Type 0} → X → Result X Fault → List ℕ × Option Fault → Type 0
+FinishesRecord x (Ok y) at = (y ≡ x) × (IsKnown at.1 × (row_left nothing at ≡ Some tt))
+FinishesRecord x (Err Shape) at = IsKnown at.1 × (row_left nothing at ≡ None)
+FinishesRecord x (Err OutOfMemory) at = Unit {0}
 
 -- A field was written, whatever fields follow it.
 pub record Writes {A : Type 0} (layout : Layout A) (n : ℕ) (x : A) (old new : List ℕ × Bool) : Type 0 where

@@ -31,7 +31,7 @@ impl Copier {
         }
     }
 
-    /// An equal value, or a blank one at want of memory.
+    /// An equal value, or a blank one if memory runs out.
     pub fn copy<T: TryCopy + Blank>(&mut self, value: &T) -> T
         ensures { self.new.has_all ≡ true → (self.old.has_all ≡ true) × (result ≡ value.now) }
     {

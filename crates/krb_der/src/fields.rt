@@ -96,7 +96,7 @@ impl<'a> Reader<'a> {
 }
 
 impl Writer {
-    /// Writes a field in context tag `n`. At want of memory nothing is written, here and below.
+    /// Writes a field in context tag `n`. If memory runs out nothing is written, here and below.
     pub fn required_field<T: Asn1>(&mut self, n: u8, value: &T) -> Result<(), OutOfMemory>
         requires tag { n < 32 }
         requires writable { FieldIsWritable T.layout.kind (T.layout.view value.now) }

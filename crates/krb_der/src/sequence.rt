@@ -3,7 +3,7 @@
 ghost use Rattle.std.specs.Prelude.{◌≡◌, ◌<◌, ◌^◌, [], true, length, option_map, IfOk, IfSome};
 ghost use Rattle.krb_der.specs.Der.{tlv};
 ghost use Rattle.krb_der.specs.Layout.{FieldIsWritable};
-ghost use Rattle.krb_der.specs.Progress.{Opens, OpensIn, Next, NextOptional, Finishes, Writes, WritesOptional, written};
+ghost use Rattle.krb_der.specs.Progress.{OpensRecord, OpensIn, Next, NextOptional, FinishesRecord, Writes, WritesOptional, written};
 
 use crate::asn1::Asn1;
 use crate::blank::Blank;
@@ -44,7 +44,7 @@ impl<'a> FieldReader<'a> {
     /// The fields of a SEQUENCE with these contents.
     #[tactic(auto, unfolding(crate::specs::Records::value_in))]
     pub fn of_sequence(alloc: Global, contents: &'a [u8]) -> FieldReader<'a>
-        ensures { Opens contents.now result }
+        ensures { OpensRecord contents.now result }
     {
         FieldReader {
             alloc,
@@ -118,7 +118,7 @@ impl<'a> FieldReader<'a> {
     /// What was made of the fields, if reading did not fail and no octet is left.
     #[tactic(auto, unfolding(crate::specs::Records::row_in, crate::specs::Reading::nothing_left))]
     pub fn finish<T: Drop>(self, value: T) -> Result<T, Fault>
-        ensures { Finishes value result self.entry }
+        ensures { FinishesRecord value result self.entry }
     {
         if let Some(fault) = self.fault {
             return Err(fault);

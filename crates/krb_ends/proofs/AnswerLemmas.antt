@@ -10,12 +10,13 @@ use Rattle.krb_der.specs.Der.{tlv}
 use Rattle.krb_der.specs.Moment.{IsTime, time_octets}
 use Rattle.krb_der.specs.Schema.{IsSound, contents, tag_of}
 use Rattle.krb_der.proofs.Lengths.{tlv_le, append_le}
+use Rattle.krb_der.specs.Layout.{spelling}
 use Rattle.krb_crypto.specs.Suite.{key_size}
 use Rattle.krb_crypto.specs.Sealed.{sealed}
 use Rattle.krb_crypto.specs.declared.suite.CipherSuite.{CipherSuite}
 use Rattle.krb_crypto.specs.declared.suite.CipherSuite.TheVariants.{Aes128CtsHmacSha196, Aes256CtsHmacSha196}
 use Rattle.krb_crypto.proofs.CtsInjective.{IsOctets-take}
-use Rattle.krb_messages.specs.Frame.{IsFrame}
+use Rattle.krb_messages.specs.Frame.{IsFrame, framed}
 use Rattle.krb_messages.specs.Layouts.{ap_rep_layout, authenticator_layout, authenticator_row, enc_ap_rep_part_layout, principal_name_row, checksum_row}
 use Rattle.krb_messages.specs.Table.{authenticator as authenticator_kind, principal_name, checksum}
 use Rattle.krb_messages.specs.declared.ap_rep.ApRep.{ApRep}
@@ -27,32 +28,30 @@ use Rattle.krb_context.specs.Params.{suite_of}
 use Rattle.krb_context.proofs.ChainLemmas.{takes_some, holds_true}
 use Rattle.krb_replies.specs.Unseals.{IsRead}
 use Rattle.krb_replies.specs.Answered.{OpensApRep}
-use Rattle.krb_requests.specs.Pieces.{spelling, whole_second}
+use Rattle.krb_requests.specs.Pieces.{whole_second}
 use Rattle.krb_as.specs.declared.done.InitDone.{InitDone}
 use Rattle.krb_as.specs.declared.turn.Turn.TheVariants.{Ends}
 use Rattle.krb_ap.specs.declared.initiator.Initiator.{Initiator}
 use Rattle.krb_ap.specs.Initiators.{is_bare}
-use Rattle.krb_ap.specs.Answered.{IsApRep as IsApRepToken, ReadsApRep as ReadsToken, confirmed, replied, Confirms, Replies, Finishes, TakesApRep}
+use Rattle.krb_ap.specs.Answered.{IsApRep as IsApRepToken, ReadsApRep as ReadsToken, confirmed, replied, Confirms, Replies, FinishesInitiation, TakesApRep}
 use Rattle.krb_initiator.specs.declared.options.InitOptions.{InitOptions}
 use Rattle.krb_initiator.specs.declared.seeker.Initiation.TheVariants.{Hears as HearsToken}
 use Rattle.krb_initiator.specs.Beginnings.{initiator_of, BeginsIn}
 use Rattle.krb_initiator.specs.InitSteps.{HearsAnswer}
 use Rattle.krb_admission.specs.declared.admission.Admission.{Admission}
-use Rattle.krb_admission.specs.Admission.{spelling as server_spelling, framed, mechanism, ap_rep_id, ap_rep_with, ap_rep_part, drawn_key, drawn_confounder, number_after, reply_message, token_with, mutual_admission}
+use Rattle.krb_context.specs.Drawn.{drawn_key}
+use Rattle.krb_admission.specs.Admission.{mechanism, ap_rep_id, ap_rep_with, ap_rep_part, drawn_confounder, next_number_octets, reply_message, token_with, mutual_admission}
 use Rattle.sspi_core.specs.declared.cause.Cause.TheVariants.{Shape, Reply}
 use Rattle.sspi_core.specs.declared.draw.Draw.{Draw}
 use Rattle.sspi_core.specs.Usernames.{UserName}
 use Rattle.sspi_core.proofs.Chain.{follows, gives}
+use Rattle.krb_context.proofs.DrawnLemmas.{key_size_small}
 use Rattle.krb_ends.specs.Answers.{IsDraw, Offered, Hears}
 use Rattle.krb_ends.specs.Offers.{Offer, request_of, IsFor}
 use Rattle.krb_ends.proofs.OctetsLemmas.{IsOctets-front, IsOctets-back, IsOctets-drop, IsOctets-inside, IsShort, short-word}
 use Rattle.krb_ends.proofs.RepLemmas.{IsReadable, readable}
 
 -- ---- what is drawn
-
-pub key_size_small : (suite : CipherSuite) → key_size suite ≤ 32
-key_size_small Aes128CtsHmacSha196 = lit≤ tt
-key_size_small Aes256CtsHmacSha196 = lit≤ tt
 
 pub confounder_size : (suite : CipherSuite) (draw : Draw) → IsDraw draw → length (drawn_confounder suite draw) ≡ 16
 confounder_size suite draw is =
@@ -157,7 +156,7 @@ module _ (server : Kerberos) (draw : Draw) (client : UserName) (offer : Offer) (
   made dce = mutual_admission dce server.krb5_user_to_user server.seq_number draw (request_of offer) client
 
   abbrev part : EncApRepPart
-  part = ap_rep_part offer.suite offer.authenticator.ctime offer.authenticator.cusec (number_after server.seq_number) (Some (drawn_key offer.suite draw))
+  part = ap_rep_part offer.suite offer.authenticator.ctime offer.authenticator.cusec (next_number_octets server.seq_number) (Some (drawn_key offer.suite draw))
 
   abbrev cipher : List ℕ
   cipher = sealed offer.suite offer.part.key.key_value 12 (drawn_confounder offer.suite draw) (spelling enc_ap_rep_part_layout part)
@@ -169,14 +168,14 @@ module _ (server : Kerberos) (draw : Draw) (client : UserName) (offer : Offer) (
   is_readable =
       let honest = for_it.honest in
       let times = authenticator_parts offer.authenticator (IsOctets-back offer.confounder (spelling authenticator_layout offer.authenticator) honest.octets) in
-      readable suite key (drawn_confounder offer.suite draw) offer.authenticator.ctime offer.authenticator.cusec (number_after server.seq_number) (Some subkey)
+      readable suite key (drawn_confounder offer.suite draw) offer.authenticator.ctime offer.authenticator.cusec (next_number_octets server.seq_number) (Some subkey)
       honest.ticket.session_key_fits (confounder_size offer.suite draw is) (confounder_octets offer.suite draw is)
       (authenticator_time offer.authenticator honest.authenticator_sound) (record { octets = times.1; short = time_short offer.authenticator.ctime })
       (authenticator_micro offer.authenticator honest.authenticator_sound) (record { octets = times.0; short = honest.microseconds_short })
       (lit< tt) (short-word ((server.seq_number + 1) % 2 ^ 32)) (short-key offer.suite draw is)
 
   token_is : (dce : Bool) → (made dce).token ≡ token_with dce server.krb5_user_to_user message
-  unfolding mutual_admission reply_message server_spelling
+  unfolding mutual_admission reply_message
   token_is dce = refl
 
   reads : (dce : Bool) → ReadsToken dce (made dce).token (Ok (ap_rep_with offer.suite cipher))
@@ -190,13 +189,13 @@ module _ (server : Kerberos) (draw : Draw) (client : UserName) (offer : Offer) (
 
     -- what the initiator makes of the answer
     abbrev pub done_in : Bool → InitDone
-    done_in true = replied caller offer.part.key.key_value (drawn_key offer.suite draw) (number_after server.seq_number) own
+    done_in true = replied caller offer.part.key.key_value (drawn_key offer.suite draw) (next_number_octets server.seq_number) own
     done_in false = confirmed caller (drawn_key offer.suite draw)
 
-    ends_so : (dce : Bool) → Finishes dce caller offer.part.key.key_value part own (Ok (done_in dce))
+    ends_so : (dce : Bool) → FinishesInitiation dce caller offer.part.key.key_value part own (Ok (done_in dce))
     unfolding Confirms Replies
     ends_so true =
-        follows _ _ subkey _ (record { is = refl }) (follows _ _ (number_after server.seq_number) _ (record { is = refl }) (gives (done_in true)))
+        follows _ _ subkey _ (record { is = refl }) (follows _ _ (next_number_octets server.seq_number) _ (record { is = refl }) (gives (done_in true)))
     ends_so false = follows _ _ subkey _ (record { is = refl }) (gives (done_in false))
 
     takes : (dce : Bool) → is_bare options.flags ≡ dce → TakesApRep caller (made dce).token own (Ok (done_in dce))
@@ -207,7 +206,7 @@ module _ (server : Kerberos) (draw : Draw) (client : UserName) (offer : Offer) (
         follows _ _ (ap_rep_with offer.suite cipher) _ (subst (λ (b : Bool). ReadsToken b (made dce).token (Ok (ap_rep_with offer.suite cipher))) (sym bare) (reads dce))
         (follows _ _ key _ (takes_some Reply initiator.encryption_params.session_key key offered.key)
         (follows _ _ part _ opened
-        (subst (λ (b : Bool). Finishes b caller key part own (Ok (done_in dce))) (sym bare) (ends_so dce))))
+        (subst (λ (b : Bool). FinishesInitiation b caller key part own (Ok (done_in dce))) (sym bare) (ends_so dce))))
 
     pub hears : (dce : Bool) → is_bare options.flags ≡ dce → Hears initiator options (made dce).token own (done_in dce)
     unfolding HearsAnswer

@@ -13,7 +13,7 @@ use Rattle.krb_as.specs.declared.client.Client.{Client}
 use Rattle.krb_ap.specs.Initiators.{is_bare}
 use Rattle.krb_initiator.specs.declared.options.InitOptions.{InitOptions}
 use Rattle.krb_initiator.specs.declared.seeker.Initiation.TheVariants.{Seeks}
-use Rattle.krb_initiator.specs.Beginnings.{ChecksTarget, NamesTarget, identity_of, NamesIdentity, Identifies, SeeksTicket, BeginsNew, BeginsIn, Begins}
+use Rattle.krb_initiator.specs.Beginnings.{ChecksTarget, NamesTarget, identity_of, NamesIdentity, Identifies, SeeksTicket, BeginsNew, BeginsIn, BeginsInitiation}
 use Rattle.krb_initiator.specs.Tgts.{no_tgt, TakesBareTgt, TakesFramedTgt, TakesTgt}
 use Rattle.krb_ends.specs.Fetches.{CanBegin, seeker_for, AsksMutual}
 
@@ -39,7 +39,7 @@ module _ (context : Kerberos) (options : InitOptions) (target : List ℕ) (crede
       (follows _ _ no_tgt _ (subst (λ (t : List ℕ). TakesTgt (is_bare options.flags) t (Ok no_tgt)) (sym can.no_token) (takes_none (is_bare options.flags)))
       (follows _ _ (identity_of context credentials options.env client) _ identifies (gives _)))
 
-  pub begins : Begins context options (Ok (Seeks (seeker_for context options target credentials client)))
+  pub begins : BeginsInitiation context options (Ok (Seeks (seeker_for context options target credentials client)))
   begins =
       subst (λ (s : KerberosState). BeginsIn s context options (Ok (Seeks (seeker_for context options target credentials client)))) (sym can.state)
       (subst (λ (b : Bool). BeginsNew b context options (Ok (Seeks (seeker_for context options target credentials client)))) (sym can.alone) seeks)

@@ -4,6 +4,7 @@ use Rattle.std.specs.Prelude.{Some, None, is_some, is_none, nat_le, ◌==◌}
 use Rattle.std.specs.Cmp.Lexicographic.{pointwise}
 use Rattle.std.proofs.lemmas.Bool.{le-leb}
 use Rattle.std.proofs.lemmas.List.{length-take-le}
+use Rattle.krb_der.specs.Layout.{spelling}
 use Rattle.krb_crypto.specs.Sealed.{sealed}
 use Rattle.krb_crypto.specs.declared.suite.CipherSuite.{CipherSuite}
 use Rattle.krb_crypto.proofs.CtsInjective.{IsOctets-take}
@@ -20,7 +21,7 @@ use Rattle.krb_context.proofs.ChainLemmas.{takes_some, holds_true}
 use Rattle.krb_replay.specs.declared.ask.Ask.{Ask}
 use Rattle.krb_replay.specs.declared.ask.Verdict.{Verdict}
 use Rattle.krb_replies.specs.Answered.{TellsNumber}
-use Rattle.krb_requests.specs.Pieces.{spelling, whole_second}
+use Rattle.krb_requests.specs.Pieces.{whole_second}
 use Rattle.krb_authenticators.specs.Authenticators.{microseconds}
 use Rattle.krb_as.specs.declared.done.InitDone.{InitDone}
 use Rattle.krb_ap.specs.Initiators.{is_bare}
@@ -28,21 +29,22 @@ use Rattle.krb_ap.specs.Answered.{last_word}
 use Rattle.krb_initiator.specs.declared.options.InitOptions.{InitOptions}
 use Rattle.krb_admission.specs.declared.admission.Admission.{Admission}
 use Rattle.krb_admission.specs.declared.request.Request.{Request}
-use Rattle.krb_admission.specs.Accepts.{Begins, Asks, Ends, awaits_last_word}
-use Rattle.krb_admission.specs.Admission.{ap_rep_with, ap_rep_part, drawn_key, number_after, mutual_admission, with_client, answer_for, settled}
+use Rattle.krb_admission.specs.Accepts.{BeginsAdmission, Asks, Ends, awaits_last_word}
+use Rattle.krb_context.specs.Drawn.{drawn_key}
+use Rattle.krb_admission.specs.Admission.{ap_rep_with, ap_rep_part, next_number_octets, mutual_admission, with_client, answer_for, settled}
 use Rattle.krb_admission.specs.Requests.{ask_of}
 use Rattle.krb_admission.specs.ThirdLeg.{ReadsApRep, TellsLast, IsLastWord, concluded, last_answer, Concludes}
 use Rattle.krb_admission.proofs.Once.{begins_once, concludes_once}
 use Rattle.krb_server.specs.declared.accept.Accepted.{Accepted}
-use Rattle.krb_server.specs.TgtReqs.{Found, may_begin, Begins as BeginsTgtReq}
-use Rattle.krb_server.specs.Whole.{accepted_as, answered_as, Makes, AcceptsWhole}
+use Rattle.krb_server.specs.TgtReqs.{Found, may_begin, BeginsUserToUser}
+use Rattle.krb_server.specs.Whole.{accepted_as, answered_as, AcceptsToken, AcceptsWhole}
 use Rattle.sspi_core.specs.declared.cause.Cause.{Cause}
 use Rattle.sspi_core.specs.declared.cause.Cause.TheVariants.{Sequence, Shape, Number}
 use Rattle.sspi_core.specs.declared.draw.Draw.{Draw}
 use Rattle.sspi_core.specs.Usernames.{UserName}
 use Rattle.sspi_core.proofs.Chain.{halts, follows}
 use Rattle.krb_ends.specs.Answers.{AdmitsOnly, IsDraw, Offered, AreNew, AreEstablishedBy, EndsWell, IsTakenToo, EndsWellInTurn, EndsWellIn}
-use Rattle.krb_ends.specs.Offers.{Offer, request_of, token_of, IsFor}
+use Rattle.krb_ends.specs.Offers.{Offer, request_of, offered_token, IsFor}
 use Rattle.krb_ends.proofs.AnswerLemmas.{made, done_in, hears, moment_time, time_short}
 use Rattle.krb_ends.proofs.HonestLemmas.{is_answered, same_octets}
 use Rattle.krb_ends.proofs.OctetsLemmas.{IsOctets-time, short-word}
@@ -135,7 +137,7 @@ module _ (server : Kerberos) (draw : Draw) (client : UserName) (offer : Offer) (
 
   -- the last word
   abbrev number : List ℕ
-  number = number_after server.seq_number
+  number = next_number_octets server.seq_number
 
   abbrev part : EncApRepPart
   part = ap_rep_part offer.suite (whole_second own.moment) (microseconds own.moment) number None
@@ -188,11 +190,11 @@ module _ (server : Kerberos) (draw : Draw) (client : UserName) (offer : Offer) (
   }
 
   -- no AP-REQ may come any more, and no TGT-REQ
-  begins_no_more : (token : List ℕ) → Begins acceptor true token (Err Sequence)
-  unfolding Begins settled mutual_admission
+  begins_no_more : (token : List ℕ) → BeginsAdmission acceptor true token (Err Sequence)
+  unfolding BeginsAdmission settled mutual_admission
   begins_no_more token = halts _ _ Sequence _ (record { is = refl }) refl
 
-  no_tgt_req : (token : List ℕ) (state : KerberosState) → state ≡ ApExchange → (found : Option TgtReq) → Found (BeginsTgtReq true state token) found → found ≡ None
+  no_tgt_req : (token : List ℕ) (state : KerberosState) → state ≡ ApExchange → (found : Option TgtReq) → Found (BeginsUserToUser true state token) found → found ≡ None
   no_tgt_req token state e None h = refl
   no_tgt_req token state e (Some tgt_req) h = let may = subst (λ (s : KerberosState). may_begin s token ≡ true) e h.may in absurd cc
 
@@ -202,7 +204,7 @@ module _ (server : Kerberos) (draw : Draw) (client : UserName) (offer : Offer) (
     last_taken are_new drawn env other old new answer end step =
         let token : List ℕ = (done true).token in
         let none = no_tgt_req token acceptor.state acceptor_state step.tgt_req step.found in
-        let judges = subst (λ (t : Option TgtReq). Makes admits acceptor true token env other old t answer end new) none step.made in
+        let judges = subst (λ (t : Option TgtReq). AcceptsToken admits acceptor true token env other old t answer end new) none step.made in
         let accepts = judges.accepts in
         let said : Concludes acceptor token judges.judged end =
         subst (λ (s : KerberosState). Ends (awaits_last_word true s) acceptor token accepts.outcome judges.judged end) acceptor_state accepts.made in
@@ -232,11 +234,11 @@ module _ (server : Kerberos) (draw : Draw) (client : UserName) (offer : Offer) (
     -- ---- over any gate
 
     module _ (server' : Kerberos) (env : Env) (old new : G) (answer : Result Accepted Cause) where
-      pub ends_well : offer.dce ≡ false → is_bare options.flags ≡ false → AreNew initiator server → AcceptsWhole admits server false (token_of offer) env draw old answer server' new
+      pub ends_well : offer.dce ≡ false → is_bare options.flags ≡ false → AreNew initiator server → AcceptsWhole admits server false (offered_token offer) env draw old answer server' new
           → AdmitsOnly admits old (ask_of (request_of offer) draw.moment) new → EndsWell initiator server' options own draw offer answer
       ends_well style bare are_new step only =
           let here = is_answered admits server server' env draw client offer old new answer for_it
-          (subst (λ (b : Bool). AcceptsWhole admits server b (token_of offer) env draw old answer server' new) (sym style) step) in
+          (subst (λ (b : Bool). AcceptsWhole admits server b (offered_token offer) env draw old answer server' new) (sym style) step) in
           let verdict = only here.verdict here.asked in
           let said : answer ≡ Ok (accepted_as (answer_for (admission false))) = here.answered verdict ∙ ap (λ (b : Bool). Ok (accepted_as (answer_for (admission b)))) style in
           let is_now : server' ≡ settled server (admission false) = here.made verdict ∙ ap (λ (b : Bool). settled server (admission b)) style in
@@ -244,11 +246,11 @@ module _ (server : Kerberos) (draw : Draw) (client : UserName) (offer : Offer) (
           subst (λ (s : Kerberos). P answer s) (sym is_now) (subst (λ (a : Result Accepted Cause). P a (settled server (admission false))) (sym said) (made_well bare are_new))
 
       pub ends_well_in_turn : offer.dce ≡ true → is_bare options.flags ≡ true → IsDraw own → AreNew initiator server
-          → AcceptsWhole admits server true (token_of offer) env draw old answer server' new
+          → AcceptsWhole admits server true (offered_token offer) env draw old answer server' new
           → AdmitsOnly admits old (ask_of (request_of offer) draw.moment) new → EndsWellInTurn admits initiator server' options own draw offer answer
       ends_well_in_turn style bare drawn are_new step only =
           let here = is_answered admits server server' env draw client offer old new answer for_it
-          (subst (λ (b : Bool). AcceptsWhole admits server b (token_of offer) env draw old answer server' new) (sym style) step) in
+          (subst (λ (b : Bool). AcceptsWhole admits server b (offered_token offer) env draw old answer server' new) (sym style) step) in
           let verdict = only here.verdict here.asked in
           let said : answer ≡ Ok (accepted_as (answer_for (admission true))) = here.answered verdict ∙ ap (λ (b : Bool). Ok (accepted_as (answer_for (admission b)))) style in
           let is_now : server' ≡ settled server (admission true) = here.made verdict ∙ ap (λ (b : Bool). settled server (admission b)) style in
@@ -256,7 +258,7 @@ module _ (server : Kerberos) (draw : Draw) (client : UserName) (offer : Offer) (
           subst (λ (s : Kerberos). P answer s) (sym is_now) (subst (λ (a : Result Accepted Cause). P a (settled server (admission true))) (sym said) (made_well_in_turn bare drawn are_new))
 
       pub ends_well_in : (dce : Bool) → offer.dce ≡ dce → is_bare options.flags ≡ dce → IsDraw own → AreNew initiator server
-          → AcceptsWhole admits server dce (token_of offer) env draw old answer server' new
+          → AcceptsWhole admits server dce (offered_token offer) env draw old answer server' new
           → AdmitsOnly admits old (ask_of (request_of offer) draw.moment) new → EndsWellIn dce admits initiator server' options own draw offer answer
       ends_well_in true style bare drawn are_new step only = ends_well_in_turn style bare drawn are_new step only
       ends_well_in false style bare drawn are_new step only = ends_well style bare are_new step only

@@ -53,7 +53,7 @@ use Rattle.krb_initiator.specs.Tgts.{first_tickets}
 use Rattle.krb_ends.specs.Answers.{IsDraw, Offered}
 use Rattle.krb_ends.specs.Fetches.{Leads, Fetches, AsksMutual, EndsWithOffer}
 use Rattle.krb_ends.specs.HonestKdc.{Brings, AnswersError, GrantsFirst, Known, GrantsNext, HasKdc, Refers, Serves, Step, Answers, AreHonest, AreHonestKdcs}
-use Rattle.krb_ends.specs.Offers.{Offer, octets_of, token_of}
+use Rattle.krb_ends.specs.Offers.{Offer, octets_of, offered_token}
 use Rattle.krb_ends.proofs.GrantLemmas.{IsGranted, granted_in, offer_of, honest}
 use Rattle.krb_ends.proofs.HonestLemmas.{opens_carried}
 
@@ -251,7 +251,7 @@ module _ (seeker : Seeker) (suite : CipherSuite) where
       abbrev offer : Offer
       offer = offer_of seeker.errand suite rep.0 answers.last.draw granted is part
 
-      token_is : done.token ≡ token_of offer
+      token_is : done.token ≡ offered_token offer
       unfolding shown_to message octets_of
       token_is = refl
 

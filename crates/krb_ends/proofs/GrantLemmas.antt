@@ -8,7 +8,7 @@ use Rattle.krb_aes.proofs.InjectiveLemmas.{none_octets, more_octets, IsOctets-ap
 use Rattle.krb_crypto.proofs.CtsInjective.{IsOctets-take}
 use Rattle.krb_der.specs.Der.{tlv}
 use Rattle.krb_der.specs.Moment.{time_octets}
-use Rattle.krb_der.specs.Layout.{text_layout}
+use Rattle.krb_der.specs.Layout.{text_layout, spelling}
 use Rattle.krb_der.specs.Schema.{IsSound, contents, tag_of, sequence_of}
 use Rattle.krb_der.proofs.Lengths.{tlv_le, field_le, append_le, contents_shorter}
 use Rattle.krb_crypto.specs.Suite.{suite_number}
@@ -25,7 +25,7 @@ use Rattle.krb_exchange.specs.declared.kdc_rep.TgsRep.{TgsRep}
 use Rattle.krb_context.specs.Options.{ap_options_of, gss_flags_of, gss_deleg}
 use Rattle.bitflags.specs.Sets.{without}
 use Rattle.krb_replies.specs.Unseals.{IsRead}
-use Rattle.krb_requests.specs.Pieces.{spelling, whole_second}
+use Rattle.krb_requests.specs.Pieces.{whole_second}
 use Rattle.krb_authenticators.specs.Authenticators.{microseconds, number_octets, checksum, sign_if}
 use Rattle.krb_authenticators.specs.Bindings.{bindings_hash}
 use Rattle.krb_authenticators.specs.Checksums.{default_value, with_flags, with_hash}
@@ -33,7 +33,9 @@ use Rattle.krb_authenticators.proofs.ApLengths.{data_le}
 use Rattle.krb_authenticators.proofs.Lengths.{le_trans, length-hash, number_some}
 use Rattle.krb_ap.specs.declared.errand.Errand.{Errand}
 use Rattle.krb_ap.specs.Initiators.{is_bare, exchange_flags}
-use Rattle.krb_ap.specs.Shown.{drawn_key, drawn_confounder, number_after, gss_checksum, service_authenticator, framed}
+use Rattle.krb_context.specs.Drawn.{drawn_key}
+use Rattle.krb_context.specs.Contexts.{next_number}
+use Rattle.krb_ap.specs.Shown.{drawn_confounder, gss_checksum, service_authenticator, framed_ap_req}
 use Rattle.krb_admission.specs.Complete.{is_known_options, is_mutual}
 use Rattle.sspi_core.specs.declared.bindings.ChannelBindings.{ChannelBindings}
 use Rattle.sspi_core.specs.declared.draw.Draw.{Draw}
@@ -228,7 +230,7 @@ module _ (errand : Errand) (suite : CipherSuite) (rep : KdcRep) (draw : Draw) (g
   unfolding authenticator_kind authenticator_row encryption_key encryption_key_row
   sound = (
     lit< tt,
-    (granted.realm_sound, (granted.name_sound, (sound_sum flags errand.bindings, (lit< tt, (moment_time draw.moment is.moment, ((lit< tt, (tt, tt)), (number_some (number_after errand.initiator.number), (sound_sign errand.bindings, tt)))))))),
+    (granted.realm_sound, (granted.name_sound, (sound_sum flags errand.bindings, (lit< tt, (moment_time draw.moment is.moment, ((lit< tt, (tt, tt)), (number_some (next_number errand.initiator.number), (sound_sign errand.bindings, tt)))))))),
   )
 
   -- its octets, and how many they are besides the client's
@@ -250,7 +252,7 @@ module _ (errand : Errand) (suite : CipherSuite) (rep : KdcRep) (draw : Draw) (g
       (short-append _ _ _ _ (short-field 4 0xa4 0x02 (microseconds draw.moment) (lit< tt) (lit< tt) (lit< tt) (short-word (draw.moment % 1000000)))
       (short-append _ _ _ _ (short-field 15 0xa5 0x18 (time_octets second) (lit< tt) (lit< tt) (lit< tt) time)
       (short-append _ _ _ _ (short-field 64 0xa6 0x30 _ (lit< tt) (lit< tt) (lit< tt) (short-more _ 64 _ (lit≤ tt) keyed))
-      (short-append _ _ _ _ (short-field 5 0xa7 0x02 (number_octets (number_after errand.initiator.number)) (lit< tt) (lit< tt) (lit< tt) (short-unsigned (number_after errand.initiator.number)))
+      (short-append _ _ _ _ (short-field 5 0xa7 0x02 (number_octets (next_number errand.initiator.number)) (lit< tt) (lit< tt) (lit< tt) (short-unsigned (next_number errand.initiator.number)))
       (short-append _ _ _ _ (short-sign errand.bindings) short-nothing))))) in
       let body = short-append _ _ _ _ (short-field 1 0xa0 0x02 (5 ∷ []) (lit< tt) (lit< tt) (lit< tt) version)
       (short-append _ _ _ _ (short-field a 0xa1 0x1b rep.crealm (lit< tt) (lit< tt) (omega (arith, small)) realm)
@@ -302,8 +304,8 @@ module _ (errand : Errand) (suite : CipherSuite) (rep : KdcRep) (draw : Draw) (g
         let size : length plain + 28 ≡ length cipher = plain_shorter suite part.key.key_value 11 cipher plain sealed_in in
         omega (arith, message_le (length cipher) (omega arith), size, short.short, granted.short)
 
-    framed_le : (dce : Bool) (octets : List ℕ) → length octets ≤ 2 ^ 23 + 2 ^ 18 → length errand.mechanism ≤ 2 ^ 10 → length (if dce then octets else framed errand.mechanism octets) ≤ 2 ^ 24
-    unfolding framed
+    framed_le : (dce : Bool) (octets : List ℕ) → length octets ≤ 2 ^ 23 + 2 ^ 18 → length errand.mechanism ≤ 2 ^ 10 → length (if dce then octets else framed_ap_req errand.mechanism octets) ≤ 2 ^ 24
+    unfolding framed_ap_req
     framed_le true octets h k = omega (arith, h)
     framed_le false octets h k =
         le_trans _ _ _ (tlv_le 0x60 _ _ (append_le (tlv 0x06 errand.mechanism) ((1 ∷ 0 ∷ []) ++ octets) _ _ (tlv_le 0x06 errand.mechanism (2 ^ 10) k) (append_le (1 ∷ 0 ∷ []) octets 2 (2 ^ 23 + 2 ^ 18) (lit≤ tt) h))) (lit≤ tt)

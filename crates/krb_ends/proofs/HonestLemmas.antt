@@ -5,7 +5,7 @@ use Rattle.std.specs.Cmp.Lexicographic.{pointwise}
 use Rattle.std.proofs.lemmas.Bool.{le-leb, and_from, eq-eqb}
 use Rattle.krb_der.specs.Der.{tlv}
 use Rattle.krb_der.specs.Schema.{IsSound, contents, tag_of}
-use Rattle.krb_der.specs.Layout.{Layout}
+use Rattle.krb_der.specs.Layout.{Layout, spelling}
 use Rattle.krb_der.proofs.Lengths.{length-tlv, contents_shorter}
 use Rattle.krb_crypto.specs.Suite.{key_size, suite_number}
 use Rattle.krb_crypto.specs.Sealed.{IsSealed}
@@ -30,22 +30,20 @@ use Rattle.krb_replay.specs.declared.ask.Verdict.{Verdict}
 use Rattle.krb_replay.specs.declared.ask.Verdict.TheVariants.{Admitted}
 use Rattle.krb_exchange.specs.declared.user_to_user.TgtReq.{TgtReq}
 use Rattle.krb_replies.specs.declared.unseal.Refusals.{Refusals}
-use Rattle.krb_replies.specs.Unseals.{suite_of, own_key, IsRead, Unseals, Opens}
-use Rattle.krb_requests.specs.Pieces.{spelling}
-use Rattle.krb_ap.specs.Shown.{framed}
+use Rattle.krb_replies.specs.Unseals.{suite_of_integer, own_key, IsRead, Unseals, OpensSealed, OpensData}
+use Rattle.krb_ap.specs.Shown.{framed_ap_req}
 use Rattle.krb_admission.specs.declared.admission.Answer.{Answer}
 use Rattle.krb_admission.specs.declared.admission.Admission.{Admission}
 use Rattle.krb_admission.specs.declared.request.Request.{Request}
-use Rattle.krb_admission.specs.Accepts.{Begins, Finishes, Judged, Accepts, Asks}
+use Rattle.krb_admission.specs.Accepts.{BeginsAdmission, FinishesAdmission, Judged, Accepts, Asks}
 use Rattle.krb_admission.specs.Clients.{client_of}
 use Rattle.krb_admission.specs.Complete.{is_known_options, is_mutual, has_good_subkey, Completes}
-use Rattle.krb_admission.specs.Opens.{OpensData}
 use Rattle.krb_admission.specs.Requests.{is_same_client, OpensTicket, OpensAuthenticator, Requests, ask_of}
-use Rattle.krb_admission.specs.Tokens.{ap_req_id, IsApReq, Receives}
+use Rattle.krb_admission.specs.Tokens.{ap_req_id, IsApReq, ReceivesApReq}
 use Rattle.krb_admission.proofs.Once.{begins_once}
 use Rattle.krb_admission.proofs.Steps.{completed}
 use Rattle.krb_server.specs.declared.accept.Accepted.{Accepted}
-use Rattle.krb_server.specs.Whole.{answered_as, JudgesOther, Makes, AcceptsWhole}
+use Rattle.krb_server.specs.Whole.{answered_as, JudgesOther, AcceptsToken, AcceptsWhole}
 use Rattle.krb_server.proofs.Once.{ap_req_begins_none}
 use Rattle.sspi_core.specs.declared.cause.Cause.TheVariants.{Sequence, NoServiceKey, Etype, Names, ClientName, ApOptions, SubKey, Shape}
 use Rattle.sspi_core.specs.declared.cause.Cause.{Cause}
@@ -53,7 +51,7 @@ use Rattle.sspi_core.specs.declared.draw.Draw.{Draw}
 use Rattle.sspi_core.specs.Usernames.{UserName}
 use Rattle.sspi_core.proofs.Chain.{follows, gives}
 use Rattle.krb_ends.specs.Answers.{admission_for, IsAnswered}
-use Rattle.krb_ends.specs.Offers.{Carries, Offer, message_of, octets_of, token_of, request_of, IsHonest, IsFor}
+use Rattle.krb_ends.specs.Offers.{Carries, Offer, message_of, octets_of, offered_token, request_of, IsHonest, IsFor}
 
 -- ---- spellings and frames
 
@@ -64,27 +62,27 @@ spells_itself layout value sound short =
     record { sound = sound; short = omega (arith, contents_shorter (tag_of layout.kind) (contents layout.kind (layout.view value)), short); is = refl }
 
 -- a frame frames its message
-frames_itself : (mechanism message : List ℕ) → 0 < length mechanism → length (framed mechanism message) < 2 ^ 31 → IsFrame mechanism ap_req_id message (framed mechanism message)
-unfolding framed
+frames_itself : (mechanism message : List ℕ) → 0 < length mechanism → length (framed_ap_req mechanism message) < 2 ^ 31 → IsFrame mechanism ap_req_id message (framed_ap_req mechanism message)
+unfolding framed_ap_req
 frames_itself mechanism message named short =
     record { named = named; is = record { short = omega (arith, contents_shorter 0x60 (tlv 0x06 mechanism ++ (ap_req_id ++ message)), short); is = refl } }
 
 -- and is longer than it
-frame_longer : (mechanism message : List ℕ) → length message ≤ length (framed mechanism message)
-unfolding framed
+frame_longer : (mechanism message : List ℕ) → length message ≤ length (framed_ap_req mechanism message)
+unfolding framed_ap_req
 frame_longer mechanism message =
     omega (arith, length-tlv 0x60 (tlv 0x06 mechanism ++ (ap_req_id ++ message)), length-append (tlv 0x06 mechanism) (ap_req_id ++ message), length-append ap_req_id message)
 
 -- ---- what is sealed is opened
 
-pub suite_of-number : (suite : CipherSuite) → suite_of (suite_number suite ∷ []) ≡ Some suite
-unfolding suite_of
-suite_of-number Aes128CtsHmacSha196 = refl
-suite_of-number Aes256CtsHmacSha196 = refl
+pub suite_of_integer-number : (suite : CipherSuite) → suite_of_integer (suite_number suite ∷ []) ≡ Some suite
+unfolding suite_of_integer
+suite_of_integer-number Aes128CtsHmacSha196 = refl
+suite_of_integer-number Aes256CtsHmacSha196 = refl
 
 pub opens_carried : {A : Type 0} (layout : Layout A) (refusals : Refusals) (suite : CipherSuite) (key : List ℕ) (usage : ℕ) (text : List ℕ) (value : A) → length key ≡ key_size suite
-    → Carries layout suite key usage text value → Opens layout refusals suite key usage text (Ok value)
-unfolding Opens Unseals
+    → Carries layout suite key usage text value → OpensSealed layout refusals suite key usage text (Ok value)
+unfolding OpensSealed Unseals
 opens_carried layout refusals suite key usage text value fits carries =
     let long : nat_le 28 (length text) ≡ true =
     le-leb 28 (length text) (omega (arith, plain_shorter suite key usage text carries.plain carries.sealed)) in
@@ -93,11 +91,11 @@ opens_carried layout refusals suite key usage text value fits carries =
     (follows _ _ tt _ (holds_true refusals.short (nat_le 28 (length text)) long) (record { is = carries.sealed })))
     (record { is = carries.read })
 
-opens_data : {A : Type 0} (layout : Layout A) (suite : CipherSuite) (key : List ℕ) (usage : ℕ) (part : EncryptedData) (value : A) → suite_of part.etype ≡ Some suite
+opens_data : {A : Type 0} (layout : Layout A) (suite : CipherSuite) (key : List ℕ) (usage : ℕ) (part : EncryptedData) (value : A) → suite_of_integer part.etype ≡ Some suite
     → length key ≡ key_size suite → Carries layout suite key usage part.cipher value → OpensData layout key usage part (Ok (suite, value))
 unfolding OpensData
 opens_data layout suite key usage part value etype fits carries =
-    follows _ _ suite _ (takes_some Etype (suite_of part.etype) suite etype)
+    follows _ _ suite _ (takes_some Etype (suite_of_integer part.etype) suite etype)
     (follows _ _ value _ (opens_carried layout own_key suite key usage part.cipher value fits carries) (gives (suite, value)))
 
 -- ---- the AP-REQ and the authenticator of an honest offer
@@ -106,7 +104,7 @@ cipher_within : (m : ApReq) → length m.authenticator.cipher ≤ length (spelli
 unfolding ap_req_kind ap_req_row encrypted_data encrypted_data_row
 cipher_within m = simp (length-tlv, length-append) (omega arith)
 
-token_short : (dce : Bool) (mechanism message : List ℕ) → length (if dce then message else framed mechanism message) ≤ 2 ^ 24 → length message ≤ 2 ^ 24
+token_short : (dce : Bool) (mechanism message : List ℕ) → length (if dce then message else framed_ap_req mechanism message) ≤ 2 ^ 24 → length message ≤ 2 ^ 24
 token_short true mechanism message h = h
 token_short false mechanism message h = omega (arith, h, frame_longer mechanism message)
 
@@ -123,16 +121,16 @@ message_read key offer honest =
     let short : length (octets_of offer) ≤ 2 ^ 24 = message_short key offer honest in
     spells_itself ap_req_layout (message_of offer) (message_sound offer honest.ticket_sound) (omega (arith, short))
 
-is_ap_req : (dce : Bool) (mechanism octets : List ℕ) (message : ApReq) → 0 < length mechanism → length (if dce then octets else framed mechanism octets) ≤ 2 ^ 24
-    → IsRead ap_req_layout octets message → IsApReq dce (if dce then octets else framed mechanism octets) message
+is_ap_req : (dce : Bool) (mechanism octets : List ℕ) (message : ApReq) → 0 < length mechanism → length (if dce then octets else framed_ap_req mechanism octets) ≤ 2 ^ 24
+    → IsRead ap_req_layout octets message → IsApReq dce (if dce then octets else framed_ap_req mechanism octets) message
 is_ap_req true mechanism octets message named short read = read
 is_ap_req false mechanism octets message named short read =
     record { oid = mechanism; octets = octets; frame = frames_itself mechanism octets named (omega (arith, short)); read = read }
 
-receives : (key : List ℕ) (offer : Offer) → IsHonest key offer → Receives offer.dce (token_of offer) (Ok (message_of offer))
-unfolding Receives
+receives : (key : List ℕ) (offer : Offer) → IsHonest key offer → ReceivesApReq offer.dce (offered_token offer) (Ok (message_of offer))
+unfolding ReceivesApReq
 receives key offer honest =
-    follows _ _ tt _ (holds_true Shape (nat_le (length (token_of offer)) 16777216) (le-leb (length (token_of offer)) 16777216 honest.short))
+    follows _ _ tt _ (holds_true Shape (nat_le (length (offered_token offer)) 16777216) (le-leb (length (offered_token offer)) 16777216 honest.short))
     (record { is = is_ap_req offer.dce offer.mechanism (octets_of offer) (message_of offer) honest.named honest.short (message_read key offer honest) })
 
 carries_authenticator : (key : List ℕ) (offer : Offer) → IsHonest key offer
@@ -182,12 +180,12 @@ unfolding OpensAuthenticator
 opens_authenticator key offer honest =
     follows _ _ (offer.suite, offer.authenticator) _
     (opens_data authenticator_layout offer.suite offer.part.key.key_value 11 (message_of offer).authenticator offer.authenticator
-    (suite_of-number offer.suite) honest.ticket.session_key_fits (carries_authenticator key offer honest))
+    (suite_of_integer-number offer.suite) honest.ticket.session_key_fits (carries_authenticator key offer honest))
     (follows _ _ tt _ (holds_true Names (is_same_client offer.part offer.authenticator) (same_client offer.part offer.authenticator honest.same_realm honest.same_name))
     (gives (offer.suite, offer.authenticator)))
 
-pub begins : (server : Kerberos) (client : UserName) (offer : Offer) → IsFor server client offer → Begins server offer.dce (token_of offer) (Ok (request_of offer))
-unfolding Begins Requests
+pub begins : (server : Kerberos) (client : UserName) (offer : Offer) → IsFor server client offer → BeginsAdmission server offer.dce (offered_token offer) (Ok (request_of offer))
+unfolding BeginsAdmission Requests
 begins server client offer for_it =
     follows _ _ tt _ (holds_true Sequence (is_waiting server.state) for_it.waits)
     (follows _ _ for_it.properties _ (takes_some Sequence server.server for_it.properties for_it.has)
@@ -208,13 +206,13 @@ completes server client offer for_it =
     (follows _ _ tt _ (holds_true SubKey (has_good_subkey (request_of offer)) (good_subkey (request_of offer) honest.mutual_asked)) (gives client)))
 
 finishes : (server : Kerberos) (draw : Draw) (client : UserName) (offer : Offer) → IsFor server client offer
-    → Finishes server offer.dce draw (request_of offer) (Ok (admission_for server draw client offer))
-unfolding Finishes
+    → FinishesAdmission server offer.dce draw (request_of offer) (Ok (admission_for server draw client offer))
+unfolding FinishesAdmission
 finishes server draw client offer for_it =
     follows _ _ client _ (completes server client offer for_it) (record { is = rw for_it.honest.mutual_asked refl })
 
 pub admitted : (server : Kerberos) (draw : Draw) (client : UserName) (offer : Offer) → IsFor server client offer
-    → Judged server offer.dce (token_of offer) draw Admitted (Ok (admission_for server draw client offer))
+    → Judged server offer.dce (offered_token offer) draw Admitted (Ok (admission_for server draw client offer))
 unfolding Judged
 admitted server draw client offer for_it =
     follows _ _ (request_of offer) _ (begins server client offer for_it) (follows _ _ tt _ (record { is = refl }) (finishes server draw client offer for_it))
@@ -223,21 +221,21 @@ admitted server draw client offer for_it =
 
 module _ {G : Type 0} (admits : G → Ask → Verdict → G → Type 0) (server server' : Kerberos) (env : Env) (draw : Draw) (client : UserName) (offer : Offer) (old new : G) (answer : Result Accepted Cause) (for_it : IsFor server client offer) where
   -- such a token is no TGT-REQ
-  other : AcceptsWhole admits server offer.dce (token_of offer) env draw old answer server' new → JudgesOther admits server offer.dce (token_of offer) draw old answer server' new
+  other : AcceptsWhole admits server offer.dce (offered_token offer) env draw old answer server' new → JudgesOther admits server offer.dce (offered_token offer) draw old answer server' new
   other step =
-      let none = ap_req_begins_none server offer.dce (token_of offer) (request_of offer) (begins server client offer for_it) step.tgt_req step.found in
-      subst (λ (t : Option TgtReq). Makes admits server offer.dce (token_of offer) env draw old t answer server' new) none step.made
+      let none = ap_req_begins_none server offer.dce (offered_token offer) (request_of offer) (begins server client offer for_it) step.tgt_req step.found in
+      subst (λ (t : Option TgtReq). AcceptsToken admits server offer.dce (offered_token offer) env draw old t answer server' new) none step.made
 
-  asked : (judged : Result Answer Cause) (step : Accepts admits server offer.dce (token_of offer) draw old judged server' new) → admits old (ask_of (request_of offer) draw.moment) step.verdict new
+  asked : (judged : Result Answer Cause) (step : Accepts admits server offer.dce (offered_token offer) draw old judged server' new) → admits old (ask_of (request_of offer) draw.moment) step.verdict new
   asked judged step =
       subst (λ (r : Result Request Cause). Asks admits draw.moment old r step.verdict new)
-      ((begins_once server offer.dce (token_of offer)).same step.request (Ok (request_of offer)) step.begun (begins server client offer for_it)) step.gate
+      ((begins_once server offer.dce (offered_token offer)).same step.request (Ok (request_of offer)) step.begun (begins server client offer for_it)) step.gate
 
-  pub is_answered : AcceptsWhole admits server offer.dce (token_of offer) env draw old answer server' new → IsAnswered admits server draw client offer old answer server' new
+  pub is_answered : AcceptsWhole admits server offer.dce (offered_token offer) env draw old answer server' new → IsAnswered admits server draw client offer old answer server' new
   is_answered step =
       let judges = other step in
       let admission : Admission = admission_for server draw client offer in
-      let both = λ (verdict : judges.accepts.verdict ≡ Admitted). completed admits server offer.dce (token_of offer) draw old new judges.judged server' admission judges.accepts verdict
+      let both = λ (verdict : judges.accepts.verdict ≡ Admitted). completed admits server offer.dce (offered_token offer) draw old new judges.judged server' admission judges.accepts verdict
       (admitted server draw client offer for_it) in record {
         verdict = judges.accepts.verdict;
         asked = asked judges.judged judges.accepts;

@@ -7,6 +7,7 @@ use Rattle.krb_der.specs.Der.{tlv}
 use Rattle.krb_der.specs.Moment.{IsTime, time_octets}
 use Rattle.krb_der.specs.Schema.{IsSound, contents, tag_of}
 use Rattle.krb_der.proofs.Lengths.{tlv_le, field_le, append_le}
+use Rattle.krb_der.specs.Layout.{spelling}
 use Rattle.krb_crypto.specs.Suite.{key_size, suite_number}
 use Rattle.krb_crypto.specs.Sealed.{sealed, IsSealed}
 use Rattle.krb_crypto.specs.declared.suite.CipherSuite.{CipherSuite}
@@ -17,7 +18,6 @@ use Rattle.krb_messages.specs.Table.{ap_rep as ap_rep_kind, enc_ap_rep_part, enc
 use Rattle.krb_messages.specs.declared.ap_rep.EncApRepPart.{EncApRepPart}
 use Rattle.krb_replies.specs.Unseals.{IsRead, session_key}
 use Rattle.krb_replies.specs.Answered.{OpensApRep}
-use Rattle.krb_requests.specs.Pieces.{spelling}
 use Rattle.krb_authenticators.proofs.ApLengths.{data_le}
 use Rattle.krb_authenticators.proofs.Lengths.{le_trans}
 use Rattle.krb_admission.specs.Admission.{key_with, ap_rep_part, ap_rep_with}

@@ -17,10 +17,11 @@ use Rattle.krb_as.specs.declared.turn.Turn.TheVariants.{Ends}
 use Rattle.krb_initiator.specs.declared.options.InitOptions.{InitOptions}
 use Rattle.krb_initiator.specs.declared.seeker.Initiation.{Initiation}
 use Rattle.krb_initiator.specs.declared.seeker.InitPhase.TheVariants.{New}
-use Rattle.krb_initiator.specs.Beginnings.{Begins}
+use Rattle.krb_initiator.specs.Beginnings.{BeginsInitiation}
 use Rattle.krb_initiator.specs.InitRuns.{Starts}
 use Rattle.krb_admission.specs.declared.admission.Admission.{Admission}
-use Rattle.krb_admission.specs.Admission.{drawn_key, mutual_admission, answer_for, settled}
+use Rattle.krb_context.specs.Drawn.{drawn_key}
+use Rattle.krb_admission.specs.Admission.{mutual_admission, answer_for, settled}
 use Rattle.krb_admission.specs.Requests.{ask_of}
 use Rattle.krb_server.specs.declared.accept.Accepted.{Accepted}
 use Rattle.krb_server.specs.declared.accept.Accepted.TheVariants.{Done}
@@ -64,7 +65,7 @@ pub record Offered (initiator : Kerberos) (offer : Offer) : Type 0 where
 -- an initiator that is called with a token comes to its end at the start
 pub record Hears (context : Kerberos) (options : InitOptions) (token : List ℕ) (draw : Draw) (done : InitDone) : Type 0 where
   pub initiation : Initiation
-  pub begins : Begins context (record options { token = token }) (Ok initiation)
+  pub begins : BeginsInitiation context (record options { token = token }) (Ok initiation)
   pub ends : Starts initiation New draw (Ok (Ends done))
 
 -- an acceptor's answer is a token with this status, and the initiator that is called with it is done

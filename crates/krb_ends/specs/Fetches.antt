@@ -30,7 +30,7 @@ use Rattle.krb_initiator.specs.InitRuns.{Starts, Next}
 use Rattle.krb_initiator.specs.Tgts.{no_tgt}
 use Rattle.krb_ends.specs.Answers.{Offered}
 use Rattle.krb_ends.specs.HonestKdc.{Step, Answers, service_of}
-use Rattle.krb_ends.specs.Offers.{Offer, token_of, IsHonest}
+use Rattle.krb_ends.specs.Offers.{Offer, offered_token, IsHonest}
 
 -- an initiator before its exchange, whose caller asks for mutual authentication by a service of two parts, not for user-to-user, and
 -- speaks for a client whose names are ASCII
@@ -76,7 +76,7 @@ pub record EndsWithOffer (context : Kerberos) (seeker : Seeker) (service_key : L
   pub fetches : Fetches seeker draw answers done
   pub status : done.status ≡ ContinueNeeded
   pub offer : Offer
-  pub token : done.token ≡ token_of offer
+  pub token : done.token ≡ offered_token offer
   pub suite_is : offer.suite ≡ suite
   pub ticket : offer.ticket ≡ rep.0.ticket
   pub part_is : offer.part ≡ part

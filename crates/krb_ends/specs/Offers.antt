@@ -1,7 +1,7 @@
 -- The ticket of an honest KDC, and the AP-REQ that an initiator makes of it (RFC 4120, sections 3.1.3, 3.2.2 and 5.5.1).
 use Rattle.std.specs.Prelude.{◌≡◌, ℕ, ◌^◌, ◌<◌, ◌≤◌, Bool, List, ◌++◌, length, true, Some, if◌then◌else◌}
 use Rattle.krb_aes.specs.Octets.{IsOctets}
-use Rattle.krb_der.specs.Layout.{Layout}
+use Rattle.krb_der.specs.Layout.{Layout, spelling}
 use Rattle.krb_der.specs.Schema.{IsSound}
 use Rattle.krb_crypto.specs.Suite.{key_size}
 use Rattle.krb_crypto.specs.Sealed.{IsSealed}
@@ -15,10 +15,9 @@ use Rattle.krb_context.specs.declared.context.Kerberos.{Kerberos}
 use Rattle.krb_context.specs.declared.server.ServerProperties.{ServerProperties}
 use Rattle.krb_context.specs.ServiceKeys.{service_key}
 use Rattle.krb_context.specs.States.{is_waiting}
-use Rattle.krb_replies.specs.Unseals.{suite_of, IsRead}
-use Rattle.krb_requests.specs.Pieces.{spelling}
+use Rattle.krb_replies.specs.Unseals.{suite_of_integer, IsRead}
 use Rattle.krb_authenticators.specs.ApRequests.{ap_req, service_usage}
-use Rattle.krb_ap.specs.Shown.{framed}
+use Rattle.krb_ap.specs.Shown.{framed_ap_req}
 use Rattle.krb_admission.specs.declared.request.Request.{Request}
 use Rattle.krb_admission.specs.Clients.{client_of}
 use Rattle.krb_admission.specs.Complete.{is_known_options, is_mutual}
@@ -33,7 +32,7 @@ pub record Carries {A : Type 0} (layout : Layout A) (suite : CipherSuite) (key :
 -- a service ticket: sealed in this suite under the service's key, with usage 2 (RFC 4120, section 7.5.1), and a session key of the
 -- same suite in it
 pub record IsServiceTicket (suite : CipherSuite) (key : List ℕ) (ticket : Ticket) (part : EncTicketPart) : Type 0 where
-  pub etype : suite_of ticket.enc_part.etype ≡ Some suite
+  pub etype : suite_of_integer ticket.enc_part.etype ≡ Some suite
   pub key_fits : length key ≡ key_size suite
   pub carries : Carries enc_ticket_part_layout suite key 2 ticket.enc_part.cipher part
   pub session_key_fits : length part.key.key_value ≡ key_size suite
@@ -59,8 +58,8 @@ unfoldable pub octets_of : Offer → List ℕ
 octets_of offer = spelling ap_req_layout (message_of offer)
 
 -- the token that carries it: bare in DCE style (MS-KILE, section 3.4.5.1), else framed
-abbrev pub token_of : Offer → List ℕ
-token_of offer = if offer.dce then octets_of offer else framed offer.mechanism (octets_of offer)
+abbrev pub offered_token : Offer → List ℕ
+offered_token offer = if offer.dce then octets_of offer else framed_ap_req offer.mechanism (octets_of offer)
 
 -- what an acceptor finds in it
 abbrev pub request_of : Offer → Request
@@ -81,7 +80,7 @@ pub record IsHonest (key : List ℕ) (offer : Offer) : Type 0 where
   pub octets : IsOctets (offer.confounder ++ spelling authenticator_layout offer.authenticator)
   pub named : 0 < length offer.mechanism
   pub microseconds_short : length offer.authenticator.cusec ≤ 4
-  pub short : length (token_of offer) ≤ 2 ^ 24
+  pub short : length (offered_token offer) ≤ 2 ^ 24
 
 -- an acceptor that waits for a token, and holds the key of the service that an honest offer names; the client's name is one
 pub record IsFor (server : Kerberos) (client : UserName) (offer : Offer) : Type 0 where

@@ -19,7 +19,7 @@ ghost use Rattle.krb_ap.specs.Initiators.{is_bare};
 ghost use Rattle.krb_initiator.specs.declared.options.InitOptions.{InitOptions};
 ghost use Rattle.krb_initiator.specs.declared.seeker.Seeker.{Seeker};
 ghost use Rattle.krb_initiator.specs.declared.seeker.Initiation.TheVariants.{Seeks};
-ghost use Rattle.krb_initiator.specs.Beginnings.{Begins};
+ghost use Rattle.krb_initiator.specs.Beginnings.{BeginsInitiation};
 ghost use Rattle.krb_admission.specs.Accepts.{Judged};
 ghost use Rattle.krb_admission.specs.Clients.{client_of};
 ghost use Rattle.krb_admission.specs.Requests.{ask_of};
@@ -29,8 +29,23 @@ ghost use Rattle.krb_ends.specs.Answers.{admission_for, IsAnswered, AdmitsOnly, 
 ghost use Rattle.krb_ends.specs.Fetches.{CanBegin, seeker_for, Fetches, AsksMutual, EndsWithOffer, HoldsKey};
 ghost use Rattle.krb_ends.specs.Flow.{numbered, Flows, FlowsOn};
 ghost use Rattle.krb_ends.specs.HonestKdc.{Answers, AreHonestKdcs};
-ghost use Rattle.krb_ends.specs.Messages.{Message, Placed, IsSent, IsInTime, IsCaughtUp, AreSent, AreOpened, AreAmongSent, AreInTime, AreInOrder, places_of, messages_of, wrapped_one, opened_one};
-ghost use Rattle.krb_ends.specs.Offers.{Offer, IsFor, request_of, token_of};
+ghost use Rattle.krb_ends.specs.Messages.{
+  Message,
+  Placed,
+  IsSent,
+  IsInTime,
+  IsCaughtUp,
+  AreSent,
+  AreOpened,
+  AreAmongSent,
+  AreInTime,
+  AreInOrder,
+  places_of,
+  messages_of,
+  wrapped_one,
+  opened_one,
+};
+ghost use Rattle.krb_ends.specs.Offers.{Offer, IsFor, request_of, offered_token};
 ghost use Rattle.krb_ends.specs.Talk.{Turn, IsFair, IsUnderstood};
 
 use krb_replay::ReplayGate;
@@ -40,7 +55,7 @@ use krb_replay::ReplayGate;
 pub fn initiators_begin()
     ensures begins { (context : Kerberos) (options : InitOptions) (target : List ℕ) (credentials : CredentialsBuffers) (client : Client)
         → CanBegin context options target credentials client
-        → Begins context options (Ok (Seeks (seeker_for context options target credentials client))) }
+        → BeginsInitiation context options (Ok (Seeks (seeker_for context options target credentials client))) }
     ensures asks { (context : Kerberos) (options : InitOptions) (target : List ℕ) (credentials : CredentialsBuffers) (client : Client)
         → CanBegin context options target credentials client → AsksMutual (seeker_for context options target credentials client) }
 {}
@@ -64,13 +79,13 @@ pub fn runs_have_one_end()
 /// gate's verdict Admitted it makes the admission that its options ask for, with an AP-REP.
 pub fn honest_requests_are_admitted()
     ensures { (server : Kerberos) (draw : Draw) (client : UserName) (offer : Offer) → IsFor server client offer
-        → Judged server offer.dce (token_of offer) draw Admitted (Ok (admission_for server draw client offer)) }
+        → Judged server offer.dce (offered_token offer) draw Admitted (Ok (admission_for server draw client offer)) }
 {}
 
 /// An acceptor asks its gate for that AP-REQ, and where the gate admits it, answers it by the AP-REP and is settled.
 pub fn honest_requests_are_answered<G: ReplayGate>()
     ensures { (server server' : Kerberos) (env : Env) (draw : Draw) (client : UserName) (offer : Offer) (old new : G) (answer : Result Accepted Cause)
-        → IsFor server client offer → AcceptsWhole G.admits server offer.dce (token_of offer) env draw old answer server' new
+        → IsFor server client offer → AcceptsWhole G.admits server offer.dce (offered_token offer) env draw old answer server' new
         → IsAnswered G.admits server draw client offer old answer server' new }
 {}
 
@@ -81,7 +96,7 @@ pub fn exchanges_end_well<G: ReplayGate>()
     ensures { (initiator server server' : Kerberos) (options : InitOptions) (env : Env) (own draw : Draw) (client : UserName) (offer : Offer)
         (old new : G) (answer : Result Accepted Cause) → IsFor server client offer → offer.dce ≡ false → Offered initiator offer
         → is_bare options.flags ≡ false → IsDraw draw → AreNew initiator server
-        → AcceptsWhole G.admits server false (token_of offer) env draw old answer server' new
+        → AcceptsWhole G.admits server false (offered_token offer) env draw old answer server' new
         → AdmitsOnly G.admits old (ask_of (request_of offer) draw.moment) new → EndsWell initiator server' options own draw offer answer }
 {}
 
@@ -91,7 +106,7 @@ pub fn dce_exchanges_end_well<G: ReplayGate>()
     ensures { (initiator server server' : Kerberos) (options : InitOptions) (env : Env) (own draw : Draw) (client : UserName) (offer : Offer)
         (old new : G) (answer : Result Accepted Cause) → IsFor server client offer → offer.dce ≡ true → Offered initiator offer
         → is_bare options.flags ≡ true → IsDraw own → IsDraw draw → AreNew initiator server
-        → AcceptsWhole G.admits server true (token_of offer) env draw old answer server' new
+        → AcceptsWhole G.admits server true (offered_token offer) env draw old answer server' new
         → AdmitsOnly G.admits old (ask_of (request_of offer) draw.moment) new
         → EndsWellInTurn G.admits initiator server' options own draw offer answer }
 {}

@@ -8,11 +8,11 @@ use Rattle.krb_context.specs.Contexts.{new_context}
 use Rattle.krb_context.specs.Queries.{name_of}
 use Rattle.krb_exchange.specs.declared.user_to_user.TgtReq.{TgtReq}
 use Rattle.krb_replay.specs.Book.{Book, Follows, StandsFor}
-use Rattle.krb_admission.specs.Accepts.{Accepts, Makes}
+use Rattle.krb_admission.specs.Accepts.{Accepts, MakesAnswer}
 use Rattle.krb_admission.specs.Admission.{settled}
 use Rattle.krb_admission.specs.declared.admission.Admission.{Admission}
 use Rattle.krb_admission.specs.declared.admission.Answer.{Answer}
-use Rattle.krb_server.specs.Whole.{Makes as MakesWhole, RunsAs, answered_as}
+use Rattle.krb_server.specs.Whole.{AcceptsToken, RunsAs, answered_as}
 use Rattle.krb_server.specs.declared.accept.Accepted.{Accepted}
 use Rattle.krb_user_to_user.specs.declared.request.Beginning.{Beginning}
 use Rattle.sspi_core.specs.declared.cause.Cause.{Cause}
@@ -22,7 +22,7 @@ use Rattle.krb_gateway.specs.Admits.{Waits, no_env, answer_in, LetsIn, HasName}
 
 made_named : (params : EncryptionParams) (config : KerberosConfig) (service : ServerProperties) (number : ℕ)
     (outcome : Result Admission Cause) (answer : Answer) (connection : Kerberos)
-    → Makes (new_context params config (Some service) number) outcome (Ok answer) connection → HasName connection
+    → MakesAnswer (new_context params config (Some service) number) outcome (Ok answer) connection → HasName connection
 unfolding settled
 made_named params config service number (Ok admission) answer connection made = (admission.client, ap name_of made.1)
 made_named params config service number (Err cause) answer connection made = let e = made.0 in absurd cc
@@ -46,7 +46,7 @@ module _ (service : ServerProperties) (waiting connection : Kerberos) (old new :
   judged_named (Err cause) accepts is = absurd cc
 
   whole_named : (found : Option TgtReq) (accepted : Result Accepted Cause)
-      → MakesWhole (Follows StandsFor) waiting false token no_env draw old found accepted connection new
+      → AcceptsToken (Follows StandsFor) waiting false token no_env draw old found accepted connection new
       → Ok answer ≡ answer_in accepted → HasName connection
   whole_named (Some tgt_req) accepted made is = absurd (runs_not made.0.beginning accepted answer made.0.runs is)
   whole_named None accepted made is = judged_named made.judged made.accepts (is ∙ ap answer_in made.answer_is)

@@ -4,3 +4,4 @@ pub mod Refusals
 pub mod Chains
 pub mod Once
 pub mod Seeking
+pub mod Few

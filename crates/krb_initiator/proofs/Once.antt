@@ -41,7 +41,7 @@ use Rattle.krb_initiator.specs.declared.seeker.InitPhase.{InitPhase}
 use Rattle.krb_initiator.specs.declared.seeker.InitPhase.TheVariants.{New, InAsExchange, AwaitsTgsRep, Over}
 use Rattle.krb_initiator.specs.declared.init_run.InitRun.{InitRun}
 use Rattle.krb_initiator.specs.Tgts.{is_user_to_user, framed_tgt, HasTgtRep, TakesBareTgt, TakesFramedTgt, TakesTgt}
-use Rattle.krb_initiator.specs.Beginnings.{ChecksTarget, NamesTarget, NamesIdentity, Identifies, SeeksTicket, RequestsTgt, BeginsNew, BeginsIn, Begins}
+use Rattle.krb_initiator.specs.Beginnings.{ChecksTarget, NamesTarget, NamesIdentity, Identifies, SeeksTicket, RequestsTgt, BeginsNew, BeginsIn, BeginsInitiation}
 use Rattle.krb_initiator.specs.InitSteps.{body_of, AsksFirstTgs, Refers, Arrives, GoesTo, TakesNext, HearsAnswer}
 use Rattle.krb_initiator.specs.InitRuns.{StartsNew, Starts, Continues, Next, BeginsSo}
 
@@ -171,7 +171,7 @@ begins_in_once Preauthentication context options = record { same = λ r s h k. (
 begins_in_once ApExchange context options = record { same = λ r s h k. (gives_once _).same r s h k }
 begins_in_once Final context options = record { same = λ r s h k. h ∙ sym k }
 
-pub begins_once : (context : Kerberos) (options : InitOptions) → Once (λ r. Begins context options r)
+pub begins_once : (context : Kerberos) (options : InitOptions) → Once (λ r. BeginsInitiation context options r)
 begins_once context options = record { same = λ r s h k. (begins_in_once context.state context options).same r s h k }
 
 -- a run is what is to be done and how far it has come

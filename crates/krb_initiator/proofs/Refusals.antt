@@ -11,7 +11,7 @@ use Rattle.sspi_core.specs.declared.draw.Draw.{Draw}
 use Rattle.sspi_generator.specs.declared.network.NetFault.{NetFault}
 use Rattle.sspi_generator.specs.Steps.{IsFailure}
 use Rattle.krb_as.specs.Kdcs.{FindsKdc}
-use Rattle.krb_replies.specs.Unseals.{Unseals, Opens}
+use Rattle.krb_replies.specs.Unseals.{Unseals, OpensSealed}
 use Rattle.krb_replies.specs.Keys.{HandsOnKey}
 use Rattle.krb_replies.specs.Answered.{OpensApRep}
 use Rattle.krb_replies.specs.Realms.{referral_realm}
@@ -23,7 +23,7 @@ use Rattle.krb_tgs.specs.TgsAsked.{AsksTgs, Follows}
 use Rattle.krb_tgs.specs.Taken.{TakesTgsRep}
 use Rattle.krb_ap.specs.declared.initiator.Initiator.{Initiator}
 use Rattle.krb_ap.specs.Shown.{ShowsTicket}
-use Rattle.krb_ap.specs.Answered.{ReadsApRep, Confirms, Replies, Finishes, TakesApRep}
+use Rattle.krb_ap.specs.Answered.{ReadsApRep, Confirms, Replies, FinishesInitiation, TakesApRep}
 use Rattle.krb_initiator.specs.declared.seeker.Seeker.{Seeker}
 use Rattle.krb_initiator.specs.declared.seeker.TgsLeg.{TgsLeg}
 use Rattle.krb_initiator.specs.declared.seeker.Initiation.{Initiation}
@@ -64,7 +64,7 @@ module _ (P : Type 0) where
       (λ _. then_refuses P _ _ (holds_refuses P SameRealm _ (λ z. let e = z.1 in absurd cc)) (λ _. asks_refuse asker wanted shown home realm None draw))
 
   hands_refuse : (suite : CipherSuite) (key : List ℕ) (rep : TgsRep) → Refuses P (HandsOnKey suite key rep)
-  unfolding HandsOnKey Opens Unseals
+  unfolding HandsOnKey OpensSealed Unseals
   hands_refuse suite key rep =
       then_refuses P _ _ (then_refuses P _ _ (then_refuses P _ _ (holds_refuses P Reply _ not_reply)
       (λ _. then_refuses P _ _ (holds_refuses P Reply _ not_reply) (λ _. finds_refuses P Reply _ not_reply)))
@@ -90,19 +90,19 @@ module _ (P : Type 0) where
 
   -- what the service answers
   opens_refuse : (suite : CipherSuite) (key : List ℕ) (message : ApRep) → Refuses P (OpensApRep suite key message)
-  unfolding OpensApRep Opens Unseals
+  unfolding OpensApRep OpensSealed Unseals
   opens_refuse suite key message =
       then_refuses P _ _ (then_refuses P _ _ (holds_refuses P Reply _ not_reply)
       (λ _. then_refuses P _ _ (holds_refuses P Reply _ not_reply) (λ _. finds_refuses P Reply _ not_reply)))
       (λ plain. finds_refuses P Inner _ not_inner)
 
-  confirms_refuse : (initiator : Initiator) (key : List ℕ) (part : EncApRepPart) (draw : Draw) → Refuses P (Finishes false initiator key part draw)
+  confirms_refuse : (initiator : Initiator) (key : List ℕ) (part : EncApRepPart) (draw : Draw) → Refuses P (FinishesInitiation false initiator key part draw)
   unfolding Confirms
   confirms_refuse initiator key part draw = record {
     not = λ e h z. (then_refuses P _ _ (takes_refuses P NoSubKey _ not_key) (λ subkey. gives_refuses P _)).not e h z;
   }
 
-  replies_refuse : (initiator : Initiator) (key : List ℕ) (part : EncApRepPart) (draw : Draw) → Refuses P (Finishes true initiator key part draw)
+  replies_refuse : (initiator : Initiator) (key : List ℕ) (part : EncApRepPart) (draw : Draw) → Refuses P (FinishesInitiation true initiator key part draw)
   unfolding Replies
   replies_refuse initiator key part draw = record {
     not =
@@ -111,7 +111,7 @@ module _ (P : Type 0) where
         e h z;
   }
 
-  finishes_refuse : (dce : Bool) (initiator : Initiator) (key : List ℕ) (part : EncApRepPart) (draw : Draw) → Refuses P (Finishes dce initiator key part draw)
+  finishes_refuse : (dce : Bool) (initiator : Initiator) (key : List ℕ) (part : EncApRepPart) (draw : Draw) → Refuses P (FinishesInitiation dce initiator key part draw)
   finishes_refuse true initiator key part draw = replies_refuse initiator key part draw
   finishes_refuse false initiator key part draw = confirms_refuse initiator key part draw
 

@@ -3,7 +3,7 @@ use Rattle.std.proofs.Common.{◌≡◌, ℕ, ◌+◌, ◌≤◌, ◌^◌, List,
 use Rattle.std.specs.Prelude.{nat_le, IfOk}
 use Rattle.std.proofs.lemmas.Bool.{leb-true}
 use Rattle.krb_der.specs.Der.{tlv}
-use Rattle.krb_der.specs.Layout.{items_layout}
+use Rattle.krb_der.specs.Layout.{items_layout, spelling}
 use Rattle.krb_der.proofs.Lengths.{tlv_le, contents_shorter}
 use Rattle.krb_messages.specs.Frame.{IsFrame}
 use Rattle.krb_messages.specs.Layouts.{ticket_layout}
@@ -23,7 +23,7 @@ use Rattle.krb_context.proofs.ChainLemmas.{passed, gave}
 use Rattle.krb_replies.specs.Told.{Tells}
 use Rattle.krb_replies.specs.Unseals.{IsRead}
 use Rattle.krb_replies.specs.Tickets.{HasTicket, TakesTicket}
-use Rattle.krb_requests.specs.Pieces.{Fits, spelling}
+use Rattle.krb_requests.specs.Pieces.{Fits}
 use Rattle.krb_as.proofs.Complete.{complete_spelled}
 use Rattle.krb_initiator.specs.declared.tgt.ServiceTgt.{ServiceTgt}
 use Rattle.krb_initiator.specs.Tgts.{bare_tgt, framed_tgt, HasTgtRep, TakesBareTgt, TakesFramedTgt, IsShortTgt}

@@ -118,5 +118,5 @@ BeginsIn Preauthentication context options answer = SeeksTicket context options 
 BeginsIn ApExchange context options answer = Gives (Hears (initiator_of context context.krb5_user_to_user options.flags) options.token) answer
 BeginsIn Final context options answer = answer ≡ Err Sequence
 
-abbrev pub Begins : Kerberos → InitOptions → Result Initiation Cause → Type 0
-Begins context options answer = BeginsIn context.state context options answer
+abbrev pub BeginsInitiation : Kerberos → InitOptions → Result Initiation Cause → Type 0
+BeginsInitiation context options answer = BeginsIn context.state context options answer

@@ -1,6 +1,6 @@
 //! What an initiator begins, by its state and what its caller asks for.
 
-ghost use Rattle.std.specs.Prelude.{◌≡◌, ◌<◌, ◌≤◌, ◌^◌, length, is_some, true, IfOk, IfSome};
+ghost use Rattle.std.specs.Prelude.{◌≡◌, ◌<◌, ◌≤◌, ◌^◌, length, is_some, true, false, IfOk, IfSome};
 ghost use Rattle.sspi_core.specs.declared.cause.Cause.TheVariants as causes;
 ghost use Rattle.sspi_core.specs.Flags.{has_flag, use_session_key};
 ghost use Rattle.sspi_core.specs.Checks.{Answers, Gives, Holds};
@@ -13,7 +13,22 @@ ghost use Rattle.krb_initiator.specs.declared.seeker.Initiation.TheVariants as i
 ghost use Rattle.krb_initiator.specs.Tgts.{IsShortTgt};
 ghost use Rattle.krb_initiator.specs.TgtReqs.{tgt_token};
 ghost use Rattle.krb_initiator.specs.Seekers.{CanBegin};
-ghost use Rattle.krb_initiator.specs.Beginnings.{identity_of, IsShortIdentity, initiator_of, errand_of, wanted_of, seeker_of, ChecksTarget, NamesTarget, NamesIdentity, Identifies, SeeksTicket, RequestsTgt, BeginsNew, Begins};
+ghost use Rattle.krb_initiator.specs.Beginnings.{
+  identity_of,
+  IsShortIdentity,
+  initiator_of,
+  errand_of,
+  wanted_of,
+  seeker_of,
+  ChecksTarget,
+  NamesTarget,
+  NamesIdentity,
+  Identifies,
+  SeeksTicket,
+  RequestsTgt,
+  BeginsNew,
+  BeginsInitiation,
+};
 
 use crate::options::InitOptions;
 use crate::seeker::{Initiation, Seeker};
@@ -30,7 +45,7 @@ use sspi_core::{Cause, ChannelBindings, ClientRequestFlags, CredentialsBuffers, 
 use std::alloc::Global;
 
 /// The most octets of a target, and of each part of channel bindings.
-const MAX_PART: usize = 4_194_304;
+const MAX_PART: usize = 16_777_216;
 
 /// Who asks, and as which client.
 #[derive(Drop)]
@@ -46,10 +61,10 @@ fn check_target(target: &Name) -> Result<(), Cause>
     hold(is_target, Cause::Target)
 }
 
-/// A copy of a target that is not longer than can be sent: a longer one takes more memory than there is.
+/// A copy of a target of at most 2^24 octets, which is a condition of whoever hands it in: there is no copy of a longer one.
 fn short_target(alloc: Global, target: &Name) -> Result<Name, Cause>
     ensures copied { Answers (Gives target.now) result }
-    ensures short { IfOk result (λ copy. length copy ≤ 2 ^ 22) }
+    ensures short { IfOk result (λ copy. length copy ≤ 2 ^ 24) }
 {
     if target.as_slice().len() > MAX_PART {
         return Err(Cause::Memory);
@@ -61,7 +76,7 @@ fn short_target(alloc: Global, target: &Name) -> Result<Name, Cause>
 #[tactic(auto, unfolding(crate::specs::Beginnings::ChecksTarget))]
 fn checked_target(alloc: Global, target: &Name) -> Result<Name, Cause>
     ensures step { Answers (ChecksTarget target.now) result }
-    ensures short { IfOk result (λ copy. length copy ≤ 2 ^ 22) }
+    ensures short { IfOk result (λ copy. length copy ≤ 2 ^ 24) }
 {
     check_target(target)?;
     short_target(alloc, target)
@@ -71,7 +86,7 @@ fn checked_target(alloc: Global, target: &Name) -> Result<Name, Cause>
 #[tactic(auto, unfolding(crate::specs::Beginnings::NamesTarget))]
 fn target_in(alloc: Global, target: &Option<Name>) -> Result<Name, Cause>
     ensures step { Answers (NamesTarget target.now) result }
-    ensures short { IfOk result (λ copy. length copy ≤ 2 ^ 22) }
+    ensures short { IfOk result (λ copy. length copy ≤ 2 ^ 24) }
 {
     match target {
         None => Err(Cause::NoTarget),
@@ -100,7 +115,8 @@ fn initiator_of(
 }
 
 fn is_short(octets: &Octets) -> bool
-    ensures { result ≡ true → length octets.now ≤ 2 ^ 24 }
+    ensures short { result ≡ true → length octets.now ≤ 2 ^ 24 }
+    ensures long { result ≡ false → 2 ^ 24 < length octets.now }
 {
     octets.as_slice().len() <= MAX_PART
 }
@@ -113,7 +129,7 @@ fn are_short(bindings: &ChannelBindings) -> bool
         && is_short(&bindings.application_data)
 }
 
-/// A copy of bindings that are not longer than can be sent: longer ones take more memory than there is.
+/// A copy of bindings whose parts have at most 2^24 octets each, which is a condition: there is no copy of longer ones.
 fn short_bindings(
     alloc: Global,
     bindings: &Option<ChannelBindings>,
@@ -225,7 +241,7 @@ fn seeker_of(
     tgt: ServiceTgt,
     identity: Identity,
 ) -> Result<Initiation, Cause>
-    requires target { length target ≤ 2 ^ 22 }
+    requires target { length target ≤ 2 ^ 24 }
     requires tgt { IsShortTgt tgt }
     requires identity { IsShortIdentity identity }
     ensures step { Answers (Gives (initiations.Seeks (seeker_of context.now options.now target tgt identity))) result }
@@ -269,7 +285,7 @@ fn requested(
     flags: ClientRequestFlags,
     target: &Name,
 ) -> Result<Initiation, Cause>
-    requires target { length target.now ≤ 2 ^ 22 }
+    requires target { length target.now ≤ 2 ^ 24 }
     ensures step { Answers (Gives (initiations.Requests (initiator_of context.now true flags) (tgt_token (is_bare flags) target.now))) result }
     ensures can { IfOk result (λ initiation. CanBegin initiation) }
 {
@@ -316,7 +332,7 @@ pub(crate) fn begin(
     context: &Kerberos,
     options: &InitOptions,
 ) -> Result<Initiation, Cause>
-    ensures step { Answers (Begins context.now options.now) result }
+    ensures step { Answers (BeginsInitiation context.now options.now) result }
     ensures can { IfOk result (λ initiation. CanBegin initiation) }
 {
     match context.state {

@@ -10,7 +10,7 @@ ghost use Rattle.krb_as.specs.Turns.{is_want, GoesDown};
 ghost use Rattle.krb_initiator.specs.declared.seeker.Initiation.{Initiation};
 ghost use Rattle.krb_initiator.specs.declared.seeker.InitPhase.TheVariants as phases;
 ghost use Rattle.krb_initiator.specs.Seekers.{CanBegin};
-ghost use Rattle.krb_initiator.specs.Beginnings.{Begins};
+ghost use Rattle.krb_initiator.specs.Beginnings.{BeginsInitiation};
 ghost use Rattle.krb_initiator.specs.InitRuns.{StartsNew, Starts, Continues, Next, IsNewPhase, IsSeeking, Waits, IsNew, turns_left, StartsAt, ResumesAt, BeginsSo};
 
 use crate::as_steps::{ask_first, take_as_reply};
@@ -68,7 +68,7 @@ pub fn initialize_security_context(
     options: InitOptions,
 ) -> Result<InitRun, Error>
     ensures begun { (result ≡ Err (error_of causes.Memory) → ⊥)
-        → (answer : Result Initiation Cause) × Begins client.now options answer × BeginsSo answer result }
+        → (answer : Result Initiation Cause) × BeginsInitiation client.now options answer × BeginsSo answer result }
     ensures new { IfOk result (λ run. IsNew run) }
     ensures turns { IfOk result (λ run. turns_left run.phase ≡ 12) }
 {

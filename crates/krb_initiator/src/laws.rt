@@ -1,12 +1,13 @@
 //! Laws of an initiation, for all values.
 
-ghost use Rattle.std.specs.Prelude.{◌≡◌, ℕ, List, [], ◌∷◌, ◌++◌, Result, Ok};
+ghost use Rattle.std.specs.Prelude.{◌≡◌, ℕ, List, [], ◌∷◌, ◌++◌, take, Result, Ok};
 ghost use Rattle.krb_context.specs.declared.context.Kerberos.{Kerberos};
 ghost use Rattle.sspi_core.specs.declared.cause.Cause.{Cause};
 ghost use Rattle.sspi_core.specs.declared.draw.Draw.{Draw};
 ghost use Rattle.sspi_core.specs.declared.error.Error.{Error};
 ghost use Rattle.sspi_generator.specs.declared.network.NetworkRequest.{NetworkRequest};
 ghost use Rattle.sspi_generator.specs.declared.network.NetFault.{NetFault};
+ghost use Rattle.sspi_generator.specs.Runs.{Resolves};
 ghost use Rattle.krb_as.specs.declared.done.InitDone.{InitDone};
 ghost use Rattle.krb_as.specs.declared.turn.Turn.{Turn};
 ghost use Rattle.krb_as.specs.declared.turn.Turn.TheVariants.{Asks, Ends};
@@ -17,9 +18,11 @@ ghost use Rattle.krb_initiator.specs.declared.seeker.Initiation.{Initiation};
 ghost use Rattle.krb_initiator.specs.declared.seeker.Initiation.TheVariants.{Seeks};
 ghost use Rattle.krb_initiator.specs.declared.seeker.InitPhase.{InitPhase};
 ghost use Rattle.krb_initiator.specs.declared.seeker.InitPhase.TheVariants.{New};
-ghost use Rattle.krb_initiator.specs.Beginnings.{Begins};
-ghost use Rattle.krb_initiator.specs.InitRuns.{Starts, Next, BeginsSo};
+ghost use Rattle.krb_initiator.specs.Beginnings.{BeginsInitiation};
+ghost use Rattle.krb_initiator.specs.InitRuns.{Starts, Next, BeginsSo, IsNew, StartsAt, ResumesAt};
 ghost use Rattle.krb_initiator.specs.Came.{Came, IsSession};
+
+use sspi_generator::NetworkClient;
 
 /// The session key is the last key of a chain of the run's own replies that begins with the credentials' key: no reply is behind the
 /// start; what brought a run to a phase brings it, with the next reply, to the next phase; and to its end, with the session key.
@@ -38,12 +41,21 @@ pub fn the_keys_of_the_replies_are_a_chain()
 /// back as; and each step of that run has at most one outcome, determined by what is to be done, how far the run has come, the reply
 /// and the draw.
 pub fn one_outcome()
-    ensures begins { (context : Kerberos) (options : InitOptions) (r s : Result Initiation Cause) → Begins context options r
-        → Begins context options s → r ≡ s }
+    ensures begins { (context : Kerberos) (options : InitOptions) (r s : Result Initiation Cause) → BeginsInitiation context options r
+        → BeginsInitiation context options s → r ≡ s }
     ensures runs { (answer : Result Initiation Cause) (r s : Result InitRun Error) → BeginsSo answer r → BeginsSo answer s → r ≡ s }
     ensures starts { (initiation : Initiation) (phase : InitPhase) (draw : Draw) (r s : Result (Turn InitPhase InitDone) Cause)
         → Starts initiation phase draw r → Starts initiation phase draw s → r ≡ s }
     ensures resumes { (initiation : Initiation) (phase : InitPhase) (reply : Result (List ℕ) NetFault) (draw : Draw)
         (r s : Result (Turn InitPhase InitDone) Cause)
         → Next initiation phase reply draw r → Next initiation phase reply draw s → r ≡ s }
+{}
+
+/// A run from a new initiation asks twelve times at most, whoever sends: it ends with what it ends with over the first thirteen of its
+/// draws.
+pub fn initiations_ask_twelve_times_at_most<C: NetworkClient>()
+    ensures { (run run' : InitRun)
+        (client client' : C) (draws : List Draw) (out : Result InitDone Error) → IsNew run
+        → Resolves StartsAt ResumesAt C.sends run client draws out run' client'
+        → Resolves StartsAt ResumesAt C.sends run client (take 13 draws) out run' client' }
 {}

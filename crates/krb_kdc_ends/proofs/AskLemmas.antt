@@ -8,6 +8,7 @@ use Rattle.krb_aes.proofs.InjectiveLemmas.{none_octets, more_octets, IsOctets-ap
 use Rattle.krb_crypto.proofs.CtsInjective.{IsOctets-take}
 use Rattle.krb_der.specs.Moment.{IsTime, time_octets}
 use Rattle.krb_der.specs.Schema.{IsSound}
+use Rattle.krb_der.specs.Layout.{spelling}
 use Rattle.krb_messages.specs.Layouts.{authenticator_layout, authenticator_row, checksum_row, principal_name_layout, principal_name_row}
 use Rattle.krb_messages.specs.Table.{authenticator as authenticator_kind, checksum as checksum_kind, principal_name}
 use Rattle.krb_messages.specs.declared.authenticator.Authenticator.{Authenticator}
@@ -20,7 +21,7 @@ use Rattle.sspi_core.specs.declared.draw.Draw.{Draw}
 use Rattle.sspi_core.specs.Flags.{has_flag, delegate, use_session_key}
 use Rattle.md5.specs.Md5.{md5}
 use Rattle.md5.proofs.StandardFacts.{length-md5}
-use Rattle.krb_requests.specs.Pieces.{spelling, principal as name_with, whole_second}
+use Rattle.krb_requests.specs.Pieces.{principal as name_with, whole_second}
 use Rattle.krb_authenticators.specs.Authenticators.{microseconds, number_octets}
 use Rattle.krb_authenticators.specs.TgsRequests.{over, always, tgs_options, body_checksum}
 use Rattle.krb_authenticators.proofs.Lengths.{number_some}

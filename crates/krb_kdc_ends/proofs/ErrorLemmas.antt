@@ -10,7 +10,7 @@ use Rattle.krb_aes.proofs.InjectiveLemmas.{none_octets, more_octets}
 use Rattle.krb_der.specs.Der.{tlv}
 use Rattle.krb_der.specs.Moment.{IsTime, time_octets}
 use Rattle.krb_der.specs.Schema.{IsSound, is_ascii}
-use Rattle.krb_der.specs.Layout.{items_layout}
+use Rattle.krb_der.specs.Layout.{items_layout, spelling}
 use Rattle.krb_crypto.specs.Suite.{suite_number}
 use Rattle.krb_crypto.specs.declared.suite.CipherSuite.{CipherSuite}
 use Rattle.krb_messages.specs.Table.{principal_name}
@@ -28,7 +28,7 @@ use Rattle.krb_as.specs.Replies.{Skips, Unpacks, Unwraps}
 use Rattle.krb_replies.specs.Salts.{NamesSalt}
 use Rattle.krb_as.specs.declared.asker.Asker.{Asker}
 use Rattle.krb_as.specs.Askers.{default_salt}
-use Rattle.krb_requests.specs.Pieces.{spelling, principal}
+use Rattle.krb_requests.specs.Pieces.{principal}
 use Rattle.krb_ends.proofs.HonestLemmas.{spells_itself}
 use Rattle.krb_ends.proofs.RepLemmas.{short-number}
 use Rattle.krb_kdc.proofs.Found.{and_first, and_second}

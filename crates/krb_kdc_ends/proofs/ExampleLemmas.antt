@@ -5,6 +5,7 @@ use Rattle.krb_aes.specs.Octets.{IsOctets}
 use Rattle.krb_aes.proofs.InjectiveLemmas.{none_octets, more_octets, IsOctets-append}
 use Rattle.krb_der.specs.Der.{tlv, length_octets}
 use Rattle.krb_der.specs.Moment.{time_octets}
+use Rattle.krb_der.specs.Layout.{spelling}
 use Rattle.krb_crypto.proofs.CtsInjective.{IsOctets-take}
 use Rattle.krb_crypto.specs.Sealed.{sealed}
 use Rattle.krb_crypto.specs.declared.suite.CipherSuite.{CipherSuite}
@@ -17,7 +18,7 @@ use Rattle.krb_exchange.specs.Table.{kdc_req_body, krb_error as krb_error_kind, 
 use Rattle.krb_exchange.specs.Layouts.{kdc_req_body_row, kdc_req_body_layout, as_rep_layout, tgs_rep_layout, tgs_req_layout, enc_as_rep_part_layout, enc_tgs_rep_part_layout, krb_error_row, pa_data_row, etype_info2_entry_row, pa_enc_ts_enc_layout}
 use Rattle.krb_exchange.specs.declared.kdc_req.KdcReqBody.{KdcReqBody}
 use Rattle.krb_requests.specs.PaDatas.{timestamp, enc_timestamp, plain_pa_datas, timed_pa_datas}
-use Rattle.krb_requests.specs.Pieces.{spelling, principal as name_with}
+use Rattle.krb_requests.specs.Pieces.{principal as name_with}
 use Rattle.krb_requests.proofs.Lengths.{plain_fits, timed_fits}
 use Rattle.krb_authenticators.specs.ApRequests.{ap_req}
 use Rattle.krb_authenticators.specs.TgsRequests.{over}
@@ -38,7 +39,8 @@ use Rattle.krb_ends.specs.HonestKdc.{service_of}
 use Rattle.krb_kdc.specs.declared.grant.Grant.{Grant}
 use Rattle.krb_kdc.specs.declared.kdc.Kdc.{Kdc}
 use Rattle.krb_kdc.specs.declared.tgs_req.Target.{Target}
-use Rattle.krb_kdc.specs.Grants.{drawn_key, ticket_confounder, reply_confounder, ticket_part, reply_part, ticket, as_rep, tgs_rep}
+use Rattle.krb_context.specs.Drawn.{drawn_key}
+use Rattle.krb_kdc.specs.Grants.{ticket_confounder, reply_confounder, ticket_part, reply_part, ticket, as_rep, tgs_rep}
 use Rattle.krb_kdc.specs.Refusals.{etype_info2, hint, krb_error, refusal}
 use Rattle.krb_kdc.specs.Requests.{granting}
 use Rattle.krb_kdc.proofs.Lengths.{le_trans, data_le}

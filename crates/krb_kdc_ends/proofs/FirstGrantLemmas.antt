@@ -1,6 +1,7 @@
 -- The ticket-granting ticket of a client that a KDC has can be written, and is held.
 use Rattle.std.proofs.Common.{◌≡◌, ℕ, ◌≤◌, ◌^◌, List, length, refl, ap, ◌∙◌, arith}
 use Rattle.std.proofs.lemmas.List.{length-take}
+use Rattle.krb_der.specs.Layout.{spelling}
 use Rattle.krb_crypto.proofs.CtsInjective.{IsOctets-take}
 use Rattle.krb_crypto.specs.Suite.{key_size}
 use Rattle.krb_crypto.specs.declared.suite.CipherSuite.{CipherSuite}
@@ -8,7 +9,7 @@ use Rattle.krb_messages.specs.Layouts.{principal_name_layout}
 use Rattle.krb_exchange.specs.declared.kdc_req.KdcReqBody.{KdcReqBody}
 use Rattle.sspi_core.specs.Usernames.{UserName}
 use Rattle.krb_requests.specs.Bodies.{user_components}
-use Rattle.krb_requests.specs.Pieces.{spelling, three_days_after}
+use Rattle.krb_requests.specs.Pieces.{three_days_after}
 use Rattle.krb_as.specs.Askers.{asker_suite}
 use Rattle.krb_as.specs.FirstBodies.{first_body}
 use Rattle.krb_initiator.specs.declared.seeker.Seeker.{Seeker}

@@ -7,6 +7,7 @@ use Rattle.krb_crypto.specs.Suite.{key_size}
 use Rattle.krb_crypto.specs.declared.suite.CipherSuite.{CipherSuite}
 use Rattle.krb_der.specs.Moment.{IsTime}
 use Rattle.krb_der.specs.Schema.{IsSound}
+use Rattle.krb_der.specs.Layout.{spelling}
 use Rattle.krb_messages.specs.Layouts.{principal_name_layout, ticket_layout}
 use Rattle.krb_messages.specs.Frame.{with_length}
 use Rattle.krb_messages.specs.declared.enc_ticket_part.EncTicketPart.{EncTicketPart}
@@ -14,7 +15,7 @@ use Rattle.krb_messages.specs.declared.ticket.Ticket.{Ticket}
 use Rattle.krb_exchange.specs.Layouts.{tgs_req_layout, tgs_rep_layout}
 use Rattle.sspi_core.specs.declared.draw.Draw.{Draw}
 use Rattle.sspi_core.specs.Flags.{has_flag, use_session_key}
-use Rattle.krb_requests.specs.Pieces.{spelling, principal as name_with, three_days_after}
+use Rattle.krb_requests.specs.Pieces.{principal as name_with, three_days_after}
 use Rattle.krb_tgs.specs.declared.wanted.Wanted.{Wanted}
 use Rattle.krb_tgs.specs.TgsAsked.{tgs_req_for, tgs_authenticator, drawn_nonce, drawn_confounder}
 use Rattle.krb_ends.specs.Answers.{IsDraw}
@@ -29,7 +30,7 @@ use Rattle.krb_kdc.specs.TgsChecks.{ticket_key, target_of}
 use Rattle.krb_kdc_ends.specs.Asking.{AreNear, IsFairSkew}
 use Rattle.krb_kdc_ends.specs.Fetching.{IsTimely, Held, shown_of, body_at, granted, given, held_next}
 use Rattle.krb_kdc_ends.specs.Granting.{IsSoundGrant, IsSoundClient, IsSoundName}
-use Rattle.krb_kdc_ends.specs.Showing.{Opens, IsHolder, AsksNext}
+use Rattle.krb_kdc_ends.specs.Showing.{OpensAtKdc, IsHolder, AsksNext}
 use Rattle.krb_kdc_ends.proofs.AskLemmas.{asks_next, is_holder}
 use Rattle.krb_kdc_ends.proofs.RepLemmas.{ticket_sound}
 use Rattle.krb_kdc_ends.proofs.TgsLemmas.{served, sname_short}
@@ -101,14 +102,14 @@ module _ (start span : ℕ) (wanted : Wanted) (unset : has_flag wanted.flags.0 u
     abbrev part : EncTicketPart
     part = ticket_part kdc.suite held.draw held.grant
 
-    opens_it : Opens kdc draw.moment held.rep.ticket part
+    opens_it : OpensAtKdc kdc draw.moment held.rep.ticket part
     unfolding ticket_part
     opens_it =
         let living = h.living in
-        let there : Opens kdc draw.moment (ticket kdc.suite held.realm held.draw held.grant) part =
+        let there : OpensAtKdc kdc draw.moment (ticket kdc.suite held.realm held.draw held.grant) part =
         opens kdc.suite held.realm held.draw h.d held.grant h.client h.auth (living_time start held.grant.endtime h.living) h.fits kdc draw.moment refl known
         (lives start span kdc.skew draw.moment living.second held.grant.endtime living.is living.after u.upto least) h.sound in
-        subst (λ (x : Ticket). Opens kdc draw.moment x part) (sym h.ticket_is) there
+        subst (λ (x : Ticket). OpensAtKdc kdc draw.moment x part) (sym h.ticket_is) there
 
     holds_it : IsHolder part own.moment (body_at wanted kdc.realm own) (tgs_authenticator wanted held.rep own) (drawn_confounder own)
     unfolding ticket_part

@@ -9,10 +9,11 @@ use Rattle.krb_aes.proofs.InjectiveLemmas.{none_octets, IsOctets-append}
 use Rattle.krb_der.specs.Der.{tlv}
 use Rattle.krb_der.specs.Schema.{IsSound, is_ascii}
 use Rattle.krb_der.proofs.Lengths.{contents_shorter}
+use Rattle.krb_der.specs.Layout.{spelling}
 use Rattle.krb_messages.specs.Table.{principal_name}
 use Rattle.krb_messages.specs.Layouts.{principal_name_row, principal_name_layout}
 use Rattle.krb_requests.specs.Bodies.{component_octets}
-use Rattle.krb_requests.specs.Pieces.{spelling, principal as name_with}
+use Rattle.krb_requests.specs.Pieces.{principal as name_with}
 use Rattle.krb_admission.specs.Clients.{client_of}
 use Rattle.sspi_core.specs.Usernames.{UserName, UserPrincipal, user_name, parsed}
 use Rattle.krb_ends.proofs.OctetsLemmas.{IsShort, short-nothing, short-append, short-tlv, short-field}

@@ -7,6 +7,7 @@ use Rattle.krb_crypto.specs.declared.suite.CipherSuite.{CipherSuite}
 use Rattle.krb_crypto.proofs.SealedLemmas.{is_sealed}
 use Rattle.krb_der.specs.Moment.{time_octets}
 use Rattle.krb_der.specs.Schema.{IsSound}
+use Rattle.krb_der.specs.Layout.{spelling}
 use Rattle.krb_messages.specs.Table.{encryption_key as encryption_key_kind}
 use Rattle.krb_messages.specs.Layouts.{encryption_key_row, principal_name_layout}
 use Rattle.krb_messages.specs.Frame.{with_length}
@@ -18,7 +19,7 @@ use Rattle.sspi_core.specs.declared.protocol.NetworkProtocol.TheVariants.{Tcp}
 use Rattle.krb_as.specs.declared.kdc.Kdc.{Kdc as Address}
 use Rattle.krb_as.specs.Replies.{Unwraps}
 use Rattle.krb_replies.specs.Realms.{referral_realm}
-use Rattle.krb_requests.specs.Pieces.{spelling, principal as name_with}
+use Rattle.krb_requests.specs.Pieces.{principal as name_with}
 use Rattle.krb_as.specs.declared.asker.Asker.{Asker}
 use Rattle.krb_tgs.specs.TgsAsked.{is_same_realm}
 use Rattle.krb_ends.specs.Answers.{IsDraw}
@@ -26,7 +27,8 @@ use Rattle.krb_ends.specs.HonestKdc.{Known, GrantsNext, HasKdc, Refers, Serves, 
 use Rattle.krb_ends.proofs.OctetsLemmas.{IsShort, IsOctets-back, short-nothing, short-append, short-tlv, short-field, short-more}
 use Rattle.krb_ends.proofs.HonestLemmas.{spells_itself}
 use Rattle.krb_kdc.specs.declared.grant.Grant.{Grant}
-use Rattle.krb_kdc.specs.Grants.{drawn_key, reply_confounder, reply_part, ticket_part, ticket, tgs_rep}
+use Rattle.krb_context.specs.Drawn.{drawn_key}
+use Rattle.krb_kdc.specs.Grants.{reply_confounder, reply_part, ticket_part, ticket, tgs_rep}
 use Rattle.krb_kdc.specs.Requests.{granting}
 use Rattle.krb_kdc_ends.specs.Granting.{IsSoundGrant, IsSoundClient}
 use Rattle.krb_kdc_ends.proofs.ErrorLemmas.{unwraps_tcp, ascii_octets, short-octet}

@@ -7,6 +7,7 @@ use Rattle.krb_aes.proofs.InjectiveLemmas.{none_octets, more_octets, IsOctets-ap
 use Rattle.krb_der.specs.Der.{tlv}
 use Rattle.krb_der.specs.Moment.{IsTime, time_octets}
 use Rattle.krb_der.specs.Schema.{IsSound}
+use Rattle.krb_der.specs.Layout.{spelling}
 use Rattle.krb_crypto.specs.Suite.{key_size, suite_number}
 use Rattle.krb_crypto.specs.Sealed.{sealed, IsSealed}
 use Rattle.krb_crypto.specs.declared.suite.CipherSuite.{CipherSuite}
@@ -22,26 +23,24 @@ use Rattle.sspi_core.specs.declared.draw.Draw.{Draw}
 use Rattle.sspi_core.specs.declared.protocol.NetworkProtocol.TheVariants.{Tcp}
 use Rattle.sspi_core.proofs.Chain.{follows, gives}
 use Rattle.krb_context.proofs.ChainLemmas.{takes_some}
-use Rattle.krb_replies.specs.Unseals.{suite_of}
+use Rattle.krb_replies.specs.Unseals.{suite_of_integer}
 use Rattle.krb_replies.specs.Salts.{TellsEtype}
 use Rattle.krb_as.specs.declared.asker.Asker.{Asker}
 use Rattle.krb_as.specs.Askers.{client_key}
-use Rattle.krb_requests.specs.Pieces.{spelling, sealed_data, encryption_key}
-use Rattle.krb_ends.proofs.HonestLemmas.{spells_itself, suite_of-number}
+use Rattle.krb_requests.specs.Pieces.{sealed_data, encryption_key}
+use Rattle.krb_ends.proofs.HonestLemmas.{spells_itself, suite_of_integer-number}
 use Rattle.krb_ends.proofs.RepLemmas.{short-number}
 use Rattle.krb_crypto.proofs.CtsInjective.{IsOctets-take}
 use Rattle.krb_kdc.specs.declared.grant.Grant.{Grant}
-use Rattle.krb_kdc.specs.Grants.{drawn_key, reply_confounder, reply_part, ticket, as_rep}
+use Rattle.krb_context.specs.Drawn.{drawn_key}
+use Rattle.krb_context.proofs.DrawnLemmas.{key_size_small}
+use Rattle.krb_kdc.specs.Grants.{reply_confounder, reply_part, ticket, as_rep}
 use Rattle.krb_kdc.proofs.Lengths.{time_short}
 use Rattle.krb_ends.specs.Answers.{IsDraw}
 use Rattle.krb_ends.specs.HonestKdc.{GrantsFirst}
 use Rattle.krb_kdc_ends.specs.Granting.{IsSoundGrant}
 use Rattle.krb_kdc_ends.proofs.ErrorLemmas.{unwraps_tcp, ascii_octets, short-octet}
 use Rattle.krb_ends.proofs.OctetsLemmas.{IsShort, IsOctets-back, IsOctets-drop, IsOctets-time, short-nothing, short-append, short-tlv, short-field, short-more}
-
-pub size_le : (suite : CipherSuite) → key_size suite ≤ 32
-size_le Aes128CtsHmacSha196 = lit≤ tt
-size_le Aes256CtsHmacSha196 = lit≤ tt
 
 pub short-time : (t : ℤ) → IsTime t → IsShort 15 (time_octets t)
 short-time t is = record { octets = IsOctets-time t is; short = time_short t }
@@ -52,14 +51,14 @@ data_sound suite cipher = (lit< tt, (tt, (tt, tt)))
 
 module _ (suite : CipherSuite) (realm : List ℕ) (draw : Draw) (d : IsDraw draw) where
   pub drawn_fits : length (drawn_key suite draw) ≡ key_size suite
-  drawn_fits = omega (arith, length-take (key_size suite) draw.random, d.size, size_le suite)
+  drawn_fits = omega (arith, length-take (key_size suite) draw.random, d.size, key_size_small suite)
 
   pub short-drawn : IsShort 32 (drawn_key suite draw)
-  short-drawn = record { octets = IsOctets-take (key_size suite) draw.random d.octets; short = omega (arith, drawn_fits, size_le suite) }
+  short-drawn = record { octets = IsOctets-take (key_size suite) draw.random d.octets; short = omega (arith, drawn_fits, key_size_small suite) }
 
   pub confounder_size : length (reply_confounder suite draw) ≡ 16
   confounder_size =
-      omega (arith, length-take 16 (drop (key_size suite + 16) draw.random), length-drop (key_size suite + 16) draw.random, d.size, size_le suite)
+      omega (arith, length-take 16 (drop (key_size suite + 16) draw.random), length-drop (key_size suite + 16) draw.random, d.size, key_size_small suite)
 
   pub confounder_octets : IsOctets (reply_confounder suite draw)
   confounder_octets = IsOctets-take 16 _ (IsOctets-drop (key_size suite + 16) draw.random d.octets)
@@ -117,7 +116,7 @@ module _ (suite : CipherSuite) (realm : List ℕ) (draw : Draw) (d : IsDraw draw
     tells key used =
         follows _ _ None _ (record { is = refl })
         (follows _ _ (suite_number suite ∷ [], used) _ (record { is = refl })
-        (follows _ _ suite _ (takes_some Etype (suite_of (suite_number suite ∷ [])) suite (suite_of-number suite)) (gives (suite_number suite, used))))
+        (follows _ _ suite _ (takes_some Etype (suite_of_integer (suite_number suite ∷ [])) suite (suite_of_integer-number suite)) (gives (suite_number suite, used))))
 
     -- the second reply of an honest KDC, to a client whose key this is
     pub grants_first : (asker : Asker) (used key : List ℕ) → client_key suite used asker.credentials ≡ key → length key ≡ key_size suite

@@ -4,7 +4,7 @@ use Rattle.std.specs.Int.{w32, to_be_bytes}
 use Rattle.md5.proofs.StandardFacts.{length-md5}
 use Rattle.krb_aes.specs.Octets.{IsOctets}
 use Rattle.krb_der.specs.Der.{tlv}
-use Rattle.krb_der.specs.Layout.{items_layout}
+use Rattle.krb_der.specs.Layout.{items_layout, spelling}
 use Rattle.krb_der.specs.Moment.{time_octets}
 use Rattle.krb_der.proofs.Lengths.{tlv_le, field_le, append_le}
 use Rattle.krb_crypto.proofs.SealedLemmas.{is_sealed, plain_shorter}
@@ -21,7 +21,7 @@ use Rattle.krb_exchange.specs.declared.kdc_req.KdcReqBody.{KdcReqBody}
 use Rattle.krb_exchange.specs.declared.pa_data.PaData.{PaData}
 use Rattle.sspi_core.specs.declared.draw.Draw.{Draw}
 use Rattle.krb_requests.specs.Bodies.{as_req_with}
-use Rattle.krb_requests.specs.Pieces.{spelling, sealed_data, Fits}
+use Rattle.krb_requests.specs.Pieces.{sealed_data, Fits}
 use Rattle.krb_authenticators.specs.ApRequests.{ap_req_with}
 use Rattle.krb_authenticators.specs.Authenticators.{authenticator, microseconds, number_octets}
 use Rattle.krb_authenticators.specs.TgsRequests.{over, body_checksum, tgs_req_with}

@@ -10,20 +10,22 @@ use Rattle.krb_crypto.proofs.CtsInjective.{IsOctets-take}
 use Rattle.krb_crypto.specs.Suite.{key_size}
 use Rattle.krb_crypto.specs.declared.suite.CipherSuite.{CipherSuite}
 use Rattle.krb_crypto.proofs.SealedLemmas.{is_sealed}
+use Rattle.krb_context.proofs.DrawnLemmas.{key_size_small}
 use Rattle.krb_der.specs.Moment.{IsTime, time_octets}
 use Rattle.krb_der.specs.Schema.{IsSound}
+use Rattle.krb_der.specs.Layout.{spelling}
 use Rattle.krb_messages.specs.Table.{encryption_key as encryption_key_kind, enc_ticket_part, transited_encoding}
 use Rattle.krb_messages.specs.Layouts.{encryption_key_row, enc_ticket_part_row, enc_ticket_part_layout, transited_encoding_row, principal_name_layout, ticket_layout}
 use Rattle.krb_messages.specs.declared.enc_ticket_part.EncTicketPart.{EncTicketPart}
 use Rattle.krb_messages.specs.declared.ticket.Ticket.{Ticket}
 use Rattle.sspi_core.specs.declared.draw.Draw.{Draw}
 use Rattle.krb_replay.specs.Clock.{in_microseconds, is_later}
-use Rattle.krb_requests.specs.Pieces.{spelling, principal as name_with}
+use Rattle.krb_requests.specs.Pieces.{principal as name_with}
 use Rattle.krb_tgs.specs.TgsAsked.{is_same_realm}
 use Rattle.krb_ends.specs.Answers.{IsDraw}
 use Rattle.krb_ends.specs.Offers.{Carries, IsServiceTicket}
 use Rattle.krb_ends.proofs.OctetsLemmas.{IsShort, IsOctets-drop, short-nothing, short-append, short-tlv, short-field, short-more}
-use Rattle.krb_ends.proofs.HonestLemmas.{spells_itself, suite_of-number, same_octets}
+use Rattle.krb_ends.proofs.HonestLemmas.{spells_itself, suite_of_integer-number, same_octets}
 use Rattle.krb_kdc.specs.declared.grant.Grant.{Grant}
 use Rattle.krb_kdc.specs.declared.kdc.Kdc.{Kdc}
 use Rattle.krb_kdc.specs.declared.kdc.Trust.{Trust}
@@ -34,10 +36,10 @@ use Rattle.krb_kdc.specs.Requests.{granting, is_granting}
 use Rattle.krb_kdc.specs.TgsChecks.{trust_key, key_from, ticket_key}
 use Rattle.krb_kdc.proofs.AsciiLemmas.{same_is}
 use Rattle.krb_kdc_ends.specs.Granting.{IsSoundClient}
-use Rattle.krb_kdc_ends.specs.Showing.{Opens}
+use Rattle.krb_kdc_ends.specs.Showing.{OpensAtKdc}
 use Rattle.krb_kdc_ends.proofs.AsLemmas.{granting_is}
 use Rattle.krb_kdc_ends.proofs.ErrorLemmas.{ascii_octets, short-octet}
-use Rattle.krb_kdc_ends.proofs.RepLemmas.{size_le, short-time, drawn_fits, now_is_time, short-key, short-flags}
+use Rattle.krb_kdc_ends.proofs.RepLemmas.{short-time, drawn_fits, now_is_time, short-key, short-flags}
 
 module _ (suite : CipherSuite) (realm : List ℕ) (draw : Draw) (d : IsDraw draw) (grant : Grant) (client : IsSoundClient grant.crealm grant.cname)
     (auth : IsTime grant.authtime) (end : IsTime grant.endtime) where
@@ -49,7 +51,7 @@ module _ (suite : CipherSuite) (realm : List ℕ) (draw : Draw) (d : IsDraw draw
 
   pub confounder_size : length (ticket_confounder suite draw) ≡ 16
   confounder_size =
-      omega (arith, length-take 16 (drop (key_size suite) draw.random), length-drop (key_size suite) draw.random, d.size, size_le suite)
+      omega (arith, length-take 16 (drop (key_size suite) draw.random), length-drop (key_size suite) draw.random, d.size, key_size_small suite)
 
   pub confounder_octets : IsOctets (ticket_confounder suite draw)
   confounder_octets = IsOctets-take 16 _ (IsOctets-drop (key_size suite) draw.random d.octets)
@@ -89,7 +91,7 @@ module _ (suite : CipherSuite) (realm : List ℕ) (draw : Draw) (d : IsDraw draw
     opened : IsOpened enc_ticket_part_layout suite grant.key 2 given.enc_part part
     unfolding ticket
     opened = let c = carries in record {
-      etype = suite_of-number suite;
+      etype = suite_of_integer-number suite;
       plain = c.plain;
       unsealed = record { key_fits = fits; sealed = c.sealed };
       read = c.read;
@@ -97,7 +99,7 @@ module _ (suite : CipherSuite) (realm : List ℕ) (draw : Draw) (d : IsDraw draw
 
     -- a KDC of this suite that knows the key
     pub opens : (kdc : Kdc) (now : ℕ) → kdc.suite ≡ suite → ticket_key kdc given ≡ Some grant.key → is_later (pos now) (in_microseconds grant.endtime) kdc.skew ≡ false
-        → IsSound ticket_layout.kind (ticket_layout.view given) → Opens kdc now given part
+        → IsSound ticket_layout.kind (ticket_layout.view given) → OpensAtKdc kdc now given part
     unfolding ticket_part
     opens kdc now is known lives sound = record {
       key = grant.key;
@@ -111,7 +113,7 @@ module _ (suite : CipherSuite) (realm : List ℕ) (draw : Draw) (d : IsDraw draw
     -- the service that has the key
     pub is_service_ticket : IsServiceTicket suite grant.key given part
     unfolding ticket ticket_part
-    is_service_ticket = record { etype = suite_of-number suite; key_fits = fits; carries = carries; session_key_fits = drawn_fits suite realm draw d }
+    is_service_ticket = record { etype = suite_of_integer-number suite; key_fits = fits; carries = carries; session_key_fits = drawn_fits suite realm draw d }
 
 -- ---- the key that a KDC knows
 

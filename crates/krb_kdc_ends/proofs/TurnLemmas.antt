@@ -1,4 +1,4 @@
--- The steps of a run that does not end for want of memory, over a network.
+-- The steps of a run that does not run out of memory, over a network.
 use Rattle.std.proofs.Common.{◌≡◌, ℕ, List, ◌∷◌, Option, Some, refl, subst, ap, ◌∙◌, Result, Err}
 use Rattle.url.specs.Parts.{serialize}
 use Rattle.krb_der.specs.Layout.{Layout}
@@ -72,7 +72,7 @@ module _ (seeker : Seeker) (out : Result InitDone Error) (run' : InitRun) (net' 
       let same : so.0 ≡ expected = (next_once (Seeks seeker) run.phase reply draw).same so.0 expected checks expects in
       record { state_is = so.2 ∙ ap state_of same; phase_is = so.3 ∙ ap (phase_of Over) same; stays = resumes.stays ∙ is }
 
-  -- a reply that memory was wanting for ends a run so
+  -- a reply for which memory ran out ends a run so
   pub no_memory : (run next : InitRun) (fault : NetFault) (draw : Draw) (state : GeneratorState NetworkRequest (Result InitDone Error)) (after : Net) (owns : List Draw)
       → run.initiation ≡ Seeks seeker → fault ≡ OutOfMemory → ResumesAt run (Err fault) draw state next
       → Next (Seeks seeker) run.phase (Err OutOfMemory) draw (Err Memory) → Runs state next after owns → ⊥

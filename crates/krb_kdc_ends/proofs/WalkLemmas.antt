@@ -1,6 +1,7 @@
 -- KDCs that lead to a service bring a run to its end, by induction on the referrals.
 use Rattle.std.proofs.Common.{◌≡◌, ℕ, suc, ◌+◌, ◌<◌, ◌≤◌, ◌^◌, false, List, [], ◌∷◌, length, Option, Some, None, refl, sym, subst, ap, ◌∙◌, arith, lit<, Result, Ok, Err}
 use Rattle.std.specs.Prelude.{option_map}
+use Rattle.krb_der.specs.Layout.{spelling}
 use Rattle.url.specs.Parts.{Parts}
 use Rattle.krb_aes.specs.Octets.{IsOctets}
 use Rattle.krb_crypto.specs.Suite.{key_size}
@@ -27,7 +28,7 @@ use Rattle.krb_as.specs.declared.kdc.Kdc.{Kdc as Address}
 use Rattle.krb_as.specs.Kdcs.{FindsKdc}
 use Rattle.krb_as.specs.Requests.{carried}
 use Rattle.krb_replies.specs.Realms.{referral_realm}
-use Rattle.krb_requests.specs.Pieces.{spelling, principal as name_with}
+use Rattle.krb_requests.specs.Pieces.{principal as name_with}
 use Rattle.krb_as.specs.declared.done.InitDone.{InitDone}
 use Rattle.krb_as.specs.declared.turn.Turn.TheVariants.{Asks, Ends}
 use Rattle.krb_as.specs.Turns.{IsWant}
@@ -46,7 +47,8 @@ use Rattle.krb_ends.proofs.FetchLemmas.{leg, refers, arrives}
 use Rattle.krb_kdc.specs.declared.grant.Grant.{Grant}
 use Rattle.krb_kdc.specs.declared.kdc.Kdc.{Kdc}
 use Rattle.krb_kdc.specs.declared.tgs_req.Target.{Target}
-use Rattle.krb_kdc.specs.Grants.{drawn_key, ticket_part, ticket}
+use Rattle.krb_context.specs.Drawn.{drawn_key}
+use Rattle.krb_kdc.specs.Grants.{ticket_part, ticket}
 use Rattle.krb_kdc.specs.Nets.{Net, AnswersWith}
 use Rattle.krb_kdc.specs.Requests.{granting}
 use Rattle.krb_kdc.specs.TgsChecks.{ticket_key, target_of, served as served_by, routed, referral_to}

@@ -2,6 +2,7 @@
 use Rattle.std.proofs.Common.{◌≡◌, ℕ, ◌+◌, ◌≤◌, ◌^◌, Bool, true, false, List, ◌∷◌, length, take, Option, Some, None, refl, sym, subst, ap, ◌∙◌, arith, Result, Ok, Err, if◌then◌else◌}
 use Rattle.std.specs.Prelude.{unwrap_or, ◌==◌}
 use Rattle.std.proofs.lemmas.List.{length-take}
+use Rattle.krb_der.specs.Layout.{spelling}
 use Rattle.url.specs.Parts.{Parts}
 use Rattle.krb_aes.specs.Octets.{IsOctets}
 use Rattle.krb_crypto.proofs.CtsInjective.{IsOctets-take}
@@ -34,7 +35,6 @@ use Rattle.krb_as.specs.Kdcs.{FindsKdc}
 use Rattle.krb_as.specs.Requests.{carried}
 use Rattle.krb_requests.specs.Bodies.{user_components, as_req_with}
 use Rattle.krb_requests.specs.PaDatas.{plain_pa_datas, timed_pa_datas}
-use Rattle.krb_requests.specs.Pieces.{spelling}
 use Rattle.krb_as.specs.declared.done.InitDone.{InitDone}
 use Rattle.krb_as.specs.declared.turn.Turn.TheVariants.{Asks}
 use Rattle.krb_as.specs.Asked.{first_request, second_request}
@@ -61,7 +61,8 @@ use Rattle.krb_ends.proofs.HonestLemmas.{same_octets}
 use Rattle.krb_kdc.specs.declared.grant.Grant.{Grant}
 use Rattle.krb_kdc.specs.declared.kdc.Kdc.{Kdc}
 use Rattle.krb_kdc.specs.Answering.{Answers}
-use Rattle.krb_kdc.specs.Grants.{drawn_key, ticket, as_rep}
+use Rattle.krb_context.specs.Drawn.{drawn_key}
+use Rattle.krb_kdc.specs.Grants.{ticket, as_rep}
 use Rattle.krb_kdc.specs.Nets.{Net, AnswersWith}
 use Rattle.krb_kdc.specs.Refusals.{hint, refusal}
 use Rattle.krb_kdc.specs.TgsChecks.{ticket_key}

@@ -1,6 +1,7 @@
 -- A client and the KDCs that lead it to a service: what each is asked, with which draws, and what it gives.
 use Rattle.std.specs.Prelude.{◌≡◌, ℕ, ◌+◌, ◌*◌, ◌≤◌, ◌^◌, false, List, [], ◌∷◌, length, take, Option, Some, None, Result, Ok, unwrap_or}
 use Rattle.std.specs.List.{AllByRecursion}
+use Rattle.krb_der.specs.Layout.{spelling}
 use Rattle.url.specs.Parts.{Parts, serialize}
 use Rattle.krb_crypto.specs.declared.suite.CipherSuite.{CipherSuite}
 use Rattle.krb_conf.specs.Names.{target_parts}
@@ -24,7 +25,7 @@ use Rattle.krb_as.specs.Kdcs.{FindsKdc}
 use Rattle.krb_replies.specs.Realms.{referral_realm}
 use Rattle.krb_requests.specs.Bodies.{user_components, as_req_with}
 use Rattle.krb_requests.specs.PaDatas.{plain_pa_datas, timed_pa_datas}
-use Rattle.krb_requests.specs.Pieces.{spelling, principal as name_with}
+use Rattle.krb_requests.specs.Pieces.{principal as name_with}
 use Rattle.krb_as.specs.declared.asker.Asker.{Asker}
 use Rattle.krb_as.specs.declared.done.InitDone.{InitDone}
 use Rattle.krb_as.specs.Askers.{asker_suite, default_salt, sized_key}
@@ -44,7 +45,8 @@ use Rattle.krb_kdc.specs.declared.kdc.Route.{Route}
 use Rattle.krb_kdc.specs.declared.kdc.Trust.{Trust}
 use Rattle.krb_kdc.specs.declared.tgs_req.Target.{Target}
 use Rattle.krb_kdc.specs.Answering.{first_grant, next_grant}
-use Rattle.krb_kdc.specs.Grants.{drawn_key, ticket_part, as_rep, tgs_rep}
+use Rattle.krb_context.specs.Drawn.{drawn_key}
+use Rattle.krb_kdc.specs.Grants.{ticket_part, as_rep, tgs_rep}
 use Rattle.krb_kdc.specs.Nets.{Net, kdc_at, Sends}
 use Rattle.krb_kdc.specs.Refusals.{hint, refusal}
 use Rattle.krb_kdc.specs.Registers.{principal_with, trust_in, route_to}

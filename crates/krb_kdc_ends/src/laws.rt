@@ -12,14 +12,15 @@ ghost use Rattle.krb_exchange.specs.declared.kdc_req.KdcReqBody.{KdcReqBody};
 ghost use Rattle.krb_exchange.specs.Layouts.{as_req_layout, as_rep_layout, tgs_req_layout, tgs_rep_layout};
 ghost use Rattle.sspi_core.specs.declared.draw.Draw.{Draw};
 ghost use Rattle.sspi_core.specs.Moments.{last_moment};
-ghost use Rattle.krb_requests.specs.Pieces.{spelling, principal as name_with};
+ghost use Rattle.krb_requests.specs.Pieces.{principal as name_with};
 ghost use Rattle.krb_requests.specs.PaDatas.{plain_pa_datas, timed_pa_datas};
 ghost use Rattle.krb_requests.specs.Bodies.{as_req_with, user_components};
 ghost use Rattle.krb_kdc.specs.declared.kdc.Kdc.{Kdc};
 ghost use Rattle.krb_kdc.specs.declared.kdc.Principal.{Principal};
 ghost use Rattle.krb_kdc.specs.declared.tgs_req.Target.{Target};
 ghost use Rattle.krb_kdc.specs.Answering.{Answers, first_grant, next_grant};
-ghost use Rattle.krb_kdc.specs.Grants.{as_rep, tgs_rep, drawn_key, ticket_part, ticket};
+ghost use Rattle.krb_context.specs.Drawn.{drawn_key};
+ghost use Rattle.krb_kdc.specs.Grants.{as_rep, tgs_rep, ticket_part, ticket};
 ghost use Rattle.krb_kdc.specs.Refusals.{hint, refusal};
 ghost use Rattle.krb_authenticators.specs.TgsRequests.{tgs_req};
 ghost use Rattle.krb_as.specs.declared.client.Client.{Client as Credentialed};
@@ -35,7 +36,7 @@ ghost use Rattle.krb_as.specs.Askers.{client_key, default_salt};
 ghost use Rattle.krb_ends.specs.Answers.{IsDraw, AdmitsOnly, AreNew, EndsWellIn};
 ghost use Rattle.krb_ends.specs.HonestKdc.{AnswersError, GrantsFirst, Known, HasKdc, Refers, Serves, service_of};
 ghost use Rattle.krb_kdc_ends.specs.Granting.{IsSoundGrant, IsSoundClient};
-ghost use Rattle.krb_kdc_ends.specs.Showing.{Opens, IsHolder, AsksNext};
+ghost use Rattle.krb_kdc_ends.specs.Showing.{OpensAtKdc, IsHolder, AsksNext};
 ghost use Rattle.sspi_core.specs.declared.cause.Cause.{Cause};
 ghost use Rattle.sspi_core.specs.declared.error.Error.{Error};
 ghost use Rattle.sspi_core.specs.declared.identity.CredentialsBuffers.{CredentialsBuffers};
@@ -71,6 +72,7 @@ ghost use Rattle.krb_kdc.specs.Requests.{granting};
 ghost use Rattle.krb_kdc.specs.TgsChecks.{target_of};
 ghost use Rattle.krb_kdc_ends.specs.Example.{example_seeker, example_pairs, example_draws, service_octets, example_user};
 ghost use Rattle.std.proofs.Common.{Global};
+ghost use Rattle.krb_der.specs.Layout.{spelling};
 ghost use Rattle.sspi_generator.specs.Draws.{AreInRange};
 ghost use Rattle.krb_kdc_ends.specs.Fetching.{body_at, Draws, of_client, of_kdcs, CanFetch, HasFetched, SendsTo};
 
@@ -99,7 +101,7 @@ pub fn clients_with_their_key_are_granted_a_ticket()
 /// A holder of a ticket that the KDC opens, whose clock and the KDC's are near, is given the ticket that it asks for.
 pub fn holders_of_tickets_are_served()
     ensures { (kdc : Kdc) (ticket : Ticket) (part : EncTicketPart) (moment : ℕ) (body : KdcReqBody) (authenticator : Authenticator) (confounder : List ℕ)
-        (target : Target) (draw : Draw) (reply : List ℕ) → Opens kdc draw.moment ticket part → IsHolder part moment body authenticator confounder
+        (target : Target) (draw : Draw) (reply : List ℕ) → OpensAtKdc kdc draw.moment ticket part → IsHolder part moment body authenticator confounder
         → AsksNext kdc moment body target → IsFairSkew kdc.skew → AreNear kdc.skew moment draw.moment
         → length (spelling tgs_req_layout (tgs_req kdc.suite part.key.key_value confounder ticket authenticator body)) + 4 ≤ 2 ^ 24
         → Answers kdc (with_length (spelling tgs_req_layout (tgs_req kdc.suite part.key.key_value confounder ticket authenticator body))) draw reply
@@ -170,12 +172,12 @@ pub fn tickets_are_opened()
     ensures own { (kdc : Kdc) (realm nonce : List ℕ) (draw : Draw) (grant : Grant) (now : ℕ) → IsDraw draw → IsSoundGrant realm nonce grant
         → IsSoundClient grant.crealm grant.cname → realm ≡ kdc.realm → grant.sname ≡ name_with 2 (granting kdc.realm) → grant.key ≡ kdc.tgt_key
         → is_later (pos now) (in_microseconds grant.endtime) kdc.skew ≡ false
-        → Opens kdc now (ticket kdc.suite realm draw grant) (ticket_part kdc.suite draw grant) }
+        → OpensAtKdc kdc now (ticket kdc.suite realm draw grant) (ticket_part kdc.suite draw grant) }
     ensures next { (kdc next : Kdc) (nonce : List ℕ) (draw : Draw) (grant : Grant) (back : Trust) (now : ℕ) → IsDraw draw → IsSoundGrant kdc.realm nonce grant
         → IsSoundClient grant.crealm grant.cname → is_same_realm kdc.realm next.realm ≡ false → grant.sname ≡ name_with 2 (granting next.realm)
         → trust_in kdc.realm next.trusts ≡ Some back → grant.key ≡ back.key
         → is_later (pos now) (in_microseconds grant.endtime) next.skew ≡ false
-        → Opens next now (ticket next.suite kdc.realm draw grant) (ticket_part next.suite draw grant) }
+        → OpensAtKdc next now (ticket next.suite kdc.realm draw grant) (ticket_part next.suite draw grant) }
 {}
 
 /// A run over a network of KDCs that lead to a service ends out of memory or with the service's ticket: the KDCs' replies are

@@ -102,7 +102,7 @@ impl Keytab {
     }
 
     /// Puts the keys of `service_keys` behind the further keys of an acceptor, and answers how many they are; the number stands
-    /// still at 2^32 - 1. At want of memory the properties are as before. The keys that are there are copied once.
+    /// still at 2^32 - 1. If memory runs out the properties are as before. The keys that are there are copied once.
     pub fn install(
         &self,
         alloc: Global,

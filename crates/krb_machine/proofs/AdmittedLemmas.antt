@@ -26,21 +26,20 @@ use Rattle.krb_replay.specs.History.{History, verdict_of}
 use Rattle.krb_replay.specs.Verdicts.{is_admitted}
 use Rattle.krb_replay.specs.declared.ask.Verdict.{Verdict}
 use Rattle.krb_replay.specs.declared.ask.Verdict.TheVariants.{Admitted, Skew, NotYet, Expired, Replayed}
-use Rattle.krb_replies.specs.Unseals.{suite_of, own_key, Unseals, Opens}
-use Rattle.krb_admission.specs.Accepts.{asks_dce_style, Begins, Finishes, Judged, Asks, refusal}
+use Rattle.krb_replies.specs.Unseals.{suite_of_integer, own_key, Unseals, OpensSealed, OpensData}
+use Rattle.krb_admission.specs.Accepts.{asks_dce_style, BeginsAdmission, FinishesAdmission, Judged, Asks, refusal}
 use Rattle.krb_admission.specs.Admission.{reply_message, token_with, state_behind, status_in, admission_of, answer_for, mutual_admission, one_way_admission}
 use Rattle.krb_admission.specs.Clients.{client_of}
 use Rattle.krb_admission.specs.Complete.{is_known_options, is_mutual, has_good_subkey, Completes}
-use Rattle.krb_admission.specs.Opens.{OpensData}
 use Rattle.krb_admission.specs.Requests.{is_same_client, OpensTicket, OpensAuthenticator, Requests, ask_of}
-use Rattle.krb_admission.specs.Tokens.{IsApReq, Receives}
+use Rattle.krb_admission.specs.Tokens.{IsApReq, ReceivesApReq}
 use Rattle.krb_admission.specs.declared.admission.Answer.{Answer}
 use Rattle.krb_admission.specs.declared.admission.Admission.{Admission}
 use Rattle.krb_admission.specs.declared.request.Request.{Request}
 use Rattle.krb_admission.proofs.Begun.{passed, opened}
 use Rattle.krb_admission.proofs.Once.{begins_once}
 use Rattle.krb_admission.proofs.Steps.{completed}
-use Rattle.krb_server.specs.Whole.{RunsAs, accepted_as, answered_as, Makes as MakesWhole}
+use Rattle.krb_server.specs.Whole.{RunsAs, accepted_as, answered_as, AcceptsToken}
 use Rattle.krb_server.specs.declared.accept.Accepted.{Accepted}
 use Rattle.krb_user_to_user.specs.declared.request.Beginning.{Beginning}
 use Rattle.krb_script.specs.declared.item.Event.{Event}
@@ -80,7 +79,7 @@ held_true cause false u h = let e = h.is in absurd cc
 same_ok : {A : Type 0} (x y : A) → ◌≡◌ {A = Result A Cause} (Ok x) (Ok y) → x ≡ y
 same_ok x y h = cc
 
-data_suite : {A : Type 0} (layout : Layout A) (key : List ℕ) (usage : ℕ) (part : EncryptedData) (x : CipherSuite × A) → OpensData layout key usage part (Ok x) → suite_of part.etype ≡ Some x.0
+data_suite : {A : Type 0} (layout : Layout A) (key : List ℕ) (usage : ℕ) (part : EncryptedData) (x : CipherSuite × A) → OpensData layout key usage part (Ok x) → suite_of_integer part.etype ≡ Some x.0
 unfolding OpensData
 data_suite {A} layout key usage part x h =
     let a = passed _ _ _ h in
@@ -96,10 +95,10 @@ encryption layout key usage part x h =
 
 -- and what was encrypted so is opened
 opens : {A : Type 0} (layout : Layout A) (suite : CipherSuite) (key : List ℕ) (usage : ℕ) (value : A) (part : EncryptedData) → IsEncryptionOf layout suite key usage value part → OpensData layout key usage part (Ok (suite, value))
-unfolding OpensData Opens Unseals
+unfolding OpensData OpensSealed Unseals
 opens layout suite key usage value part is =
     let long : nat_le 28 (length part.cipher) ≡ true = le-leb 28 (length part.cipher) (omega (arith, plain_shorter suite key usage part.cipher is.plain is.sealed)) in
-    follows _ _ suite _ (takes_some Etype (suite_of part.etype) suite is.suite_is)
+    follows _ _ suite _ (takes_some Etype (suite_of_integer part.etype) suite is.suite_is)
     (follows _ _ value _
     (follows _ _ is.plain _
     (follows _ _ tt _ (holds_true own_key.key_length (length key == key_size suite) (eq-eqb (length key) (key_size suite) is.key_fits))
@@ -141,8 +140,8 @@ record ReceivedToken (dce : Bool) (token : List ℕ) (message : ApReq) : Type 0 
   short : length token ≤ 2 ^ 24
   is_ap_req : IsApReq dce token message
 
-received_token : (dce : Bool) (token : List ℕ) (message : ApReq) → Receives dce token (Ok message) → ReceivedToken dce token message
-unfolding Receives
+received_token : (dce : Bool) (token : List ℕ) (message : ApReq) → ReceivesApReq dce token (Ok message) → ReceivedToken dce token message
+unfolding ReceivesApReq
 received_token dce token message h =
     let r = passed _ _ _ h in
     record { short = leb-true (length token) 16777216 (held_true _ _ _ r.held); is_ap_req = r.rest.is }
@@ -170,7 +169,7 @@ genuine_found server dce token request h =
     })
 
 genuine_requests : (server : ServerProperties) (dce : Bool) (token : List ℕ) (request : Request) → IsGenuine server dce token request → Requests server dce token (Ok request)
-unfolding Requests OpensTicket OpensAuthenticator Receives
+unfolding Requests OpensTicket OpensAuthenticator ReceivesApReq
 genuine_requests server dce token request g =
     follows _ _ request.message _
     (follows _ _ tt _ (holds_true Shape (nat_le (length token) 16777216) (le-leb (length token) 16777216 g.short)) (record { is = g.is_ap_req }))
@@ -191,23 +190,23 @@ record Waiting (context : Kerberos) (dce : Bool) (token : List ℕ) (request : R
   has : context.server ≡ Some server
   genuine : IsGenuine server dce token request
 
-waiting_found : (context : Kerberos) (dce : Bool) (token : List ℕ) (request : Request) → Begins context dce token (Ok request) → Waiting context dce token request
-unfolding Begins
+waiting_found : (context : Kerberos) (dce : Bool) (token : List ℕ) (request : Request) → BeginsAdmission context dce token (Ok request) → Waiting context dce token request
+unfolding BeginsAdmission
 waiting_found context dce token request h =
     let a = passed _ _ _ h in
     let b = passed _ _ _ a.rest in
     record { waits = held_true _ _ _ a.held; server = b.found; has = taken _ _ _ b.held; genuine = genuine_found b.found dce token request b.rest }
 
-begins_there : (context : Kerberos) (dce : Bool) (token : List ℕ) (request : Request) → Waiting context dce token request → Begins context dce token (Ok request)
-unfolding Begins
+begins_there : (context : Kerberos) (dce : Bool) (token : List ℕ) (request : Request) → Waiting context dce token request → BeginsAdmission context dce token (Ok request)
+unfolding BeginsAdmission
 begins_there context dce token request w =
     follows _ _ tt _ (holds_true Sequence (is_waiting context.state) w.waits)
     (follows _ _ w.server _ (takes_some Sequence context.server w.server w.has) (genuine_requests w.server dce token request w.genuine))
 
 -- ---- what is in order
 
-in_order_found : (context : Kerberos) (dce : Bool) (draw : Draw) (request : Request) (admission : Admission) → Finishes context dce draw request (Ok admission) → IsInOrder request
-unfolding Finishes Completes
+in_order_found : (context : Kerberos) (dce : Bool) (draw : Draw) (request : Request) (admission : Admission) → FinishesAdmission context dce draw request (Ok admission) → IsInOrder request
+unfolding FinishesAdmission Completes
 in_order_found context dce draw request admission h =
     let c = passed _ _ _ h in
     let t = passed _ _ _ c.held in
@@ -216,8 +215,8 @@ in_order_found context dce draw request admission h =
     record { client = t.found; named = taken _ _ _ t.held; options = held_true _ _ _ o.held; subkey = held_true _ _ _ s.held }
 
 finishes_there : (context : Kerberos) (dce : Bool) (draw : Draw) (request : Request) (o : IsInOrder request)
-    → Finishes context dce draw request (Ok (admission_of dce context.krb5_user_to_user context.seq_number draw request o.client))
-unfolding Finishes Completes
+    → FinishesAdmission context dce draw request (Ok (admission_of dce context.krb5_user_to_user context.seq_number draw request o.client))
+unfolding FinishesAdmission Completes
 finishes_there context dce draw request o =
     follows _ _ o.client _
     (follows _ _ o.client _ (takes_some ClientName (client_of request.authenticator.cname request.authenticator.crealm) o.client o.named)
@@ -246,7 +245,7 @@ admits_by false dce user_to_user number draw request = refl
 admits_it : (dce user_to_user : Bool) (number : ℕ) (draw : Draw) (request : Request) → admits_peer (admitted_reply dce user_to_user number draw request) ≡ true
 admits_it dce user_to_user number draw request = admits_by (is_mutual request.message.ap_options) dce user_to_user number draw request
 
-judged_there : (server : Kerberos) (dce : Bool) (token : List ℕ) (draw : Draw) (request : Request) (admission : Admission) → Begins server dce token (Ok request) → Finishes server dce draw request (Ok admission)
+judged_there : (server : Kerberos) (dce : Bool) (token : List ℕ) (draw : Draw) (request : Request) (admission : Admission) → BeginsAdmission server dce token (Ok request) → FinishesAdmission server dce draw request (Ok admission)
     → Judged server dce token draw Admitted (Ok admission)
 unfolding Judged
 judged_there server dce token draw request admission begun finished = follows _ _ request _ begun (follows _ _ tt _ (record { is = refl }) finished)
@@ -299,12 +298,12 @@ record Passing (skew moment : ℕ) (h : History) (context : Kerberos) (dce : Boo
   in_order : IsInOrder request
 
 judged_passing : (skew : ℕ) (h after : History) (context : Kerberos) (dce : Bool) (token : List ℕ) (draw : Draw) (verdict : Verdict) (request : Result Request Cause) (admission : Admission)
-    → Begins context dce token request → Asks (Remembers skew) draw.moment h request verdict after → Judged context dce token draw verdict (Ok admission) → Passing skew draw.moment h context dce token
+    → BeginsAdmission context dce token request → Asks (Remembers skew) draw.moment h request verdict after → Judged context dce token draw verdict (Ok admission) → Passing skew draw.moment h context dce token
 unfolding Judged
 judged_passing skew h after context dce token draw verdict (Ok request) admission begun asks judged =
     let same : judged.middle ≡ Ok request = (begins_once context dce token).same judged.middle (Ok request) judged.held begun in
-    let R : Result Request Cause → Type 0 = λ m. Goes (λ (request : Request). Passes (refusal verdict) >> Finishes context dce draw request) m (Ok admission) in
-    let both : (Passes (refusal verdict) >> Finishes context dce draw request) (Ok admission) = subst R same judged.rest in
+    let R : Result Request Cause → Type 0 = λ m. Goes (λ (request : Request). Passes (refusal verdict) >> FinishesAdmission context dce draw request) m (Ok admission) in
+    let both : (Passes (refusal verdict) >> FinishesAdmission context dce draw request) (Ok admission) = subst R same judged.rest in
     let rest = passed _ _ _ both in
     record {
       request = request;
@@ -314,7 +313,7 @@ judged_passing skew h after context dce token draw verdict (Ok request) admissio
     }
 judged_passing skew h after context dce token draw verdict (Err cause) admission begun asks judged =
     let same : judged.middle ≡ Err cause = (begins_once context dce token).same judged.middle (Err cause) judged.held begun in
-    let R : Result Request Cause → Type 0 = λ m. Goes (λ (request : Request). Passes (refusal verdict) >> Finishes context dce draw request) m (Ok admission) in
+    let R : Result Request Cause → Type 0 = λ m. Goes (λ (request : Request). Passes (refusal verdict) >> FinishesAdmission context dce draw request) m (Ok admission) in
     let refused : ◌≡◌ {A = Result Admission Cause} (Ok admission) (Err cause) = subst R same judged.rest in
     absurd (cc)
 
@@ -323,7 +322,7 @@ no_run (Ok beginning) answer accepted runs is = let e = sym runs.1 ∙ is in abs
 no_run (Err cause) answer accepted runs is = let e = sym runs ∙ is in absurd (cc)
 
 made_passing : (skew : ℕ) (context : Kerberos) (dce : Bool) (token : List ℕ) (env : Env) (draw : Draw) (old : History) (found : Option TgtReq) (answer : Result Accepted Cause) (context' : Kerberos) (new : History)
-    → MakesWhole (Remembers skew) context dce token env draw old found answer context' new → (accepted : Answer) → answer ≡ Ok (accepted_as accepted) → admits_peer (reply_of (Ok accepted)) ≡ true
+    → AcceptsToken (Remembers skew) context dce token env draw old found answer context' new → (accepted : Answer) → answer ≡ Ok (accepted_as accepted) → admits_peer (reply_of (Ok accepted)) ≡ true
     → Passing skew draw.moment old context dce token
 made_passing skew context dce token env draw old (Some tgt_req) answer context' new made accepted is done = absurd (no_run made.0.beginning answer accepted made.0.runs is)
 made_passing skew context dce token env draw old None answer context' new made accepted is done =

@@ -5,7 +5,7 @@ use Rattle.krb_replay.specs.History.{History, verdict_of}
 use Rattle.krb_replay.specs.Records.{IsDistinct}
 use Rattle.krb_replay.specs.declared.record.Record.{Record}
 use Rattle.krb_replay.specs.declared.ask.Verdict.TheVariants.{Admitted}
-use Rattle.krb_admission.specs.Accepts.{asks_dce_style, Begins, Finishes}
+use Rattle.krb_admission.specs.Accepts.{asks_dce_style, BeginsAdmission, FinishesAdmission}
 use Rattle.krb_admission.specs.Admission.{answer_for}
 use Rattle.krb_admission.specs.Requests.{ask_of}
 use Rattle.krb_admission.specs.declared.admission.Admission.{Admission}
@@ -34,8 +34,8 @@ book-left-once before after events replies h runs stands =
 
 pub book-passing-done : (before after : State Book) (h : History) (event : Event) (reply : Reply) (connection : Connection) (token : List ℕ) (request : Request) (admission : Admission) → StandsFor before.gate h
     → Steps (Follows StandsFor) before event reply after → reached before.connections event ≡ Ok (connection, token)
-    → Begins connection.context (asks_dce_style (server_flags event.flags)) token (Ok request) → verdict_of before.gate.skew h (ask_of request event.moment) ≡ Admitted
-    → Finishes connection.context (asks_dce_style (server_flags event.flags)) (draw_of event) request (Ok admission) → reply ≡ reply_of (Ok (answer_for admission))
+    → BeginsAdmission connection.context (asks_dce_style (server_flags event.flags)) token (Ok request) → verdict_of before.gate.skew h (ask_of request event.moment) ≡ Admitted
+    → FinishesAdmission connection.context (asks_dce_style (server_flags event.flags)) (draw_of event) request (Ok admission) → reply ≡ reply_of (Ok (answer_for admission))
 book-passing-done before after h event reply connection token request admission stands step reaches begun admitted finished =
     let skew = before.gate.skew in
     let m = step-remembered skew before h event reply after stands refl step in

@@ -23,7 +23,7 @@ use Rattle.krb_script.specs.declared.input.Input.{Input}
 use Rattle.krb_script.specs.declared.input.Input.TheVariants as inputs
 use Rattle.krb_machine.specs.MessageCalls.{is_call, IsSealedBy, IsOpenedBy, IsSignedBy, verified, Calls}
 use Rattle.krb_machine.specs.Exchanges.{awaits, answer_of}
-use Rattle.krb_machine.specs.Policy.{State, ◌>>=◌, check, token_of, is_initiating, is_initiator, reached, ready, AnswersCall, Behind, Judges, TakesPart, StepsOnward, StepsBy, Steps}
+use Rattle.krb_machine.specs.Policy.{State, ◌>>=◌, check, input_token, is_initiating, is_initiator, reached, ready, AnswersCall, Behind, Judges, TakesPart, StepsOnward, StepsBy, Steps}
 use Rattle.sspi_core.specs.Moments.{last_moment}
 use Rattle.krb_machine.specs.Reply.{admits_peer}
 use Rattle.krb_machine.specs.declared.connection.Connection.{Connection}
@@ -59,7 +59,7 @@ nothing_follows : (found : Result Connection Cause) (x : Connection × List ℕ)
 nothing_follows (Ok connection) x e = no_token connection (check causes.Sequence (is_acceptor connection.context)) x e
 nothing_follows (Err cause) x e = absurd (cc)
 
-no_call : (input : Input) (found : Result Connection Cause) (x : Connection × List ℕ) → behind (token_of input) found ≡ Ok x → (is_call input ≡ false) × (answer_of input ≡ None)
+no_call : (input : Input) (found : Result Connection Cause) (x : Connection × List ℕ) → behind (input_token input) found ≡ Ok x → (is_call input ≡ false) × (answer_of input ≡ None)
 no_call (inputs.Token octets) found x e = (refl, refl)
 no_call inputs.Start found x e = (refl, refl)
 no_call (inputs.KdcReply octets) found x e = absurd (nothing_follows found x e)
@@ -87,7 +87,7 @@ judged_at at (Err cause) brought x stands e = absurd (cc)
 pub reached-acceptor : (connections : List (ℕ × Connection)) (event : Event) (connection : Connection) (token : List ℕ) → reached connections event ≡ Ok (connection, token)
     → is_initiator event.connection connections ≡ false
 reached-acceptor connections event connection token e =
-    judged_at (at_id event.connection connections) (ready connections event) (token_of event.input) (connection, token)
+    judged_at (at_id event.connection connections) (ready connections event) (input_token event.input) (connection, token)
     (λ c is. stands_by (check causes.Moment (nat_le event.moment last_moment)) (at_id event.connection connections) c is) e
 
 -- and is no call, and nothing that the network brings

@@ -3,7 +3,7 @@ use Rattle.std.proofs.Common.{◌≡◌, ℕ, Bool, true, List, Option, Some, No
 use Rattle.std.specs.Ordering.{nat_cmp}
 use Rattle.std.specs.BTreeMap.{is_at}
 use Rattle.std.specs.Map.{set_value}
-use Rattle.krb_server.specs.Whole.{accepted_as, answered_as, Makes, AcceptsWhole}
+use Rattle.krb_server.specs.Whole.{accepted_as, answered_as, AcceptsToken, AcceptsWhole}
 use Rattle.krb_server.specs.declared.accept.Accepted.{Accepted}
 use Rattle.krb_server.specs.declared.accept.Accepted.TheVariants as taken
 use Rattle.krb_conf.specs.declared.env.Env.{Env}
@@ -30,7 +30,7 @@ use Rattle.sspi_core.specs.declared.draw.Draw.{Draw}
 use Rattle.sspi_core.specs.declared.error.Error.{Error}
 use Rattle.sspi_core.specs.declared.error.Place.TheVariants.{Elsewhere}
 use Rattle.sspi_generator.specs.declared.network.NetFault.{NetFault}
-use Rattle.krb_machine.specs.Exchanges.{LeadsTo, Opens, GoesOn, StopsAt}
+use Rattle.krb_machine.specs.Exchanges.{LeadsTo, OpensExchange, GoesOn, StopsAt}
 use Rattle.krb_machine.specs.Initiations.{options_of, SetsOut, Undertakes}
 use Rattle.krb_machine.specs.Policy.{State, Settles, TakesAnswer, TakesTurn, draw_of, reply_of}
 use Rattle.krb_machine.specs.Reply.{admits_peer}
@@ -70,7 +70,7 @@ leads_once connection (Asks request run) r s a b h k = (h.0 ∙ sym k.0, h.1 ∙
 leads_once connection (Ends value) r s a b h k = (h.0 ∙ sym k.0, h.1 ∙ sym k.1)
 leads_once connection (Refuses error) r s a b h k = (h.0 ∙ sym k.0, h.1 ∙ sym k.1)
 
-opens_once : (connection : Connection) (run : Run) (draw : Draw) (r s : Reply) (a b : Connection) → Opens connection run draw r a → Opens connection run draw s b → (r ≡ s) × (a ≡ b)
+opens_once : (connection : Connection) (run : Run) (draw : Draw) (r s : Reply) (a b : Connection) → OpensExchange connection run draw r a → OpensExchange connection run draw s b → (r ≡ s) × (a ≡ b)
 opens_once connection run draw r s a b h k =
     let L : Step → Type 0 = λ t. LeadsTo connection t s b in
     leads_once connection h.step r s a b h.leads (subst L (sym (one_beginning run draw h.step k.step h.begins k.begins)) k.leads)
@@ -88,7 +88,7 @@ same_initiation x y i p =
 sets_out_once : (connection : Connection) (draw : Draw) (answer : Result Initiation Cause) (r s : Reply) (a b : Connection) → SetsOut connection draw answer r a → SetsOut connection draw answer s b → (r ≡ s) × (a ≡ b)
 sets_out_once connection draw (Ok initiation) r s a b h k =
     let same = same_initiation k.0 h.0 (k.1 ∙ sym h.1) (k.2 ∙ sym h.2) in
-    let O : InitRun → Type 0 = λ run. Opens connection (Initiating run) draw s b in
+    let O : InitRun → Type 0 = λ run. OpensExchange connection (Initiating run) draw s b in
     opens_once connection (Initiating h.0) draw r s a b h.3 (subst O same k.3)
 sets_out_once connection draw (Err cause) r s a b h k = (h.0 ∙ sym k.0, h.1 ∙ sym k.1)
 
@@ -115,7 +115,7 @@ run_told (Ok x) run e = cc
 run_told (Err cause) run e = absurd (cc)
 
 module _ {G : Type 0} (admits : G → Ask → Verdict → G → Type 0) (is_same : G → G → Type 0) (same : (g : G) → is_same g g) (server : Kerberos) (dce : Bool) (token : List ℕ) (env : Env) (draw : Draw) (old : G) (server' : Kerberos) (new : G) where
-  run_leaves : (found : Option TgtReq) (answer : Result Accepted Cause) (run : AcceptRun) → answer ≡ Ok (taken.Run run) → Makes admits server dce token env draw old found answer server' new → (server' ≡ server) × is_same old new
+  run_leaves : (found : Option TgtReq) (answer : Result Accepted Cause) (run : AcceptRun) → answer ≡ Ok (taken.Run run) → AcceptsToken admits server dce token env draw old found answer server' new → (server' ≡ server) × is_same old new
   run_leaves (Some tgt_req) answer run is made = (made.1, subst (λ (g : G). is_same old g) (sym made.2) (same old))
   run_leaves None answer run is made = absurd (no_run_judged made.judged run (sym is ∙ made.answer_is))
 

@@ -8,10 +8,10 @@ use Rattle.krb_replay.specs.Verdicts.{is_admitted}
 use Rattle.krb_replay.specs.declared.ask.Ask.{Ask}
 use Rattle.krb_replay.specs.declared.ask.Verdict.{Verdict}
 use Rattle.krb_admission.proofs.Once.{begins_once, one_outcome_lem}
-use Rattle.krb_admission.specs.Accepts.{Asks, Begins, Finishes, Judged, Makes, Ends, refusal, asks_dce_style}
+use Rattle.krb_admission.specs.Accepts.{Asks, BeginsAdmission, FinishesAdmission, Judged, MakesAnswer, Ends, refusal, asks_dce_style}
 use Rattle.krb_admission.proofs.Steps.{waits}
 use Rattle.krb_admission.specs.Requests.{ask_of}
-use Rattle.krb_server.specs.Whole.{JudgesOther, answered_as, Makes as MakesWhole}
+use Rattle.krb_server.specs.Whole.{JudgesOther, answered_as, AcceptsToken}
 use Rattle.krb_server.specs.declared.accept.Accepted.{Accepted}
 use Rattle.krb_conf.specs.declared.env.Env.{Env}
 use Rattle.krb_exchange.specs.declared.user_to_user.TgtReq.{TgtReq}
@@ -35,17 +35,17 @@ use Rattle.krb_machine.proofs.ExchangeLemmas.{settles_admitted, settles_refused,
 use Rattle.krb_machine.proofs.LeftLemmas.{made_admission, judged-other, passed_admitted}
 
 -- what passes is admitted by the gate
-admitted_by : (server : Kerberos) (dce : Bool) (token : List ℕ) (draw : Draw) (verdict : Verdict) (request : Request) (admission : Admission) → Begins server dce token (Ok request)
+admitted_by : (server : Kerberos) (dce : Bool) (token : List ℕ) (draw : Draw) (verdict : Verdict) (request : Request) (admission : Admission) → BeginsAdmission server dce token (Ok request)
     → Judged server dce token draw verdict (Ok admission) → is_admitted verdict ≡ true
 unfolding Judged
 admitted_by server dce token draw verdict request admission begun judged =
     let same : judged.middle ≡ Ok request = (begins_once server dce token).same judged.middle (Ok request) judged.held begun in
-    let R : Result Request Cause → Type 0 = λ m. Goes (λ (request : Request). Passes (refusal verdict) >> Finishes server dce draw request) m (Ok admission) in
-    let passed : (Passes (refusal verdict) >> Finishes server dce draw request) (Ok admission) = subst R same judged.rest in
+    let R : Result Request Cause → Type 0 = λ m. Goes (λ (request : Request). Passes (refusal verdict) >> FinishesAdmission server dce draw request) m (Ok admission) in
+    let passed : (Passes (refusal verdict) >> FinishesAdmission server dce draw request) (Ok admission) = subst R same judged.rest in
     passed_admitted verdict passed.middle _ admission passed.held.is passed.rest
 
 -- what the gate refuses is refused so
-refused_by : (server : Kerberos) (dce : Bool) (token : List ℕ) (draw : Draw) (verdict : Verdict) (request : Request) (cause : Cause) → Begins server dce token (Ok request) → refusal verdict ≡ Some cause
+refused_by : (server : Kerberos) (dce : Bool) (token : List ℕ) (draw : Draw) (verdict : Verdict) (request : Request) (cause : Cause) → BeginsAdmission server dce token (Ok request) → refusal verdict ≡ Some cause
     → Judged server dce token draw verdict (Err cause)
 unfolding Judged
 refused_by server dce token draw verdict request cause begun is = follows _ _ request _ begun (halts _ _ cause (Err cause) (record { is = sym (ap err_of is) }) refl)
@@ -64,7 +64,7 @@ module _ {G : Type 0} (admits : G → Ask → Verdict → G → Type 0) (skew : 
   asks_skew at old new (Err cause) verdict same = ap skew same
 
   made_skew : (server : Kerberos) (dce : Bool) (token : List ℕ) (env : Env) (draw : Draw) (old : G) (found : Option TgtReq) (answer : Result Accepted Cause) (server' : Kerberos) (new : G)
-      → MakesWhole admits server dce token env draw old found answer server' new → skew new ≡ skew old
+      → AcceptsToken admits server dce token env draw old found answer server' new → skew new ≡ skew old
   made_skew server dce token env draw old (Some tgt_req) answer server' new made = ap skew made.2
   made_skew server dce token env draw old None answer server' new made = asks_skew draw.moment old new made.accepts.request made.accepts.verdict made.accepts.gate
 
@@ -135,7 +135,7 @@ module _ {G : Type 0} (admits : G → Ask → Verdict → G → Type 0) (skew mo
       let J : Verdict → Type 0 = λ w. Judged server dce b.token draw w other.accepts.outcome in
       let out = one_outcome_lem server dce b.token draw v other.accepts.outcome (Err cause) (subst J same other.accepts.judged) (refused_by server dce b.token draw v request cause b.begun is) in
       let E : Bool → Type 0 = λ last. Ends last server b.token other.accepts.outcome other.judged g.judges.server in
-      let M : Result Admission Cause → Type 0 = λ o. Makes server o other.judged g.judges.server in
+      let M : Result Admission Cause → Type 0 = λ o. MakesAnswer server o other.judged g.judges.server in
       let refused = (subst M out (subst E (waits server dce b.token request b.begun) other.accepts.made)).0 in
       let S : Result Accepted Cause → Type 0 = λ a. Settles draw (record b.connection { context = g.judges.server }) (told Elsewhere a) reply g.judges.next in
       settles_refused draw (record b.connection { context = g.judges.server }) cause reply g.judges.next (subst S (other.answer_is ∙ ap answered_as refused) g.judges.settles)

@@ -5,7 +5,7 @@ use Rattle.krb_replay.specs.History.{History, verdict_of, history_after}
 use Rattle.krb_replay.specs.declared.ask.Verdict.{Verdict}
 use Rattle.krb_admission.specs.Accepts.{Asks}
 use Rattle.krb_admission.specs.Requests.{ask_of}
-use Rattle.krb_server.specs.Whole.{Makes}
+use Rattle.krb_server.specs.Whole.{AcceptsToken}
 use Rattle.krb_server.specs.declared.accept.Accepted.{Accepted}
 use Rattle.krb_conf.specs.declared.env.Env.{Env}
 use Rattle.krb_context.specs.declared.context.Kerberos.{Kerberos}
@@ -50,14 +50,14 @@ asks_remembered skew moment old h (Err cause) verdict new k same =
     )
 
 -- a token over the book is one over the gate that never forgets, and leaves the same record
-record MadeRemembered (skew : ℕ) (server : Kerberos) (dce : Bool) (token : List ℕ) (env : Env) (draw : Draw) (old new : Book) (h : History) (found : Option TgtReq) (answer : Result Accepted Cause) (server' : Kerberos) (m : Makes (Follows StandsFor) server dce token env draw old found answer server' new) : Type 0 where
+record MadeRemembered (skew : ℕ) (server : Kerberos) (dce : Bool) (token : List ℕ) (env : Env) (draw : Draw) (old new : Book) (h : History) (found : Option TgtReq) (answer : Result Accepted Cause) (server' : Kerberos) (m : AcceptsToken (Follows StandsFor) server dce token env draw old found answer server' new) : Type 0 where
   after : History
-  made : Makes (Remembers skew) server dce token env draw h found answer server' after
+  made : AcceptsToken (Remembers skew) server dce token env draw h found answer server' after
   keeps : Keeps skew new after
   left : left_made (Remembers skew) server dce token env draw h found answer server' after made ≡ left_made (Follows StandsFor) server dce token env draw old found answer server' new m
 
 made_remembered : (skew : ℕ) (server : Kerberos) (dce : Bool) (token : List ℕ) (env : Env) (draw : Draw) (old new : Book) (h : History) (found : Option TgtReq) (answer : Result Accepted Cause) (server' : Kerberos) → Keeps skew old h
-    → (m : Makes (Follows StandsFor) server dce token env draw old found answer server' new) → MadeRemembered skew server dce token env draw old new h found answer server' m
+    → (m : AcceptsToken (Follows StandsFor) server dce token env draw old found answer server' new) → MadeRemembered skew server dce token env draw old new h found answer server' m
 made_remembered skew server dce token env draw old new h (Some tgt_req) answer server' k m =
     let K : Book → Type 0 = λ b. Keeps skew b h in
     record { after = h; made = (m.0, m.1, refl); keeps = subst K (sym m.2) k; left = refl }

@@ -13,13 +13,13 @@ use Rattle.krb_replay.specs.declared.ask.Verdict.TheVariants.{Admitted, Skew, No
 use Rattle.krb_replay.specs.declared.record.Record.{Record}
 use Rattle.krb_admission.proofs.Once.{begins_once}
 use Rattle.krb_admission.proofs.Steps.{completed}
-use Rattle.krb_admission.specs.Accepts.{Begins, Finishes, Judged, Asks, Makes, Ends, awaits_last_word, refusal, asks_dce_style}
+use Rattle.krb_admission.specs.Accepts.{BeginsAdmission, FinishesAdmission, Judged, Asks, MakesAnswer, Ends, awaits_last_word, refusal, asks_dce_style}
 use Rattle.krb_admission.specs.ThirdLeg.{Closes}
 use Rattle.krb_admission.specs.Admission.{answer_for}
 use Rattle.krb_admission.specs.Requests.{ask_of}
 use Rattle.krb_admission.specs.declared.admission.Answer.{Answer}
 use Rattle.krb_server.proofs.Once.{ap_req_begins_none}
-use Rattle.krb_server.specs.Whole.{RunsAs, JudgesOther, accepted_as, answered_as, Makes as MakesWhole}
+use Rattle.krb_server.specs.Whole.{RunsAs, JudgesOther, accepted_as, answered_as, AcceptsToken}
 use Rattle.krb_server.specs.declared.accept.Accepted.{Accepted}
 use Rattle.krb_server.specs.declared.accept.Accepted.TheVariants as taken
 use Rattle.krb_user_to_user.specs.declared.request.Beginning.{Beginning}
@@ -71,7 +71,7 @@ asks_left skew moment h (Err cause) verdict after same distinct =
     record { is = ap (λ (g : History). g.admitted) same ∙ sym (append-nil h.admitted); distinct = subst D (sym same) distinct }
 
 made_left_once : (skew : ℕ) (server : Kerberos) (dce : Bool) (token : List ℕ) (env : Env) (draw : Draw) (h : History) (found : Option TgtReq) (answer : Result Accepted Cause) (server' : Kerberos) (after : History)
-    → (made : MakesWhole (Remembers skew) server dce token env draw h found answer server' after) → IsDistinct h.admitted
+    → (made : AcceptsToken (Remembers skew) server dce token env draw h found answer server' after) → IsDistinct h.admitted
     → Leaves h.admitted after.admitted (left_made (Remembers skew) server dce token env draw h found answer server' after made)
 made_left_once skew server dce token env draw h (Some tgt_req) answer server' after made distinct =
     let D : History → Type 0 = λ g. IsDistinct g.admitted in
@@ -138,17 +138,17 @@ passed_admitted Replayed (Err e) next admission is goes = absurd (cc)
 one_left : (verdict : Verdict) (request : Request) (moment : ℕ) → is_admitted verdict ≡ true → length (left_by (Ok request) verdict moment) ≡ 1
 one_left verdict request moment is = rw is refl
 
-goes_left : (server : Kerberos) (dce : Bool) (token : List ℕ) (draw : Draw) (verdict : Verdict) (request : Result Request Cause) (admission : Admission) → Begins server dce token request
+goes_left : (server : Kerberos) (dce : Bool) (token : List ℕ) (draw : Draw) (verdict : Verdict) (request : Result Request Cause) (admission : Admission) → BeginsAdmission server dce token request
     → Judged server dce token draw verdict (Ok admission) → length (left_by request verdict draw.moment) ≡ 1
 unfolding Judged
 goes_left server dce token draw verdict (Ok request) admission begun judged =
     let same : judged.middle ≡ Ok request = (begins_once server dce token).same judged.middle (Ok request) judged.held begun in
-    let R : Result Request Cause → Type 0 = λ m. Goes (λ (request : Request). Passes (refusal verdict) >> Finishes server dce draw request) m (Ok admission) in
-    let passed : (Passes (refusal verdict) >> Finishes server dce draw request) (Ok admission) = subst R same judged.rest in
+    let R : Result Request Cause → Type 0 = λ m. Goes (λ (request : Request). Passes (refusal verdict) >> FinishesAdmission server dce draw request) m (Ok admission) in
+    let passed : (Passes (refusal verdict) >> FinishesAdmission server dce draw request) (Ok admission) = subst R same judged.rest in
     one_left verdict request draw.moment (passed_admitted verdict passed.middle _ admission passed.held.is passed.rest)
 goes_left server dce token draw verdict (Err cause) admission begun judged =
     let same : judged.middle ≡ Err cause = (begins_once server dce token).same judged.middle (Err cause) judged.held begun in
-    let R : Result Request Cause → Type 0 = λ m. Goes (λ (request : Request). Passes (refusal verdict) >> Finishes server dce draw request) m (Ok admission) in
+    let R : Result Request Cause → Type 0 = λ m. Goes (λ (request : Request). Passes (refusal verdict) >> FinishesAdmission server dce draw request) m (Ok admission) in
     let refused : ◌≡◌ {A = Result Admission Cause} (Ok admission) (Err cause) = subst R same judged.rest in
     absurd (cc)
 
@@ -157,7 +157,7 @@ closed_not : (server : Kerberos) (outcome : Result (Unit {0}) Cause) (answer : R
 closed_not server (Ok _) answer after closes done = let z = ap (λ a. admits_peer (reply_of a)) (sym closes.0) ∙ done in absurd cc
 closed_not server (Err cause) answer after closes done = let z = ap (λ a. admits_peer (reply_of a)) (sym closes.0) ∙ done in absurd cc
 
-made_left : (server : Kerberos) (outcome : Result Admission Cause) (answer : Result Answer Cause) (after : Kerberos) → Makes server outcome answer after → admits_peer (reply_of answer) ≡ true
+made_left : (server : Kerberos) (outcome : Result Admission Cause) (answer : Result Answer Cause) (after : Kerberos) → MakesAnswer server outcome answer after → admits_peer (reply_of answer) ≡ true
     → (admission : Admission) × (outcome ≡ Ok admission)
 made_left server (Ok admission) answer after made done = (admission, refl)
 made_left server (Err cause) answer after made done =
@@ -193,7 +193,7 @@ module _ {G : Type 0} (admits : G → Ask → Verdict → G → Type 0) where
   no_run (Err cause) answer accepted runs is = let e = sym runs ∙ is in absurd (cc)
 
   done_made : (server : Kerberos) (dce : Bool) (token : List ℕ) (env : Env) (draw : Draw) (old : G) (found : Option TgtReq) (answer : Result Accepted Cause) (server' : Kerberos) (new : G)
-      → (made : MakesWhole admits server dce token env draw old found answer server' new) (accepted : Answer) → answer ≡ Ok (accepted_as accepted) → admits_peer (reply_of (Ok accepted)) ≡ true
+      → (made : AcceptsToken admits server dce token env draw old found answer server' new) (accepted : Answer) → answer ≡ Ok (accepted_as accepted) → admits_peer (reply_of (Ok accepted)) ≡ true
       → length (left_made admits server dce token env draw old found answer server' new made) ≡ 1
   done_made server dce token env draw old (Some tgt_req) answer server' new made accepted is done = absurd (no_run made.0.beginning answer accepted made.0.runs is)
   done_made server dce token env draw old None answer server' new made accepted is done =
@@ -230,14 +230,14 @@ module _ {G : Type 0} (admits : G → Ask → Verdict → G → Type 0) where
 
   -- where an AP-REQ comes to the gate, the token was judged as one
   pub judged-other : (state after : State G) (event : Event) (reply : Reply) (connection : Connection) (token : List ℕ) (request : Request) (j : Judges admits state event connection token reply after)
-      → Begins connection.context (asks_dce_style (server_flags event.flags)) token (Ok request)
+      → BeginsAdmission connection.context (asks_dce_style (server_flags event.flags)) token (Ok request)
       → JudgesOther admits connection.context (asks_dce_style (server_flags event.flags)) token (draw_of event) state.gate j.answer j.server after.gate
   judged-other state after event reply connection token request j begun =
       let dce = asks_dce_style (server_flags event.flags) in
-      let M : Option TgtReq → Type 0 = λ f. MakesWhole admits connection.context dce token state.env (draw_of event) state.gate f j.answer j.server after.gate in
+      let M : Option TgtReq → Type 0 = λ f. AcceptsToken admits connection.context dce token state.env (draw_of event) state.gate f j.answer j.server after.gate in
       subst M (ap_req_begins_none connection.context dce token request begun j.accepts.tgt_req j.accepts.found) j.accepts.made
 
-judged_admitted : (server : Kerberos) (dce : Bool) (token : List ℕ) (draw : Draw) (request : Request) (admission : Admission) → Begins server dce token (Ok request) → Finishes server dce draw request (Ok admission)
+judged_admitted : (server : Kerberos) (dce : Bool) (token : List ℕ) (draw : Draw) (request : Request) (admission : Admission) → BeginsAdmission server dce token (Ok request) → FinishesAdmission server dce draw request (Ok admission)
     → Judged server dce token draw Admitted (Ok admission)
 unfolding Judged
 judged_admitted server dce token draw request admission begun finished = follows _ _ request _ begun (follows _ _ tt _ (record { is = refl }) finished)
@@ -250,8 +250,8 @@ asked_verdict skew moment h p request verdict after is asks =
 -- an event that passes every check, and that the gate admits, is answered Done
 pub passing-done : (skew : ℕ) (state after : State History) (event : Event) (reply : Reply) (connection : Connection) (token : List ℕ) (request : Request) (admission : Admission)
     → Steps (Remembers skew) state event reply after → reached state.connections event ≡ Ok (connection, token)
-    → Begins connection.context (asks_dce_style (server_flags event.flags)) token (Ok request) → verdict_of skew state.gate (ask_of request event.moment) ≡ Admitted
-    → Finishes connection.context (asks_dce_style (server_flags event.flags)) (draw_of event) request (Ok admission) → reply ≡ reply_of (Ok (answer_for admission))
+    → BeginsAdmission connection.context (asks_dce_style (server_flags event.flags)) token (Ok request) → verdict_of skew state.gate (ask_of request event.moment) ≡ Admitted
+    → FinishesAdmission connection.context (asks_dce_style (server_flags event.flags)) (draw_of event) request (Ok admission) → reply ≡ reply_of (Ok (answer_for admission))
 passing-done skew state after event reply connection token request admission step reaches begun admitted finished =
     let j = token-step (Remembers skew) state event connection token reply after reaches step in
     let dce = asks_dce_style (server_flags event.flags) in

@@ -5,7 +5,7 @@ use Rattle.krb_as.specs.Turns.{Turns, state_of, phase_of}
 use Rattle.krb_as.specs.declared.done.InitDone.{InitDone}
 use Rattle.krb_as.specs.declared.turn.Turn.{Turn}
 use Rattle.krb_initiator.proofs.Once as initiations
-use Rattle.krb_initiator.specs.Beginnings.{Begins as BeginsInitiation}
+use Rattle.krb_initiator.specs.Beginnings.{BeginsInitiation}
 use Rattle.krb_initiator.specs.declared.options.InitOptions.{InitOptions}
 use Rattle.krb_initiator.specs.declared.seeker.Initiation.{Initiation}
 use Rattle.krb_user_to_user.proofs.Once as acceptances
@@ -21,7 +21,7 @@ use Rattle.sspi_generator.specs.declared.network.NetworkRequest.{NetworkRequest}
 use Rattle.sspi_generator.specs.declared.task.GeneratorState.{GeneratorState}
 use Rattle.sspi_generator.specs.declared.task.GeneratorState.TheVariants.{Suspended, Completed}
 use Rattle.krb_machine.specs.Runs.{StartsAt, ResumesAt}
-use Rattle.krb_machine.specs.Steps.{IsStep, Begins, GoesOn}
+use Rattle.krb_machine.specs.Steps.{IsStep, BeginsRun, GoesOn}
 use Rattle.krb_machine.specs.declared.exchange.Step.{Step}
 use Rattle.krb_machine.specs.declared.run.Run.{Run}
 use Rattle.krb_machine.specs.declared.run.Run.TheVariants.{Accepts, Initiates}
@@ -88,7 +88,7 @@ is_step_once (Completed (Err error)) later r s h k = h.0 ∙ sym k.0
 steps_once : (s t : State) (x y : Run) (a b : Step) → (s ≡ t) × (x ≡ y) → IsStep s x a → IsStep t y b → a ≡ b
 steps_once s t x y a b same h k = is_step_once s x a b h (subst (λ z. IsStep z x b) (sym same.0) (subst (λ z. IsStep t z b) (sym same.1) k))
 
-pub one_beginning : (run : Run) (draw : Draw) (r s : Step) → Begins run draw r → Begins run draw s → r ≡ s
+pub one_beginning : (run : Run) (draw : Draw) (r s : Step) → BeginsRun run draw r → BeginsRun run draw s → r ≡ s
 one_beginning run draw r s h k =
     let fed = is_fed h.state h.later r h.leads in
     let also = is_fed k.state k.later s k.leads in

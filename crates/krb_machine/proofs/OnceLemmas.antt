@@ -8,10 +8,10 @@ use Rattle.krb_replay.specs.History.{History}
 use Rattle.krb_replay.specs.declared.ask.Ask.{Ask}
 use Rattle.krb_replay.specs.declared.ask.Verdict.{Verdict}
 use Rattle.krb_admission.proofs.Once.{begins_once, one_outcome_lem, concludes_once}
-use Rattle.krb_admission.specs.Accepts.{Begins, Finishes, Judged, Asks, Makes, Ends, Accepts, awaits_last_word, refusal, asks_dce_style}
+use Rattle.krb_admission.specs.Accepts.{BeginsAdmission, FinishesAdmission, Judged, Asks, MakesAnswer, Ends, Accepts, awaits_last_word, refusal, asks_dce_style}
 use Rattle.krb_admission.specs.declared.admission.Answer.{Answer}
 use Rattle.krb_server.proofs.Once.{found_once, tgt_req_once}
-use Rattle.krb_server.specs.Whole.{answered_as, AcceptsWhole, Makes as MakesWhole}
+use Rattle.krb_server.specs.Whole.{answered_as, AcceptsWhole, AcceptsToken}
 use Rattle.krb_server.specs.declared.accept.Accepted.{Accepted}
 use Rattle.krb_conf.specs.declared.env.Env.{Env}
 use Rattle.krb_exchange.specs.declared.user_to_user.TgtReq.{TgtReq}
@@ -36,15 +36,15 @@ use Rattle.krb_machine.specs.Reply.{replies_text}
 use Rattle.krb_machine.specs.Text.{IsText, last_line}
 
 -- where the checks before the gate refuse, the verdict does not matter
-pub judged_refused : (server : Kerberos) (dce : Bool) (token : List ℕ) (draw : Draw) (verdict : Verdict) (cause : Cause) (outcome : Result Admission Cause) → Begins server dce token (Err cause)
+pub judged_refused : (server : Kerberos) (dce : Bool) (token : List ℕ) (draw : Draw) (verdict : Verdict) (cause : Cause) (outcome : Result Admission Cause) → BeginsAdmission server dce token (Err cause)
     → Judged server dce token draw verdict outcome → outcome ≡ Err cause
 unfolding Judged
 judged_refused server dce token draw verdict cause outcome begun judged =
     let same : judged.middle ≡ Err cause = (begins_once server dce token).same judged.middle (Err cause) judged.held begun in
-    let R : Result Request Cause → Type 0 = λ m. Goes (λ (request : Request). Passes (refusal verdict) >> Finishes server dce draw request) m outcome in
+    let R : Result Request Cause → Type 0 = λ m. Goes (λ (request : Request). Passes (refusal verdict) >> FinishesAdmission server dce draw request) m outcome in
     subst R same judged.rest
 
-makes_once : (server : Kerberos) (o : Result Admission Cause) (r s : Result Answer Cause) (a b : Kerberos) → Makes server o r a → Makes server o s b → (r ≡ s) × (a ≡ b)
+makes_once : (server : Kerberos) (o : Result Admission Cause) (r s : Result Answer Cause) (a b : Kerberos) → MakesAnswer server o r a → MakesAnswer server o s b → (r ≡ s) × (a ≡ b)
 makes_once server (Ok admission) r s a b h k = (h.0 ∙ sym k.0, h.1 ∙ sym k.1)
 makes_once server (Err cause) r s a b h k = (h.0 ∙ sym k.0, h.1 ∙ sym k.1)
 
@@ -64,7 +64,7 @@ remembers-determined skew = record { same = λ old ask v w a b h k. (h.0 ∙ sym
 
 module _ {G : Type 0} (admits : G → Ask → Verdict → G → Type 0) (determined : IsDetermined admits) where
   outcome_once : (server : Kerberos) (dce : Bool) (token : List ℕ) (draw : Draw) (old : G) (p q : Result Request Cause) (v w : Verdict) (a b : G) (o u : Result Admission Cause) → p ≡ q
-      → Begins server dce token p → Asks admits draw.moment old p v a → Asks admits draw.moment old q w b
+      → BeginsAdmission server dce token p → Asks admits draw.moment old p v a → Asks admits draw.moment old q w b
       → Judged server dce token draw v o → Judged server dce token draw w u → (o ≡ u) × (a ≡ b)
   outcome_once server dce token draw old (Ok x) (Ok y) v w a b o u e begun h k j l =
       let P : Result Request Cause → Type 0 = λ r. Asks admits draw.moment old r w b in
@@ -87,7 +87,7 @@ module _ {G : Type 0} (admits : G → Ask → Verdict → G → Type 0) (determi
       (made.0, made.1, same.1)
 
   makes_whole_once : (server : Kerberos) (dce : Bool) (token : List ℕ) (env : Env) (draw : Draw) (old : G) (found : Option TgtReq) (r s : Result Accepted Cause) (x y : Kerberos) (a b : G)
-      → MakesWhole admits server dce token env draw old found r x a → MakesWhole admits server dce token env draw old found s y b → (r ≡ s) × (x ≡ y) × (a ≡ b)
+      → AcceptsToken admits server dce token env draw old found r x a → AcceptsToken admits server dce token env draw old found s y b → (r ≡ s) × (x ≡ y) × (a ≡ b)
   makes_whole_once server dce token env draw old (Some tgt_req) r s x y a b h k = (tgt_req_once server tgt_req dce env r s h.0 k.0, h.1 ∙ sym k.1, h.2 ∙ sym k.2)
   makes_whole_once server dce token env draw old None r s x y a b h k =
       let same = accepts_once server dce token draw old h.judged k.judged x y a b h.accepts k.accepts in
@@ -96,7 +96,7 @@ module _ {G : Type 0} (admits : G → Ask → Verdict → G → Type 0) (determi
   whole_once : (server : Kerberos) (dce : Bool) (token : List ℕ) (env : Env) (draw : Draw) (old : G) (r s : Result Accepted Cause) (x y : Kerberos) (a b : G)
       → AcceptsWhole admits server dce token env draw old r x a → AcceptsWhole admits server dce token env draw old s y b → (r ≡ s) × (x ≡ y) × (a ≡ b)
   whole_once server dce token env draw old r s x y a b h k =
-      let M : Option TgtReq → Type 0 = λ f. MakesWhole admits server dce token env draw old f s y b in
+      let M : Option TgtReq → Type 0 = λ f. AcceptsToken admits server dce token env draw old f s y b in
       makes_whole_once server dce token env draw old h.tgt_req r s x y a b h.made (subst M (sym (found_once dce server.state token h.tgt_req k.tgt_req h.found k.found)) k.made)
 
   judges_once : (state : State G) (event : Event) (connection : Connection) (token : List ℕ) (r s : Reply) (a b : State G) → Judges admits state event connection token r a

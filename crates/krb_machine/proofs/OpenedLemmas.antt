@@ -12,18 +12,18 @@ use Rattle.krb_conf.specs.declared.env.Env.{Env}
 use Rattle.krb_context.proofs.WindowLemmas.{judged_is, noted_is}
 use Rattle.krb_context.specs.Places.{greatest, place_of, was_opened, verdict_after, verdict_of, opened}
 use Rattle.krb_context.specs.Unwraps.{aged, Unwraps, unwrapped, message_number}
-use Rattle.krb_context.specs.Window.{Window, StandsFor, judged, noted}
+use Rattle.krb_context.specs.Window.{Window, StandsFor, number_verdict, noted}
 use Rattle.krb_context.specs.declared.context.Kerberos.{Kerberos}
 use Rattle.krb_context.specs.declared.window.NumberVerdict.TheVariants.{Fresh, Old, Repeated}
 use Rattle.krb_exchange.specs.declared.user_to_user.TgtReq.{TgtReq}
 use Rattle.krb_replay.specs.declared.ask.Ask.{Ask}
 use Rattle.krb_replay.specs.declared.ask.Verdict.{Verdict}
-use Rattle.krb_admission.specs.Accepts.{Makes, Ends, awaits_last_word}
+use Rattle.krb_admission.specs.Accepts.{MakesAnswer, Ends, awaits_last_word}
 use Rattle.krb_admission.specs.Admission.{settled as admitted}
 use Rattle.krb_admission.specs.ThirdLeg.{Closes}
 use Rattle.krb_admission.specs.declared.admission.Answer.{Answer}
 use Rattle.krb_admission.specs.declared.admission.Admission.{Admission}
-use Rattle.krb_server.specs.Whole.{Makes as MakesWhole}
+use Rattle.krb_server.specs.Whole.{AcceptsToken}
 use Rattle.krb_server.specs.declared.accept.Accepted.{Accepted}
 use Rattle.krb_server.specs.declared.accept.Accepted.TheVariants as taken
 use Rattle.krb_initiator.specs.declared.seeker.Initiation.{Initiation}
@@ -78,7 +78,7 @@ admitted_window : (server : Kerberos) (admission : Admission) → (admitted serv
 unfolding admitted
 admitted_window server admission = refl
 
-makes_window : (server : Kerberos) (outcome : Result Admission Cause) (answer : Result Answer Cause) (after : Kerberos) → Makes server outcome answer after → after.window ≡ server.window
+makes_window : (server : Kerberos) (outcome : Result Admission Cause) (answer : Result Answer Cause) (after : Kerberos) → MakesAnswer server outcome answer after → after.window ≡ server.window
 makes_window server (Ok admission) answer after h = ap (λ (k : Kerberos). k.window) h.1 ∙ admitted_window server admission
 makes_window server (Err cause) answer after h = ap (λ (k : Kerberos). k.window) h.1
 
@@ -92,7 +92,7 @@ ends_window true server token outcome answer after h = closes_window server h.ou
 ends_window false server token outcome answer after h = makes_window server outcome answer after h
 
 made_window : {G : Type 0} (admits : G → Ask → Verdict → G → Type 0) (server : Kerberos) (dce : Bool) (token : List ℕ) (env : Env) (draw : Draw) (old : G) (found : Option TgtReq)
-    (answer : Result Accepted Cause) (after : Kerberos) (new : G) → MakesWhole admits server dce token env draw old found answer after new → after.window ≡ server.window
+    (answer : Result Accepted Cause) (after : Kerberos) (new : G) → AcceptsToken admits server dce token env draw old found answer after new → after.window ≡ server.window
 made_window admits server dce token env draw old (Some tgt_req) answer after new h = ap (λ (k : Kerberos). k.window) h.1
 made_window admits server dce token env draw old None answer after new h =
     ends_window (awaits_last_word dce server.state) server token h.accepts.outcome h.judged after h.accepts.made
@@ -111,14 +111,14 @@ cause_is : (x y : Cause) → error_of x ≡ error_of y → x ≡ y
 cause_is x y e = ap (λ (error : Error). error.cause) e
 
 -- a refusal by the window is one by the list
-refused_kept : (places : List ℤ) (window : Window) (number : ℕ) (cause : Cause) → StandsFor window places → (TellsAge cause → aged (judged window number) ≡ Some cause)
+refused_kept : (places : List ℤ) (window : Window) (number : ℕ) (cause : Cause) → StandsFor window places → (TellsAge cause → aged (number_verdict window number) ≡ Some cause)
     → (error_of cause ≡ error_of causes.Old → verdict_of places number ≡ Old) × (error_of cause ≡ error_of causes.Repeated → verdict_of places number ≡ Repeated)
 refused_kept places window number cause stands tells =
-    let same : judged window number ≡ verdict_of places number = judged_is window places number stands in (
+    let same : number_verdict window number ≡ verdict_of places number = judged_is window places number stands in (
       λ e. let is = cause_is cause causes.Old e in
-          sym same ∙ aged_old (judged window number) (tells (inl is) ∙ ap Some is),
+          sym same ∙ aged_old (number_verdict window number) (tells (inl is) ∙ ap Some is),
       λ e. let is = cause_is cause causes.Repeated e in
-          sym same ∙ aged_repeated (judged window number) (tells (inr is) ∙ ap Some is),
+          sym same ∙ aged_repeated (number_verdict window number) (tells (inr is) ∙ ap Some is),
     )
 
 answered_as : (places : List ℤ) (message : List Buffer) (window : Window) (made reply : Reply) → reply ≡ made → Keeps places (Unwrap message) made window → Keeps places (Unwrap message) reply window
@@ -128,7 +128,7 @@ opened_keeps : (places : List ℤ) (context after : Kerberos) (message : List Bu
     → Unwraps context message answer → IsOpenedBy context message answer reply after → Keeps places (Unwrap message) reply after.window
 opened_keeps places context after message (Ok text) reply small stands unwraps made =
     let number = message_number message in
-    let fresh : judged context.window number ≡ Fresh = opened_is_fresh context message text unwraps in
+    let fresh : number_verdict context.window number ≡ Fresh = opened_is_fresh context message text unwraps in
     answered_as places message after.window (Buffers (unwrapped text message)) reply made.0
     (record {
       judged = sym (judged_is context.window places number stands) ∙ fresh;
@@ -276,7 +276,7 @@ module _ {G : Type 0} (lists : Lists) (event : Event) where
         subst (λ (places : List ℤ). StandsFor other.context.window places) (after_apart lists event reply id e) (stand id other (ap (λ (s : State G). at_id id s.connections) (sym is) ∙ at))
 
     same_follows : after ≡ state → IsJudgedBy (lists event.connection) event.input reply → list_after (lists event.connection) event.input reply ≡ lists event.connection → Follows reply after
-    same_follows is judged list = record { judged = judged; stand = λ id other at. same_at is list id other (event.connection == id) refl at }
+    same_follows is number_verdict list = record { judged = number_verdict; stand = λ id other at. same_at is list id other (event.connection == id) refl at }
 
     refused_follows : (cause : Cause) → (reply ≡ Refused (error_of cause)) × (after ≡ state) → (TellsAge cause → ⊥) → Follows reply after
     refused_follows cause h quiet =
@@ -405,8 +405,8 @@ after_distinct lists event reply id false e h distinct = rw e distinct
 
 pub behind_distinct : (lists : Lists) (events : List Event) (replies : List Reply) (id : ℕ) → AreJudgedBy lists events replies → IsDistinct int_eq (lists id)
     → IsDistinct int_eq (lists_behind lists events replies id)
-behind_distinct lists [] replies id judged distinct = distinct
-behind_distinct lists (event ∷ events) [] id judged distinct = distinct
-behind_distinct lists (event ∷ events) (reply ∷ replies) id judged distinct =
-    behind_distinct (lists_after lists event reply) events replies id judged.1
-    (after_distinct lists event reply id (event.connection == id) refl judged.0 distinct)
+behind_distinct lists [] replies id number_verdict distinct = distinct
+behind_distinct lists (event ∷ events) [] id number_verdict distinct = distinct
+behind_distinct lists (event ∷ events) (reply ∷ replies) id number_verdict distinct =
+    behind_distinct (lists_after lists event reply) events replies id number_verdict.1
+    (after_distinct lists event reply id (event.connection == id) refl number_verdict.0 distinct)

@@ -19,7 +19,7 @@ use Rattle.krb_machine.specs.Policy.{State, Runs}
 use Rattle.krb_machine.specs.Described.{Remembers, skew_of, connections_of, service_of, with_gate}
 use Rattle.krb_machine.specs.Reply.{reply_line, replies_text, admits_peer}
 use Rattle.krb_machine.specs.Text.{Answered, first_events}
-use Rattle.krb_machine.specs.Progress.{Progress, IsNew, Begins, CannotBegin, one_if_admits, Answers, prepare, prepare_by, Prepares, TakesItem, RefusesItem, TakesContent, counted, Takes, Refuses}
+use Rattle.krb_machine.specs.Progress.{Progress, IsNew, BeginsService, CannotBegin, one_if_admits, Answers, prepare, prepare_by, Prepares, TakesItem, RefusesItem, TakesContent, counted, Takes, Refuses}
 use Rattle.krb_machine.specs.Halts.{IsBefore, IsAmid, Follows}
 use Rattle.krb_machine.proofs.PolicyLemmas.{Runs-push}
 use Rattle.krb_machine.proofs.HistoryLemmas.{step-remembered}
@@ -61,21 +61,21 @@ new_ready so_far replies before events none skew n =
       own_skew = n.skew;
     }
 
-ready_before : (progress : Progress) (so_far : Declared) (replies : List Reply) (before : State Book) → IsBefore progress so_far replies → Begins progress before → IsReady so_far replies before
+ready_before : (progress : Progress) (so_far : Declared) (replies : List Reply) (before : State Book) → IsBefore progress so_far replies → BeginsService progress before → IsReady so_far replies before
 ready_before progress so_far replies before b begins =
     let B : Option (State Book) → Type 0 = λ o. MatchOption o ((is_some progress.setup.skew ≡ true) × IsNew progress.setup before) (λ service. before ≡ service) in
     let N : Setup → Type 0 = λ setup. (is_some setup.skew ≡ true) × IsNew setup before in
     let n : (is_some so_far.setup.skew ≡ true) × IsNew so_far.setup before = subst N b.setup (subst B b.service begins) in
     new_ready so_far replies before b.events b.none n.0 n.1
 
-ready_amid : (progress : Progress) (so_far : Declared) (replies : List Reply) (before : State Book) → (m : IsAmid progress so_far replies) → Begins progress before → IsReady so_far replies before
+ready_amid : (progress : Progress) (so_far : Declared) (replies : List Reply) (before : State Book) → (m : IsAmid progress so_far replies) → BeginsService progress before → IsReady so_far replies before
 ready_amid progress so_far replies before m begins =
     let B : Option (State Book) → Type 0 = λ o. MatchOption o ((is_some progress.setup.skew ≡ true) × IsNew progress.setup before) (λ service. before ≡ service) in
     let is : before ≡ m.after = subst B m.service begins in
     let R : State Book → Type 0 = λ s. IsReady so_far replies s in
     subst R (sym is) (record { history = m.history; skew = m.skew; runs = m.runs; stands = m.stands; own_skew = m.own_skew })
 
-ready : (progress : Progress) (so_far : Declared) (replies : List Reply) (before : State Book) → IsBefore progress so_far replies ⊎ IsAmid progress so_far replies → Begins progress before
+ready : (progress : Progress) (so_far : Declared) (replies : List Reply) (before : State Book) → IsBefore progress so_far replies ⊎ IsAmid progress so_far replies → BeginsService progress before
     → IsReady so_far replies before
 ready progress so_far replies before (inl b) begins = ready_before progress so_far replies before b begins
 ready progress so_far replies before (inr m) begins = ready_amid progress so_far replies before m begins

@@ -15,7 +15,7 @@ use Rattle.sspi_core.specs.declared.cause.Cause.{Cause}
 use Rattle.sspi_core.specs.declared.cause.Cause.TheVariants as causes
 use Rattle.krb_machine.specs.Exchanges.{awaits}
 use Rattle.krb_machine.specs.Initiations.{token_heard}
-use Rattle.krb_machine.specs.Policy.{◌>>=◌, check, called, ready, reached, heard, awaited, token_of}
+use Rattle.krb_machine.specs.Policy.{◌>>=◌, check, called, ready, reached, heard, awaited, input_token}
 use Rattle.krb_machine.specs.declared.connection.Connection.{Connection}
 use Rattle.krb_machine.specs.declared.run.Run.{Run}
 
@@ -101,8 +101,8 @@ heard-found connections event found e =
 
 pub reached-found : (connections : List (ℕ × Connection)) (event : Event) (found : Connection × List ℕ) → reached connections event ≡ Ok found → at_id event.connection connections ≡ Some found.0
 reached-found connections event found e =
-    let is_ready = bound (ready connections event) (λ c. check causes.Sequence (is_acceptor c.context) >>= (λ u. ok_or causes.Sequence (token_of event.input) >>= (λ token. Ok (c, token)))) found e in
+    let is_ready = bound (ready connections event) (λ c. check causes.Sequence (is_acceptor c.context) >>= (λ u. ok_or causes.Sequence (input_token event.input) >>= (λ token. Ok (c, token)))) found e in
     let here : Connection = is_ready.found in
-    let judging = bound (check causes.Sequence (is_acceptor here.context)) (λ u. ok_or causes.Sequence (token_of event.input) >>= (λ token. Ok (here, token))) found is_ready.next_is in
-    let token = bound (ok_or causes.Sequence (token_of event.input)) (λ token. Ok (here, token)) found judging.next_is in
+    let judging = bound (check causes.Sequence (is_acceptor here.context)) (λ u. ok_or causes.Sequence (input_token event.input) >>= (λ token. Ok (here, token))) found is_ready.next_is in
+    let token = bound (ok_or causes.Sequence (input_token event.input)) (λ token. Ok (here, token)) found judging.next_is in
     ready-found connections event here is_ready.first_is ∙ ap (λ (f : Connection × List ℕ). Some f.0) (same_ok (here, token.found) found token.next_is)

@@ -24,7 +24,7 @@ use Rattle.krb_machine.proofs.ExchangeLemmas.{same_state}
 use Rattle.krb_machine.specs.MessageCalls.{is_call}
 use Rattle.krb_machine.specs.Exchanges.{answer_of}
 use Rattle.krb_machine.specs.Initiations.{token_heard}
-use Rattle.krb_machine.specs.Policy.{State, ◌>>=◌, check, token_of, called, ready, is_initiating, is_initiator, draw_of, AnswersCall, TakesAnswer, TakesTurn, Behind, TakesPart, StepsOnward, StepsBy, Steps}
+use Rattle.krb_machine.specs.Policy.{State, ◌>>=◌, check, input_token, called, ready, is_initiating, is_initiator, draw_of, AnswersCall, TakesAnswer, TakesTurn, Behind, TakesPart, StepsOnward, StepsBy, Steps}
 use Rattle.krb_machine.specs.There.{Refuses, TakesAnswerThere, InitiatesThere, AcceptsThere, TakesPartThere, IsTimelyThere, StepsBy as StepsThereBy, StepsThere}
 use Rattle.krb_machine.specs.declared.connection.Connection.{Connection}
 use Rattle.krb_machine.specs.declared.reply.Reply.{Reply}
@@ -62,7 +62,7 @@ token_by connection token = ok_or causes.Sequence token >>= (λ octets. Ok (conn
 
 abbrev reached_by : Event → Result Connection Cause → Result (Connection × List ℕ) Cause
 reached_by event found =
-    found >>= (λ connection. check causes.Sequence (is_acceptor connection.context) >>= (λ judges. token_by connection (token_of event.input)))
+    found >>= (λ connection. check causes.Sequence (is_acceptor connection.context) >>= (λ judges. token_by connection (input_token event.input)))
 
 -- the first checks
 pub called-late : (connections : List (ℕ × Connection)) (event : Event) → last_moment < event.moment → called connections event ≡ Err causes.Moment
@@ -148,15 +148,15 @@ module _ {G : Type 0} (admits : G → Ask → Verdict → G → Type 0) (state :
 
     -- by the role
     role-there : (initiates : Bool) → is_none connection.context.server ≡ initiates
-        → TakesPartThere admits state.env connection state.gate initiates event.flags (token_heard connection.context.state event.input) (token_of event.input) (draw_of event) reply next gate
+        → TakesPartThere admits state.env connection state.gate initiates event.flags (token_heard connection.context.state event.input) (input_token event.input) (draw_of event) reply next gate
         → ready state.connections event ≡ Ok connection → TakesPart admits initiates state event reply after
     role-there true is h found =
         let T : Result (Connection × List ℕ) Cause → Type 0 = λ f. TakesTurn state event f reply after in
         subst T (sym (ap (heard_by event) found)) (turn-there (token_heard connection.context.state event.input) h)
     role-there false is h found =
         let B : Result (Connection × List ℕ) Cause → Type 0 = λ f. Behind admits state event f reply after in
-        let judged : Bool → Result (Connection × List ℕ) Cause = λ test. check causes.Sequence test >>= (λ judges. token_by connection (token_of event.input)) in
-        subst B (sym (ap (reached_by event) found ∙ ap judged (acceptor_is connection.context.server is))) (token-there (token_of event.input) h)
+        let judged : Bool → Result (Connection × List ℕ) Cause = λ test. check causes.Sequence test >>= (λ judges. token_by connection (input_token event.input)) in
+        subst B (sym (ap (reached_by event) found ∙ ap judged (acceptor_is connection.context.server is))) (token-there (input_token event.input) h)
 
     initiates-there : is_initiator event.connection state.connections ≡ is_none connection.context.server
     initiates-there = ap is_initiating stands

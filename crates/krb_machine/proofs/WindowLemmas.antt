@@ -7,8 +7,8 @@ use Rattle.krb_aes.specs.Octets.{IsOctets}
 use Rattle.krb_context.specs.Contexts.{is_peer_acceptor}
 use Rattle.krb_context.specs.Header.{is_wrap_header, number_of}
 use Rattle.krb_context.specs.Spelled.{spelled}
-use Rattle.krb_context.specs.Unwraps.{Heads, Opens, aged, Receives, Unwraps, message_number}
-use Rattle.krb_context.specs.Window.{judged}
+use Rattle.krb_context.specs.Unwraps.{Heads, OpensBody, aged, ReceivesMessage, Unwraps, message_number}
+use Rattle.krb_context.specs.Window.{number_verdict}
 use Rattle.krb_context.specs.declared.context.Kerberos.{Kerberos}
 use Rattle.krb_context.specs.declared.params.EncryptionParams.{EncryptionParams}
 use Rattle.krb_context.specs.declared.window.NumberVerdict.{NumberVerdict}
@@ -93,8 +93,8 @@ heads_no_age params key peer text =
     (λ a. then_no_age _ _ (holds_no_age causes.ExtraCount _ (no_age causes.ExtraCount (λ e. cc) (λ e. cc)))
     (λ b. then_no_age _ _ (holds_no_age causes.KeyLength _ (no_age causes.KeyLength (λ e. cc) (λ e. cc))) (λ c. gives_no_age header))))
 
-opens_no_age : (params : EncryptionParams) (key : List ℕ) (peer : Bool) (buffers : List Buffer) (plain : Buffer) (text header : List ℕ) → NoAge (λ r. Opens params key peer buffers plain text header r)
-unfolding Opens
+opens_no_age : (params : EncryptionParams) (key : List ℕ) (peer : Bool) (buffers : List Buffer) (plain : Buffer) (text header : List ℕ) → NoAge (λ r. OpensBody params key peer buffers plain text header r)
+unfolding OpensBody
 opens_no_age params key peer buffers plain text header =
     then_no_age _ _ (holds_no_age causes.Short _ (no_age causes.Short (λ e. cc) (λ e. cc)))
     (λ a. then_no_age _ _ (holds_no_age causes.Room _ (no_age causes.Room (λ e. cc) (λ e. cc))) (λ b. finds_no_age causes.Altered _ (no_age causes.Altered (λ e. cc) (λ e. cc))))
@@ -140,8 +140,8 @@ last_by verdict opened (Err e) cause held rest =
     aged_as verdict cause (subst (λ (c : Cause). ◌≡◌ {A = Result (Unit {0}) Cause} (Err c) (err_of (aged verdict))) (sym (same_err {A = List ℕ} cause e rest)) held.is)
 
 -- a message that is opened is fresh,
-pub opened_is_fresh : (context : Kerberos) (message : List Buffer) (text : List ℕ) → Unwraps context message (Ok text) → judged context.window (message_number message) ≡ Fresh
-unfolding Receives
+pub opened_is_fresh : (context : Kerberos) (message : List Buffer) (text : List ℕ) → Unwraps context message (Ok text) → number_verdict context.window (message_number message) ≡ Fresh
+unfolding ReceivesMessage
 opened_is_fresh context message text h =
     let a = passed _ _ text h in
     let b = passed _ _ text a.rest in
@@ -149,19 +149,19 @@ opened_is_fresh context message text h =
     let d = passed _ _ text c.rest in
     let e = passed _ _ text d.rest in
     let front = heads_front context.encryption_params a.found (is_peer_acceptor context) (spelled message) c.found c.held in
-    ap (λ (header : List ℕ). judged context.window (number_of header)) (sym front) ∙ aged_fresh (judged context.window (number_of c.found)) e.found e.held.is
+    ap (λ (header : List ℕ). number_verdict context.window (number_of header)) (sym front) ∙ aged_fresh (number_verdict context.window (number_of c.found)) e.found e.held.is
 
 -- and one whose refusal tells its age is refused by the window
-pub refused_by_age : (context : Kerberos) (message : List Buffer) (cause : Cause) → TellsAge cause → Unwraps context message (Err cause) → aged (judged context.window (message_number message)) ≡ Some cause
-unfolding Receives
+pub refused_by_age : (context : Kerberos) (message : List Buffer) (cause : Cause) → TellsAge cause → Unwraps context message (Err cause) → aged (number_verdict context.window (message_number message)) ≡ Some cause
+unfolding ReceivesMessage
 refused_by_age context message cause age h =
     let a = behind _ _ cause (takes_no_age causes.Sequence _ (no_age causes.Sequence (λ e. cc) (λ e. cc))) age h in
     let b = behind _ _ cause (takes_no_age causes.Buffers _ (no_age causes.Buffers (λ e. cc) (λ e. cc))) age a.rest in
     let c = behind _ _ cause (heads_no_age context.encryption_params a.found (is_peer_acceptor context) (spelled message)) age b.rest in
     let d = behind _ _ cause (opens_no_age context.encryption_params a.found (is_peer_acceptor context) message b.found (spelled message) c.found) age c.rest in
     let front = heads_front context.encryption_params a.found (is_peer_acceptor context) (spelled message) c.found c.held in
-    ap (λ (header : List ℕ). aged (judged context.window (number_of header))) (sym front)
-    ∙ last_by (judged context.window (number_of c.found)) d.found d.rest.middle cause d.rest.held d.rest.rest
+    ap (λ (header : List ℕ). aged (number_verdict context.window (number_of header))) (sym front)
+    ∙ last_by (number_verdict context.window (number_of c.found)) d.found d.rest.middle cause d.rest.held d.rest.rest
 
 -- a number of octets is below 2^32
 four-lt : (a b c d : ℕ) → a < 256 → b < 256 → c < 256 → d < 256 → from_be_bytes w32 (a ∷ b ∷ c ∷ d ∷ []) < 2 ^ 32

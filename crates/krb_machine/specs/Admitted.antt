@@ -14,7 +14,7 @@ use Rattle.krb_context.specs.States.{is_waiting}
 use Rattle.krb_context.specs.declared.server.ServerProperties.{ServerProperties}
 use Rattle.krb_replay.specs.History.{History, verdict_of, history_after}
 use Rattle.krb_replay.specs.declared.ask.Verdict.TheVariants.{Admitted}
-use Rattle.krb_replies.specs.Unseals.{suite_of, IsRead}
+use Rattle.krb_replies.specs.Unseals.{suite_of_integer, IsRead}
 use Rattle.krb_admission.specs.Accepts.{asks_dce_style}
 use Rattle.krb_admission.specs.Admission.{reply_message, token_with, state_behind, status_in, admission_of, settled}
 use Rattle.krb_admission.specs.declared.admission.Admission.{Admission}
@@ -34,7 +34,7 @@ use Rattle.sspi_core.specs.declared.results.SecurityStatus.TheVariants.{Ok as Co
 
 -- a cipher is the encryption of this record, under this key, for this use, in the suite that its type names
 pub record IsEncryptionOf {A : Type 0} (layout : Layout A) (suite : CipherSuite) (key : List ℕ) (usage : ℕ) (value : A) (part : EncryptedData) : Type 0 where
-  pub suite_is : suite_of part.etype ≡ Some suite
+  pub suite_is : suite_of_integer part.etype ≡ Some suite
   pub key_fits : length key ≡ key_size suite
   pub plain : List ℕ
   pub read : IsRead layout plain value

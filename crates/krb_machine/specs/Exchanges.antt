@@ -6,7 +6,7 @@ use Rattle.krb_script.specs.declared.input.Input.{Input}
 use Rattle.krb_script.specs.declared.input.Input.TheVariants.{Token, Start, KdcReply, KdcFault, Wrap, Unwrap, MakeMic, VerifyMic}
 use Rattle.krb_server.specs.declared.accept.Accepted.{Accepted}
 use Rattle.krb_server.specs.declared.accept.Accepted.TheVariants as taken
-use Rattle.krb_machine.specs.Steps.{Begins, GoesOn as ExchangeGoesOn}
+use Rattle.krb_machine.specs.Steps.{BeginsRun, GoesOn as ExchangeGoesOn}
 use Rattle.krb_machine.specs.declared.exchange.Step.{Step}
 use Rattle.krb_machine.specs.declared.exchange.Step.TheVariants.{Asks, Ends, Refused as Refuses}
 use Rattle.krb_machine.specs.declared.run.Run.{Run}
@@ -44,9 +44,9 @@ LeadsTo connection (Ends done) reply next =
 LeadsTo connection (Refuses error) reply next = (reply ≡ Refused error) × (next ≡ record connection { exchange = None })
 
 -- an exchange begins
-pub record Opens (connection : Connection) (run : Run) (draw : Draw) (reply : Reply) (next : Connection) : Type 0 where
+pub record OpensExchange (connection : Connection) (run : Run) (draw : Draw) (reply : Reply) (next : Connection) : Type 0 where
   pub step : Step
-  pub begins : Begins run draw step
+  pub begins : BeginsRun run draw step
   pub leads : LeadsTo connection step reply next
 
 -- an exchange goes on with what the network brought

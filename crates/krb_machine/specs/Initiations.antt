@@ -4,7 +4,7 @@ use Rattle.krb_conf.specs.declared.env.Env.{Env}
 use Rattle.krb_context.specs.declared.state.KerberosState.{KerberosState}
 use Rattle.krb_context.specs.declared.state.KerberosState.TheVariants.{TgtExchange, Preauthentication, ApExchange, Final}
 use Rattle.krb_machine.specs.declared.run.Run.TheVariants.{Initiates}
-use Rattle.krb_initiator.specs.Beginnings.{Begins}
+use Rattle.krb_initiator.specs.Beginnings.{BeginsInitiation}
 use Rattle.krb_initiator.specs.declared.init_run.InitRun.{InitRun}
 use Rattle.krb_initiator.specs.declared.options.InitOptions.{InitOptions}
 use Rattle.krb_initiator.specs.declared.seeker.Initiation.{Initiation}
@@ -16,7 +16,7 @@ use Rattle.sspi_core.specs.declared.cause.Cause.{Cause}
 use Rattle.sspi_core.specs.declared.cause.Cause.TheVariants.{Sequence}
 use Rattle.sspi_core.specs.declared.draw.Draw.{Draw}
 use Rattle.sspi_core.specs.declared.flags.ClientRequestFlags.{ClientRequestFlags}
-use Rattle.krb_machine.specs.Exchanges.{Opens}
+use Rattle.krb_machine.specs.Exchanges.{OpensExchange}
 use Rattle.krb_machine.specs.declared.connection.Connection.{Connection}
 use Rattle.krb_machine.specs.declared.reply.Reply.{Reply}
 use Rattle.krb_machine.specs.declared.reply.Reply.TheVariants.{Refused}
@@ -53,11 +53,11 @@ options_of connection env flags token = record {
 -- what it does then: an exchange begins, or it is refused and stays
 abbrev pub SetsOut : Connection → Draw → Result Initiation Cause → Reply → Connection → Type 0
 SetsOut connection draw (Ok initiation) reply next =
-    (run : InitRun) × (run.initiation ≡ initiation) × (run.phase ≡ New) × Opens connection (Initiates run) draw reply next
+    (run : InitRun) × (run.initiation ≡ initiation) × (run.phase ≡ New) × OpensExchange connection (Initiates run) draw reply next
 SetsOut connection draw (Err cause) reply next = (reply ≡ Refused (error_of cause)) × (next ≡ connection)
 
 -- an initiator is called to what its state and these options tell
 pub record Undertakes (connection : Connection) (options : InitOptions) (draw : Draw) (reply : Reply) (next : Connection) : Type 0 where
   pub answer : Result Initiation Cause
-  pub begins : Begins connection.context options answer
+  pub begins : BeginsInitiation connection.context options answer
   pub sets_out : SetsOut connection draw answer reply next

@@ -8,7 +8,7 @@ use Rattle.krb_conf.specs.declared.env.Env.{Env}
 use Rattle.krb_context.specs.declared.context.Kerberos.{Kerberos}
 use Rattle.krb_exchange.specs.declared.user_to_user.TgtReq.{TgtReq}
 use Rattle.krb_admission.specs.Requests.{ask_of}
-use Rattle.krb_server.specs.Whole.{Makes}
+use Rattle.krb_server.specs.Whole.{AcceptsToken}
 use Rattle.krb_server.specs.declared.accept.Accepted.{Accepted}
 use Rattle.sspi_generator.specs.declared.network.NetFault.{NetFault}
 use Rattle.sspi_core.specs.declared.draw.Draw.{Draw}
@@ -30,7 +30,7 @@ module _ {G : Type 0} (admits : G → Ask → Verdict → G → Type 0) where
   -- a TGT-REQ asks no gate
   abbrev pub left_made : (server : Kerberos) (dce : Bool) (token : List ℕ) (env : Env) (draw : Draw) (old : G) (found : Option TgtReq)
       (answer : Result Accepted Cause) (server' : Kerberos) (new : G)
-      → Makes admits server dce token env draw old found answer server' new → List Record
+      → AcceptsToken admits server dce token env draw old found answer server' new → List Record
   left_made server dce token env draw old (Some tgt_req) answer server' new made = []
   left_made server dce token env draw old None answer server' new made = left_by made.accepts.request made.accepts.verdict draw.moment
 

@@ -44,7 +44,7 @@ IsOpenedBy context message (Ok text) reply after =
     (reply ≡ Buffers (unwrapped text message)) × (after ≡ record context { window = noted context.window (message_number message) })
 IsOpenedBy context message (Err cause) reply after = (reply ≡ Refused (error_of cause)) × (after ≡ context)
 
-pub record Opens (context : Kerberos) (message : List Buffer) (reply : Reply) (after : Kerberos) : Type 0 where
+pub record OpensMessage (context : Kerberos) (message : List Buffer) (reply : Reply) (after : Kerberos) : Type 0 where
   pub answer : Result (List ℕ) Cause
   pub unwraps : Unwraps context message answer
   pub made : IsOpenedBy context message answer reply after
@@ -77,6 +77,6 @@ Calls inputs.Start context random reply after = ⊥
 Calls (inputs.KdcReply octets) context random reply after = ⊥
 Calls (inputs.KdcFault code) context random reply after = ⊥
 Calls (inputs.Wrap message) context random reply after = Seals context random message reply after
-Calls (inputs.Unwrap message) context random reply after = Opens context message reply after
+Calls (inputs.Unwrap message) context random reply after = OpensMessage context message reply after
 Calls (inputs.MakeMic payload) context random reply after = Signs context payload reply after
 Calls (inputs.VerifyMic token payload) context random reply after = Verifies context token payload reply after

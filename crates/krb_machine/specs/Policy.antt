@@ -9,7 +9,7 @@ use Rattle.krb_context.specs.Contexts.{is_acceptor}
 use Rattle.krb_context.specs.declared.context.Kerberos.{Kerberos}
 use Rattle.krb_replay.specs.declared.ask.Ask.{Ask}
 use Rattle.krb_replay.specs.declared.ask.Verdict.{Verdict}
-use Rattle.krb_admission.specs.Accepts.{asks_dce_style, Begins}
+use Rattle.krb_admission.specs.Accepts.{asks_dce_style, BeginsAdmission}
 use Rattle.krb_admission.specs.declared.admission.Answer.{Answer}
 use Rattle.krb_admission.specs.declared.request.Request.{Request}
 use Rattle.krb_server.specs.Whole.{AcceptsWhole}
@@ -36,7 +36,7 @@ use Rattle.krb_machine.specs.declared.connection.Connection.{Connection}
 use Rattle.krb_machine.specs.declared.reply.Reply.{Reply}
 use Rattle.krb_machine.specs.declared.reply.Reply.TheVariants.{Done, Refused}
 use Rattle.krb_machine.specs.MessageCalls.{is_call, Calls}
-use Rattle.krb_machine.specs.Exchanges.{awaits, answer_of, Opens, GoesOn}
+use Rattle.krb_machine.specs.Exchanges.{awaits, answer_of, OpensExchange, GoesOn}
 use Rattle.krb_machine.specs.Initiations.{token_heard, options_of, Undertakes}
 
 -- a service: its connections by their numbers, its environment, and its replay gate
@@ -45,6 +45,7 @@ pub record State (G : Type 0) : Type 0 where
   pub env : Env
   pub gate : G
 
+-- go on with what was found: a `do` block of this file is a function, whose value is its last line or the first refusal
 infixl 10 ◌>>=◌
 abbrev pub ◌>>=◌ : {A B : Type 0} → Result A Cause → (A → Result B Cause) → Result B Cause
 Ok x >>= f = f x
@@ -55,15 +56,15 @@ abbrev pub check : Cause → Bool → Result (Unit {0}) Cause
 check cause test = if test then Ok tt else Err cause
 
 -- the token that an event brings
-abbrev pub token_of : Input → Option (List ℕ)
-token_of (Token octets) = Some octets
-token_of Start = None
-token_of (KdcReply octets) = None
-token_of (KdcFault code) = None
-token_of (Wrap message) = None
-token_of (Unwrap message) = None
-token_of (MakeMic payload) = None
-token_of (VerifyMic token payload) = None
+abbrev pub input_token : Input → Option (List ℕ)
+input_token (Token octets) = Some octets
+input_token Start = None
+input_token (KdcReply octets) = None
+input_token (KdcFault code) = None
+input_token (Wrap message) = None
+input_token (Unwrap message) = None
+input_token (MakeMic payload) = None
+input_token (VerifyMic token payload) = None
 
 -- the first checks of an event: the moment is in range, and there is such a connection
 abbrev pub called : List (ℕ × Connection) → Event → Result Connection Cause
@@ -91,7 +92,7 @@ abbrev pub reached : List (ℕ × Connection) → Event → Result (Connection �
 reached connections event = do
   connection ← ready connections event
   judges ← check causes.Sequence (is_acceptor connection.context)
-  token ← ok_or causes.Sequence (token_of event.input)
+  token ← ok_or causes.Sequence (input_token event.input)
   Ok (connection, token)
 
 -- those at an initiator: also that it is the time for what the event brings
@@ -121,7 +122,7 @@ pub record Brings (connections : List (ℕ × Connection)) (event : Event) (requ
   pub connection : Connection
   pub token : List ℕ
   pub reaches : reached connections event ≡ Ok (connection, token)
-  pub begun : Begins connection.context (asks_dce_style (server_flags event.flags)) token (Ok request)
+  pub begun : BeginsAdmission connection.context (asks_dce_style (server_flags event.flags)) token (Ok request)
 
 -- the reply that an acceptor's answer makes
 abbrev pub reply_of : Result Answer Cause → Reply
@@ -131,7 +132,7 @@ reply_of (Err cause) = Refused (error_of cause)
 -- what an acceptor's answer to a token leads to: its reply; or an exchange with a KDC begins, at a TGT-REQ
 abbrev pub Settles : Draw → Connection → Result Accepted Error → Reply → Connection → Type 0
 Settles draw connection (Ok (taken.Done status token admits)) reply next = (reply ≡ Done status token admits) × (next ≡ connection)
-Settles draw connection (Ok (taken.Run run)) reply next = Opens connection (Accepts run) draw reply next
+Settles draw connection (Ok (taken.Run run)) reply next = OpensExchange connection (Accepts run) draw reply next
 Settles draw connection (Err error) reply next = (reply ≡ Refused error) × (next ≡ connection)
 
 -- the number has a connection

@@ -34,8 +34,8 @@ pub record IsNew (setup : Setup) (state : State Book) : Type 0 where
   pub stands : StandsFor state.gate no_history
 
 -- the service that answers the next event: the first event makes it
-abbrev pub Begins : Progress → State Book → Type 0
-Begins progress state = MatchOption progress.service ((is_some progress.setup.skew ≡ true) × IsNew progress.setup state) (λ service. state ≡ service)
+abbrev pub BeginsService : Progress → State Book → Type 0
+BeginsService progress state = MatchOption progress.service ((is_some progress.setup.skew ≡ true) × IsNew progress.setup state) (λ service. state ≡ service)
 
 -- there is no service, and no line told the skew
 abbrev pub CannotBegin : Progress → Type 0
@@ -50,7 +50,7 @@ pub record Answers (progress : Progress) (event : Event) (text : List ℕ) (afte
   pub before : State Book
   pub reply : Reply
   pub next : State Book
-  pub begins : Begins progress before
+  pub begins : BeginsService progress before
   pub steps : Steps (Follows StandsFor) before event reply next
   pub text_is : text ≡ reply_line reply
   pub service_is : after.service ≡ Some next

@@ -21,7 +21,7 @@ IsStep (Completed (Ok done)) run step = step ≡ Ends done
 IsStep (Completed (Err error)) run step = (step ≡ Refused error) × (error ≢ error_of Memory)
 
 -- an exchange begins
-pub record Begins (run : Run) (draw : Draw) (step : Step) : Type 0 where
+pub record BeginsRun (run : Run) (draw : Draw) (step : Step) : Type 0 where
   pub state : GeneratorState NetworkRequest (Result InitDone Error)
   pub later : Run
   pub starts : StartsAt run draw state later

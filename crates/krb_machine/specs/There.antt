@@ -19,7 +19,7 @@ use Rattle.sspi_generator.specs.declared.network.NetFault.{NetFault}
 use Rattle.krb_machine.specs.MessageCalls.{is_call, Calls}
 use Rattle.krb_machine.specs.Exchanges.{answer_of, GoesOn}
 use Rattle.krb_machine.specs.Initiations.{token_heard, options_of, Undertakes}
-use Rattle.krb_machine.specs.Policy.{token_of, server_flags, draw_of, Settles}
+use Rattle.krb_machine.specs.Policy.{input_token, server_flags, draw_of, Settles}
 use Rattle.krb_machine.specs.declared.connection.Connection.{Connection}
 use Rattle.krb_machine.specs.declared.reply.Reply.{Reply}
 use Rattle.krb_machine.specs.declared.reply.Reply.TheVariants.{Refused}
@@ -66,7 +66,7 @@ module _ {G : Type 0} (admits : G → Ask → Verdict → G → Type 0) (env : E
   abbrev pub ActsThere : Bool → Event → Reply → Connection → G → Type 0
   ActsThere true event reply next new = CallsThere connection event reply next × (new ≡ old)
   ActsThere false event reply next new =
-      TakesPartThere (is_none connection.context.server) event.flags (token_heard connection.context.state event.input) (token_of event.input) (draw_of event) reply next new
+      TakesPartThere (is_none connection.context.server) event.flags (token_heard connection.context.state event.input) (input_token event.input) (draw_of event) reply next new
 
   -- such an event comes when the connection awaits no KDC
   abbrev pub IsTimelyThere : Option Run → Bool → Event → Reply → Connection → G → Type 0

@@ -4,7 +4,8 @@ use Rattle.std.specs.List.{AllByRecursion}
 use Rattle.std.specs.Coded.{×_prop, Unit-prop, le_prop, Coded-set, coded_list, coded_ℕ}
 use Rattle.std.proofs.Common.{ap, ◌∙◌}
 use Rattle.krb_der.specs.Layout.{Layout}
-use Rattle.krb_der.specs.Schema.{Kind, Fields, Of, Row, integer, error_code, text, octet_string, bits, time, boolean, sequence_of, sequence, application, nothing, required, optional, IsComplete, IsCompleteRow}
+use Rattle.krb_der.specs.Schema.{Kind, Fields, Of, Row, integer, error_code, text, octet_string, bits, time, boolean, sequence_of}
+use Rattle.krb_der.specs.Schema.{sequence, application, nothing, required, optional, IsComplete, IsCompleteRow}
 use Rattle.krb_authenticators.specs.Bindings.{AreShortBindings}
 use Rattle.krb_as.specs.AsPhases as as_phases
 use Rattle.krb_as.specs.AsPhases.{IsSealed}

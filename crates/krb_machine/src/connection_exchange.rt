@@ -13,7 +13,7 @@ impl Connection {
     ghost use Rattle.std.specs.Prelude.{◌≡◌, ◌≤◌, Some, None, IfOk, OnErr};
     ghost use Rattle.sspi_core.specs.Moments.{last_moment};
     ghost use Rattle.krb_machine.specs.Runs.{IsNew};
-    ghost use Rattle.krb_machine.specs.Exchanges.{LeadsTo, Opens, GoesOn};
+    ghost use Rattle.krb_machine.specs.Exchanges.{LeadsTo, OpensExchange, GoesOn};
     ghost use Rattle.krb_machine.specs.There.{TakesAnswerThere};
 
     /// Takes a step of its exchange: it waits for an answer, or its context takes what the exchange made, or stays.
@@ -48,7 +48,7 @@ impl Connection {
         requires new { IsNew run }
         requires moment { draw.now.moment ≤ last_moment }
         requires free { self.old.exchange ≡ None }
-        ensures opens { IfOk result (λ reply. Opens self.old run draw.now reply self.new) }
+        ensures opens { IfOk result (λ reply. OpensExchange self.old run draw.now reply self.new) }
         ensures err { OnErr result (self.new ≡ self.old) }
     {
         match begin_exchange(alloc, run, draw) {

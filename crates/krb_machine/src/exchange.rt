@@ -8,7 +8,7 @@ ghost use Rattle.sspi_generator.specs.declared.task.GeneratorState.TheVariants.{
 ghost use Rattle.sspi_generator.specs.Steps.{OnSuspended};
 ghost use Rattle.krb_machine.specs.Runs.{IsNew, IsWaiting};
 ghost use Rattle.krb_machine.specs.Waiting.{waiting-prop};
-ghost use Rattle.krb_machine.specs.Steps.{IsStep, Begins, GoesOn};
+ghost use Rattle.krb_machine.specs.Steps.{IsStep, BeginsRun, GoesOn};
 ghost use Rattle.krb_machine.specs.declared.run.Run.{Run};
 
 use crate::run::{Run, resume, start};
@@ -93,7 +93,7 @@ fn step_of(
 pub fn begin_exchange(alloc: Global, run: Run, draw: &Draw) -> Result<Step, OutOfMemory>
     requires new { IsNew run }
     requires moment { draw.now.moment ≤ last_moment }
-    ensures begins { IfOk result (λ step. Begins run draw.now step) }
+    ensures begins { IfOk result (λ step. BeginsRun run draw.now step) }
 {
     let mut run = Box::new(alloc, run)?;
     let state = start(&mut run, draw);

@@ -7,10 +7,10 @@ ghost use Rattle.sspi_core.specs.declared.cause.Cause.{Cause};
 ghost use Rattle.sspi_core.specs.declared.draw.Draw.{Draw};
 ghost use Rattle.sspi_generator.specs.declared.network.NetFault.{NetFault};
 ghost use Rattle.krb_context.specs.declared.context.Kerberos.{Kerberos};
-ghost use Rattle.krb_initiator.specs.Beginnings.{Begins as BeginsInitiation};
+ghost use Rattle.krb_initiator.specs.Beginnings.{BeginsInitiation};
 ghost use Rattle.krb_initiator.specs.declared.options.InitOptions.{InitOptions};
 ghost use Rattle.krb_initiator.specs.declared.seeker.Initiation.{Initiation};
-ghost use Rattle.krb_machine.specs.Steps.{Begins as BeginsRun, GoesOn};
+ghost use Rattle.krb_machine.specs.Steps.{BeginsRun, GoesOn};
 ghost use Rattle.krb_machine.specs.declared.exchange.Step.{Step};
 ghost use Rattle.krb_machine.specs.declared.run.Run.{Run};
 ghost use Rattle.krb_replay.specs.Book.{Book, Follows, StandsFor};
@@ -19,7 +19,7 @@ ghost use Rattle.krb_replay.specs.History.{History, verdict_of};
 ghost use Rattle.krb_replay.specs.Records.{IsDistinct};
 ghost use Rattle.krb_replay.specs.declared.ask.Verdict.{Verdict};
 ghost use Rattle.krb_replay.specs.declared.ask.Verdict.TheVariants.{Admitted};
-ghost use Rattle.krb_admission.specs.Accepts.{asks_dce_style, refusal, Begins, Finishes};
+ghost use Rattle.krb_admission.specs.Accepts.{asks_dce_style, refusal, BeginsAdmission, FinishesAdmission};
 ghost use Rattle.krb_admission.specs.Admission.{answer_for};
 ghost use Rattle.krb_admission.specs.Requests.{ask_of};
 ghost use Rattle.krb_admission.specs.declared.request.Request.{Request};
@@ -101,9 +101,9 @@ pub fn completeness()
     ensures { (skew : ℕ) (state after : State History) (event : Event) (reply : Reply) (connection : Connection) (token : List ℕ)
         (request : Request) (admission : Admission)
         → Steps (Remembers skew) state event reply after → reached state.connections event ≡ Ok (connection, token)
-        → Begins connection.context (asks_dce_style (server_flags event.flags)) token (Ok request)
+        → BeginsAdmission connection.context (asks_dce_style (server_flags event.flags)) token (Ok request)
         → verdict_of skew state.gate (ask_of request event.moment) ≡ Admitted
-        → Finishes connection.context (asks_dce_style (server_flags event.flags)) (draw_of event) request (Ok admission)
+        → FinishesAdmission connection.context (asks_dce_style (server_flags event.flags)) (draw_of event) request (Ok admission)
         → reply ≡ reply_of (Ok (answer_for admission)) }
 {}
 
@@ -132,9 +132,9 @@ pub fn completeness_over_a_book()
     ensures { (before after : State Book) (h : History) (event : Event) (reply : Reply) (connection : Connection) (token : List ℕ)
         (request : Request) (admission : Admission) → StandsFor before.gate h
         → Steps (Follows StandsFor) before event reply after → reached before.connections event ≡ Ok (connection, token)
-        → Begins connection.context (asks_dce_style (server_flags event.flags)) token (Ok request)
+        → BeginsAdmission connection.context (asks_dce_style (server_flags event.flags)) token (Ok request)
         → verdict_of before.gate.skew h (ask_of request event.moment) ≡ Admitted
-        → Finishes connection.context (asks_dce_style (server_flags event.flags)) (draw_of event) request (Ok admission)
+        → FinishesAdmission connection.context (asks_dce_style (server_flags event.flags)) (draw_of event) request (Ok admission)
         → reply ≡ reply_of (Ok (answer_for admission)) }
 {}
 

@@ -3,7 +3,7 @@
 ghost use Rattle.std.specs.Prelude.{◌≡◌, ◌≢◌, take, IfOk, OnErr};
 ghost use Rattle.sspi_core.specs.Kinds.{error_of};
 ghost use Rattle.sspi_core.specs.declared.cause.Cause.TheVariants as causes;
-ghost use Rattle.krb_machine.specs.MessageCalls.{Seals, Opens, Signs, Verifies};
+ghost use Rattle.krb_machine.specs.MessageCalls.{Seals, OpensMessage, Signs, Verifies};
 ghost use Rattle.krb_machine.specs.declared.reply.Reply.TheVariants.{Refused};
 
 use crate::exchange::is_memory;
@@ -93,7 +93,7 @@ pub(crate) fn open_message(
     context: &mut Kerberos,
     message: &Message,
 ) -> Result<Reply, OutOfMemory>
-    ensures opens { IfOk result (λ reply. Opens context.old message.now reply context.new) }
+    ensures opens { IfOk result (λ reply. OpensMessage context.old message.now reply context.new) }
     ensures err { OnErr result (context.new ≡ context.old) }
 {
     let mut opened = copy_message(alloc, message)?;

@@ -31,7 +31,7 @@ impl Model for Session {
 impl Session {
     ghost use Rattle.std.specs.Prelude.{◌≡◌, ◌<◌, ◌≤◌, ◌^◌, ◌+◌, Some, None, OnOk, OnErr, MatchOption, MatchResult, string_bytes};
     ghost use Rattle.krb_script.specs.declared.fields.FieldError.TheVariants.{Bad};
-    ghost use Rattle.krb_machine.specs.Progress.{new_progress, Begins, CannotBegin, one_if_admits, Answers, prepare, Prepares, TakesContent, RefusesContent, Takes, Refuses};
+    ghost use Rattle.krb_machine.specs.Progress.{new_progress, BeginsService, CannotBegin, one_if_admits, Answers, prepare, Prepares, TakesContent, RefusesContent, Takes, Refuses};
     ghost use Rattle.krb_machine.specs.Closing.{has_begun, kept_by};
 
     pub fn new(alloc: Global) -> Session
@@ -86,7 +86,7 @@ impl Session {
 
     /// Makes the service, where there is none yet and a line told the skew.
     fn make_service(&mut self, alloc: Global) -> Result<(), OutOfMemory>
-        ensures begun { OnOk result (MatchOption self.new.service (CannotBegin self.old × (self.new ≡ self.old)) (Begins self.old)) }
+        ensures begun { OnOk result (MatchOption self.new.service (CannotBegin self.old × (self.new ≡ self.old)) (BeginsService self.old)) }
         ensures lines { self.new.lines ≡ self.old.lines }
         ensures answered { self.new.answered ≡ self.old.answered }
         ensures admitted { self.new.admitted ≡ self.old.admitted }

@@ -13,6 +13,10 @@ pub record IsFrame (oid token_id message octets : List ℕ) : Type 0 where
 abbrev pub NoFrame : List ℕ → List ℕ → Type 0
 NoFrame token_id octets = (oid message : List ℕ) → IsFrame oid token_id message octets → ⊥
 
+-- the frame of a message (RFC 2743, section 3.1; RFC 4121, section 4.1)
+unfoldable pub framed : List ℕ → List ℕ → List ℕ → List ℕ
+framed oid token_id message = tlv 0x60 (tlv 0x06 oid ++ (token_id ++ message))
+
 -- the message behind its length in four big-endian octets
 abbrev pub with_length : List ℕ → List ℕ
 with_length message = to_be_bytes w32 (length message) ++ message

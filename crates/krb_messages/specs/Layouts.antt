@@ -15,7 +15,8 @@ use Rattle.krb_messages.specs.declared.ap_req.ApReq.{ApReq}
 use Rattle.krb_messages.specs.declared.authenticator.Authenticator.{Authenticator}
 use Rattle.krb_messages.specs.declared.ap_rep.ApRep.{ApRep}
 use Rattle.krb_messages.specs.declared.ap_rep.EncApRepPart.{EncApRepPart}
-use Rattle.krb_messages.specs.Table.{principal_name, host_address, authorization_data_element, encrypted_data, encryption_key, checksum, ticket, transited_encoding, enc_ticket_part, ap_req, authenticator, ap_rep, enc_ap_rep_part}
+use Rattle.krb_messages.specs.Table.{principal_name, host_address, authorization_data_element, encrypted_data, encryption_key, checksum}
+use Rattle.krb_messages.specs.Table.{ticket, transited_encoding, enc_ticket_part, ap_req, authenticator, ap_rep, enc_ap_rep_part}
 
 -- PrincipalName
 unfoldable pub principal_name_row : PrincipalName → Of principal_name

@@ -6,7 +6,21 @@ ghost use Rattle.krb_messages.specs.declared.constants.TheConstants as code;
 ghost use Rattle.krb_messages.specs.Frame.{IsFrame};
 ghost use Rattle.krb_messages.specs.Oid.{krb5_oid, ms_krb5_oid, user_to_user_oid};
 ghost use Rattle.krb_messages.specs.OneSpelling.{HasOneSpelling};
-ghost use Rattle.krb_messages.specs.Layouts.{principal_name_layout, host_address_layout, authorization_data_element_layout, encrypted_data_layout, encryption_key_layout, checksum_layout, ticket_layout, transited_encoding_layout, enc_ticket_part_layout, ap_req_layout, authenticator_layout, ap_rep_layout, enc_ap_rep_part_layout};
+ghost use Rattle.krb_messages.specs.Layouts.{
+  principal_name_layout,
+  host_address_layout,
+  authorization_data_element_layout,
+  encrypted_data_layout,
+  encryption_key_layout,
+  checksum_layout,
+  ticket_layout,
+  transited_encoding_layout,
+  enc_ticket_part_layout,
+  ap_req_layout,
+  authenticator_layout,
+  ap_rep_layout,
+  enc_ap_rep_part_layout,
+};
 
 /// Each record that is sound and short enough has one spelling, a spelling is of one record, and none begins another of
 /// its kind. So what was written is read back whole, whatever follows it.

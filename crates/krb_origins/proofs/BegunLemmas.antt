@@ -8,7 +8,7 @@ use Rattle.krb_initiator.specs.declared.begin.Identity.{Identity}
 use Rattle.krb_initiator.specs.declared.options.InitOptions.{InitOptions}
 use Rattle.krb_initiator.specs.declared.seeker.Initiation.{Initiation}
 use Rattle.krb_initiator.specs.declared.seeker.Initiation.TheVariants.{Requests, Seeks, Hears}
-use Rattle.krb_initiator.specs.Beginnings.{identity_of, NamesIdentity, Identifies, SeeksTicket, RequestsTgt, BeginsNew, BeginsIn, Begins}
+use Rattle.krb_initiator.specs.Beginnings.{identity_of, NamesIdentity, Identifies, SeeksTicket, RequestsTgt, BeginsNew, BeginsIn, BeginsInitiation}
 
 -- it keeps the context's keys, or fetches a ticket for its caller's credentials
 abbrev pub IsFor : Kerberos → InitOptions → Initiation → Type 0
@@ -50,5 +50,5 @@ module _ (context : Kerberos) (options : InitOptions) (initiation : Initiation) 
   in_for ApExchange h = subst Is (sym (gave _ _ h)) refl
   in_for Final h = absurd cc
 
-  pub begins_for : Begins context options (Ok initiation) → IsFor context options initiation
+  pub begins_for : BeginsInitiation context options (Ok initiation) → IsFor context options initiation
   begins_for h = in_for context.state h

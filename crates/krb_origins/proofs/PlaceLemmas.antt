@@ -16,7 +16,7 @@ use Rattle.sspi_core.specs.declared.cause.Cause.{Cause}
 use Rattle.sspi_core.specs.declared.cause.Cause.TheVariants as causes
 use Rattle.krb_machine.specs.Exchanges.{awaits}
 use Rattle.krb_machine.specs.Initiations.{token_heard}
-use Rattle.krb_machine.specs.Policy.{◌>>=◌, check, called, ready, reached, heard, awaited, token_of}
+use Rattle.krb_machine.specs.Policy.{◌>>=◌, check, called, ready, reached, heard, awaited, input_token}
 use Rattle.sspi_core.specs.Moments.{last_moment}
 use Rattle.krb_machine.specs.declared.connection.Connection.{Connection}
 
@@ -132,10 +132,10 @@ pub record IsJudging (connections : List (ℕ × Connection)) (event : Event) (c
 
 pub reached_there : (connections : List (ℕ × Connection)) (event : Event) (found : Connection × List ℕ) → reached connections event ≡ Ok found → IsJudging connections event found.0
 reached_there connections event found e =
-    let is_ready = bound (ready connections event) (judges (token_of event.input)) found e in
+    let is_ready = bound (ready connections event) (judges (input_token event.input)) found e in
     let here : Connection = is_ready.found in
-    let judging = bound (check causes.Sequence (is_acceptor here.context)) (λ u. ok_or causes.Sequence (token_of event.input) >>= (λ token. Ok (here, token))) found is_ready.next_is in
-    let token = bound (ok_or causes.Sequence (token_of event.input)) (λ token. Ok (here, token)) found judging.next_is in
+    let judging = bound (check causes.Sequence (is_acceptor here.context)) (λ u. ok_or causes.Sequence (input_token event.input) >>= (λ token. Ok (here, token))) found is_ready.next_is in
+    let token = bound (ok_or causes.Sequence (input_token event.input)) (λ token. Ok (here, token)) found judging.next_is in
     let is : here ≡ found.0 = ap (λ (f : Connection × List ℕ). f.0) (same_ok (here, token.found) found token.next_is) in
     subst (λ (c : Connection). IsJudging connections event c) is
     (record { there = (ready_there connections event here is_ready.first_is).there; judging = allowed causes.Sequence (is_acceptor here.context) judging.found judging.first_is })

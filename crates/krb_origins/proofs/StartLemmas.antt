@@ -5,7 +5,7 @@ use Rattle.krb_as.specs.declared.done.InitDone.{InitDone}
 use Rattle.krb_as.specs.declared.turn.Turn.{Turn}
 use Rattle.krb_as.specs.declared.turn.Turn.TheVariants.{Asks, Ends}
 use Rattle.krb_machine.specs.declared.run.Run.TheVariants.{Initiates}
-use Rattle.krb_initiator.specs.Beginnings.{Begins as BeginsInitiation}
+use Rattle.krb_initiator.specs.Beginnings.{BeginsInitiation}
 use Rattle.krb_initiator.specs.InitRuns.{Starts, StartsNew}
 use Rattle.krb_initiator.specs.InitSteps.{requested, HearsAnswer}
 use Rattle.krb_initiator.specs.declared.init_run.InitRun.{InitRun}
@@ -15,7 +15,7 @@ use Rattle.krb_initiator.specs.declared.seeker.InitPhase.TheVariants.{New}
 use Rattle.krb_initiator.specs.declared.seeker.Initiation.{Initiation}
 use Rattle.krb_initiator.specs.declared.seeker.Initiation.TheVariants.{Requests, Seeks, Hears}
 use Rattle.krb_initiator.specs.declared.seeker.Seeker.{Seeker}
-use Rattle.krb_ap.specs.Answered.{Confirms, Replies, Finishes, TakesApRep}
+use Rattle.krb_ap.specs.Answered.{Confirms, Replies, FinishesInitiation, TakesApRep}
 use Rattle.krb_ap.specs.Initiators.{is_bare}
 use Rattle.krb_ap.specs.declared.initiator.Initiator.{Initiator}
 use Rattle.krb_messages.specs.declared.ap_rep.EncApRepPart.{EncApRepPart}
@@ -24,7 +24,7 @@ use Rattle.krb_script.specs.declared.item.Event.{Event}
 use Rattle.sspi_core.specs.declared.cause.Cause.{Cause}
 use Rattle.sspi_core.specs.declared.draw.Draw.{Draw}
 use Rattle.sspi_core.specs.declared.identity.CredentialsBuffers.{CredentialsBuffers}
-use Rattle.krb_machine.specs.Exchanges.{Opens}
+use Rattle.krb_machine.specs.Exchanges.{OpensExchange}
 use Rattle.krb_machine.specs.Initiations.{SetsOut, Undertakes}
 use Rattle.krb_machine.specs.declared.connection.Connection.{Connection}
 use Rattle.krb_machine.specs.declared.reply.Reply.{Reply}
@@ -50,7 +50,7 @@ unfolding Replies
 replies_same initiator key subkey number draw done h =
     let taken = passed _ _ _ h in let counted = passed _ _ _ taken.rest_held in ap key_at (gave _ _ counted.rest_held)
 
-finishes_same : (dce : Bool) (initiator : Initiator) (key : List ℕ) (part : EncApRepPart) (draw : Draw) (done : InitDone) → Finishes dce initiator key part draw (Ok done)
+finishes_same : (dce : Bool) (initiator : Initiator) (key : List ℕ) (part : EncApRepPart) (draw : Draw) (done : InitDone) → FinishesInitiation dce initiator key part draw (Ok done)
     → key_at done ≡ initiator.params.session_key
 finishes_same true initiator key part draw done h = replies_same initiator key part.subkey part.seq_number draw done h
 finishes_same false initiator key part draw done h = confirms_same initiator part.subkey done h
@@ -117,7 +117,7 @@ module _ (identity : Option CredentialsBuffers) (id : ℕ) (events : List Event)
   starts_lands options (Hears initiator token) draw later answer next own is seeks h l = hears_lands initiator token draw later answer next is h l
 
   opens_stands : (options : InitOptions) (initiation : Initiation) (run : InitRun) (draw : Draw) (reply : Reply) (next : Connection) → options.credentials ≡ connection.context.auth_identity
-      → IsFor connection.context options initiation → run.initiation ≡ initiation → run.phase ≡ New → Opens connection (Initiates run) draw reply next → Holds next
+      → IsFor connection.context options initiation → run.initiation ≡ initiation → run.phase ≡ New → OpensExchange connection (Initiates run) draw reply next → Holds next
   opens_stands options initiation run draw reply next own is initiation_is new h =
       let t = begun run draw h.step h.begins in
       let held : StartsNew initiation draw t.answer =

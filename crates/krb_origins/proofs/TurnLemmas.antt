@@ -6,7 +6,7 @@ use Rattle.krb_as.specs.declared.turn.Turn.{Turn}
 use Rattle.krb_as.specs.declared.turn.Turn.TheVariants.{Asks, Ends}
 use Rattle.krb_context.specs.Contexts.{settled}
 use Rattle.krb_machine.specs.Runs.{StartsAt, ResumesAt}
-use Rattle.krb_machine.specs.Steps.{IsStep, Begins, GoesOn}
+use Rattle.krb_machine.specs.Steps.{IsStep, BeginsRun, GoesOn}
 use Rattle.krb_machine.specs.declared.exchange.Step.{Step}
 use Rattle.krb_machine.specs.declared.run.Run.{Run}
 use Rattle.krb_machine.specs.declared.run.Run.TheVariants.{Accepts, Initiates}
@@ -65,7 +65,7 @@ resumed : (old : InitRun) (brought : Result (List ℕ) NetFault) (draw : Draw) (
 resumed old brought draw state (Accepts later) step h leads = absurd h
 resumed old brought draw state (Initiates later) step h leads = turned old later (Next old.initiation old.phase brought draw) state step h.turn h.stays leads
 
-pub begun : (old : InitRun) (draw : Draw) (step : Step) → Begins (Initiates old) draw step → Turned old (Starts old.initiation old.phase draw) step
+pub begun : (old : InitRun) (draw : Draw) (step : Step) → BeginsRun (Initiates old) draw step → Turned old (Starts old.initiation old.phase draw) step
 begun old draw step h = started old draw h.state h.later step h.starts h.leads
 
 pub gone_on : (old : InitRun) (brought : Result (List ℕ) NetFault) (draw : Draw) (step : Step) → GoesOn (Initiates old) brought draw step → Turned old (Next old.initiation old.phase brought draw) step

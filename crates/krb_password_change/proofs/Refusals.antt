@@ -14,7 +14,7 @@ use Rattle.krb_as.specs.declared.kdc.Kdc.{Kdc}
 use Rattle.krb_as.specs.declared.key.Grant.{Grant}
 use Rattle.krb_as.specs.Replies.{Unwraps, Replies}
 use Rattle.krb_replies.specs.Answered.{TellsStatus}
-use Rattle.krb_replies.specs.Unseals.{Unseals, Opens}
+use Rattle.krb_replies.specs.Unseals.{Unseals, OpensSealed}
 use Rattle.krb_as.proofs.Refusals.{IsNetwork, Refuses, then_refuses, finds_refuses, takes_refuses, holds_refuses, gives_refuses, begins_within_refuses, takes_reply_within_refuses, replies_refuse}
 use Rattle.krb_password_change.specs.declared.change.Changer.{Changer}
 use Rattle.krb_password_change.specs.declared.phase.AnswerLeg.{AnswerLeg}
@@ -38,7 +38,7 @@ module _ (P : Type 0) where
       (λ service. gives_refuses P _))
 
   status_refuses : (chosen : Option CipherSuite) (key : List ℕ) (answer : KrbPriv) → Refuses P (TellsStatus chosen key answer)
-  unfolding TellsStatus Opens Unseals
+  unfolding TellsStatus OpensSealed Unseals
   status_refuses chosen key answer =
       then_refuses P _ _ (takes_refuses P Etype _ (λ z. let e = z.1 in absurd cc))
       (λ suite. then_refuses P _ _ (then_refuses P _ _ (then_refuses P _ _ (holds_refuses P KeyLength _ (λ z. let e = z.1 in absurd cc))

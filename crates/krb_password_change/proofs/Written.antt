@@ -12,17 +12,8 @@ use Rattle.krb_exchange.specs.declared.priv_message.ApMessage.{ApMessage}
 use Rattle.krb_exchange.specs.declared.priv_message.ApMessage.TheVariants.{ApReq, ApRep}
 use Rattle.sspi_core.specs.declared.draw.Draw.{Draw}
 use Rattle.krb_authenticators.specs.Passwords.{FitsRequest, FitsPriv}
-use Rattle.krb_password_change.specs.Requested.{drawn_key, ap_spelling, written}
-
-key_size_small : (suite : CipherSuite) → key_size suite ≤ 32
-key_size_small Aes128CtsHmacSha196 = lit≤ tt
-key_size_small Aes256CtsHmacSha196 = lit≤ tt
-
-drawn_short : (suite : CipherSuite) (draw : Draw) → length (drawn_key suite draw) ≤ 2 ^ 24
-drawn_short suite draw = omega (arith, key_size_small suite, length-take (key_size suite) draw.random)
-
-pub key_short : (suite : CipherSuite) (draw : Draw) (key : List ℕ) → key ≡ drawn_key suite draw → length key ≤ 2 ^ 24
-key_short suite draw key e = subst (λ (o : List ℕ). length o ≤ 2 ^ 24) (sym e) (drawn_short suite draw)
+use Rattle.krb_context.specs.Drawn.{drawn_key}
+use Rattle.krb_password_change.specs.Requested.{ap_spelling, written}
 
 -- what is written is the spelling
 ap_spelled : (message : ApMessage) (octets : List ℕ) → SpellsAp message octets → octets ≡ ap_spelling message

@@ -29,13 +29,15 @@ use Rattle.krb_password_change.specs.declared.phase.AnswerLeg.{AnswerLeg}
 use Rattle.krb_password_change.specs.declared.phase.ChangePhase.{ChangePhase}
 use Rattle.krb_password_change.specs.declared.phase.ChangePhase.TheVariants.{AwaitsAnswer}
 use Rattle.krb_password_change.specs.Ports.{password_kdc}
-use Rattle.krb_password_change.specs.Requested.{drawn_key, number_after, change_request}
+use Rattle.krb_context.specs.Drawn.{drawn_key}
+use Rattle.krb_context.specs.Contexts.{next_number}
+use Rattle.krb_password_change.specs.Requested.{change_request}
 
 -- what is asked for: a ticket to the service that changes passwords
 abbrev pub body_of : Client → Draw → KdcReqBody
 body_of client draw = first_body client PasswordChange 0 draw
 
--- the answer to the request that a ticket lets go: it is sealed under the drawn key
+-- the answer to the request that goes out with a ticket: it is sealed under the drawn key
 abbrev pub answer_leg : Grant → Kdc → Draw → AnswerLeg
 answer_leg grant kdc draw = record { protocol = kdc.protocol; suite = grant.suite; subkey = drawn_key grant.suite draw; realm = grant.rep.crealm }
 
@@ -68,7 +70,7 @@ change_of changer leg = record {
   state = changer.state;
   realm = Some leg.realm;
   encryption_params = record changer.params { encryption_type = Some leg.suite };
-  seq_number = number_after changer.number;
+  seq_number = next_number changer.number;
   krb5_user_to_user = changer.user_to_user;
   ticket_decryption_key = None;
 }

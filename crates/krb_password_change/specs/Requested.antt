@@ -1,5 +1,6 @@
 -- The request for a new password: an AP-REQ, and the password sealed under a key that is drawn for it (RFC 3244, section 2).
-use Rattle.std.specs.Prelude.{ℕ, ◌+◌, ◌%◌, ◌^◌, List, take, drop, Some, None}
+use Rattle.std.specs.Prelude.{ℕ, ◌+◌, List, take, drop, Some, None}
+use Rattle.krb_der.specs.Layout.{spelling}
 use Rattle.krb_crypto.specs.Suite.{key_size}
 use Rattle.krb_crypto.specs.declared.suite.CipherSuite.{CipherSuite}
 use Rattle.krb_messages.specs.declared.authenticator.Authenticator.{Authenticator}
@@ -16,25 +17,18 @@ use Rattle.sspi_generator.specs.declared.network.NetworkRequest.{NetworkRequest}
 use Rattle.krb_as.specs.declared.kdc.Kdc.{Kdc}
 use Rattle.krb_as.specs.declared.key.Grant.{Grant}
 use Rattle.krb_as.specs.Requests.{request_to}
-use Rattle.krb_requests.specs.Pieces.{spelling}
 use Rattle.krb_authenticators.specs.declared.options.EncKey.{EncKey}
 use Rattle.krb_authenticators.specs.Authenticators.{authenticator}
 use Rattle.krb_authenticators.specs.Passwords.{priv_part, priv_request}
 use Rattle.krb_password_change.specs.declared.change.Changer.{Changer}
-
--- the random octets of the request, in their order: a key, and two confounders of sixteen
-abbrev pub drawn_key : CipherSuite → Draw → List ℕ
-drawn_key suite draw = take (key_size suite) draw.random
+use Rattle.krb_context.specs.Drawn.{drawn_key}
+use Rattle.krb_context.specs.Contexts.{next_number}
 
 abbrev pub first_confounder : CipherSuite → Draw → List ℕ
 first_confounder suite draw = take 16 (drop (key_size suite) draw.random)
 
 abbrev pub second_confounder : CipherSuite → Draw → List ℕ
 second_confounder suite draw = take 16 (drop (key_size suite + 16) draw.random)
-
--- the number after the context's own
-abbrev pub number_after : ℕ → ℕ
-number_after number = (number + 1) % 2 ^ 32
 
 -- the client of the reply, with that number and the drawn key, without a checksum and without bindings
 abbrev pub change_authenticator : ℕ → CipherSuite → KdcRep → Draw → Authenticator
@@ -46,12 +40,12 @@ change_authenticator number suite rep draw =
 abbrev pub message_by : Changer → CipherSuite → List ℕ → Ticket → Authenticator → Draw → KrbPrivMessage
 message_by changer suite key ticket authenticator draw =
     priv_request suite key (first_confounder suite draw) (second_confounder suite draw) ticket authenticator
-    (priv_part changer.new_password (number_after changer.number) changer.client.host)
+    (priv_part changer.new_password (next_number changer.number) changer.client.host)
 
 -- with the ticket that was granted
 abbrev pub change_message : Changer → Grant → Draw → KrbPrivMessage
 change_message changer grant draw =
-    message_by changer grant.suite grant.key grant.rep.ticket (change_authenticator (number_after changer.number) grant.suite grant.rep draw) draw
+    message_by changer grant.suite grant.key grant.rep.ticket (change_authenticator (next_number changer.number) grant.suite grant.rep draw) draw
 
 -- its octets
 abbrev pub ap_spelling : ApMessage → List ℕ

@@ -11,10 +11,9 @@ ghost use Rattle.krb_password_change.specs.ChangeRuns.{IsAwaiting, turns_left};
 
 use crate::change::Changer;
 use crate::phase::{AnswerLeg, ChangePhase};
-use crate::request::{number_after, params_in};
+use crate::request::number_after;
 use krb_as::{Turn, unwrap_reply};
 use krb_context::{ContextChange, EncryptionParams};
-use krb_crypto::CipherSuite;
 use krb_der::{Fault, Octets, OutOfMemory, Text, TryCopy};
 use krb_exchange::{ApMessage, KrbPriv, KrbPrivMessage};
 use krb_replies::extract_status_code_from_krb_priv_response;
@@ -64,7 +63,7 @@ fn read_answer(
 fn told_code(alloc: Global, leg: &AnswerLeg, answer: &KrbPriv) -> Result<u16, Cause>
     ensures { Answers (TellsStatus (Some leg.now.suite) leg.now.subkey answer.now) result }
 {
-    let params = params_in(leg.suite);
+    let params = EncryptionParams::of_suite(leg.suite);
     let key = leg.subkey.as_ref().as_slice();
     match extract_status_code_from_krb_priv_response(alloc, answer, key, &params) {
         Ok(code) => Ok(code),
@@ -78,18 +77,6 @@ fn check_code(code: u16) -> Result<(), Cause>
     hold(code == 0, Cause::ResultCode(code))
 }
 
-fn params_with(
-    alloc: Global,
-    params: &EncryptionParams,
-    suite: CipherSuite,
-) -> Result<EncryptionParams, OutOfMemory>
-    ensures { IfOk result (λ made. made ≡ record params.now { encryption_type = Some suite }) }
-{
-    let mut made = params.copy(alloc)?;
-    made.encryption_type = Some(suite);
-    Ok(made)
-}
-
 /// What the context becomes.
 fn change_of(
     alloc: Global,
@@ -99,7 +86,7 @@ fn change_of(
     ensures { IfOk result (λ change. change ≡ change_of changer.now leg.now) }
 {
     let realm = Text::from_str(alloc, leg.realm.as_str())?;
-    let encryption_params = params_with(alloc, &changer.params, leg.suite)?;
+    let encryption_params = changer.params.copy_for(alloc, leg.suite)?;
     Ok(ContextChange {
         state: changer.state,
         realm: Some(realm),

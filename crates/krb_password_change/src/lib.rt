@@ -8,6 +8,7 @@
 mod answer;
 mod change;
 mod change_run;
+pub mod laws;
 mod phase;
 mod port;
 mod request;

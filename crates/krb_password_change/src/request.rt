@@ -4,19 +4,20 @@ ghost use Rattle.std.specs.Prelude.{◌≡◌, ◌<◌, ◌≤◌, ◌^◌, leng
 ghost use Rattle.krb_crypto.specs.Suite.{key_size};
 ghost use Rattle.krb_messages.specs.Layouts.{authenticator_layout, ticket_layout};
 ghost use Rattle.krb_context.specs.Params.{suite_of};
+ghost use Rattle.krb_context.specs.Contexts.{next_number};
 ghost use Rattle.sspi_core.specs.Moments.{last_moment};
 ghost use Rattle.krb_requests.specs.Pieces.{Fits};
 ghost use Rattle.krb_authenticators.specs.Passwords.{FitsPriv};
 ghost use Rattle.krb_as.specs.Granted.{IsSendable};
 ghost use Rattle.krb_password_change.specs.Changes.{IsReady};
-ghost use Rattle.krb_password_change.specs.Requested.{drawn_key, first_confounder, second_confounder, number_after, change_authenticator, message_by, change_message, written, change_request};
+ghost use Rattle.krb_password_change.specs.Requested.{first_confounder, second_confounder, change_authenticator, message_by, change_message, written, change_request};
 
 use crate::change::Changer;
 use krb_as::{Grant, Kdc, request_to};
 use krb_authenticators::{
     EncKey, GenerateAuthenticatorOptions, generate_authenticator, generate_krb_priv_request,
 };
-use krb_context::EncryptionParams;
+use krb_context::{EncryptionParams, drawn_secret};
 use krb_crypto::CipherSuite;
 use krb_der::{Items, Octets, OutOfMemory, TryCopy, boxed};
 use krb_exchange::{KdcRep, KrbPrivMessage};
@@ -25,22 +26,9 @@ use sspi_core::{Draw, Secret};
 use sspi_generator::NetworkRequest;
 use std::alloc::Global;
 
-/// The key that the new password and the answer are sealed under.
-pub(crate) fn drawn_key(
-    alloc: Global,
-    suite: CipherSuite,
-    draw: &Draw,
-) -> Result<Secret<Octets>, OutOfMemory>
-    ensures drawn { IfOk result (λ key. key ≡ drawn_key suite draw.now) }
-    ensures short { IfOk result (λ key. length key ≤ 2 ^ 24) }
-{
-    let key = &draw.random[..suite.key_size()];
-    Ok(Secret::new(Octets::from_slice(alloc, key)?))
-}
-
 /// The number after the context's own, going round at 2^32.
 pub(crate) fn number_after(number: u32) -> u32
-    ensures { result ≡ number_after number }
+    ensures { result ≡ next_number number }
 {
     number.wrapping_add(1)
 }
@@ -58,7 +46,7 @@ fn change_authenticator(
     ensures made { IfOk result (λ made. made ≡ change_authenticator number suite rep.now draw.now) }
     ensures within { IfOk result (λ made. Fits authenticator_layout (2 ^ 27) made) }
 {
-    let key_value = drawn_key(alloc, suite, draw)?;
+    let key_value = drawn_secret(alloc, suite, draw)?;
     let options = GenerateAuthenticatorOptions {
         kdc_rep: rep,
         seq_num: Some(number),
@@ -74,16 +62,6 @@ fn change_authenticator(
         Ok(authenticator) => Ok(authenticator),
         Err(_) => Err(OutOfMemory),
     }
-}
-
-/// Parameters of a suite, without keys.
-pub(crate) fn params_in(suite: CipherSuite) -> EncryptionParams
-    ensures chosen { result.encryption_type ≡ Some suite }
-    ensures suite { suite_of result ≡ suite }
-{
-    let mut params = EncryptionParams::default_for_client();
-    params.encryption_type = Some(suite);
-    params
 }
 
 fn confounders(suite: CipherSuite, draw: &Draw) -> [[u8; 16]; 2]
@@ -110,7 +88,7 @@ fn message_by(
     ensures made { IfOk result (λ message. message ≡ message_by changer.now suite key.now ticket authenticator.now draw.now) }
     ensures fits { IfOk result FitsPriv }
 {
-    let params = params_in(suite);
+    let params = EncryptionParams::of_suite(suite);
     let message = generate_krb_priv_request(
         alloc,
         ticket,

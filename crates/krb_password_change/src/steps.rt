@@ -21,12 +21,12 @@ ghost use Rattle.krb_password_change.specs.ChangeRuns.{IsAwaiting, turns_left};
 use crate::change::Changer;
 use crate::phase::{AnswerLeg, ChangePhase};
 use crate::port::password_kdc;
-use crate::request::{change_request, drawn_key};
+use crate::request::change_request;
 use bitflags::Flags;
 use krb_as::{
     AsPhase, Asker, Client, FirstService, Grant, Kdc, Turn, begin_exchange, first_body, take_reply,
 };
-use krb_context::ContextChange;
+use krb_context::{ContextChange, drawn_secret};
 use krb_der::{Octets, OutOfMemory, TryCopy};
 use krb_exchange::KdcReqBody;
 use sspi_core::{Cause, ClientRequestFlags, Draw, hold};
@@ -92,7 +92,7 @@ fn answer_leg(
     ensures { IfOk result (λ leg. leg ≡ answer_leg grant.now service.now draw.now) }
 {
     let realm = grant.rep.crealm.copy(alloc)?;
-    let subkey = drawn_key(alloc, grant.suite, draw)?;
+    let subkey = drawn_secret(alloc, grant.suite, draw)?;
     Ok(AnswerLeg {
         protocol: service.protocol,
         suite: grant.suite,
@@ -113,7 +113,8 @@ fn sent_change(
     requires rep { IsSendable grant.now.rep }
     requires realm { length service.now.realm ≤ 2 ^ 24 }
     requires moment { draw.now.moment ≤ last_moment }
-    ensures step { Answers (Gives (turns.Asks (change_request changer.now grant.now service.now draw.now) (phases.AwaitsAnswer (answer_leg grant.now service.now draw.now)))) result }
+    ensures step { Answers (Gives (turns.Asks (change_request changer.now grant.now service.now draw.now)
+        (phases.AwaitsAnswer (answer_leg grant.now service.now draw.now)))) result }
     ensures down { (turns : ℕ) → IfOk result (λ turn. GoesDown (IsAwaiting changer.now.asker) turns_left (turns + 1) turn) }
 {
     let request = change_request(alloc, changer, grant, service, draw)?;

@@ -1,4 +1,5 @@
 pub mod CacheLemmas
+pub mod Cut
 pub mod Order
 pub mod Runs
 pub mod Same

@@ -1,10 +1,9 @@
 -- The order of records, and lists in that order.
-use Rattle.std.proofs.Common.{◌≡◌, ℕ, zero, suc, ◌+◌, ◌-◌, ◌<◌, ℤ, Bool, true, false, ◌&&◌, ◌||◌, cond, List, [], ◌∷◌, length, get_or, Ok, Err, Result, Ordering, Less, Equal, Greater, is_eq, refl, sym, ap, ◌∙◌, subst, arith, inl, inr}
+use Rattle.std.proofs.Common.{◌≡◌, ℕ, zero, suc, ◌+◌, ◌<◌, ℤ, Bool, true, false, ◌&&◌, ◌||◌, cond, List, [], ◌∷◌, length, get_or, Ok, Err, Result, Ordering, Less, Equal, Greater, is_eq, refl, sym, ap, ◌∙◌, arith, inl, inr}
 use Rattle.std.proofs.lemmas.Bool.{cases_lt, false≢true}
 use Rattle.std.proofs.lemmas.Int.{ints}
-use Rattle.std.proofs.lemmas.List.{get_or_default}
 use Rattle.std.proofs.lemmas.List.Folds.{list_any_none, list_any-from_Any}
-use Rattle.std.proofs.lemmas.List.Sorted.{searchable_from_sorted, sorted_far, ranks_by}
+use Rattle.std.proofs.lemmas.List.Sorted.{searchable_from_sorted}
 use Rattle.std.specs.List.{list_any, filter, fold, AllByRecursion, insert}
 use Rattle.std.specs.Result.{MatchResult}
 use Rattle.std.specs.List.Sorted.{IsNonDecreasingBy, IsBinarySearchResult, IsSearchInRange}
@@ -187,28 +186,15 @@ insert-is_place [] r i p = at i (omega (arith, p.within))
 insert-is_place (x ∷ xs) r zero p = rw (p.greater 0 x (omega arith) (omega arith))
 insert-is_place (x ∷ xs) r (suc i) p = rw (p.less 0 x (omega arith) (omega arith)) (ap (λ l. x ∷ l) (insert-is_place xs r i (IsPlace-rest x xs r i p)))
 
--- ---- the two ends
+-- ---- what is below
 
-below : (x y z : Record) → is_gt (record_cmp x y) ≡ false → record_cmp y z ≡ Less → record_cmp x z ≡ Less
+pub below : (x y z : Record) → is_gt (record_cmp x y) ≡ false → record_cmp y z ≡ Less → record_cmp x z ≡ Less
 below x y z h e = by (record_cmp x y) refl h
   where
     by : (o : Ordering) → record_cmp x y ≡ o → is_gt o ≡ false → record_cmp x z ≡ Less
     by Less f g = record_total.trans x y z f e
     by Equal f g = record_total.congr x y z f ∙ e
     by Greater f g = absurd (false≢true (sym g))
-
--- what is above the last belongs behind it
-pub at_end : (xs : List Record) (r last : Record) → Ascends xs → last ≡ get_or xs (length xs - 1) last → record_cmp last r ≡ Less → IsPlace xs r (length xs)
-at_end xs r last a e h = record {
-  within = omega arith;
-  less = λ k d low high. below (get_or xs k d) last r (up k d high) h;
-  greater = λ k d low high. absurd (omega arith);
-}
-  where
-    up : (k : ℕ) (d : Record) → k < length xs → is_gt (record_cmp (get_or xs k d) last) ≡ false
-    up k d high =
-        subst (λ (y : Record). is_gt (record_cmp (get_or xs k d) y) ≡ false) (get_or_default xs (length xs - 1) d last (omega arith) ∙ sym e)
-        (sym (turned (get_or xs k d) (get_or xs (length xs - 1) d)) ∙ sorted_far _ (ranks_by record_total (λ (x : Record). x)) xs (λ i c low h. adjacent xs (i + 1) i c refl h a) k (length xs - 1) d (omega arith) (omega arith))
 
 less_is : (r : Ordering) → is_lt r ≡ true → r ≡ Less
 less_is Less e = refl

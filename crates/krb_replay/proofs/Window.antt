@@ -1,5 +1,5 @@
 -- The pruned book and the window of the history.
-use Rattle.std.proofs.Common.{◌≡◌, ℕ, zero, suc, ◌+◌, ◌-◌, ◌<◌, ◌≤◌, max, ℤ, pos, ◌≤ℤ◌, ◌<ℤ◌, Bool, true, false, not, ◌&&◌, ◌||◌, cond, if◌then◌else◌, List, [], ◌∷◌, ◌++◌, length, drop, Option, Some, None, MatchOption, unwrap_or, Ordering, Less, Equal, Greater, refl, sym, ap, ◌∙◌, subst, arith}
+use Rattle.std.proofs.Common.{◌≡◌, ℕ, ◌+◌, ◌<◌, ◌≤◌, max, ℤ, pos, ◌≤ℤ◌, ◌<ℤ◌, Bool, true, false, not, ◌&&◌, ◌||◌, cond, if◌then◌else◌, List, [], ◌∷◌, ◌++◌, length, drop, Option, Some, None, MatchOption, unwrap_or, Ordering, Less, Equal, Greater, refl, sym, ap, ◌∙◌, subst, arith}
 use Rattle.std.proofs.lemmas.Bool.{false≢true}
 use Rattle.std.proofs.lemmas.Int.{ints}
 use Rattle.std.proofs.lemmas.Cmp.{int_ranked}
@@ -8,7 +8,7 @@ use Rattle.std.proofs.lemmas.List.Filters.{length-filter_both}
 use Rattle.std.proofs.lemmas.List.Folds.{list_any-append}
 use Rattle.std.proofs.lemmas.List.Sums.{fold-append}
 use Rattle.std.proofs.lemmas.Map.Views.{any-filter_same}
-use Rattle.std.specs.List.{filter, insert}
+use Rattle.std.specs.List.{filter}
 use Rattle.std.specs.Ordering.{is_lt, int_cmp, ordering_then, MatchOrdering}
 use Rattle.std.specs.Cmp.{signed_Decides, eq_by_cmp_equiv}
 use Rattle.krb_replay.specs.declared.record.Record.{Record}
@@ -20,9 +20,9 @@ use Rattle.krb_replay.specs.Clock.{in_microseconds, is_later, is_current, clock_
 use Rattle.krb_replay.specs.Verdicts.{is_admitted}
 use Rattle.krb_replay.specs.Gate.{IsOpen, IsJudged, is_judged}
 use Rattle.krb_replay.specs.History.{History, recorded, verdict_of, history_after, window}
-use Rattle.krb_replay.specs.Order.{Ascends, place, in_order, IsPlace, is_front_stale, stale_count}
+use Rattle.krb_replay.specs.Order.{Ascends, place, in_order, is_front_stale}
 use Rattle.krb_replay.specs.Book.{Book, Follows, StandsFor, NeedsRoom}
-use Rattle.krb_replay.proofs.Order.{record_total, record_ties, any-in_order, filter-in_order, filter-from_front, IsPlace-rest, absent, insert-is_place, length-place, length-in_order}
+use Rattle.krb_replay.proofs.Order.{record_total, record_ties, any-in_order, filter-in_order, filter-from_front, length-place, length-in_order}
 
 -- ---- the clock
 
@@ -75,7 +75,7 @@ admitted_open skew moment seen ask e = admitted_by (is_later (in_microseconds as
 eq_back : (x r : Record) → record_eq x r ≡ record_eq r x
 eq_back x r = record_ties x r ∙ (eq_by_cmp_equiv record_total).symm x r ∙ sym (record_ties r x)
 
-or_false : (p q : Bool) → (p || q) ≡ false → (p ≡ false) × (q ≡ false)
+pub or_false : (p q : Bool) → (p || q) ≡ false → (p ≡ false) × (q ≡ false)
 or_false true q e = absurd (false≢true (sym e))
 or_false false q e = (refl, e)
 
@@ -172,41 +172,13 @@ follows old new ask verdict skew moment answer kept room = record {
 
 -- ---- the stale front
 
-stale_fails : (b : Bool) → not b ≡ true → b ≡ false
+pub stale_fails : (b : Bool) → not b ≡ true → b ≡ false
 stale_fails true e = absurd (false≢true e)
 stale_fails false e = refl
 
-fresh_passes : (b : Bool) → not b ≡ false → b ≡ true
+pub fresh_passes : (b : Bool) → not b ≡ false → b ≡ true
 fresh_passes true e = refl
 fresh_passes false e = absurd (false≢true (sym e))
-
--- the current records are those behind the stale front
-pub filter-ascending : (skew moment : ℕ) (xs : List Record) → Ascends xs → filter (is_current skew moment) xs ≡ drop (stale_count skew moment xs) xs
-filter-ascending skew moment [] a = refl
-filter-ascending skew moment (x ∷ xs) a = by (is_current skew moment x) refl (filter-ascending skew moment xs a.1)
-  where
-    by : (b : Bool) → is_current skew moment x ≡ b → filter (is_current skew moment) xs ≡ drop (stale_count skew moment xs) xs → filter (is_current skew moment) (x ∷ xs) ≡ drop (if b then 0 else suc (stale_count skew moment xs)) (x ∷ xs)
-    by true e rest = filter-from_front (is_current skew moment) (current_up skew moment) x xs e a
-    by false e rest = rw (e, rest)
-
-minus_none : (i : ℕ) → i ≡ i - 0
-minus_none i = omega arith
-
--- the place of a current record, once the stale front is gone
-pub place_behind : (skew moment : ℕ) (xs : List Record) (r : Record) (i : ℕ) → is_current skew moment r ≡ true → IsPlace xs r i → (stale_count skew moment xs ≤ i) × IsPlace (drop (stale_count skew moment xs) xs) r (i - stale_count skew moment xs)
-place_behind skew moment [] r i e p = (omega arith, subst (IsPlace [] r) (minus_none i) p)
-place_behind skew moment (x ∷ xs) r i e p = by (is_current skew moment x) refl i p (λ j q. place_behind skew moment xs r j e q)
-  where
-    by : (b : Bool) → is_current skew moment x ≡ b → (i : ℕ) → IsPlace (x ∷ xs) r i → ((j : ℕ) → IsPlace xs r j → (stale_count skew moment xs ≤ j) × IsPlace (drop (stale_count skew moment xs) xs) r (j - stale_count skew moment xs))
-        → let n = if b then 0 else suc (stale_count skew moment xs) in (n ≤ i) × IsPlace (drop n (x ∷ xs)) r (i - n)
-    by true f i p rest = (omega arith, subst (IsPlace (x ∷ xs) r) (minus_none i) p)
-    by false f zero p rest = absurd (false≢true (sym f ∙ current_up skew moment x r (not_less x (p.greater 0 x (omega arith) (omega arith))) e))
-      where
-        not_less : (x : Record) → record_cmp x r ≡ Greater → is_lt (record_cmp x r) ≡ false
-        not_less x g = ap is_lt g
-    by false f (suc j) p rest =
-        let h = rest j (IsPlace-rest x xs r j p) in
-        (omega (arith, h.0), subst (IsPlace (drop (stale_count skew moment xs) xs) r) (omega (arith, h.0)) h.1)
 
 pub filter-fresh : (skew moment : ℕ) (xs : List Record) → Ascends xs → is_front_stale skew moment xs ≡ false → filter (is_current skew moment) xs ≡ xs
 filter-fresh skew moment [] a e = refl
@@ -237,61 +209,51 @@ none_refused (Some v) verdict f m e = absurd (false≢true (sym (f v refl) ∙ a
 pub admitted_in_time : (skew moment : ℕ) (ask : Ask) (verdict : Verdict) → IsJudged skew moment ask verdict → is_admitted verdict ≡ true → clock_refusal skew moment ask ≡ None
 admitted_in_time skew moment ask verdict judged e = none_refused (clock_refusal skew moment ask) verdict (λ v is. refused_not skew moment ask v is) judged.first e
 
--- the book after it dropped the stale front
-pub record IsPruned (old new : Book) (ask : Ask) : Type 0 where
+-- the book at the moment of the ask, with at least as much room
+pub record IsLater (old new : Book) (ask : Ask) : Type 0 where
   pub skew : new.skew ≡ old.skew
   pub moment : new.moment ≡ max old.moment ask.moment
-  pub ascends : Ascends old.kept
   pub room : old.spare + length old.kept ≤ new.spare + length new.kept
 
-module _ (old new : Book) (ask : Ask) (h : IsPruned old new ask) where
-  abbrev stale : ℕ
-  stale = stale_count old.skew new.moment old.kept
-
-  drops : new.kept ≡ drop stale old.kept → new.kept ≡ filter (is_current old.skew new.moment) old.kept
-  drops e = e ∙ sym (filter-ascending old.skew new.moment old.kept h.ascends)
-
-  pub follows_refusal : (v : Verdict) → clock_refusal old.skew new.moment ask ≡ Some v → new.kept ≡ drop stale old.kept → Follows StandsFor old ask v new
+module _ (old new : Book) (ask : Ask) (h : IsLater old new ask) where
+  pub follows_refusal : (v : Verdict) → clock_refusal old.skew new.moment ask ≡ Some v → new.kept ≡ filter (is_current old.skew new.moment) old.kept → Follows StandsFor old ask v new
   follows_refusal v clock kept =
       follows old new ask v h.skew h.moment (rw clock)
-      (drops kept ∙ ap (λ (b : Bool). if b then place (filter (is_current old.skew new.moment) old.kept) ask.entry else filter (is_current old.skew new.moment) old.kept) (sym (refused_by (is_later (in_microseconds ask.entry.ctime) (pos new.moment) old.skew) (is_later (pos new.moment) (in_microseconds ask.entry.ctime) old.skew) (is_later (in_microseconds ask.start) (pos new.moment) old.skew) (is_later (pos new.moment) (in_microseconds ask.end) old.skew) v clock)))
+      (kept ∙ ap (λ (b : Bool). if b then place (filter (is_current old.skew new.moment) old.kept) ask.entry else filter (is_current old.skew new.moment) old.kept) (sym (refused_not old.skew new.moment ask v clock)))
       h.room
 
-  pub follows_replay : clock_refusal old.skew new.moment ask ≡ None → has_record old.kept ask.entry ≡ true → new.kept ≡ drop stale old.kept → Follows StandsFor old ask Replayed new
-  follows_replay clock seen kept = follows old new ask Replayed h.skew h.moment (rw (clock, seen)) (drops kept) h.room
+  pub follows_replay : clock_refusal old.skew new.moment ask ≡ None → has_record old.kept ask.entry ≡ true → new.kept ≡ filter (is_current old.skew new.moment) old.kept → Follows StandsFor old ask Replayed new
+  follows_replay clock seen kept = follows old new ask Replayed h.skew h.moment (rw (clock, seen)) kept h.room
 
-  pub follows_admission : (i : ℕ) → clock_refusal old.skew new.moment ask ≡ None → IsPlace old.kept ask.entry i → new.kept ≡ insert (drop stale old.kept) (i - stale) ask.entry → Follows StandsFor old ask Admitted new
-  follows_admission i clock at kept =
-      follows old new ask Admitted h.skew h.moment (rw (clock, absent old.kept ask.entry i at))
-      (kept ∙ insert-is_place (drop stale old.kept) ask.entry (i - stale) (place_behind old.skew new.moment old.kept ask.entry i (open_current old.skew new.moment ask clock) at).1 ∙ ap (λ (l : List Record). place l ask.entry) (sym (filter-ascending old.skew new.moment old.kept h.ascends)))
-      h.room
+  pub follows_admission : clock_refusal old.skew new.moment ask ≡ None → has_record old.kept ask.entry ≡ false → new.kept ≡ place (filter (is_current old.skew new.moment) old.kept) ask.entry → Follows StandsFor old ask Admitted new
+  follows_admission clock absent kept = follows old new ask Admitted h.skew h.moment (rw (clock, absent)) kept h.room
 
 -- a window that has no room for the record
-pub needs_room : (old : Book) (ask : Ask) (i : ℕ) → let m = max old.moment ask.moment in clock_refusal old.skew m ask ≡ None → IsPlace old.kept ask.entry i → old.spare + length old.kept ≤ length (filter (is_current old.skew m) old.kept) → NeedsRoom old ask
-needs_room old ask i clock at full =
+pub needs_room : (old : Book) (ask : Ask) → let m = max old.moment ask.moment in clock_refusal old.skew m ask ≡ None → has_record old.kept ask.entry ≡ false → old.spare + length old.kept ≤ length (filter (is_current old.skew m) old.kept) → NeedsRoom old ask
+needs_room old ask clock absent full =
     let m = max old.moment ask.moment in
     let new : Book = record { skew = old.skew; moment = m; kept = place (filter (is_current old.skew m) old.kept) ask.entry; spare = old.spare + length old.kept } in
-    let step : Follows StandsFor old ask Admitted new = follows old new ask Admitted refl refl (rw (clock, absent old.kept ask.entry i at)) refl (omega arith) in
+    let step : Follows StandsFor old ask Admitted new = follows old new ask Admitted refl refl (rw (clock, absent)) refl (omega arith) in
     record {
       admitted = λ h s. sym (step.answer h s);
       over = λ h s. omega (arith, full, ap length (step.history h s).kept, length-place (filter (is_current old.skew m) old.kept) ask.entry, length-in_order (window old.skew (history_after old.skew h ask)));
     }
 
--- the place behind what was dropped
-pub behind : (skew m : ℕ) (items items' pruned : List Record) (r : Record) (i dropped : ℕ) → is_current skew m r ≡ true → IsPlace items r i → items' ≡ items → dropped ≡ stale_count skew m items' → pruned ≡ drop dropped items'
-    → (dropped ≤ i) × IsPlace pruned r (i - dropped) × (dropped ≡ stale_count skew m items) × (pruned ≡ drop (stale_count skew m items) items)
-behind skew m items items' pruned r i dropped current at same count rest = (
-  omega (arith, n, h.0),
-  subst (λ (l : List Record). IsPlace l r (i - dropped)) (sym all) (subst (λ (k : ℕ). IsPlace (drop (stale_count skew m items) items) r (i - k)) (sym n) h.1),
-  n,
-  all,
-)
-  where
-    n : dropped ≡ stale_count skew m items
-    n = count ∙ ap (stale_count skew m) same
+-- a record that is not among them is not among the current ones
+pub absent_current : (skew moment : ℕ) (xs : List Record) (r : Record) → has_record xs r ≡ false → has_record (filter (is_current skew moment) xs) r ≡ false
+absent_current skew moment [] r h = refl
+absent_current skew moment (x ∷ xs) r h =
+    let p = or_false (record_eq x r) (has_record xs r) h in
+    elim (is_current skew moment x) as (λ b. has_record (if b then x ∷ filter (is_current skew moment) xs else filter (is_current skew moment) xs) r ≡ false) [ true ↦ rw (p.0, absent_current skew moment xs r p.1) | false ↦ absent_current skew moment xs r p.1 ]
 
-    all : pruned ≡ drop (stale_count skew m items) items
-    all = rest ∙ ap (drop dropped) same ∙ ap (λ (k : ℕ). drop k items) n
+-- the oldest record, that is no longer current, goes
+pub filter-stale : (skew moment : ℕ) (xs : List Record) → is_front_stale skew moment xs ≡ true → filter (is_current skew moment) (drop 1 xs) ≡ filter (is_current skew moment) xs
+filter-stale skew moment [] e = refl
+filter-stale skew moment (x ∷ xs) e = rw (stale_fails (is_current skew moment x) e)
 
-    h : (stale_count skew m items ≤ i) × IsPlace (drop (stale_count skew m items) items) r (i - stale_count skew m items)
-    h = place_behind skew m items r i current at
+pub some_stale : (skew moment : ℕ) (xs : List Record) → is_front_stale skew moment xs ≡ true → length (drop 1 xs) + 1 ≡ length xs
+some_stale skew moment [] e = absurd (false≢true e)
+some_stale skew moment (x ∷ xs) e = omega arith
+
+pub no_more_current : (skew moment : ℕ) (xs : List Record) → length (filter (is_current skew moment) xs) ≤ length xs
+no_more_current skew moment xs = omega (arith, length-filter_both (is_current skew moment) (λ r. not (is_current skew moment r)) (λ r. refl) xs)

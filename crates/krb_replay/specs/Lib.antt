@@ -4,6 +4,7 @@ pub mod Clock
 pub mod History
 pub mod Gate
 pub mod Order
+pub mod Blocks
 pub mod Book
 pub mod Cache
 pub mod Runs

@@ -1,5 +1,5 @@
 -- Lists of records in their order.
-use Rattle.std.specs.Prelude.{◌≡◌, ℕ, suc, ◌≤◌, length, Bool, false, not, if◌then◌else◌, List, [], ◌∷◌, ⊤}
+use Rattle.std.specs.Prelude.{◌≡◌, ℕ, ◌≤◌, length, Bool, false, not, if◌then◌else◌, List, [], ◌∷◌, ⊤}
 use Rattle.std.specs.List.{fold, AllByRecursion, AllWithin}
 use Rattle.std.specs.Ordering.{is_lt, is_gt}
 use Rattle.std.specs.declared.cmp.Ordering.TheVariants.{Less, Greater}
@@ -25,11 +25,6 @@ in_order records = fold place [] records
 abbrev pub is_front_stale : ℕ → ℕ → List Record → Bool
 is_front_stale skew moment [] = false
 is_front_stale skew moment (x ∷ xs) = not (is_current skew moment x)
-
--- how many in front are no longer current
-abbrev pub stale_count : ℕ → ℕ → List Record → ℕ
-stale_count skew moment [] = 0
-stale_count skew moment (x ∷ xs) = if is_current skew moment x then 0 else suc (stale_count skew moment xs)
 
 -- the entry is not there, and belongs at this index: each before it is less, and each from it on is greater
 pub record IsPlace (xs : List Record) (entry : Record) (index : ℕ) : Type 0 where

@@ -1,46 +1,35 @@
 //! The replay book.
 
-ghost use Rattle.std.specs.Prelude.{◌≡◌, true, ◌+◌, ◌<◌, ◌≤◌, [], length, drop, IfOk, IsOkAnd, OnOk, OnErr, MatchResult};
-ghost use Rattle.std.specs.List.{filter, insert};
-ghost use Rattle.std.specs.VecDeque.{deque_len, deque_capacity};
-ghost use Rattle.krb_replay.specs.Records.{has_record};
-ghost use Rattle.krb_replay.specs.Clock.{is_current};
+ghost use Rattle.std.specs.Prelude.{◌≡◌, ◌≤◌, length, IfOk, IsOkAnd, OnOk, OnErr};
 ghost use Rattle.krb_replay.specs.Gate.{IsJudged};
-ghost use Rattle.krb_replay.specs.Order.{Ascends, IsPlace, is_front_stale, stale_count};
 ghost use Rattle.krb_replay.specs.Book.{Follows, IsUnchanged, StandsFor, NeedsRoom, IsUnchanged-same, goes_on};
 ghost use Rattle.krb_replay.specs.History.{History, no_history, window};
 
 use crate::ask::{Ask, Verdict};
-use crate::clock::{clock_refusal, is_current};
+use crate::blocks::Blocks;
+use crate::clock::clock_refusal;
 use crate::gate::ReplayGate;
-use crate::record::Record;
 use krb_der::OutOfMemory;
 use std::alloc::Global;
-use std::collections::VecDeque;
 use std::marker::Model;
 
 /// A replay book (RFC 4120 3.2.3). It judges by the greatest moment that it was ever asked, keeps the records that a later
-/// ask can still repeat, ordered by time, and answers as a book that never forgets. An admission in the order of time
-/// looks at the last record alone; one that comes late moves those that are newer. Contracts see its skew in seconds, its
+/// ask can still repeat, ordered by time, and answers as a book that never forgets. They lie in blocks, so that one that
+/// comes late moves no more than a block. Contracts see its skew in seconds, its
 /// moment in microseconds since 1970-01-01T00:00:00Z, the records that it keeps, and the room that is left.
 #[derive(Drop)]
 pub struct ReplayBook {
     skew: u32,
     moment: u64,
-    records: VecDeque<Record>,
+    records: Blocks,
 }
 
 impl Model for ReplayBook {
-    ghost use Rattle.std.specs.Prelude.{◌-◌};
-    ghost use Rattle.std.specs.VecDeque.{deque_len, deque_capacity};
-    ghost use Rattle.krb_replay.specs.Order.{Ascends};
     ghost use Rattle.krb_replay.specs.Book.{Book};
 
     ghost Value = { Book };
 
-    ghost view = { λ b. record { skew = b.skew; moment = b.moment; kept = b.records.items; spare = deque_capacity b.records - deque_len b.records } };
-
-    ghost invariant = { λ b. Ascends b.records.items };
+    ghost view = { λ b. record { skew = b.skew; moment = b.moment; kept = b.records.items; spare = b.records.spare } };
 }
 
 impl ReplayBook {
@@ -52,7 +41,7 @@ impl ReplayBook {
         Ok(ReplayBook {
             skew,
             moment: 0,
-            records: VecDeque::new(alloc),
+            records: Blocks::new(alloc),
         })
     }
 
@@ -61,7 +50,7 @@ impl ReplayBook {
         ensures room { OnOk result (records ≤ self.new.spare) }
         ensures same { IsUnchanged self.old self.new }
     {
-        Ok(self.records.reserve(records)?)
+        self.records.reserve(records)
     }
 
     /// How many of the admitted records have a time that is at least the moment less the skew.
@@ -78,74 +67,6 @@ impl ReplayBook {
     {
         self.moment
     }
-}
-
-/// Where an equal record is, or where this one belongs. The newest come last, so look there first.
-fn find(records: &VecDeque<Record>, entry: &Record) -> Result<usize, usize>
-    requires { Ascends records.now.items }
-    ensures { MatchResult result (λ _. has_record records.now.items entry.now ≡ true) (IsPlace records.now.items entry.now) }
-{
-    let Some(last) = records.back() else {
-        return Err(0);
-    };
-    if last.cmp(entry).is_lt() {
-        return Err(records.len());
-    }
-    records.binary_search(entry)
-}
-
-/// Whether the oldest record is no longer current.
-fn is_front_stale(records: &VecDeque<Record>, skew: u32, moment: u64) -> bool
-    ensures { result ≡ is_front_stale skew moment records.now.items }
-{
-    match records.front() {
-        Some(front) => !is_current(skew, moment, front),
-        None => false,
-    }
-}
-
-/// Drops the records that are no longer current, and answers how many they were.
-fn prune(records: &mut VecDeque<Record>, skew: u32, moment: u64) -> usize
-    requires { Ascends records.old.items }
-    ensures count { result ≡ stale_count skew moment records.old.items }
-    ensures ordered { Ascends records.new.items }
-    ensures rest { records.new.items ≡ drop result records.old.items }
-    ensures len { result + deque_len records.new ≡ deque_len records.old }
-    ensures capacity { deque_capacity records.new ≡ deque_capacity records.old }
-{
-    let mut dropped = 0;
-    while is_front_stale(records, skew, moment) {
-        records.pop_front();
-        dropped += 1;
-    }
-    dropped
-}
-
-/// Makes room for one record more than those that stay current.
-fn make_room(records: &mut VecDeque<Record>, skew: u32, moment: u64) -> Result<(), OutOfMemory>
-    requires { Ascends records.old.items }
-    ensures items { records.new.items ≡ records.old.items }
-    ensures capacity { deque_capacity records.old ≤ deque_capacity records.new }
-    ensures ok { OnOk result (length (filter (is_current skew moment) records.old.items) < deque_capacity records.new) }
-    ensures full { OnErr result (deque_capacity records.old ≤ length (filter (is_current skew moment) records.old.items)) }
-{
-    if !is_front_stale(records, skew, moment) {
-        records.reserve(1)?;
-    }
-    Ok(())
-}
-
-/// Puts a record in its place, for which there is room.
-fn insert(records: &mut VecDeque<Record>, place: usize, entry: Record)
-    requires place { IsPlace records.old.items entry place }
-    requires ordered { Ascends records.old.items }
-    requires room { deque_len records.old < deque_capacity records.old }
-    ensures items { records.new.items ≡ insert records.old.items place entry }
-    ensures ordered { Ascends records.new.items }
-    ensures len { deque_len records.new ≡ deque_len records.old + 1 }
-    ensures capacity { deque_capacity records.old ≤ deque_capacity records.new }
-{
-    records.insert(place, entry).unwrap();
 }
 
 impl ReplayGate for ReplayBook {
@@ -180,24 +101,21 @@ impl ReplayGate for ReplayBook {
         let moment = self.moment.max(ask.moment);
         match clock_refusal(self.skew, moment, &ask) {
             Some(refusal) => {
-                prune(&mut self.records, self.skew, moment);
+                self.records.prune(self.skew, moment);
                 self.moment = moment;
                 Ok(refusal)
             }
-            None => match find(&self.records, &ask.entry) {
-                Ok(_) => {
-                    prune(&mut self.records, self.skew, moment);
+            None => {
+                if self.records.contains(&ask.entry) {
+                    self.records.prune(self.skew, moment);
                     self.moment = moment;
-                    Ok(Verdict::Replayed)
+                    return Ok(Verdict::Replayed);
                 }
-                Err(place) => {
-                    make_room(&mut self.records, self.skew, moment)?;
-                    let dropped = prune(&mut self.records, self.skew, moment);
-                    self.moment = moment;
-                    insert(&mut self.records, place - dropped, ask.entry);
-                    Ok(Verdict::Admitted)
-                }
-            },
+                self.records.make_room(self.skew, moment)?;
+                self.moment = moment;
+                self.records.insert(ask.entry);
+                Ok(Verdict::Admitted)
+            }
         }
     }
 

@@ -6,6 +6,8 @@ ghost use Rattle.std.specs.declared.cmp.Ordering.TheVariants.{Less};
 ghost use Rattle.krb_replay.specs.declared.record.Record.{Record};
 ghost use Rattle.krb_replay.specs.declared.ask.Ask.{Ask};
 ghost use Rattle.krb_replay.specs.declared.book.ReplayBook.TheInside.{Inside};
+ghost use Rattle.krb_replay.specs.declared.blocks.Blocks.TheInside as of_blocks;
+ghost use Rattle.krb_replay.specs.declared.block.Block.TheInside as of_block;
 ghost use Rattle.krb_replay.specs.declared.ask.Verdict.{Verdict};
 ghost use Rattle.krb_replay.specs.declared.cache.AuthenticatorCacheRecord.{AuthenticatorCacheRecord};
 ghost use Rattle.krb_replay.specs.Records.{record_eq, record_cmp, ask_eq, IsDistinct};
@@ -15,6 +17,7 @@ ghost use Rattle.krb_replay.specs.Clock.{clock_refusal};
 ghost use Rattle.krb_replay.specs.Gate.{Run};
 ghost use Rattle.krb_replay.specs.History.{History};
 ghost use Rattle.krb_replay.specs.Book.{Book, Follows, StandsFor, NeedsRoom};
+ghost use Rattle.krb_replay.specs.Blocks.{flat, AllNone, IsHeld};
 ghost use Rattle.krb_replay.specs.Runs.{verdicts_of, history_past, IsNeverAbove, admitted_of};
 
 use crate::ask::Ask;
@@ -32,7 +35,7 @@ pub fn books_never_forget()
         → StandsFor old h → Run (Follows StandsFor) old asks verdicts new → StandsFor new (history_past old.skew h asks) }
 {}
 
-/// A book that has room for n records, as a new one has after `reserve(n)`, never wants memory over a list of asks whose
+/// A book that has room for n records, as a new one has after `reserve(n)`, never runs out of memory over a list of asks whose
 /// window never holds more than n: after any of them, the next is answered.
 pub fn room_lasts()
     ensures { (n : ℕ) (old mid : Book) (asks : List Ask) (verdicts : List Verdict) (ask : Ask) (h : History)
@@ -84,7 +87,12 @@ pub fn cache_records_compare_by_their_fields()
 {}
 
 /// A book is its skew, its moment and its records, and nothing else: two with the same three are equal, so no list that only grows
-/// can hide behind them.
+/// can hide behind them. Its records are their blocks, the spare ones, which are empty, and how many records there are; and
+/// a block is a list of records.
 pub fn books_hold_nothing_else()
-    ensures { (a b : Inside) → a.skew ≡ b.skew → a.moment ≡ b.moment → a.records ≡ b.records → a ≡ b }
+    ensures book { (a b : Inside) → a.skew ≡ b.skew → a.moment ≡ b.moment → a.records ≡ b.records → a ≡ b }
+    ensures blocks { (a b : of_blocks.Inside) → a.blocks ≡ b.blocks → a.spare ≡ b.spare → a.len ≡ b.len → a ≡ b }
+    ensures block { (a b : of_block.Inside) → a.records ≡ b.records → a ≡ b }
+    ensures spare { (a : of_blocks.Inside) (m n : ℕ) → IsHeld a.blocks.items a.spare.items a.len m n → AllNone a.spare.items }
+    ensures len { (a : of_blocks.Inside) (m n : ℕ) → IsHeld a.blocks.items a.spare.items a.len m n → a.len ≡ length (flat a.blocks.items) }
 {}

@@ -17,6 +17,8 @@
 #![tactic(auto)]
 
 mod ask;
+mod block;
+mod blocks;
 mod book;
 mod cache;
 mod clock;

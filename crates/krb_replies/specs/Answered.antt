@@ -11,11 +11,11 @@ use Rattle.krb_exchange.specs.Layouts.{enc_krb_priv_part_layout}
 use Rattle.sspi_core.specs.declared.cause.Cause.{Cause}
 use Rattle.sspi_core.specs.declared.cause.Cause.TheVariants.{Etype, UserData, NoNumber, NoSubKey}
 use Rattle.sspi_core.specs.Checks.{Takes, ◌>>=◌}
-use Rattle.krb_replies.specs.Unseals.{Opens, own_key, session_key, suite_of}
+use Rattle.krb_replies.specs.Unseals.{OpensSealed, own_key, session_key, suite_of_integer}
 
 -- what an AP-REP seals under the session key of the ticket, with usage 12
 unfoldable pub OpensApRep : CipherSuite → List ℕ → ApRep → Result EncApRepPart Cause → Type 0
-OpensApRep suite key ap_rep = Opens enc_ap_rep_part_layout session_key suite key 12 ap_rep.enc_part.cipher
+OpensApRep suite key ap_rep = OpensSealed enc_ap_rep_part_layout session_key suite key 12 ap_rep.enc_part.cipher
 
 -- the octets of its number
 unfoldable pub TellsNumber : CipherSuite → List ℕ → ApRep → Result (List ℕ) Cause → Type 0
@@ -31,7 +31,7 @@ TellsSubKey suite key ap_rep = do
 
 -- the suite that was chosen, else that of the sealed part
 abbrev pub suite_or : Option CipherSuite → List ℕ → Option CipherSuite
-suite_or None etype = suite_of etype
+suite_or None etype = suite_of_integer etype
 suite_or (Some suite) etype = Some suite
 
 -- the result code, in two octets, the highest first
@@ -44,5 +44,5 @@ status_in (high ∷ (low ∷ text)) = Some (256 * high + low)
 unfoldable pub TellsStatus : Option CipherSuite → List ℕ → KrbPriv → Result ℕ Cause → Type 0
 TellsStatus chosen key krb_priv = do
   suite ← Takes Etype (suite_or chosen krb_priv.enc_part.etype)
-  part ← Opens enc_krb_priv_part_layout own_key suite key 13 krb_priv.enc_part.cipher
+  part ← OpensSealed enc_krb_priv_part_layout own_key suite key 13 krb_priv.enc_part.cipher
   Takes UserData (status_in part.user_data)

@@ -11,7 +11,7 @@ use Rattle.sspi_core.specs.declared.cause.Cause.{Cause}
 use Rattle.sspi_core.specs.declared.cause.Cause.TheVariants.{Shape, EtypeEntry, Salt, Etype}
 use Rattle.sspi_core.specs.Checks.{Finds, Takes, Gives, ◌>>=◌}
 use Rattle.krb_replies.specs.Told.{Hands}
-use Rattle.krb_replies.specs.Unseals.{IsRead, suite_of}
+use Rattle.krb_replies.specs.Unseals.{IsRead, suite_of_integer}
 use Rattle.krb_replies.specs.Hints.{etype_info2, IsInfo2}
 
 -- the elements that an error hints at, none where it says nothing
@@ -48,5 +48,5 @@ unfoldable pub TellsEtype : List ℕ → AsRep → Result (ℕ × List ℕ) Caus
 TellsEtype used as_rep = do
   entries ← Finds Shape (IsInfo2 (etype_info2 (unwrap_or as_rep.0.padata [])))
   hint ← Hands (first_hint as_rep.0.enc_part.etype used entries)
-  suite ← Takes Etype (suite_of hint.0)
+  suite ← Takes Etype (suite_of_integer hint.0)
   Gives (suite_number suite, hint.1)

@@ -1,4 +1,4 @@
--- What is sealed to a key, and the record in it (RFC 4120, sections 3.1.5, 3.2.5 and 3.3.4). Nothing here decrypts: a text is
+-- What is sealed to a key, and the record in it (RFC 4120, sections 3.1.5, 3.2.3, 3.2.5 and 3.3.4). Nothing here decrypts: a text is
 -- opened as the one that is sealed to it.
 use Rattle.std.specs.Prelude.{ℕ, nat_le, ◌==◌, List, length, Option, Result}
 use Rattle.krb_der.specs.Integer.{integer_value}
@@ -8,13 +8,14 @@ use Rattle.krb_crypto.specs.Suite.{key_size, suite_numbered}
 use Rattle.krb_crypto.specs.Sealed.{IsSealed}
 use Rattle.krb_crypto.specs.declared.suite.CipherSuite.{CipherSuite}
 use Rattle.sspi_core.specs.declared.cause.Cause.{Cause}
-use Rattle.sspi_core.specs.declared.cause.Cause.TheVariants.{KeyLength, Short, Altered, Reply, Inner}
-use Rattle.sspi_core.specs.Checks.{Finds, Holds, ◌>>=◌, ◌>>◌}
+use Rattle.krb_messages.specs.declared.encryption.EncryptedData.{EncryptedData}
+use Rattle.sspi_core.specs.declared.cause.Cause.TheVariants.{Etype, KeyLength, Short, Altered, Reply, Inner}
+use Rattle.sspi_core.specs.Checks.{Finds, Gives, Holds, Takes, ◌>>=◌, ◌>>◌}
 use Rattle.krb_replies.specs.declared.unseal.Refusals.{Refusals}
 
 -- the suite of an encryption type, by the value of the integer and not by its spelling
-unfoldable pub suite_of : List ℕ → Option CipherSuite
-suite_of etype = suite_numbered (integer_value etype)
+unfoldable pub suite_of_integer : List ℕ → Option CipherSuite
+suite_of_integer etype = suite_numbered (integer_value etype)
 
 -- the octets spell this
 abbrev pub IsRead : {A : Type 0} → Layout A → List ℕ → A → Type 0
@@ -36,7 +37,14 @@ Unseals refusals suite key usage text = do
   Finds refusals.altered (λ plain. IsSealed suite key usage text plain)
 
 -- the record that is sealed in a text
-unfoldable pub Opens : {A : Type 0} → Layout A → Refusals → CipherSuite → List ℕ → ℕ → List ℕ → Result A Cause → Type 0
-Opens layout refusals suite key usage text = do
+unfoldable pub OpensSealed : {A : Type 0} → Layout A → Refusals → CipherSuite → List ℕ → ℕ → List ℕ → Result A Cause → Type 0
+OpensSealed layout refusals suite key usage text = do
   plain ← Unseals refusals suite key usage text
   Finds Inner (IsRead layout plain)
+
+-- the record that is sealed in an EncryptedData under a key of its encryption type, and the suite of that type
+unfoldable pub OpensData : {A : Type 0} → Layout A → List ℕ → ℕ → EncryptedData → Result (CipherSuite × A) Cause → Type 0
+OpensData layout key usage sealed = do
+  suite ← Takes Etype (suite_of_integer sealed.etype)
+  value ← OpensSealed layout own_key suite key usage sealed.cipher
+  Gives (suite, value)

@@ -2,7 +2,7 @@
 
 ghost use Rattle.sspi_core.specs.Checks.{Answers};
 ghost use Rattle.krb_crypto.specs.Password.{password_key};
-ghost use Rattle.krb_context.specs.Params.{suite_of as context_suite};
+ghost use Rattle.krb_context.specs.Params.{suite_of};
 ghost use Rattle.krb_replies.specs.Told.{Tells};
 ghost use Rattle.krb_replies.specs.Keys.{BringsKey, HandsOnKey};
 
@@ -59,7 +59,7 @@ pub fn extract_session_key_from_as_rep(
     password: &str,
     enc_params: &EncryptionParams,
 ) -> Result<Secret<Octets>, Error>
-    ensures { let suite = context_suite enc_params.now in
+    ensures { let suite = suite_of enc_params.now in
         Tells (BringsKey suite (password_key suite password.now salt.now) as_rep.now) result }
 {
     let suite = enc_params.suite();
@@ -76,7 +76,7 @@ pub fn extract_session_key_from_as_rep_with_key(
     key: &[u8],
     enc_params: &EncryptionParams,
 ) -> Result<Secret<Octets>, Error>
-    ensures { Tells (BringsKey (context_suite enc_params.now) key.now as_rep.now) result }
+    ensures { Tells (BringsKey (suite_of enc_params.now) key.now as_rep.now) result }
 {
     tell(session_key_in_as_rep(alloc, enc_params.suite(), key, as_rep))
 }
@@ -93,7 +93,7 @@ pub fn extract_session_key_from_tgs_rep(
     session_key: &Secret<Octets>,
     enc_params: &EncryptionParams,
 ) -> Result<Secret<Octets>, Error>
-    ensures { Tells (HandsOnKey (context_suite enc_params.now) session_key.now tgs_rep.now) result }
+    ensures { Tells (HandsOnKey (suite_of enc_params.now) session_key.now tgs_rep.now) result }
 {
     let key = session_key.as_ref().as_slice();
     tell(session_key_in_tgs_rep(alloc, enc_params.suite(), key, tgs_rep))

@@ -12,6 +12,7 @@ mod keys;
 mod realms;
 mod salts;
 mod ticket;
+mod token;
 mod told;
 mod unseal;
 
@@ -28,5 +29,6 @@ pub use salts::{
     extract_encryption_params_from_as_rep, extract_salt_from_krb_error, named_salt, told_etype,
 };
 pub use ticket::extract_tgt_ticket_with_oid;
+pub use token::{MAX_TOKEN_LEN, check_token_length};
 pub use told::tell;
-pub use unseal::{OWN_KEY, Refusals, SESSION_KEY, open, read_or, suite_of};
+pub use unseal::{OWN_KEY, Refusals, SESSION_KEY, open, open_data, read_or, suite_of};

@@ -4,7 +4,7 @@ ghost use Rattle.std.specs.Prelude.{◌≡◌, IfOk, unwrap_or, []};
 ghost use Rattle.sspi_core.specs.declared.cause.Cause.TheVariants as causes;
 ghost use Rattle.sspi_core.specs.Checks.{Answers, Finds, Takes, Gives};
 ghost use Rattle.krb_replies.specs.Told.{Hands, Tells};
-ghost use Rattle.krb_replies.specs.Unseals.{suite_of};
+ghost use Rattle.krb_replies.specs.Unseals.{suite_of_integer};
 ghost use Rattle.krb_replies.specs.Salts.{IsHints, first_salt, first_hint, NamesSalt, TellsEtype};
 
 use crate::hints::entries_in;
@@ -101,7 +101,7 @@ fn first_hint(
 }
 
 fn suite_for(etype: &IntegerAsn1) -> Result<CipherSuite, Cause>
-    ensures { Takes causes.Etype (suite_of etype.now) result }
+    ensures { Takes causes.Etype (suite_of_integer etype.now) result }
 {
     take(suite_of(etype), Cause::Etype)
 }

@@ -1,26 +1,17 @@
 //! The ticket of user-to-user.
 
-ghost use Rattle.std.specs.Prelude.{nat_le, length};
 ghost use Rattle.sspi_core.specs.declared.cause.Cause.TheVariants as causes;
-ghost use Rattle.sspi_core.specs.Checks.{Answers, Finds, Holds};
+ghost use Rattle.sspi_core.specs.Checks.{Answers, Finds};
 ghost use Rattle.krb_replies.specs.Told.{Tells};
 ghost use Rattle.krb_replies.specs.Tickets.{HasTicket, TakesTicket};
 
+use crate::token::check_token_length;
 use crate::told::tell;
 use crate::unseal::read_or;
 use krb_exchange::TgtRep;
 use krb_messages::{Oid, Ticket, read_any_framed};
-use sspi_core::{Cause, Error, hold};
+use sspi_core::{Cause, Error};
 use std::alloc::Global;
-
-/// The longest token of the handshake, in octets.
-const MAX_TOKEN: usize = 16_777_216;
-
-fn check_token_length(token: &[u8]) -> Result<(), Cause>
-    ensures { Holds causes.Shape (nat_le (length token.now) 16777216) result }
-{
-    hold(token.len() <= MAX_TOKEN, Cause::Shape)
-}
 
 fn ticket_in(alloc: Global, token: &[u8]) -> Result<Option<(Ticket, Oid<'_>)>, Cause>
     ensures { Answers (Finds causes.Shape (HasTicket token.now)) result }

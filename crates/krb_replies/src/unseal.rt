@@ -4,12 +4,14 @@ ghost use Rattle.std.specs.Prelude.{◌≡◌, ◌==◌, nat_le, IsTrue, length}
 ghost use Rattle.sspi_core.specs.declared.cause.Cause.TheVariants as causes;
 ghost use Rattle.krb_crypto.specs.Suite.{key_size};
 ghost use Rattle.krb_crypto.specs.Sealed.{IsSealed};
-ghost use Rattle.sspi_core.specs.Checks.{Answers, Finds, Holds};
-ghost use Rattle.krb_replies.specs.Unseals.{suite_of, IsRead, Unseals, Opens};
+ghost use Rattle.sspi_core.specs.Checks.{Answers, Finds, Holds, Takes};
+ghost use Rattle.krb_replies.specs.Unseals.{suite_of_integer, own_key, IsRead, Unseals, OpensSealed, OpensData};
 
+use krb_context::KeptKey;
 use krb_crypto::{CipherSuite, CryptoError, SEALED_EXTRA_LEN, decrypt};
 use krb_der::{Asn1, Fault, IntegerAsn1, Octets};
-use sspi_core::{Cause, hold};
+use krb_messages::EncryptedData;
+use sspi_core::{Cause, hold, take};
 use std::alloc::Global;
 
 /// By which cause a sealed text is refused.
@@ -38,9 +40,9 @@ pub const SESSION_KEY: Refusals = Refusals {
 };
 
 /// The suite of an encryption type, whatever its spelling; None exactly where it is neither 17 nor 18 (RFC 3962, section 7).
-#[tactic(auto, unfolding(crate::specs::Unseals::suite_of))]
+#[tactic(auto, unfolding(crate::specs::Unseals::suite_of_integer))]
 pub fn suite_of(etype: &IntegerAsn1) -> Option<CipherSuite>
-    ensures { result ≡ suite_of etype.now }
+    ensures { result ≡ suite_of_integer etype.now }
 {
     match etype.value() {
         Some(17) => Some(CipherSuite::Aes128CtsHmacSha196),
@@ -127,8 +129,61 @@ pub fn open<T: Asn1>(
     usage: u32,
     text: &[u8],
 ) -> Result<T, Cause>
-    ensures { Answers (Opens T.layout refusals suite key.now usage text.now) result }
+    ensures { Answers (OpensSealed T.layout refusals suite key.now usage text.now) result }
 {
     let plain = unseal(alloc, refusals, suite, key, usage, text)?;
     read_inner(alloc, &plain)
+}
+
+/// The plain text that is sealed so to a key that may be kept.
+fn unseal_kept(
+    alloc: Global,
+    kept: &mut KeptKey,
+    suite: CipherSuite,
+    key: &[u8],
+    usage: u32,
+    text: &[u8],
+) -> Result<Octets, Cause>
+    ensures { Answers (Unseals own_key suite key.now usage text.now) result }
+{
+    check_key_length(OWN_KEY, suite, key)?;
+    check_length(OWN_KEY, text)?;
+    kept.unseal(alloc, suite, key, usage, text)
+}
+
+/// The record that is sealed so to a key that may be kept.
+fn open_kept<T: Asn1>(
+    alloc: Global,
+    kept: &mut KeptKey,
+    suite: CipherSuite,
+    key: &Octets,
+    usage: u32,
+    text: &Octets,
+) -> Result<T, Cause>
+    ensures { Answers (OpensSealed T.layout own_key suite key.now usage text.now) result }
+{
+    let plain = unseal_kept(alloc, kept, suite, key.as_slice(), usage, text.as_slice())?;
+    read_inner(alloc, &plain)
+}
+
+fn suite_for(etype: &IntegerAsn1) -> Result<CipherSuite, Cause>
+    ensures { Takes causes.Etype (suite_of_integer etype.now) result }
+{
+    take(suite_of(etype), Cause::Etype)
+}
+
+/// The record that is sealed to a key in an EncryptedData, and the suite that it names. The keys that open it are derived once for
+/// each key and usage, and kept for the next text.
+pub fn open_data<T: Asn1>(
+    alloc: Global,
+    kept: &mut KeptKey,
+    key: &Octets,
+    usage: u32,
+    sealed: &EncryptedData,
+) -> Result<(CipherSuite, T), Cause>
+    ensures { Answers (OpensData T.layout key.now usage sealed.now) result }
+{
+    let suite = suite_for(&sealed.etype)?;
+    let value = open_kept(alloc, kept, suite, key, usage, &sealed.cipher)?;
+    Ok((suite, value))
 }

@@ -9,7 +9,7 @@ use Rattle.std.specs.List.{onto_first, AllByRecursion}
 use Rattle.krb_der.specs.Der.{tlv}
 use Rattle.krb_der.specs.Moment.{time_octets}
 use Rattle.krb_der.specs.Schema.{IsComplete, contents, tag_of, is_ascii}
-use Rattle.krb_der.specs.Layout.{items_layout}
+use Rattle.krb_der.specs.Layout.{items_layout, spelling}
 use Rattle.krb_der.proofs.Lengths.{tlv_le, field_le, append_le, contents_shorter}
 use Rattle.krb_crypto.specs.declared.suite.CipherSuite.{CipherSuite}
 use Rattle.krb_messages.specs.Table.{encrypted_data, principal_name, host_address}
@@ -22,7 +22,7 @@ use Rattle.krb_exchange.specs.declared.pa_data.PaData.{PaData}
 use Rattle.krb_exchange.specs.declared.pa_data.PaEncTsEnc.{PaEncTsEnc}
 use Rattle.krb_exchange.specs.declared.kdc_req.KdcReqBody.{KdcReqBody}
 use Rattle.krb_exchange.specs.declared.user_to_user.TgtReq.{TgtReq}
-use Rattle.krb_requests.specs.Pieces.{spelling, sealed_data, name_of, principal, principal_of, Fits}
+use Rattle.krb_requests.specs.Pieces.{sealed_data, name_of, principal, principal_of, Fits}
 use Rattle.krb_requests.specs.PaDatas.{pac_request, enc_timestamp, timestamp, plain_pa_datas, timed_pa_datas}
 use Rattle.krb_requests.specs.declared.options.GenerateAsReqOptions.{GenerateAsReqOptions}
 use Rattle.krb_requests.specs.Bodies.{tgt_req, as_req_with, as_req_body, component_octets, user_components, AreShort}

@@ -1,5 +1,5 @@
 -- What an AS-REQ asks for (RFC 4120, section 5.4.1).
-use Rattle.std.specs.Prelude.{ℕ, ◌==◌, ◌≤◌, ◌^◌, List, [], ◌∷◌, length, map, Some, None, Result, if◌then◌else◌}
+use Rattle.std.specs.Prelude.{ℕ, ◌==◌, ◌+◌, ◌≤◌, ◌^◌, List, [], ◌∷◌, length, map, Some, None, Result, if◌then◌else◌}
 use Rattle.std.specs.List.{slice_split, flat_map}
 use Rattle.krb_der.specs.Der.{tlv}
 use Rattle.krb_messages.specs.declared.principal_name.PrincipalName.{PrincipalName}
@@ -65,9 +65,10 @@ MakesTgtReq sname = do
 abbrev pub component_octets : List (List ℕ) → List ℕ
 component_octets components = flat_map (λ component. tlv 0x1b component) components
 
--- options whose texts have at most 2^24 octets each, the components of the service's name together
+-- options whose texts have at most 2^24 octets each; the components of the service's name together have a few more, so that one of them may be
+-- a realm of that many
 pub record AreShort (options : GenerateAsReqOptions) : Type 0 where
   pub realm : length options.realm.now ≤ 2 ^ 24
   pub username : length options.username.now ≤ 2 ^ 24
-  pub snames : length (component_octets (map (λ part. part.now) options.snames.now)) ≤ 2 ^ 24
+  pub snames : length (component_octets (map (λ part. part.now) options.snames.now)) ≤ 2 ^ 24 + 2 ^ 6
   pub hostname : length options.hostname.now ≤ 2 ^ 24

@@ -1,6 +1,7 @@
 -- Pre-authentication (RFC 4120, section 5.2.7; MS-KILE, section 2.2.3).
 use Rattle.std.specs.Prelude.{ℕ, ◌/◌, ◌%◌, ◌==◌, not, ◌||◌, Bool, pos, true, List, [], ◌∷◌, length, Some, Result, if◌then◌else◌}
 use Rattle.std.specs.Int.{w32, to_be_bytes}
+use Rattle.krb_der.specs.Layout.{spelling}
 use Rattle.krb_crypto.specs.Suite.{key_size}
 use Rattle.krb_crypto.specs.declared.suite.CipherSuite.{CipherSuite}
 use Rattle.krb_messages.specs.Layouts.{encrypted_data_layout}
@@ -10,7 +11,7 @@ use Rattle.krb_exchange.specs.Layouts.{pa_enc_ts_enc_layout, kerb_pa_pac_request
 use Rattle.sspi_core.specs.declared.cause.Cause.{Cause}
 use Rattle.sspi_core.specs.declared.cause.Cause.TheVariants.{KeyLength}
 use Rattle.sspi_core.specs.Checks.{Holds, Gives, ◌>>◌}
-use Rattle.krb_requests.specs.Pieces.{spelling, sealed_under}
+use Rattle.krb_requests.specs.Pieces.{sealed_under}
 
 -- a PAC is wanted: type 128
 unfoldable pub pac_request : PaData

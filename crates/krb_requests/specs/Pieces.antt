@@ -1,8 +1,7 @@
 -- The small records and values that a client's messages are made of (RFC 4120, sections 5.2.2, 5.2.3 and 5.2.9).
 use Rattle.std.specs.Prelude.{ℕ, ◌+◌, ◌/◌, ◌≤◌, ℤ, pos, List, [], ◌∷◌, length, Option, Some, None, if◌then◌else◌}
-use Rattle.krb_der.specs.Der.{tlv}
-use Rattle.krb_der.specs.Schema.{is_ascii, tag_of, contents, IsComplete}
-use Rattle.krb_der.specs.Layout.{Layout}
+use Rattle.krb_der.specs.Schema.{is_ascii, IsComplete}
+use Rattle.krb_der.specs.Layout.{Layout, spelling}
 use Rattle.krb_crypto.specs.Suite.{suite_number}
 use Rattle.krb_crypto.specs.Sealed.{sealed}
 use Rattle.krb_crypto.specs.declared.suite.CipherSuite.{CipherSuite}
@@ -11,10 +10,6 @@ use Rattle.krb_messages.specs.declared.encryption.EncryptedData.{EncryptedData}
 use Rattle.krb_messages.specs.declared.encryption.EncryptionKey.{EncryptionKey}
 use Rattle.krb_context.specs.ServiceKeys.{all_ascii}
 use Rattle.krb_messages.specs.declared.principal_name.PrincipalName.{PrincipalName}
-
--- the octets of a record
-abbrev pub spelling : {A : Type 0} → Layout A → A → List ℕ
-spelling layout value = tlv (tag_of layout.kind) (contents layout.kind (layout.view value))
 
 -- a key of a suite
 abbrev pub encryption_key : CipherSuite → List ℕ → EncryptionKey

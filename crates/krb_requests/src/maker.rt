@@ -52,7 +52,7 @@ impl Maker {
         }
     }
 
-    /// An INTEGER of these octets, or a blank one at want of memory.
+    /// An INTEGER of these octets, or a blank one if memory runs out.
     pub fn integer(&mut self, octets: &[u8]) -> IntegerAsn1
         ensures { self.new.has_all ≡ true → (self.old.has_all ≡ true) × (result ≡ octets.now) }
     {
@@ -65,7 +65,7 @@ impl Maker {
         }
     }
 
-    /// These octets, or none at want of memory.
+    /// These octets, or none if memory runs out.
     pub fn octets(&mut self, octets: &[u8]) -> Octets
         ensures { self.new.has_all ≡ true → (self.old.has_all ≡ true) × (result ≡ octets.now) }
     {
@@ -78,7 +78,7 @@ impl Maker {
         }
     }
 
-    /// An equal value, or a blank one at want of memory.
+    /// An equal value, or a blank one if memory runs out.
     pub fn copy<T: TryCopy + Blank>(&mut self, value: &T) -> T
         ensures { self.new.has_all ≡ true → (self.old.has_all ≡ true) × (result ≡ value.now) }
     {
@@ -91,7 +91,7 @@ impl Maker {
         }
     }
 
-    /// A list of one, or none at want of memory.
+    /// A list of one, or none if memory runs out.
     pub fn list_of_one<T: Drop>(&mut self, item: T) -> Items<T>
         ensures { self.new.has_all ≡ true → (self.old.has_all ≡ true) × (result ≡ item ∷ []) }
     {
@@ -104,7 +104,7 @@ impl Maker {
         }
     }
 
-    /// A list of two, or none at want of memory.
+    /// A list of two, or none if memory runs out.
     pub fn list_of_two<T: Drop>(&mut self, first: T, second: T) -> Items<T>
         ensures { self.new.has_all ≡ true → (self.old.has_all ≡ true) × (result ≡ first ∷ second ∷ []) }
     {

@@ -8,7 +8,7 @@ ghost use Rattle.krb_exchange.specs.Layouts.{pa_data_layout};
 ghost use Rattle.sspi_core.specs.declared.cause.Cause.TheVariants as causes;
 ghost use Rattle.sspi_core.specs.Moments.{last_moment};
 ghost use Rattle.sspi_core.specs.Checks.{Answers, Gives, Holds};
-ghost use Rattle.krb_context.specs.Params.{suite_of as context_suite};
+ghost use Rattle.krb_context.specs.Params.{suite_of};
 ghost use Rattle.krb_replies.specs.Told.{Tells};
 ghost use Rattle.krb_requests.specs.Pieces.{Fits};
 ghost use Rattle.krb_requests.specs.PaDatas.{pac_request, timestamp, enc_timestamp, plain_pa_datas, timed_pa_datas, pa_datas, MakesPaDatas};
@@ -205,7 +205,7 @@ pub fn generate_pa_datas_for_as_req(
     confounder: [u8; 16],
 ) -> Result<Items<PaData>, Error>
     requires { moment ≤ last_moment }
-    ensures made { let suite = context_suite options.now.enc_params.now in
+    ensures made { let suite = suite_of options.now.enc_params.now in
         let key = password_key suite options.now.password.now options.now.salt.now in
         Tells (Gives (pa_datas options.now.with_pre_auth suite key moment confounder)) result }
     ensures within { IfOk result (λ made. Fits (items_layout pa_data_layout) (2 ^ 12) made) }

@@ -19,7 +19,7 @@ use Rattle.krb_sasl.specs.declared.error.SaslError.{SaslError}
 use Rattle.krb_sasl.specs.declared.error.SaslError.TheVariants.{State, TooLarge, Frame}
 use Rattle.krb_sasl.specs.declared.layer.Layer.{Layer}
 use Rattle.krb_sasl.specs.declared.layer.Layer.TheVariants.{None as NoLayer, Integrity, Confidentiality}
-use Rattle.krb_sasl.specs.Channels.{Makes, Readies, Unframes, has_flags, sealed_by, context_after_making, context_after_sealing, unsealed_by, context_after_opening, context_after_unsealing}
+use Rattle.krb_sasl.specs.Channels.{MakesInLayer, Readies, Unframes, has_flags, sealed_by, context_after_making, context_after_sealing, unsealed_by, context_after_opening, context_after_unsealing}
 use Rattle.krb_context.specs.ClearWraps.{WrapsClear}
 use Rattle.krb_sasl.specs.Frames.{unframed}
 use Rattle.krb_sasl.specs.InContext.{InContext, told}
@@ -70,7 +70,7 @@ length-sealed context confounder p message small size octets_c octets_p h =
 -- how long the message of a layer is
 pub length-made : (layer : Layer) (context : Kerberos) (confounder p message : List ℕ) → context.encryption_params.ec < 2 ^ 16 → length confounder ≡ 16
     → IsOctets confounder → IsOctets p
-    → Makes layer context confounder p (Ok message) → length message ≡ message_size layer context.encryption_params.ec (length p)
+    → MakesInLayer layer context confounder p (Ok message) → length message ≡ message_size layer context.encryption_params.ec (length p)
 length-made NoLayer context confounder p message small size octets_c octets_p h = ap length (gave _ _ h)
 length-made Integrity context confounder p message small size octets_c octets_p h = length-clear context p message (context_found (WrapsClear context p) message h)
 length-made Confidentiality context confounder p message small size octets_c octets_p h =

@@ -18,7 +18,7 @@ use Rattle.krb_context.specs.Parties.{seal_flags, sign_flags, keys_of}
 use Rattle.krb_context.specs.Peers.{ArePeers}
 use Rattle.krb_context.specs.Spelled.{spelled, part_octets, has_part, covered}
 use Rattle.krb_context.specs.Unwraps.{Unwraps}
-use Rattle.krb_context.specs.Window.{judged}
+use Rattle.krb_context.specs.Window.{number_verdict}
 use Rattle.krb_context.specs.Wrapped.{wrapped_by, written_body}
 use Rattle.krb_context.specs.Wraps.{wrapped}
 use Rattle.krb_context.proofs.ClearLemmas.{IsClear, is_clear, clear_opens_there}
@@ -31,7 +31,7 @@ use Rattle.krb_sasl.specs.declared.channel.Channel.{Channel}
 use Rattle.krb_sasl.specs.declared.error.SaslError.TheVariants.{State, TooLarge, Frame}
 use Rattle.krb_sasl.specs.declared.layer.Layer.{Layer}
 use Rattle.krb_sasl.specs.declared.layer.Layer.TheVariants.{None as NoLayer, Integrity, Confidentiality}
-use Rattle.krb_sasl.specs.Channels.{Makes, Opens, Seals, Unframes, Unseals, has_flags}
+use Rattle.krb_sasl.specs.Channels.{MakesInLayer, OpensInLayer, Seals, Unframes, Unseals, has_flags}
 use Rattle.krb_sasl.specs.Checks.{Holds, Takes, ok_or}
 use Rattle.krb_context.specs.ClearWraps.{WrapsClear}
 use Rattle.krb_sasl.specs.Ends.{AreEnds, IsTakenFrame}
@@ -49,7 +49,7 @@ pub record IsSealedFrame (channel : Channel) (confounder p frame : List ℕ) : T
   pub there : channel.agreement ≡ Some agreement
   pub room : takes_message agreement.layer agreement.peer_size (message_size agreement.layer channel.context.encryption_params.ec (length p)) ≡ true
   pub message : List ℕ
-  pub makes : Makes agreement.layer channel.context confounder p (Ok message)
+  pub makes : MakesInLayer agreement.layer channel.context confounder p (Ok message)
   pub is : frame ≡ with_length message
 
 pub is_sealed_frame : (channel : Channel) (confounder p frame : List ℕ) → Seals channel confounder p (Ok frame) → IsSealedFrame channel confounder p frame
@@ -96,7 +96,7 @@ takes_more Confidentiality size more n le e = let small : n ≤ size = leb-true 
 
 -- what one end wraps in the clear the other opens
 clear_opened : (sender receiver : Kerberos) (p message : List ℕ) → ArePeers sender receiver → WrapsClear sender p (Ok message)
-    → judged receiver.window (next_number sender.seq_number) ≡ Fresh → Unwraps receiver (as_stream message) (Ok p)
+    → number_verdict receiver.window (next_number sender.seq_number) ≡ Fresh → Unwraps receiver (as_stream message) (Ok p)
 clear_opened sender receiver p message peers h fresh =
     clear_opens_there sender receiver p message (as_stream message) (record { kind = Data; flags = no_flags; octets = []; limit = 0 }) peers h
     (spelled-stream message) refl refl fresh
@@ -152,7 +152,7 @@ sealed_flags sender confounder p message s =
 -- what one end seals the other opens
 sealed_opens_there : (sender receiver : Kerberos) (confounder p message : List ℕ) → ArePeers sender receiver → length confounder ≡ 16 → IsOctets confounder
     → IsOctets p
-    → IsSpelled sender confounder p message → judged receiver.window (next_number sender.seq_number) ≡ Fresh → Unwraps receiver (as_stream message) (Ok p)
+    → IsSpelled sender confounder p message → number_verdict receiver.window (next_number sender.seq_number) ≡ Fresh → Unwraps receiver (as_stream message) (Ok p)
 sealed_opens_there sender receiver confounder p message peers size octets_c octets_p s fresh =
     let sent : List Buffer = as_data sender.encryption_params.ec p in
     opens_there sender receiver s.key confounder sent (as_stream message) peers size octets_c octets_p s.ready
@@ -178,7 +178,7 @@ or_true : (b : Bool) → (b || true) ≡ true
 or_true true = refl
 or_true false = refl
 
-made_flags : (layer : Layer) (sender : Kerberos) (confounder p message : List ℕ) → Makes layer sender confounder p (Ok message) → has_flags layer message ≡ true
+made_flags : (layer : Layer) (sender : Kerberos) (confounder p message : List ℕ) → MakesInLayer layer sender confounder p (Ok message) → has_flags layer message ≡ true
 made_flags NoLayer sender confounder p message h = refl
 made_flags Integrity sender confounder p message h =
     let clear : is_sealed message ≡ false = clear_flags sender p message (is_clear sender p message (context_found (WrapsClear sender p) message h)) in
@@ -189,7 +189,7 @@ made_flags Confidentiality sender confounder p message h =
 
 made_opens : (layer : Layer) (sender receiver : Kerberos) (confounder p message : List ℕ) → ArePeers sender receiver → length confounder ≡ 16
     → IsOctets confounder → IsOctets p
-    → judged receiver.window (next_number sender.seq_number) ≡ Fresh → Makes layer sender confounder p (Ok message) → Opens layer receiver message (Ok p)
+    → number_verdict receiver.window (next_number sender.seq_number) ≡ Fresh → MakesInLayer layer sender confounder p (Ok message) → OpensInLayer layer receiver message (Ok p)
 made_opens NoLayer sender receiver confounder p message peers size octets_c octets_p fresh h = record { is = ap Ok (sym (gave _ _ h)) }
 made_opens Integrity sender receiver confounder p message peers size octets_c octets_p fresh h =
     record {
@@ -218,7 +218,7 @@ holds_there refusal false e = absurd cc
 
 pub unseals_there : (sender receiver : Channel) (confounder p frame : List ℕ) → AreEnds sender receiver → length confounder ≡ 16 → IsOctets confounder
     → IsOctets p
-    → judged receiver.context.window (next_number sender.context.seq_number) ≡ Fresh → Seals sender confounder p (Ok frame) → Unseals receiver frame (Ok p)
+    → number_verdict receiver.context.window (next_number sender.context.seq_number) ≡ Fresh → Seals sender confounder p (Ok frame) → Unseals receiver frame (Ok p)
 unfolding Unseals Unframes
 unseals_there sender receiver confounder p frame ends size octets_c octets_p fresh h =
     let s = is_sealed_frame sender confounder p frame h in
@@ -227,7 +227,7 @@ unseals_there sender receiver confounder p frame ends size octets_c octets_p fre
     let other : Agreement = record { layer = layer; peer_size = ends.other_size } in
     let same : s.agreement ≡ mine = some_same s.agreement mine (sym s.there ∙ ends.sends) in
     let message : List ℕ = s.message in
-    let makes : Makes layer sender.context confounder p (Ok message) = subst (λ (a : Agreement). Makes a.layer sender.context confounder p (Ok message)) same s.makes in
+    let makes : MakesInLayer layer sender.context confounder p (Ok message) = subst (λ (a : Agreement). MakesInLayer a.layer sender.context confounder p (Ok message)) same s.makes in
     let n : length message ≡ message_size layer sender.context.encryption_params.ec (length p) =
     length-made layer sender.context confounder p message ends.contexts.small size octets_c octets_p makes in
     let room : takes_message layer ends.peer_size (length message) ≡ true =

@@ -18,10 +18,10 @@ use Rattle.krb_sasl.specs.Layers.{message_size, takes_message}
 use Rattle.krb_sasl.specs.Streams.{sent_from, as_stream, received, WrapsSealed}
 
 -- the message of a layer: the data themselves, in the clear with a checksum, or sealed
-abbrev pub Makes : Layer → Kerberos → List ℕ → List ℕ → Result (List ℕ) SaslError → Type 0
-Makes NoLayer context confounder p = Gives p
-Makes Integrity context confounder p = InContext (WrapsClear context p)
-Makes Confidentiality context confounder p = InContext (WrapsSealed context confounder p)
+abbrev pub MakesInLayer : Layer → Kerberos → List ℕ → List ℕ → Result (List ℕ) SaslError → Type 0
+MakesInLayer NoLayer context confounder p = Gives p
+MakesInLayer Integrity context confounder p = InContext (WrapsClear context p)
+MakesInLayer Confidentiality context confounder p = InContext (WrapsSealed context confounder p)
 
 -- the agreement, with room for the message of n octets at the other end
 unfoldable pub Readies : Channel → ℕ → Result Agreement SaslError → Type 0
@@ -34,7 +34,7 @@ Readies channel n = do
 unfoldable pub Seals : Channel → List ℕ → List ℕ → Result (List ℕ) SaslError → Type 0
 Seals channel confounder p = do
   agreement ← Readies channel (length p)
-  message ← Makes agreement.layer channel.context confounder p
+  message ← MakesInLayer agreement.layer channel.context confounder p
   Gives (with_length message)
 
 -- a message that has flags has those of the layer
@@ -44,10 +44,10 @@ has_flags Integrity message = nat_lt (length message) 3 || not (is_sealed messag
 has_flags Confidentiality message = nat_lt (length message) 3 || is_sealed message
 
 -- the data of a message
-abbrev pub Opens : Layer → Kerberos → List ℕ → Result (List ℕ) SaslError → Type 0
-Opens NoLayer context message = Gives message
-Opens Integrity context message = InContext (Unwraps context (as_stream message))
-Opens Confidentiality context message = InContext (Unwraps context (as_stream message))
+abbrev pub OpensInLayer : Layer → Kerberos → List ℕ → Result (List ℕ) SaslError → Type 0
+OpensInLayer NoLayer context message = Gives message
+OpensInLayer Integrity context message = InContext (Unwraps context (as_stream message))
+OpensInLayer Confidentiality context message = InContext (Unwraps context (as_stream message))
 
 -- the checks of a frame, and its layer and message
 unfoldable pub Unframes : Channel → List ℕ → Result (Layer × List ℕ) SaslError → Type 0
@@ -62,7 +62,7 @@ Unframes channel frame = do
 unfoldable pub Unseals : Channel → List ℕ → Result (List ℕ) SaslError → Type 0
 Unseals channel frame = do
   framed ← Unframes channel frame
-  Opens framed.0 channel.context framed.1
+  OpensInLayer framed.0 channel.context framed.1
 
 -- the context behind a message of a layer that it made, and behind one that it opened
 abbrev pub context_after_making : Layer → Kerberos → Kerberos

@@ -2,7 +2,19 @@
 
 ghost use Rattle.std.specs.Prelude.{◌≡◌, ◌≤◌, ◌<◌, ◌^◌, length, IfOk, OnOk, OnErr};
 ghost use Rattle.krb_sasl.specs.Answers.{Answers};
-ghost use Rattle.krb_sasl.specs.Channels.{Makes, Opens, Readies, Seals, Unframes, Unseals, has_flags, context_after_making, context_after_opening, sealed_by, unsealed_by};
+ghost use Rattle.krb_sasl.specs.Channels.{
+  MakesInLayer,
+  OpensInLayer,
+  Readies,
+  Seals,
+  Unframes,
+  Unseals,
+  has_flags,
+  context_after_making,
+  context_after_opening,
+  sealed_by,
+  unsealed_by,
+};
 ghost use Rattle.std.specs.Result.{result_map_both};
 ghost use Rattle.krb_context.specs.Header.{is_sealed};
 ghost use Rattle.krb_sasl.specs.declared.error.SaslError.TheVariants as refusals;
@@ -57,7 +69,7 @@ impl Channel {
         plain: &[u8],
         confounder: [u8; 16],
     ) -> Result<Octets, SaslError>
-        ensures made { Answers (Makes layer self.old.context confounder plain.now) result }
+        ensures made { Answers (MakesInLayer layer self.old.context confounder plain.now) result }
         ensures size { IfOk result (λ message. length message ≡ message_size layer self.old.context.encryption_params.ec (length plain.now)) }
         ensures after { OnOk result (self.new ≡ record self.old { context = context_after_making layer self.old.context }) }
         ensures stays { OnErr result (self.new ≡ self.old) }
@@ -71,7 +83,7 @@ impl Channel {
 
     /// The data of a message. A refusal leaves the channel.
     fn open(&mut self, alloc: Global, layer: Layer, message: &[u8]) -> Result<Octets, SaslError>
-        ensures opened { Answers (Opens layer self.old.context message.now) result }
+        ensures opened { Answers (OpensInLayer layer self.old.context message.now) result }
         ensures after { OnOk result (self.new ≡ record self.old { context = context_after_opening layer self.old.context message.now }) }
         ensures stays { OnErr result (self.new ≡ self.old) }
     {

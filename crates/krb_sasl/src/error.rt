@@ -22,7 +22,7 @@ pub enum SaslError {
     TooLarge,
     /// The octets are not one frame, or the message in it is not of the layer.
     Frame,
-    /// The context refused. Its cause is not want of memory.
+    /// The context refused, and not because memory ran out.
     Context(Error),
     /// Memory ran out.
     OutOfMemory,

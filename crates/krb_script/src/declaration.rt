@@ -1,7 +1,21 @@
 //! What the lines before the first event declare.
 
 ghost use Rattle.std.specs.Prelude.{map};
-ghost use Rattle.krb_script.specs.Declarations.{skew_of, variable_of, file_of, acceptor_of, initiator_of, key_of, password_of, username_of, keytab_identity, keytab_of, url_of, kdc_of, declaration_of};
+ghost use Rattle.krb_script.specs.Declarations.{
+  skew_of,
+  variable_of,
+  file_of,
+  acceptor_of,
+  initiator_of,
+  key_of,
+  password_of,
+  username_of,
+  keytab_identity,
+  keytab_of,
+  url_of,
+  kdc_of,
+  declaration_of,
+};
 ghost use Rattle.krb_script.specs.Gives.{Gives};
 
 use crate::endpoint::{Attribute, Endpoint, Role, ServiceKey};

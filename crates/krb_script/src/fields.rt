@@ -4,7 +4,23 @@ ghost use Rattle.std.specs.Char.{is_ascii_graphic};
 ghost use Rattle.std.specs.List.{list_all};
 ghost use Rattle.krb_text.specs.Decimals.{decimal_up_to, u32_of};
 ghost use Rattle.std.specs.Str.{is_utf8};
-ghost use Rattle.krb_script.specs.Fields.{octets_of, octets_or_none_of, text_of, is_name, name_of, optional_name_of, name_or_none_of, is_distinct, is_flag, are_flags, flags_of, random_of, flag_bit, flag_bits, flags_from};
+ghost use Rattle.krb_script.specs.Fields.{
+  octets_of,
+  octets_or_none_of,
+  text_of,
+  is_name,
+  name_of,
+  optional_name_of,
+  name_or_none_of,
+  is_distinct,
+  is_flag,
+  are_flags,
+  flags_of,
+  random_of,
+  flag_bit,
+  flag_bits,
+  flags_from,
+};
 ghost use Rattle.krb_script.specs.Gives.{Gives};
 ghost use Rattle.krb_script.specs.Options.{if_so};
 ghost use Rattle.krb_script.specs.declared.fields.FieldError.TheVariants.{OutOfMemory as NoMemory};

@@ -2,6 +2,9 @@
 //!
 //! [`parse_item`] says what a line declares, and a [`Script`] keeps what the lines before the first event declare: variables
 //! and files, and the ends of connections.
+//!
+//! [`split`] cuts a text, and [`name`], [`number`], [`octets`], [`octets_or_none`], [`optional_name`] and [`random_octets`] read one field:
+//! for the lines of other programs, in the same manner.
 #![tactic(auto)]
 
 mod buffers;
@@ -17,8 +20,9 @@ mod stop;
 
 pub use declaration::Declaration;
 pub use endpoint::{Attribute, Endpoint, Role, ServiceKey};
-pub use fields::FieldError;
+pub use fields::{FieldError, name, number, octets, octets_or_none, optional_name, random_octets};
 pub use input::Input;
 pub use item::{Event, Item, parse_item};
+pub use parts::split;
 pub use script::Script;
 pub use stop::Stop;

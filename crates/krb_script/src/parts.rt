@@ -17,11 +17,7 @@ fn place_of(separator: u8, text: &[u8]) -> Option<usize>
 }
 
 /// The parts of a text between the separators, which may be empty: one more than there are separators.
-pub(crate) fn split<'a>(
-    alloc: Global,
-    separator: u8,
-    text: &'a [u8],
-) -> Result<Vec<&'a [u8]>, AllocError>
+pub fn split<'a>(alloc: Global, separator: u8, text: &'a [u8]) -> Result<Vec<&'a [u8]>, AllocError>
     ensures { IfOk result (λ parts. map (λ x. x.now) parts.items ≡ slice_split (λ b. b == separator) text.now) }
 {
     let mut parts = Vec::new(alloc);

@@ -11,7 +11,7 @@ use Rattle.krb_machine.specs.declared.run.Run.{Run}
 use Rattle.krb_script.specs.Script.{at_id}
 use Rattle.krb_script.specs.declared.item.Event.{Event}
 use Rattle.krb_machine.specs.Initiations.{token_heard}
-use Rattle.krb_machine.specs.Policy.{◌>>=◌, check, token_of, called, ready, reached, heard, awaited, is_initiator, is_initiating, draw_of}
+use Rattle.krb_machine.specs.Policy.{◌>>=◌, check, input_token, called, ready, reached, heard, awaited, is_initiator, is_initiating, draw_of}
 use Rattle.krb_machine.specs.declared.connection.Connection.{Connection}
 use Rattle.krb_origins.proofs.PlaceLemmas.{some_same, freed, hears, judges, waits, placed}
 use Rattle.sspi_core.specs.Checks.{ok_or}
@@ -45,11 +45,11 @@ module _ (connections : List (ℕ × Connection)) (event : Event) (connection : 
       ap (λ (r : Result Connection Cause). r >>= hears event.input) (ready_is free)
       ∙ ap (λ (t : Result (List ℕ) Cause). t >>= (λ token. Ok (connection, token))) hearing
 
-  pub reached_is : (token : List ℕ) → connection.exchange ≡ None → is_acceptor connection.context ≡ true → token_of event.input ≡ Some token → reached connections event ≡ Ok (connection, token)
+  pub reached_is : (token : List ℕ) → connection.exchange ≡ None → is_acceptor connection.context ≡ true → input_token event.input ≡ Some token → reached connections event ≡ Ok (connection, token)
   reached_is token free role brings =
-      let J : Bool → Result (Connection × List ℕ) Cause = λ b. check causes.Sequence b >>= (λ u. ok_or causes.Sequence (token_of event.input) >>= (λ token. Ok (connection, token))) in
+      let J : Bool → Result (Connection × List ℕ) Cause = λ b. check causes.Sequence b >>= (λ u. ok_or causes.Sequence (input_token event.input) >>= (λ token. Ok (connection, token))) in
       let T : Option (List ℕ) → Result (Connection × List ℕ) Cause = λ t. ok_or causes.Sequence t >>= (λ token. Ok (connection, token)) in
-      ap (λ (r : Result Connection Cause). r >>= judges (token_of event.input)) (ready_is free) ∙ ap J role ∙ ap T brings
+      ap (λ (r : Result Connection Cause). r >>= judges (input_token event.input)) (ready_is free) ∙ ap J role ∙ ap T brings
 
   pub awaited_is : (run : Run) → connection.exchange ≡ Some run → awaited connections event ≡ Ok (connection, run)
   awaited_is run waiting =

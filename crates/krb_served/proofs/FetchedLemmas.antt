@@ -15,7 +15,7 @@ use Rattle.krb_machine.specs.declared.exchange.Step.TheVariants as steps
 use Rattle.krb_machine.specs.declared.run.Run.{Run}
 use Rattle.krb_machine.specs.declared.run.Run.TheVariants.{Initiates}
 use Rattle.krb_initiator.proofs.Once.{starts_once, next_once}
-use Rattle.krb_initiator.specs.Beginnings.{Begins}
+use Rattle.krb_initiator.specs.Beginnings.{BeginsInitiation}
 use Rattle.krb_initiator.specs.InitRuns.{Starts, Next}
 use Rattle.krb_initiator.specs.declared.init_run.InitRun.{InitRun}
 use Rattle.krb_initiator.specs.declared.seeker.InitPhase.{InitPhase}
@@ -101,7 +101,7 @@ module _ {G : Type 0} (admits : G → Ask → Verdict → G → Type 0) where
   pub initiator-turns : (state after : State G) (event : Event) (reply : Reply) (connection next : Connection) (token : List ℕ) (initiation : Initiation) (turn : Turn InitPhase InitDone)
       → IsAnsweredAt admits state event reply after connection next → nat_le event.moment last_moment ≡ true → connection.exchange ≡ None → connection.context.server ≡ None
       → is_call event.input ≡ false → answer_of event.input ≡ None → token_heard connection.context.state event.input ≡ Ok token
-      → Begins connection.context (options_of connection state.env event.flags token) (Ok initiation) → Starts initiation New (draw_of event) (Ok turn)
+      → BeginsInitiation connection.context (options_of connection state.env event.flags token) (Ok initiation) → Starts initiation New (draw_of event) (Ok turn)
       → CameTo initiation connection turn reply next
   initiator-turns state after event reply connection next token initiation turn at in_range free role no_call no_answer hearing begins starts =
       let hears = heard_is state.connections event connection in_range at.there token free hearing in

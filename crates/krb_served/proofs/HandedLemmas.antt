@@ -22,9 +22,9 @@ use Rattle.krb_ends.proofs.ReachLemmas.{reach}
 use Rattle.krb_ends.specs.Answers.{AdmitsOnly, IsDraw, AreNew, AreEstablished, AreEstablishedBy, EndsWellIn, IsTaken, admission_for}
 use Rattle.krb_ends.specs.Fetches.{CanBegin, seeker_for, EndsWithOffer, HoldsKey}
 use Rattle.krb_ends.specs.HonestKdc.{Answers, AreHonestKdcs}
-use Rattle.krb_ends.specs.Offers.{request_of, token_of, IsFor}
+use Rattle.krb_ends.specs.Offers.{request_of, offered_token, IsFor}
 use Rattle.krb_exchange.specs.declared.kdc_rep.TgsRep.{TgsRep}
-use Rattle.krb_initiator.specs.Beginnings.{Begins}
+use Rattle.krb_initiator.specs.Beginnings.{BeginsInitiation}
 use Rattle.krb_initiator.specs.InitRuns.{Starts}
 use Rattle.krb_initiator.specs.declared.options.InitOptions.{InitOptions}
 use Rattle.krb_initiator.specs.declared.seeker.InitPhase.TheVariants.{New}
@@ -38,15 +38,16 @@ use Rattle.krb_replay.specs.declared.ask.Verdict.{Verdict}
 use Rattle.krb_script.specs.declared.input.Input.{Input}
 use Rattle.krb_script.specs.declared.input.Input.TheVariants.{Start}
 use Rattle.krb_script.specs.declared.item.Event.{Event}
-use Rattle.krb_admission.specs.Accepts.{Begins as BeginsApReq}
-use Rattle.krb_admission.specs.Admission.{drawn_key, with_client, mutual_admission, settled as admitted}
+use Rattle.krb_admission.specs.Accepts.{BeginsAdmission}
+use Rattle.krb_context.specs.Drawn.{drawn_key}
+use Rattle.krb_admission.specs.Admission.{with_client, mutual_admission, settled as admitted}
 use Rattle.krb_admission.specs.Clients.{client_of}
 use Rattle.krb_admission.specs.Requests.{ask_of}
 use Rattle.krb_machine.proofs.CallLemmas.{token-step}
 use Rattle.krb_machine.specs.Exchanges.{answer_of}
 use Rattle.krb_machine.specs.Initiations.{options_of, token_heard}
 use Rattle.krb_machine.specs.MessageCalls.{is_call}
-use Rattle.krb_machine.specs.Policy.{State, Settles, Judges, Brings, reached, token_of as token_in, draw_of}
+use Rattle.krb_machine.specs.Policy.{State, Settles, Judges, Brings, reached, input_token, draw_of}
 use Rattle.krb_machine.specs.declared.connection.Connection.{Connection}
 use Rattle.krb_machine.specs.declared.reply.Reply.{Reply}
 use Rattle.krb_machine.specs.declared.reply.Reply.TheVariants.{Done}
@@ -76,7 +77,7 @@ module _ {G : Type 0} (admits : G → Ask → Verdict → G → Type 0) where
   reaches_it : (state after : State G) (event : Event) (reply : Reply) (acceptor next : Connection) (token : List ℕ) (bare : Bool) → acceptor.exchange ≡ None → is_acceptor acceptor.context ≡ true
       → IsHanded admits token bare state event reply after acceptor next → reached state.connections event ≡ Ok (acceptor, token)
   reaches_it state after event reply acceptor next token bare free role h =
-      reached_is state.connections event acceptor (drawn_in_range event h.draw) h.answered.there token free role (ap token_in h.input_is)
+      reached_is state.connections event acceptor (drawn_in_range event h.draw) h.answered.there token free role (ap input_token h.input_is)
 
   judges_it : (state after : State G) (event : Event) (reply : Reply) (acceptor next : Connection) (token : List ℕ) (bare : Bool) → acceptor.exchange ≡ None → is_acceptor acceptor.context ≡ true
       → IsHanded admits token bare state event reply after acceptor next → Judges admits state event acceptor token reply after
@@ -118,7 +119,7 @@ module _ {G : Type 0} (admits : G → Ask → Verdict → G → Type 0) (initiat
     fetched reply waiting f =
         let O : Env → ClientRequestFlags → InitOptions = λ e g. options_of initiator e g [] in
         let same : options_of initiator f.state.env f.event.flags [] ≡ options = ap (λ (e : Env). O e f.event.flags) f.env_is ∙ ap (O env) f.flags_are in
-        let begins = subst (λ (o : InitOptions). Begins initiator.context o (Ok (Seeks seeker))) (sym same) (seeker_begins initiator.context options target credentials client can) in
+        let begins = subst (λ (o : InitOptions). BeginsInitiation initiator.context o (Ok (Seeks seeker))) (sym same) (seeker_begins initiator.context options target credentials client can) in
         let first = Asks end.fetches.request end.fetches.phase in
         let starts = subst (λ (d : Draw). Starts (Seeks seeker) New d (Ok first)) (sym f.brought.draw_is) end.fetches.starts in
         let hearing : token_heard initiator.context.state f.event.input ≡ Ok [] =
@@ -156,7 +157,7 @@ module _ {G : Type 0} (admits : G → Ask → Verdict → G → Type 0) (initiat
 
       brings : Brings state.connections event (request_of end.offer)
       brings =
-          let B : Bool → List ℕ → Type 0 = λ b t. BeginsApReq acceptor.context b t (Ok (request_of end.offer)) in
+          let B : Bool → List ℕ → Type 0 = λ b t. BeginsAdmission acceptor.context b t (Ok (request_of end.offer)) in
           let begun : B (is_bare event.flags) end.done.token =
           subst (λ (b : Bool). B b end.done.token) (end.style ∙ sym handed.style) (subst (B end.offer.dce) (sym end.token) (request_begins acceptor.context user end.offer is_for)) in
           record {
@@ -178,7 +179,7 @@ module _ {G : Type 0} (admits : G → Ask → Verdict → G → Type 0) (initiat
       settled_so : j.server ≡ admitted acceptor.context (admission_for acceptor.context (draw_of event) user end.offer)
       settled_so =
           let A : Bool → List ℕ → Type 0 = λ b t. AcceptsWhole admits acceptor.context b t state.env (draw_of event) state.gate j.answer j.server after.gate in
-          let step : A end.offer.dce (token_of end.offer) = subst (λ (b : Bool). A b (token_of end.offer)) (sym end.style) (subst (A (is_bare flags)) end.token accepts) in
+          let step : A end.offer.dce (offered_token end.offer) = subst (λ (b : Bool). A b (offered_token end.offer)) (sym end.style) (subst (A (is_bare flags)) end.token accepts) in
           let is = is_answered admits acceptor.context j.server state.env (draw_of event) user end.offer state.gate after.gate j.answer is_for step in
           is.made (only is.verdict is.asked)
 
@@ -216,7 +217,7 @@ module _ {G : Type 0} (admits : G → Ask → Verdict → G → Type 0) (initiat
         hears_it bare token status done h is t =
             let more = options_of shown state'.env event'.flags token in
             let same = same_token status t.token token j.answer t.answered is in
-            let begins = subst (λ (s : List ℕ). Begins shown.context (record more { token = s }) (Ok t.hears.initiation)) same t.hears.begins in
+            let begins = subst (λ (s : List ℕ). BeginsInitiation shown.context (record more { token = s }) (Ok t.hears.initiation)) same t.hears.begins in
             let hearing : token_heard shown.context.state event'.input ≡ Ok token = ap (λ (i : Input). token_heard shown.context.state i) h.input_is in
             let came = initiator-turns admits state' after' event' heard shown last token t.hears.initiation (Ends done) h.answered (drawn_in_range event' h.draw) refl end.offered.role
             (ap is_call h.input_is) (ap answer_of h.input_is) hearing begins t.hears.ends in

@@ -8,7 +8,7 @@ use Rattle.krb_context.specs.declared.server.ServerProperties.{ServerProperties}
 use Rattle.krb_crypto.specs.declared.suite.CipherSuite.{CipherSuite}
 use Rattle.krb_ends.specs.Answers.{AdmitsOnly}
 use Rattle.krb_exchange.specs.declared.kdc_rep.TgsRep.{TgsRep}
-use Rattle.krb_machine.specs.Policy.{State, Steps, TakesPart, Brings, check, ◌>>=◌, reached, heard, awaited, token_of, is_initiating, Runs}
+use Rattle.krb_machine.specs.Policy.{State, Steps, TakesPart, Brings, check, ◌>>=◌, reached, heard, awaited, input_token, is_initiating, Runs}
 use Rattle.krb_machine.specs.declared.connection.Connection.{Connection}
 use Rattle.krb_machine.specs.declared.reply.Reply.{Reply}
 use Rattle.krb_machine.specs.declared.reply.Reply.TheVariants.{Done}
@@ -34,7 +34,7 @@ use Rattle.krb_served.proofs.StandingLemmas.{differs_back, still_there, turn_kee
 -- the first checks of a token look at its own connection alone
 reached_same : (one other : List (ℕ × Connection)) (event : Event) → at_id event.connection one ≡ at_id event.connection other → reached one event ≡ reached other event
 reached_same one other event same =
-    ap (λ (found : Option Connection). ((check causes.Moment (nat_le event.moment last_moment) >>= (λ u. ok_or causes.Connection found)) >>= freed) >>= judges (token_of event.input)) same
+    ap (λ (found : Option Connection). ((check causes.Moment (nat_le event.moment last_moment) >>= (λ u. ok_or causes.Connection found)) >>= freed) >>= judges (input_token event.input)) same
 
 module _ {G : Type 0} (admits : G → Ask → Verdict → G → Type 0) (before : State G) (e : Exchanged) (initiator acceptor : Connection) (target service_key : List ℕ)
     (credentials : CredentialsBuffers) (client : Client) (suite : CipherSuite) (rep : TgsRep) (part : EncTicketPart) (user : UserName)

@@ -15,7 +15,7 @@ use Rattle.krb_script.specs.Script.{at_id}
 use Rattle.krb_script.specs.declared.input.Input.{Input}
 use Rattle.krb_script.specs.declared.input.Input.TheVariants.{Token, Start, KdcReply, Wrap, Unwrap}
 use Rattle.krb_script.specs.declared.item.Event.{Event}
-use Rattle.krb_admission.specs.Admission.{drawn_key}
+use Rattle.krb_context.specs.Drawn.{drawn_key}
 use Rattle.krb_admission.specs.Requests.{ask_of}
 use Rattle.krb_admission.specs.declared.request.Request.{Request}
 use Rattle.krb_machine.specs.Policy.{State, Steps, Brings, draw_of}

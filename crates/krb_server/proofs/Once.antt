@@ -17,16 +17,16 @@ use Rattle.sspi_core.specs.declared.cause.Cause.{Cause}
 use Rattle.sspi_core.proofs.Once.{Once, then_once, takes_once}
 use Rattle.krb_admission.proofs.Begun.{passed}
 use Rattle.krb_admission.proofs.Frames.{same_behind, same_message}
-use Rattle.krb_admission.specs.Accepts.{Begins as BeginsApReq}
+use Rattle.krb_admission.specs.Accepts.{BeginsAdmission}
 use Rattle.krb_admission.specs.Requests.{Requests}
-use Rattle.krb_admission.specs.Tokens.{ap_req_id, IsApReq, Receives}
+use Rattle.krb_admission.specs.Tokens.{ap_req_id, IsApReq, ReceivesApReq}
 use Rattle.krb_admission.specs.declared.request.Request.{Request}
 use Rattle.krb_user_to_user.proofs.Once.{requests_tgt_once}
 use Rattle.krb_user_to_user.specs.declared.accept_run.AcceptRun.{AcceptRun}
 use Rattle.krb_user_to_user.specs.declared.request.Beginning.{Beginning}
 use Rattle.krb_server.specs.declared.accept.Accepted.{Accepted}
 use Rattle.krb_server.specs.declared.accept.Accepted.TheVariants.{Run}
-use Rattle.krb_server.specs.TgtReqs.{Found, IsTgtReq, Begins}
+use Rattle.krb_server.specs.TgtReqs.{Found, IsTgtReq, BeginsUserToUser}
 use Rattle.krb_server.specs.Whole.{Checks, RunsAs, TakesTgtReq}
 
 same_tgt_req : (dce : Bool) (token : List ℕ) (x y : TgtReq) → IsTgtReq dce token x → IsTgtReq dce token y → x ≡ y
@@ -36,7 +36,7 @@ same_tgt_req false token x y h k =
     same_record tgt_req_layout x y k.octets (subst R (same_message _ _ _ _ _ token h.frame k.frame) h.read) k.read
 
 -- the TGT-REQ that a token is, if it is one
-pub found_once : (dce : Bool) (state : KerberosState) (token : List ℕ) (x y : Option TgtReq) → Found (Begins dce state token) x → Found (Begins dce state token) y → x ≡ y
+pub found_once : (dce : Bool) (state : KerberosState) (token : List ℕ) (x y : Option TgtReq) → Found (BeginsUserToUser dce state token) x → Found (BeginsUserToUser dce state token) y → x ≡ y
 found_once dce state token None None h k = refl
 found_once dce state token None (Some y) h k = absurd (h y k)
 found_once dce state token (Some x) None h k = absurd (k x h)
@@ -56,8 +56,8 @@ no_tgt_req : (dce : Bool) (token : List ℕ) (message : ApReq) (tgt_req : TgtReq
 no_tgt_req true token message tgt_req h k = other_tag token message tgt_req h k
 no_tgt_req false token message tgt_req h k = other_token_id _ _ _ _ token h.frame k.frame
 
-ap_req_in : (server : Kerberos) (dce : Bool) (token : List ℕ) (request : Request) → BeginsApReq server dce token (Ok request) → (message : ApReq) × IsApReq dce token message
-unfolding BeginsApReq Requests Receives
+ap_req_in : (server : Kerberos) (dce : Bool) (token : List ℕ) (request : Request) → BeginsAdmission server dce token (Ok request) → (message : ApReq) × IsApReq dce token message
+unfolding BeginsAdmission Requests ReceivesApReq
 ap_req_in server dce token request h =
     let a = passed _ _ _ h in
     let b = passed _ _ _ a.rest in
@@ -65,12 +65,12 @@ ap_req_in server dce token request h =
     let s = passed _ _ _ m.held in
     (m.found, s.rest.is)
 
-none_found : (dce : Bool) (state : KerberosState) (token : List ℕ) (message : ApReq) → IsApReq dce token message → (found : Option TgtReq) → Found (Begins dce state token) found → found ≡ None
+none_found : (dce : Bool) (state : KerberosState) (token : List ℕ) (message : ApReq) → IsApReq dce token message → (found : Option TgtReq) → Found (BeginsUserToUser dce state token) found → found ≡ None
 none_found dce state token message is None h = refl
 none_found dce state token message is (Some tgt_req) h = absurd (no_tgt_req dce token message tgt_req is h.is)
 
 -- a token whose AP-REQ passes the checks before the gate begins no user-to-user
-pub ap_req_begins_none : (server : Kerberos) (dce : Bool) (token : List ℕ) (request : Request) → BeginsApReq server dce token (Ok request) → (found : Option TgtReq) → Found (Begins dce server.state token) found → found ≡ None
+pub ap_req_begins_none : (server : Kerberos) (dce : Bool) (token : List ℕ) (request : Request) → BeginsAdmission server dce token (Ok request) → (found : Option TgtReq) → Found (BeginsUserToUser dce server.state token) found → found ≡ None
 ap_req_begins_none server dce token request begun found h = let came = ap_req_in server dce token request begun in none_found dce server.state token came.0 came.1 found h
 
 -- a run is who asks and how far it has come

@@ -36,6 +36,6 @@ abbrev pub may_begin : KerberosState → List ℕ → Bool
 may_begin state token = is_first state && nat_le (length token) 16777216
 
 -- the token begins user-to-user in this state
-pub record Begins (dce : Bool) (state : KerberosState) (token : List ℕ) (tgt_req : TgtReq) : Type 0 where
+pub record BeginsUserToUser (dce : Bool) (state : KerberosState) (token : List ℕ) (tgt_req : TgtReq) : Type 0 where
   pub may : may_begin state token ≡ true
   pub is : IsTgtReq dce token tgt_req

@@ -20,7 +20,7 @@ use Rattle.krb_user_to_user.specs.TgtRequests.{RequestsTgt}
 use Rattle.krb_user_to_user.specs.AcceptRuns.{IsNew}
 use Rattle.krb_server.specs.declared.accept.Accepted.{Accepted}
 use Rattle.krb_server.specs.declared.accept.Accepted.TheVariants.{Done, Run}
-use Rattle.krb_server.specs.TgtReqs.{Found, Begins}
+use Rattle.krb_server.specs.TgtReqs.{Found, BeginsUserToUser}
 
 -- the user that the service is
 abbrev pub user_of : Kerberos → Option CredentialsBuffers
@@ -58,17 +58,17 @@ pub record JudgesOther {G : Type 0} (admits : G → Ask → Verdict → G → Ty
   pub answer_is : answer ≡ answered_as judged
 
 -- which of the two a token is decides
-abbrev pub Makes : {G : Type 0} → (G → Ask → Verdict → G → Type 0) → Kerberos → Bool → List ℕ → Env → Draw → G → Option TgtReq
+abbrev pub AcceptsToken : {G : Type 0} → (G → Ask → Verdict → G → Type 0) → Kerberos → Bool → List ℕ → Env → Draw → G → Option TgtReq
     → Result Accepted Cause → Kerberos → G → Type 0
-Makes admits server dce token env draw old (Some tgt_req) answer server' new = TakesTgtReq server tgt_req dce env answer × (server' ≡ server) × (new ≡ old)
-Makes admits server dce token env draw old None answer server' new = JudgesOther admits server dce token draw old answer server' new
+AcceptsToken admits server dce token env draw old (Some tgt_req) answer server' new = TakesTgtReq server tgt_req dce env answer × (server' ≡ server) × (new ≡ old)
+AcceptsToken admits server dce token env draw old None answer server' new = JudgesOther admits server dce token draw old answer server' new
 
 -- a token at an acceptor, over any gate
 pub record AcceptsWhole {G : Type 0} (admits : G → Ask → Verdict → G → Type 0) (server : Kerberos) (dce : Bool) (token : List ℕ)
     (env : Env) (draw : Draw) (old : G) (answer : Result Accepted Cause) (server' : Kerberos) (new : G) : Type 0 where
   pub tgt_req : Option TgtReq
-  pub found : Found (Begins dce server.state token) tgt_req
-  pub made : Makes admits server dce token env draw old tgt_req answer server' new
+  pub found : Found (BeginsUserToUser dce server.state token) tgt_req
+  pub made : AcceptsToken admits server dce token env draw old tgt_req answer server' new
 
 -- an exchange that begins is not started yet, and what it is to send can be sent
 abbrev pub CanStart : Accepted → Type 0

@@ -1,14 +1,14 @@
 //! A token that begins user-to-user.
 
 ghost use Rattle.std.specs.Prelude.{◌≡◌, true, false, IfOk};
-ghost use Rattle.krb_server.specs.TgtReqs.{Found, IsTgtReq, is_first, may_begin, Begins};
+ghost use Rattle.krb_server.specs.TgtReqs.{Found, IsTgtReq, is_first, may_begin, BeginsUserToUser};
 
-use krb_admission::MAX_TOKEN;
 use krb_context::KerberosState;
 use krb_der::{Asn1, Fault, OutOfMemory};
 use krb_exchange::TgtReq;
 use krb_messages::constants::TGT_REQ_TOKEN_ID;
 use krb_messages::read_framed;
+use krb_replies::MAX_TOKEN_LEN;
 use std::alloc::Global;
 
 /// The TGT-REQ that the octets are.
@@ -51,7 +51,7 @@ fn is_first(state: KerberosState) -> bool
 fn may_begin(state: KerberosState, token: &[u8]) -> bool
     ensures { result ≡ may_begin state token.now }
 {
-    is_first(state) && token.len() <= MAX_TOKEN
+    is_first(state) && token.len() <= MAX_TOKEN_LEN
 }
 
 /// The TGT-REQ that begins user-to-user in this state.
@@ -61,7 +61,7 @@ pub(crate) fn tgt_req_in(
     state: KerberosState,
     token: &[u8],
 ) -> Result<Option<TgtReq>, OutOfMemory>
-    ensures { IfOk result (λ found. Found (Begins dce state token.now) found) }
+    ensures { IfOk result (λ found. Found (BeginsUserToUser dce state token.now) found) }
 {
     if may_begin(state, token) {
         tgt_req_of(alloc, dce, token)

@@ -148,8 +148,8 @@ impl<L: Calls> SharedBook<L> {
         self.close_into(seats, &mut receipts)
     }
 
-    /// The same, which hands out the receipts of each seat too, for a caller who lets go of them elsewhere. Where there is no
-    /// memory for that, they are let go of here.
+    /// The same, which hands out the receipts of each seat too, for a caller who drops them elsewhere. Where there is no
+    /// memory for that, they are dropped here.
     pub fn close_into(
         self,
         seats: Items<Seat<L>>,

@@ -1,16 +1,19 @@
 //! Negotiations, frames and refusals of both ends, to octets of a second implementation and of another library.
 
+mod client_refusals;
 mod conversations;
 mod ends;
 mod new_ends;
 mod others;
 mod refusals;
 mod sequences;
+mod server_refusals;
 mod spelled;
 
+use client_refusals::ClientRow;
 use ends::{End, Wanted, is_refused, new_client, new_server};
 use krb_sasl::{Layer, SaslClient, SaslServer};
-use refusals::{ClientRow, ServerRow};
+use server_refusals::ServerRow;
 use spelled::Row;
 use std::alloc::Global;
 use std::test::Fail;
@@ -30,7 +33,7 @@ enum ServerCase {
 fn server_passes(alloc: Global, server: &mut SaslServer, case: ServerCase) -> Result<bool, Fail> {
     match case {
         ServerCase::Offer(wanted) => Ok(is_refused(&server.offer(alloc).err(), Some(wanted))),
-        ServerCase::Call(row) => refusals::server_answers(alloc, server, row),
+        ServerCase::Call(row) => server_refusals::server_answers(alloc, server, row),
         ServerCase::Spelled(row) => spelled::server_speaks(alloc, server, row),
         ServerCase::Frames(answer, frames) => sequences::takes_all(alloc, server, answer, frames),
         ServerCase::Texts(answer, frames) => others::takes_all(alloc, server, answer, frames),
@@ -58,7 +61,7 @@ enum ClientCase {
 
 fn client_passes(alloc: Global, client: &mut SaslClient, case: ClientCase) -> Result<bool, Fail> {
     match case {
-        ClientCase::Call(row) => refusals::client_answers(alloc, client, row),
+        ClientCase::Call(row) => client_refusals::client_answers(alloc, client, row),
         ClientCase::Spelled(row) => spelled::client_speaks(alloc, client, row),
     }
 }

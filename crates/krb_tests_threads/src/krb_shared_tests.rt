@@ -27,7 +27,7 @@ fn principal(alloc: Global, name_type: u8) -> Result<PrincipalName, OutOfMemory>
 }
 
 /// The same client at the same microsecond.
-fn ask(alloc: Global) -> Result<Ask, Fail> {
+pub(crate) fn ask(alloc: Global) -> Result<Ask, Fail> {
     let realm = Name::new(Vec::from_slice(alloc, b"EXAMPLE.COM")?).ok_or("not ASCII")?;
     Ok(Ask {
         entry: Record {

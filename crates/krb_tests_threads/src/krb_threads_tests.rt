@@ -28,10 +28,10 @@ fn words(alloc: Global) -> Result<Words, AllocError> {
     Ok(Words::new(words))
 }
 
-/// Acceptors with the numbers 1 to 3, and then the token at each of these connections.
+/// Acceptors with the numbers 1 to 4, and then the token at each of these connections.
 fn tokens_at(alloc: Global, connections: &[u32]) -> Result<String, AllocError> {
     let mut input = String::from_str(alloc, "skew 300\n")?;
-    for id in [1, 2, 3] {
+    for id in [1, 2, 3, 4] {
         let acceptor = format!(in alloc; "acceptor {id} 100 server host/server.example.com\n")?;
         input.push_str(&acceptor)?;
         let key = format!(in alloc; "key {id} host/server.example.com {KEY}\n")?;
@@ -224,22 +224,46 @@ j 1 0 1 Admitted\nj 2 1 1 Replayed\nend 1 1\n";
 static SECOND_WINS: &str = "w 0 2 refused InvalidToken Replayed\nw 1 1 ok -\n\
 j 1 1 1 Admitted\nj 2 0 1 Replayed\nend 1 1\n";
 
-/// Answers the token at connections 1 and 2, behind these pauses, and compares the text with the two that are allowed.
-fn check_both<R: AllocGlobal + Abort + Threads + Wait + Sync, P: Pause + Send, Q: Pause + Send>(
+/// The three that are allowed where worker 0 brings it twice, and worker 1 once.
+static BEFORE_BOTH: &str = "w 0 1 refused InvalidToken Replayed\n\
+w 0 2 refused InvalidToken Replayed\nw 1 3 ok -\n\
+j 1 1 1 Admitted\nj 2 0 1 Replayed\nj 3 0 2 Replayed\nend 1 1\n";
+
+static BETWEEN_BOTH: &str = "w 0 1 ok -\nw 0 2 refused InvalidToken Replayed\n\
+w 1 3 refused InvalidToken Replayed\n\
+j 1 0 1 Admitted\nj 2 1 1 Replayed\nj 3 0 2 Replayed\nend 1 1\n";
+
+static BEHIND_BOTH: &str = "w 0 1 ok -\nw 0 2 refused InvalidToken Replayed\n\
+w 1 3 refused InvalidToken Replayed\n\
+j 1 0 1 Admitted\nj 2 0 2 Replayed\nj 3 1 1 Replayed\nend 1 1\n";
+
+/// Answers the token at these connections, behind these pauses, and compares the text with those that are allowed.
+fn check_among<R: AllocGlobal + Abort + Threads + Wait + Sync, P: Pause + Send, Q: Pause + Send>(
     rt: &R,
+    connections: &[u32],
+    allowed: &[&str],
     first: &mut P,
     second: &mut Q,
 ) -> Result<(), Fail> {
     let alloc = rt.alloc();
-    let input = tokens_at(alloc, &[1, 2])?;
+    let input = tokens_at(alloc, connections)?;
     let mut source = MemSource::new(input.as_str().as_bytes(), Calls::sound(alloc));
     let mut sink = MemSink::new(alloc, Calls::sound(alloc));
     let words = words(alloc)?;
     let status = threads(rt, alloc, &words, &mut source, &mut sink, first, second);
     assert_eq!(rt; status.number(), 0);
-    let text = sink.bytes();
-    assert!(rt; text == FIRST_WINS.as_bytes() || text == SECOND_WINS.as_bytes());
+    let written = sink.bytes();
+    assert!(rt; allowed.iter().any(|text| written == text.as_bytes()));
     Ok(())
+}
+
+/// The token at connections 1 and 2.
+fn check_both<R: AllocGlobal + Abort + Threads + Wait + Sync, P: Pause + Send, Q: Pause + Send>(
+    rt: &R,
+    first: &mut P,
+    second: &mut Q,
+) -> Result<(), Fail> {
+    check_among(rt, &[1, 2], &[FIRST_WINS, SECOND_WINS], first, second)
 }
 
 #[test]
@@ -296,5 +320,19 @@ fn held_call(rt: HostRuntime) -> Result<(), Fail> {
     check_both(&rt, &mut first, &mut second)?;
     assert!(rt; first.saw && second.saw);
     assert_eq!(rt; (first.calls, second.calls), (1, 1));
+    Ok(())
+}
+
+/// Each worker asks its own pause: worker 0 calls twice, and worker 1 once.
+#[test]
+fn each_worker_asks_its_own_pause(rt: HostRuntime) -> Result<(), Fail> {
+    let low = AtomicBool::new(false);
+    let high = AtomicBool::new(false);
+    let mut first = Held::new(&low, &high);
+    let mut second = Held::new(&high, &low);
+    let allowed = [BEFORE_BOTH, BETWEEN_BOTH, BEHIND_BOTH];
+    check_among(&rt, &[2, 4, 1], &allowed, &mut first, &mut second)?;
+    assert!(rt; first.saw && second.saw);
+    assert_eq!(rt; (first.calls, second.calls), (2, 1));
     Ok(())
 }

@@ -6,3 +6,5 @@
 mod krb_shared_tests;
 #[cfg(test)]
 mod krb_threads_tests;
+#[cfg(test)]
+mod paused_gate_tests;

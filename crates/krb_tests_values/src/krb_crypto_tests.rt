@@ -25,7 +25,8 @@ const STOLEN: &str = "\
 
 const DINNER: &[u8; 64] = b"I would like the General Gau's Chicken, please, and wonton soup.";
 
-/// Lengths, and the CTS of as many octets 00, 01, .. under the key of the octets 00 to 1f, computed independently.
+/// Lengths, and the CTS of as many octets 00, 01, .. under the key of the octets 00 to 1f, computed independently: the last
+/// three by OpenSSL, of texts that are decrypted four blocks at a time, eight, and eight, four and one.
 const COUNTED: &str = "\
 16 5a6e045708fb7196f02e553d02c3a692\n\
 17 53adc596f429b1d6c88d37d90838f5cb5a\n\
@@ -37,7 +38,16 @@ const COUNTED: &str = "\
 48 5a6e045708fb7196f02e553d02c3a69278e2e0038b691b8bedfc32116811da59c77147ebd5121de8d0fae7762423b6bf\n\
 49 5a6e045708fb7196f02e553d02c3a692c77147ebd5121de8d0fae7762423b6bf51f293bf4424cbb16e0ccd3b57c26f9078\n\
 64 5a6e045708fb7196f02e553d02c3a692c77147ebd5121de8d0fae7762423b6bf7c8ab8ef66c293ca63ff37a35ec1c2ba78e2e0038b691b8bedfc32116811da59\n\
-65 5a6e045708fb7196f02e553d02c3a692c77147ebd5121de8d0fae7762423b6bf78e2e0038b691b8bedfc32116811da59a57ad33f30644155781d76ddf24b7b347c";
+65 5a6e045708fb7196f02e553d02c3a692c77147ebd5121de8d0fae7762423b6bf78e2e0038b691b8bedfc32116811da59a57ad33f30644155781d76ddf24b7b347c\n\
+96 5a6e045708fb7196f02e553d02c3a692c77147ebd5121de8d0fae7762423b6bf78e2e0038b691b8bedfc32116811da597c8ab8ef66c293ca63ff37a35ec1c2ba\
+d7d46f326edb69f34cd0dc843757f1d40e062c9ee27de295b156818ba0a0843a\n\
+160 5a6e045708fb7196f02e553d02c3a692c77147ebd5121de8d0fae7762423b6bf78e2e0038b691b8bedfc32116811da597c8ab8ef66c293ca63ff37a35ec1c2ba\
+0e062c9ee27de295b156818ba0a0843ad7d46f326edb69f34cd0dc843757f1d46639521b4ac4bb350fcf535037abe368ff54b0ba2d677e90190d7110c4839598\
+c9acad229ca508181db866d99e09c2301a476f540203ea4cbdfa49f47922311b\n\
+245 5a6e045708fb7196f02e553d02c3a692c77147ebd5121de8d0fae7762423b6bf78e2e0038b691b8bedfc32116811da597c8ab8ef66c293ca63ff37a35ec1c2ba\
+0e062c9ee27de295b156818ba0a0843ad7d46f326edb69f34cd0dc843757f1d46639521b4ac4bb350fcf535037abe368ff54b0ba2d677e90190d7110c4839598\
+1a476f540203ea4cbdfa49f47922311bc9acad229ca508181db866d99e09c2305f2c901959ca9a4d0eec1086119c4637e85c6d5689a55441254092f290ad6dd1\
+09aaf12f6c3a60557eab23a1cb1c87f7d21db97653f482d390148e02456055b949272fc3a9f1913f751f1ae3b341bd061e61bf0783";
 
 /// An input and its n-fold to 128 bits: the first is that of RFC 3962, the others were computed bit by bit.
 const FOLDED: &str = "\
@@ -219,8 +229,8 @@ fn texts_are_stolen_from_as_in_rfc_3962(rt: HostRuntime) -> Result<(), Fail> {
     for line in STOLEN.lines() {
         steals(&rt, &short, DINNER, line)?;
     }
-    let mut counted = [0u8; 65];
-    for i in 0..65 {
+    let mut counted = [0u8; 245];
+    for i in 0..245 {
         counted[i as usize] = i;
     }
     let key = <[u8; 32]>::from_hex(

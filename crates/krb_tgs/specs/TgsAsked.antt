@@ -2,6 +2,7 @@
 use Rattle.std.specs.Prelude.{ℕ, ◌==◌, Bool, not, nat_lt, List, [], take, drop, length, Option, Some, None, Result, bytes_eq, unwrap_or, if◌then◌else◌}
 use Rattle.std.specs.Int.{w32, from_be_bytes}
 use Rattle.std.specs.Str.{str_to_ascii_lowercase}
+use Rattle.krb_der.specs.Layout.{spelling}
 use Rattle.url.specs.Parts.{Parts}
 use Rattle.krb_crypto.specs.Suite.{key_size}
 use Rattle.krb_messages.specs.declared.authenticator.Authenticator.{Authenticator}
@@ -19,7 +20,6 @@ use Rattle.sspi_generator.specs.declared.network.NetworkRequest.{NetworkRequest}
 use Rattle.krb_as.specs.declared.kdc.Kdc.{Kdc}
 use Rattle.krb_as.specs.Kdcs.{FindsKdc}
 use Rattle.krb_as.specs.Requests.{request_to}
-use Rattle.krb_requests.specs.Pieces.{spelling}
 use Rattle.krb_authenticators.specs.Authenticators.{authenticator}
 use Rattle.krb_authenticators.specs.TgsRequests.{tgs_body, tgs_req}
 use Rattle.krb_as.specs.declared.asker.Asker.{Asker}

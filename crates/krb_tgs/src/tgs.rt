@@ -1,8 +1,7 @@
 //! Requests to ticket-granting services (RFC 4120, sections 3.3.1 and 5.4.1).
 
-ghost use Rattle.std.specs.Prelude.{◌≡◌, ◌==◌, ◌<◌, ◌≤◌, ◌^◌, nat_lt, not, length, take, drop, IfOk, IfSome};
+ghost use Rattle.std.specs.Prelude.{◌≡◌, ◌==◌, ◌<◌, ◌≤◌, ◌^◌, nat_lt, not, length, IfOk, IfSome};
 ghost use Rattle.krb_crypto.specs.Suite.{key_size};
-ghost use Rattle.krb_context.specs.Params.{suite_of};
 ghost use Rattle.krb_messages.specs.Layouts.{authenticator_layout};
 ghost use Rattle.krb_exchange.specs.Layouts.{tgs_req_layout};
 ghost use Rattle.sspi_core.specs.declared.cause.Cause.TheVariants as causes;
@@ -13,7 +12,7 @@ ghost use Rattle.krb_authenticators.specs.Bindings.{AreShortBindings};
 ghost use Rattle.krb_authenticators.specs.TgsRequests.{AreShortTickets};
 ghost use Rattle.krb_as.specs.Kdcs.{FindsKdc};
 ghost use Rattle.krb_as.specs.Granted.{IsSendable};
-ghost use Rattle.krb_tgs.specs.TgsAsked.{drawn_number, drawn_nonce, drawn_confounder, tgs_authenticator, tgs_req_for, tgs_request, url_for, AsksTgs, is_same_realm, Follows};
+ghost use Rattle.krb_tgs.specs.TgsAsked.{tgs_authenticator, tgs_req_for, tgs_request, url_for, AsksTgs, is_same_realm, Follows};
 
 use crate::wanted::Wanted;
 use krb_as::{Asker, Grant, Kdc, find_kdc, request_to};
@@ -21,7 +20,6 @@ use krb_authenticators::{
     GenerateAuthenticatorOptions, GenerateTgsReqOptions, generate_authenticator, generate_tgs_req,
 };
 use krb_context::EncryptionParams;
-use krb_crypto::CipherSuite;
 use krb_der::{Asn1, Items, Name, OutOfMemory, TryCopy};
 use krb_exchange::{KdcRep, TgsReq};
 use krb_messages::{Authenticator, Ticket};
@@ -40,39 +38,6 @@ pub struct Begun {
     pub kdc: Kdc,
 }
 
-fn drawn_number(draw: &Draw) -> u32
-    ensures { result ≡ drawn_number draw.now }
-{
-    let mut number = [0; 4];
-    number.copy_from_slice(&draw.random[..4]);
-    u32::from_be_bytes(number)
-}
-
-fn drawn_nonce(draw: &Draw) -> [u8; 4]
-    ensures { result ≡ drawn_nonce draw.now }
-{
-    let mut nonce = [0; 4];
-    nonce.copy_from_slice(&draw.random[4..8]);
-    nonce
-}
-
-fn drawn_confounder(draw: &Draw) -> [u8; 16]
-    ensures { result ≡ drawn_confounder draw.now }
-{
-    let mut confounder = [0; 16];
-    confounder.copy_from_slice(&draw.random[8..24]);
-    confounder
-}
-
-/// Parameters of a suite, without keys.
-fn params_in(suite: CipherSuite) -> EncryptionParams
-    ensures { suite_of result ≡ suite }
-{
-    let mut params = EncryptionParams::default_for_client();
-    params.encryption_type = Some(suite);
-    params
-}
-
 /// Who asks. An authenticator without a checksum has no room to lack.
 fn tgs_authenticator(
     alloc: Global,
@@ -88,7 +53,7 @@ fn tgs_authenticator(
 {
     let options = GenerateAuthenticatorOptions {
         kdc_rep: rep,
-        seq_num: Some(drawn_number(draw)),
+        seq_num: Some(u32::from_be_bytes(draw.octets::<4>(0))),
         sub_key: None,
         checksum: None,
         channel_bindings: wanted.channel_bindings.as_ref(),
@@ -121,7 +86,7 @@ fn tgs_req_by(
     ensures within { IfOk result (λ made. Fits tgs_req_layout (2 ^ 29) made) }
 {
     let ticket = shown.rep.ticket.copy(alloc)?;
-    let params = params_in(shown.suite);
+    let params = EncryptionParams::of_suite(shown.suite);
     let options = GenerateTgsReqOptions {
         realm: realm.as_str(),
         service_principal: wanted.target.as_str(),
@@ -132,8 +97,9 @@ fn tgs_req_by(
         enc_params: &params,
         context_requirements: wanted.flags,
     };
-    let nonce = drawn_nonce(draw);
-    match generate_tgs_req(alloc, options, draw.moment, nonce, drawn_confounder(draw)) {
+    let nonce = draw.octets::<4>(4);
+    let confounder = draw.octets::<16>(8);
+    match generate_tgs_req(alloc, options, draw.moment, nonce, confounder) {
         Ok(request) => Ok(request),
         Err(_) => Err(OutOfMemory),
     }

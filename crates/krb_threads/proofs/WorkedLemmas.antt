@@ -5,7 +5,7 @@ use Rattle.krb_replay.specs.declared.ask.Ask.{Ask}
 use Rattle.krb_replay.specs.declared.ask.Verdict.{Verdict}
 use Rattle.krb_admission.specs.Accepts.{Asks}
 use Rattle.krb_admission.specs.Requests.{ask_of}
-use Rattle.krb_server.specs.Whole.{Makes}
+use Rattle.krb_server.specs.Whole.{AcceptsToken}
 use Rattle.krb_server.specs.declared.accept.Accepted.{Accepted}
 use Rattle.krb_conf.specs.declared.env.Env.{Env}
 use Rattle.krb_context.specs.declared.context.Kerberos.{Kerberos}
@@ -88,10 +88,10 @@ module _ {G N : Type 0} (admits : G → Ask → Verdict → G → Type 0) (log :
   record MadeBy (server : Kerberos) (dce : Bool) (token : List ℕ) (env : Env) (draw : Draw) (old : G) (found : Option TgtReq) (answer : Result Accepted Cause) (server' : Kerberos) (new : G) : Type 0 where
     gained : List Entry
     gains : Gains old new gained
-    made : (more : List Entry) → Makes (Reads (seat old)) server dce token env draw (rest_at old (gained ++ more)) found answer server' (rest_at new more)
+    made : (more : List Entry) → AcceptsToken (Reads (seat old)) server dce token env draw (rest_at old (gained ++ more)) found answer server' (rest_at new more)
 
   made_by : (server : Kerberos) (dce : Bool) (token : List ℕ) (env : Env) (draw : Draw) (old : G) (found : Option TgtReq) (answer : Result Accepted Cause) (server' : Kerberos) (new : G)
-      → Makes admits server dce token env draw old found answer server' new → MadeBy server dce token env draw old found answer server' new
+      → AcceptsToken admits server dce token env draw old found answer server' new → MadeBy server dce token env draw old found answer server' new
   made_by server dce token env draw old (Some tgt_req) answer server' new m =
       record { gained = []; gains = gains_none old new m.2; made = λ more. (m.0, m.1, ap (λ g. rest_at g more) m.2) }
   made_by server dce token env draw old None answer server' new m =

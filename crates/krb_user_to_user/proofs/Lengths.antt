@@ -5,12 +5,13 @@ use Rattle.krb_der.specs.Der.{tlv}
 use Rattle.krb_der.specs.declared.memory.OutOfMemory.{OutOfMemory}
 use Rattle.krb_der.specs.Schema.{Spells}
 use Rattle.krb_der.proofs.Lengths.{tlv_le, field_le, append_le}
+use Rattle.krb_der.specs.Layout.{spelling}
 use Rattle.krb_messages.specs.Layouts.{ticket_layout}
 use Rattle.krb_messages.specs.declared.ticket.Ticket.{Ticket}
 use Rattle.krb_exchange.specs.Table.{tgt_rep as tgt_rep_kind}
 use Rattle.krb_exchange.specs.Layouts.{tgt_rep_row, tgt_rep_layout}
 use Rattle.krb_exchange.specs.declared.user_to_user.TgtRep.{TgtRep}
-use Rattle.krb_requests.specs.Pieces.{Fits, spelling}
+use Rattle.krb_requests.specs.Pieces.{Fits}
 use Rattle.krb_user_to_user.specs.TgtReps.{tgt_rep}
 
 le_trans : (a b c : ℕ) → a ≤ b → b ≤ c → a ≤ c

@@ -1,3 +1,4 @@
 pub mod Refusals
 pub mod Lengths
 pub mod Once
+pub mod Few

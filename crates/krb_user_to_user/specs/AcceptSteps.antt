@@ -15,7 +15,7 @@ use Rattle.krb_as.specs.declared.turn.Turn.TheVariants.{Ends}
 use Rattle.krb_as.specs.FirstBodies.{first_body}
 use Rattle.krb_user_to_user.specs.declared.request.Acceptor.{Acceptor}
 use Rattle.krb_user_to_user.specs.declared.steps.AcceptPhase.{AcceptPhase}
-use Rattle.krb_user_to_user.specs.TgtReps.{token_of}
+use Rattle.krb_user_to_user.specs.TgtReps.{tgt_rep_token}
 
 -- what is asked for: a ticket to the ticket-granting service
 abbrev pub body_of : Client → Draw → KdcReqBody
@@ -25,7 +25,7 @@ body_of client draw = first_body client TicketGranting 0 draw
 unfoldable pub done_of : Acceptor → Grant → InitDone
 done_of acceptor grant = record {
   status = ContinueNeeded;
-  token = token_of acceptor.dce grant.rep.ticket;
+  token = tgt_rep_token acceptor.dce grant.rep.ticket;
   change = record {
     state = Preauthentication;
     realm = Some grant.rep.crealm;

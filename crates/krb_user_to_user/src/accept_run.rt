@@ -43,6 +43,7 @@ impl AcceptRun {
         ensures new { IsNew result }
         ensures acceptor { result.acceptor ≡ beginning.acceptor }
         ensures phase { result.phase ≡ phases.New beginning.client }
+        ensures turns { turns_left result.phase ≡ 2 }
     {
         AcceptRun {
             alloc,
@@ -68,6 +69,7 @@ pub fn request_tgt(
     ensures asked { (result ≡ Err (error_of causes.Memory) → ⊥)
         → (answer : Result Beginning Cause) × RequestsTgt server.now credentials.now tgt_req.now (is_bare flags) env.now answer × BeginsSo answer result }
     ensures new { IfOk result (λ run. IsNew run) }
+    ensures turns { IfOk result (λ run. turns_left run.phase ≡ 2) }
 {
     let dce = flags.contains(ServerRequestFlags::USE_DCE_STYLE);
     match begin_accept(alloc, server, credentials, tgt_req, dce, env) {

@@ -1,6 +1,6 @@
 //! Laws of user-to-user at an acceptor, for all values.
 
-ghost use Rattle.std.specs.Prelude.{◌≡◌, ℕ, Bool, List, Result};
+ghost use Rattle.std.specs.Prelude.{◌≡◌, ℕ, Bool, List, take, Result};
 ghost use Rattle.krb_conf.specs.declared.env.Env.{Env};
 ghost use Rattle.krb_context.specs.declared.context.Kerberos.{Kerberos};
 ghost use Rattle.krb_exchange.specs.declared.user_to_user.TgtReq.{TgtReq};
@@ -14,7 +14,12 @@ ghost use Rattle.krb_user_to_user.specs.declared.request.Acceptor.{Acceptor};
 ghost use Rattle.krb_user_to_user.specs.declared.request.Beginning.{Beginning};
 ghost use Rattle.krb_user_to_user.specs.declared.steps.AcceptPhase.{AcceptPhase};
 ghost use Rattle.krb_user_to_user.specs.TgtRequests.{RequestsTgt};
-ghost use Rattle.krb_user_to_user.specs.AcceptRuns.{Starts, Next};
+ghost use Rattle.krb_user_to_user.specs.declared.accept_run.AcceptRun.{AcceptRun};
+ghost use Rattle.krb_user_to_user.specs.AcceptRuns.{Starts, Next, IsNew, StartsAt, ResumesAt};
+ghost use Rattle.sspi_core.specs.declared.error.Error.{Error};
+ghost use Rattle.sspi_generator.specs.Runs.{Resolves};
+
+use sspi_generator::NetworkClient;
 
 /// A TGT-REQ is judged to at most one answer, and each step of the exchange behind it has at most one outcome, determined by who
 /// asks, how far the exchange has come, the reply and the draw.
@@ -26,4 +31,13 @@ pub fn one_outcome()
     ensures resumes { (acceptor : Acceptor) (phase : AcceptPhase) (reply : Result (List ℕ) NetFault) (draw : Draw)
         (r s : Result (Turn AcceptPhase InitDone) Cause)
         → Next acceptor phase reply draw r → Next acceptor phase reply draw s → r ≡ s }
+{}
+
+/// A run from a new exchange of a service asks twice at most, whoever sends: it ends with what it ends with over the first three of its
+/// draws.
+pub fn acceptances_ask_twice_at_most<C: NetworkClient>()
+    ensures { (run run' : AcceptRun)
+        (client client' : C) (draws : List Draw) (out : Result InitDone Error) → IsNew run
+        → Resolves StartsAt ResumesAt C.sends run client draws out run' client'
+        → Resolves StartsAt ResumesAt C.sends run client (take 3 draws) out run' client' }
 {}

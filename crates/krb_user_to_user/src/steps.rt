@@ -20,8 +20,7 @@ use krb_as::{
     AsPhase, Asker, Client, FirstService, Grant, InitDone, Turn, begin_exchange, first_body,
     take_reply,
 };
-use krb_context::{ContextChange, EncryptionParams, KerberosState};
-use krb_crypto::CipherSuite;
+use krb_context::{ContextChange, KerberosState};
 use krb_der::{Name, Octets, OutOfMemory, Text, TryCopy};
 use krb_exchange::{KdcRep, KdcReqBody};
 use sspi_core::{Cause, ClientRequestFlags, Draw, SecurityStatus};
@@ -88,18 +87,6 @@ fn text_of(alloc: Global, name: &Name) -> Result<Text, OutOfMemory>
     Text::from_str(alloc, name.as_str())
 }
 
-fn params_with(
-    alloc: Global,
-    params: &EncryptionParams,
-    suite: CipherSuite,
-) -> Result<EncryptionParams, OutOfMemory>
-    ensures { IfOk result (λ made. made ≡ record params.now { encryption_type = Some suite }) }
-{
-    let mut made = params.copy(alloc)?;
-    made.encryption_type = Some(suite);
-    Ok(made)
-}
-
 /// What the exchange ends with.
 #[tactic(auto, unfolding(crate::specs::AcceptSteps::done_of))]
 fn done_of(alloc: Global, acceptor: &Acceptor, grant: Grant) -> Result<InitDone, OutOfMemory>
@@ -109,7 +96,7 @@ fn done_of(alloc: Global, acceptor: &Acceptor, grant: Grant) -> Result<InitDone,
     let Grant { suite, key, rep } = grant;
     let KdcRep { crealm, ticket, .. } = rep;
     let realm = text_of(alloc, &crealm)?;
-    let encryption_params = params_with(alloc, &acceptor.params, suite)?;
+    let encryption_params = acceptor.params.copy_for(alloc, suite)?;
     let token = token_of(alloc, acceptor.dce, ticket)?;
     Ok(InitDone {
         status: SecurityStatus::ContinueNeeded,

@@ -3,7 +3,7 @@
 ghost use Rattle.std.specs.Prelude.{◌≡◌, ◌≤◌, ◌^◌, IfOk, length};
 ghost use Rattle.krb_messages.specs.Layouts.{ticket_layout};
 ghost use Rattle.krb_requests.specs.Pieces.{Fits};
-ghost use Rattle.krb_user_to_user.specs.TgtReps.{tgt_rep, message, framed, token_of};
+ghost use Rattle.krb_user_to_user.specs.TgtReps.{tgt_rep, message, framed_tgt_rep, tgt_rep_token};
 
 use krb_der::{Asn1, Octets, OutOfMemory};
 use krb_exchange::TgtRep;
@@ -37,10 +37,10 @@ fn message(alloc: Global, ticket: Ticket) -> Result<Octets, OutOfMemory>
 }
 
 /// A TGT-REP in a frame.
-#[tactic(auto, unfolding(crate::specs::TgtReps::framed))]
+#[tactic(auto, unfolding(crate::specs::TgtReps::framed_tgt_rep))]
 fn framed(alloc: Global, octets: &Octets) -> Result<Octets, OutOfMemory>
     requires { length octets.now ≤ 2 ^ 25 }
-    ensures { IfOk result (λ token. token ≡ framed octets.now) }
+    ensures { IfOk result (λ token. token ≡ framed_tgt_rep octets.now) }
 {
     write_framed(alloc, Oid::UserToUser, TGT_REP_TOKEN_ID, octets.as_slice())
 }
@@ -48,7 +48,7 @@ fn framed(alloc: Global, octets: &Octets) -> Result<Octets, OutOfMemory>
 /// The TGT-REP with this ticket as a token.
 pub(crate) fn token_of(alloc: Global, dce: bool, ticket: Ticket) -> Result<Octets, OutOfMemory>
     requires { Fits ticket_layout (2 ^ 24) ticket }
-    ensures { IfOk result (λ token. token ≡ token_of dce ticket) }
+    ensures { IfOk result (λ token. token ≡ tgt_rep_token dce ticket) }
 {
     let message = message(alloc, ticket)?;
     if dce {

@@ -49,6 +49,7 @@ pub record Then {A B : Type 0} (first : Result A Cause → Type 0) (next : A →
   pub held : first middle
   pub rest : Goes next middle answer
 
+-- a `do` block over these is a relation: it holds of each answer that its checks, in their order, may give
 infixl 10 ◌>>=◌
 abbrev pub ◌>>=◌ : {A B : Type 0} → (Result A Cause → Type 0) → (A → Result B Cause → Type 0) → Result B Cause → Type 0
 first >>= next = λ answer. Then first next answer

@@ -5,9 +5,15 @@ use Rattle.sspi_core.specs.declared.error.Error.{Error}
 use Rattle.sspi_core.specs.declared.error.Place.{Place}
 use Rattle.sspi_core.specs.declared.error.Place.TheVariants.{Query, MakeMic, Elsewhere}
 use Rattle.sspi_core.specs.declared.kind.ErrorKind.{ErrorKind}
-use Rattle.sspi_core.specs.declared.kind.ErrorKind.TheVariants.{InvalidToken, InvalidParameter, InvalidHandle, OutOfSequence, BufferTooSmall, DecryptFailure, EncryptFailure, MessageAltered, TimeSkew, ContextExpired, IncompleteCredentials, NoCredentials, UnknownCredentials, WrongCredentialHandle, UnsupportedPreAuth, NoAuthenticatingAuthority, KdcInvalidRequest, KdcCertRevoked, NoKerbKey, NoTgtReply, MutualAuthFailed, TooManyPrincipals, OperationNotSupported, UnsupportedFunction, InternalError, Unknown, OutOfMemory}
+use Rattle.sspi_core.specs.declared.kind.ErrorKind.TheVariants.{InvalidToken, InvalidParameter, InvalidHandle, OutOfSequence, BufferTooSmall, DecryptFailure, EncryptFailure, MessageAltered}
+use Rattle.sspi_core.specs.declared.kind.ErrorKind.TheVariants.{TimeSkew, ContextExpired, IncompleteCredentials, NoCredentials, UnknownCredentials, WrongCredentialHandle, UnsupportedPreAuth}
+use Rattle.sspi_core.specs.declared.kind.ErrorKind.TheVariants.{NoAuthenticatingAuthority, KdcInvalidRequest, KdcCertRevoked, NoKerbKey, NoTgtReply, MutualAuthFailed, TooManyPrincipals}
+use Rattle.sspi_core.specs.declared.kind.ErrorKind.TheVariants.{OperationNotSupported, UnsupportedFunction, InternalError, Unknown, OutOfMemory}
 use Rattle.sspi_core.specs.declared.cause.Cause.{Cause}
-use Rattle.sspi_core.specs.declared.cause.Cause.TheVariants.{Memory, Moment, Connection, Role, Sequence, Shape, NoServiceKey, Etype, KeyLength, Short, Altered, Inner, Names, Skew, NotYet, Expired, Replayed, ClientName, ApOptions, SubKey, Credentials, ServerName, KeytabUser, NotAscii, Reply, NoNumber, Number, NoSubKey, NoTarget, Target, NoIdentity, NoKdc, Scheme, Network, ReplyShort, EarlyAsRep, Kdc, EtypeEntry, Salt, Hops, SameRealm, Port, UserData, ResultCode, Buffers, TooSmall, Header, Direction, ExtraCount, Room, Old, Repeated, Sealed, NoKey, Checksum, Bindings, BadUser, Unsupported, Suspended}
+use Rattle.sspi_core.specs.declared.cause.Cause.TheVariants.{Memory, Moment, Connection, Role, Sequence, Shape, NoServiceKey, Etype, KeyLength, Short, Altered, Inner, Names, Skew, NotYet, Expired}
+use Rattle.sspi_core.specs.declared.cause.Cause.TheVariants.{Replayed, ClientName, ApOptions, SubKey, Credentials, ServerName, KeytabUser, NotAscii, Reply, NoNumber, Number, NoSubKey, NoTarget, Target}
+use Rattle.sspi_core.specs.declared.cause.Cause.TheVariants.{NoIdentity, NoKdc, Scheme, Network, ReplyShort, EarlyAsRep, Kdc, EtypeEntry, Salt, Hops, SameRealm, Port, UserData, ResultCode, Buffers}
+use Rattle.sspi_core.specs.declared.cause.Cause.TheVariants.{TooSmall, Header, Direction, ExtraCount, Room, Old, Repeated, Sealed, NoKey, Checksum, Bindings, BadUser, Unsupported, Suspended}
 
 -- the table of codes: each kind with its codes
 abbrev pub code_table : List (ErrorKind × List ℕ)

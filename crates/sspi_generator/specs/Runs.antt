@@ -1,10 +1,11 @@
 -- A whole run of a task: its steps, and between them the answers of a client.
-use Rattle.std.specs.Prelude.{◌≡◌, ℕ, List, [], ◌∷◌, Result}
+use Rattle.std.specs.Prelude.{◌≡◌, ◌<◌, ℕ, List, [], ◌∷◌, Result}
 use Rattle.sspi_core.specs.declared.draw.Draw.{Draw}
 use Rattle.sspi_generator.specs.declared.network.NetworkRequest.{NetworkRequest}
 use Rattle.sspi_generator.specs.declared.network.NetFault.{NetFault}
 use Rattle.sspi_generator.specs.declared.task.GeneratorState.{GeneratorState}
 use Rattle.sspi_generator.specs.Faults.{HasCause}
+use Rattle.sspi_generator.specs.Steps.{OnSuspended}
 use Rattle.sspi_generator.specs.declared.task.GeneratorState.TheVariants.{Suspended, Completed}
 
 -- a client of which its count of faults is seen: any answer may come, and a failure only where the count rises
@@ -28,3 +29,12 @@ abbrev pub Resolves : {T C O : Type 0} → (T → Draw → GeneratorState Networ
 Resolves starts resumes sends task client [] out task' client' = ⊥
 Resolves {T} {C} {O} starts resumes sends task client (draw ∷ draws) out task' client' =
     (state : GeneratorState NetworkRequest O) × (next : T) × starts task draw state next × Finishes resumes sends state next client draws out task' client'
+
+-- a step that asks leaves a task that waits, and fewer turns: at the start, and behind an answer
+abbrev pub StartsDown : {T O : Type 0} → (T → Draw → GeneratorState NetworkRequest O → T → Type 0) → (T → Type 0) → (T → Type 0) → (T → ℕ) → Type 0
+StartsDown {T} {O} starts is_new is_waiting turns = (task : T) (draw : Draw) (state : GeneratorState NetworkRequest O) (next : T) → is_new task → starts task draw state next
+    → OnSuspended state (λ request. is_waiting next × (turns next < turns task))
+
+abbrev pub ResumesDown : {T O : Type 0} → (T → Result (List ℕ) NetFault → Draw → GeneratorState NetworkRequest O → T → Type 0) → (T → Type 0) → (T → ℕ) → Type 0
+ResumesDown {T} {O} resumes is_waiting turns = (task : T) (reply : Result (List ℕ) NetFault) (draw : Draw) (state : GeneratorState NetworkRequest O) (next : T) → is_waiting task
+    → resumes task reply draw state next → OnSuspended state (λ request. is_waiting next × (turns next < turns task))

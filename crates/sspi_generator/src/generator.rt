@@ -78,7 +78,8 @@ impl<T: Resumable> Generator<T> {
         requires enough { T.turns self.old < length draws.now }
         requires moments { AreInRange draws.now }
         ensures run { Resolves T.starts T.resumes Counts self.old (faults client.old) draws.now result self.new (faults client.new) }
-        ensures sent { (after : _) × Resolves T.starts T.resumes (⟦<dyn NetworkClient as NetworkClient>⟧ client.old.0).sends self.old client.old.1 draws.now result self.new after × (client.new ≡ (client.old.0, after)) }
+        ensures sent { (after : _) × Resolves T.starts T.resumes (⟦<dyn NetworkClient as NetworkClient>⟧ client.old.0).sends self.old client.old.1 draws.now result
+            self.new after × (client.new ≡ (client.old.0, after)) }
         ensures fault { T.is_fault result → Rose (faults client.old) (faults client.new) }
     {
         let [draw, rest @ ..] = draws else {
@@ -191,7 +192,8 @@ fn finish_lent<T: Resumable>(
     requires enough { OnSuspended state (λ request. T.is_waiting task.old × (T.turns task.old < length draws.now)) }
     requires moments { AreInRange draws.now }
     ensures run { Finishes T.resumes Counts state task.old (faults client.old) draws.now result task.new (faults client.new) }
-    ensures sent { (after : _) × Finishes T.resumes (⟦<dyn NetworkClient as NetworkClient>⟧ client.old.0).sends state task.old client.old.1 draws.now result task.new after × (client.new ≡ (client.old.0, after)) }
+    ensures sent { (after : _) × Finishes T.resumes (⟦<dyn NetworkClient as NetworkClient>⟧ client.old.0).sends state task.old client.old.1 draws.now result
+        task.new after × (client.new ≡ (client.old.0, after)) }
     ensures later { faults client.old ≤ faults client.new }
     ensures fault { T.is_fault result → Completes state T.is_fault ⊎ Rose (faults client.old) (faults client.new) }
 {
@@ -201,8 +203,8 @@ fn finish_lent<T: Resumable>(
             let [draw, rest @ ..] = draws else {
                 unreachable!()
             };
-            let reply = client.send(&request);
-            let state = task.resume(reply, draw);
+            let answer = client.send(&request);
+            let state = task.resume(answer, draw);
             finish_lent(task, client, rest, state)
         }
     }

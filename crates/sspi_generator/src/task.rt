@@ -36,7 +36,7 @@ pub trait Task {
     /// What its start may do: the task before, the draw, where the step ends, and the task afterwards.
     ghost starts: { Self → Draw → GeneratorState NetworkRequest Self.Out → Self → Type 0 };
 
-    /// An end for want of memory: the step may be taken again.
+    /// An end because memory ran out: the step may be taken again.
     ghost is_want: { Self.Out → Type 0 };
 
     /// An end because the network failed.

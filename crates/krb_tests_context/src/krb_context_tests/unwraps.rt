@@ -27,7 +27,7 @@ const CLEAR_END: End = End {
     number: 0,
 };
 
-static UNWRAPS: [Row; 22] = [
+static UNWRAPS: [Row; 28] = [
     // A recorded message of Windows: a header and a trailer that are covered and not sealed, the data, and the token.
     Row {
         end: WINDOWS,
@@ -89,6 +89,48 @@ static UNWRAPS: [Row; 22] = [
         end: ACCEPTOR,
         before: "T:050406ff0001001c00000000000004d337cfe6113628ffb62e5a44d02e1287dfa571feb04eef2994105a3614f51e1a956250a70b8338d587b858435e D:2df2883e99d74674c5dca867e964c6c0170f",
         after: "T:050406ff0001001c00000000000004d337cfe6113628ffb62e5a44d02e1287dfa571feb04eef2994105a3614f51e1a956250a70b8338d587b858435e D:2df2883e99d74674c5dca867e964c6c0170f",
+        refusal: Some(Cause::ExtraCount),
+    },
+    // A count of 2.
+    Row {
+        end: ACCEPTOR,
+        before: "T:050406ff0002001c00000000000004d337cfe6113628ffb62e5a44d02e1287dfa571feb04eef2994105a3614f51e1a956250a70b8338d587b858435e D:2df2883e99d74674c5dca867e964c6c0170f",
+        after: "T:050406ff0002001c00000000000004d337cfe6113628ffb62e5a44d02e1287dfa571feb04eef2994105a3614f51e1a956250a70b8338d587b858435e D:2df2883e99d74674c5dca867e964c6c0170f",
+        refusal: Some(Cause::ExtraCount),
+    },
+    // A count of 15.
+    Row {
+        end: ACCEPTOR,
+        before: "T:050406ff000f001c00000000000004d337cfe6113628ffb62e5a44d02e1287dfa571feb04eef2994105a3614f51e1a956250a70b8338d587b858435e D:2df2883e99d74674c5dca867e964c6c0170f",
+        after: "T:050406ff000f001c00000000000004d337cfe6113628ffb62e5a44d02e1287dfa571feb04eef2994105a3614f51e1a956250a70b8338d587b858435e D:2df2883e99d74674c5dca867e964c6c0170f",
+        refusal: Some(Cause::ExtraCount),
+    },
+    // A count of 17.
+    Row {
+        end: ACCEPTOR,
+        before: "T:050406ff0011001c00000000000004d337cfe6113628ffb62e5a44d02e1287dfa571feb04eef2994105a3614f51e1a956250a70b8338d587b858435e D:2df2883e99d74674c5dca867e964c6c0170f",
+        after: "T:050406ff0011001c00000000000004d337cfe6113628ffb62e5a44d02e1287dfa571feb04eef2994105a3614f51e1a956250a70b8338d587b858435e D:2df2883e99d74674c5dca867e964c6c0170f",
+        refusal: Some(Cause::ExtraCount),
+    },
+    // A count of 28.
+    Row {
+        end: ACCEPTOR,
+        before: "T:050406ff001c001c00000000000004d337cfe6113628ffb62e5a44d02e1287dfa571feb04eef2994105a3614f51e1a956250a70b8338d587b858435e D:2df2883e99d74674c5dca867e964c6c0170f",
+        after: "T:050406ff001c001c00000000000004d337cfe6113628ffb62e5a44d02e1287dfa571feb04eef2994105a3614f51e1a956250a70b8338d587b858435e D:2df2883e99d74674c5dca867e964c6c0170f",
+        refusal: Some(Cause::ExtraCount),
+    },
+    // A count of 44.
+    Row {
+        end: ACCEPTOR,
+        before: "T:050406ff002c001c00000000000004d337cfe6113628ffb62e5a44d02e1287dfa571feb04eef2994105a3614f51e1a956250a70b8338d587b858435e D:2df2883e99d74674c5dca867e964c6c0170f",
+        after: "T:050406ff002c001c00000000000004d337cfe6113628ffb62e5a44d02e1287dfa571feb04eef2994105a3614f51e1a956250a70b8338d587b858435e D:2df2883e99d74674c5dca867e964c6c0170f",
+        refusal: Some(Cause::ExtraCount),
+    },
+    // A count of 65534.
+    Row {
+        end: ACCEPTOR,
+        before: "T:050406fffffe001c00000000000004d337cfe6113628ffb62e5a44d02e1287dfa571feb04eef2994105a3614f51e1a956250a70b8338d587b858435e D:2df2883e99d74674c5dca867e964c6c0170f",
+        after: "T:050406fffffe001c00000000000004d337cfe6113628ffb62e5a44d02e1287dfa571feb04eef2994105a3614f51e1a956250a70b8338d587b858435e D:2df2883e99d74674c5dca867e964c6c0170f",
         refusal: Some(Cause::ExtraCount),
     },
     // A count of 65535.

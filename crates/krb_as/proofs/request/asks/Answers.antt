@@ -1,10 +1,10 @@
 use Rattle.std.proofs.Common.{◌≡◌, ℕ, List, length, ap, ◌∙◌, subst, arith, lit≤}
 use Rattle.std.specs.Prelude.{IfOk}
+use Rattle.krb_der.specs.Layout.{spelling}
 use Rattle.krb_exchange.specs.declared.kdc_req.AsReq.{AsReq}
 use Rattle.krb_exchange.specs.declared.kdc_req.KdcReqBody.{KdcReqBody}
 use Rattle.krb_exchange.specs.Layouts.{as_req_layout}
 use Rattle.krb_as.specs.Requests.{request_to}
-use Rattle.krb_requests.specs.Pieces.{spelling}
 use Rattle.krb_requests.specs.Bodies.{as_req_with}
 use Rattle.krb_as.proofs.Fitting.{fits_more, fits_same}
 use Rattle.krb_as.proofs.request.asks.Goals as goal

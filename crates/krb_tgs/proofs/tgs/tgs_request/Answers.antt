@@ -1,9 +1,9 @@
 use Rattle.std.proofs.Common.{◌≡◌, ℕ, List, ap, ◌∙◌, subst}
 use Rattle.std.specs.Prelude.{IfOk}
+use Rattle.krb_der.specs.Layout.{spelling}
 use Rattle.krb_exchange.specs.declared.kdc_req.TgsReq.{TgsReq}
 use Rattle.krb_exchange.specs.Layouts.{tgs_req_layout}
 use Rattle.krb_as.specs.Requests.{request_to}
-use Rattle.krb_requests.specs.Pieces.{spelling}
 use Rattle.krb_tgs.specs.TgsAsked.{tgs_request}
 use Rattle.krb_tgs.proofs.tgs.tgs_request.Goals as goal
 

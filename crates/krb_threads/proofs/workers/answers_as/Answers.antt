@@ -1,4 +1,5 @@
 use Rattle.std.proofs.Common.{◌≡◌, ℕ, List, get_or, ap, sym, ◌∙◌, subst, arith, rules}
+use Rattle.std.proofs.Math.Seq.{of_parts}
 use Rattle.std.proofs.lemmas.List.{places}
 use Rattle.krb_shared.specs.Journal.{IsJournal}
 use Rattle.krb_shared.specs.Seats.{Seat, Agrees}
@@ -18,7 +19,7 @@ returns-in-Ok g c =
     let low_is : get_or c.split_at_mut-low_seat.result.0.now 0 d ≡ get_or seats 0 d = search (rules, places) in
     let high_is : get_or c.split_at_mut-low_seat.result.1.now 0 e ≡ get_or seats 1 e = search (rules, places) in
     let front = split.front_len in let back = split.back_len in
-    let low_ended : get_or c.new.result 0 d ≡ c.run_seats.new.low = search (rules, places, c.new.ensures, count, inner, front, back) in
+    let low_ended : get_or c.new.result 0 d ≡ c.run_seats.new.low = search (rules, of_parts) in
     let low_ended_too : get_or c.new.result 1 d ≡ c.run_seats.new.high = search (rules, places, c.new.ensures, count, inner, front, back) in
     let journal = c.in-Ok.journal.entries in
     let low_agrees = subst (Agrees journal) low_ended (c.in-Ok.ensures.ok 0 d (search (rules, places))) in

@@ -1,5 +1,5 @@
 use Rattle.sspi_core.proofs.Chain.{goes, stops, answers, given}
-use Rattle.krb_context.specs.Unwraps.{Receives}
+use Rattle.krb_context.specs.Unwraps.{ReceivesMessage}
 use Rattle.krb_context.proofs.UnwrapLemmas.{headed}
 use Rattle.krb_context.proofs.context.Kerberos.receive.Goals as goal
 
@@ -7,25 +7,25 @@ pub invariant_of-headed-clause-checked : goal.invariant_of-headed-clause-checked
 invariant_of-headed-clause-checked c = headed _ _ _ _ _ c.in_ok-header.ensures
 
 pub returns-in_err-key-clause-receives : goal.returns-in_err-key-clause-receives
-unfolding Receives
+unfolding ReceivesMessage
 returns-in_err-key-clause-receives c = stops _ _ _ _ (answers _ _ c.in_err-key.ensures) c.from_residual.ensures.1
 
 pub returns-in_err-plain-clause-receives : goal.returns-in_err-plain-clause-receives
-unfolding Receives
+unfolding ReceivesMessage
 returns-in_err-plain-clause-receives c = goes _ _ _ _ (answers _ _ c.in_ok-key.ensures) (stops _ _ _ _ (answers _ _ c.in_err-plain.ensures) c.from_residual-in_err-plain.ensures.1)
 
 pub returns-in_err-header-clause-receives : goal.returns-in_err-header-clause-receives
-unfolding Receives
+unfolding ReceivesMessage
 returns-in_err-header-clause-receives c = goes _ _ _ _ (answers _ _ c.in_ok-key.ensures) (goes _ _ _ _ (answers _ _ c.in_ok-plain.ensures) (stops _ _ _ _ (answers _ _ c.in_err-header.ensures) c.from_residual-in_err-header.ensures.1))
 
 pub returns-in_err-opened-clause-receives : goal.returns-in_err-opened-clause-receives
-unfolding Receives
+unfolding ReceivesMessage
 returns-in_err-opened-clause-receives c = goes _ _ _ _ (answers _ _ c.in_ok-key.ensures) (goes _ _ _ _ (answers _ _ c.in_ok-plain.ensures) (goes _ _ _ _ (answers _ _ c.in_ok-header.ensures) (stops _ _ _ _ c.in_err-opened.ensures c.from_residual-in_err-opened.ensures.1)))
 
 pub returns-in_err-check_number-clause-receives : goal.returns-in_err-check_number-clause-receives
-unfolding Receives
+unfolding ReceivesMessage
 returns-in_err-check_number-clause-receives c = goes _ _ _ _ (answers _ _ c.in_ok-key.ensures) (goes _ _ _ _ (answers _ _ c.in_ok-plain.ensures) (goes _ _ _ _ (answers _ _ c.in_ok-header.ensures) (goes _ _ _ _ c.in_ok-opened.ensures (stops _ _ _ _ (answers _ _ c.in_err-check_number.ensures) c.from_residual-in_err-check_number.ensures.1))))
 
 pub returns-clause-receives : goal.returns-clause-receives
-unfolding Receives
+unfolding ReceivesMessage
 returns-clause-receives c = goes _ _ _ _ (answers _ _ c.in_ok-key.ensures) (goes _ _ _ _ (answers _ _ c.in_ok-plain.ensures) (goes _ _ _ _ (answers _ _ c.in_ok-header.ensures) (goes _ _ _ _ c.in_ok-opened.ensures (goes _ _ _ _ (answers _ _ c.in_ok-check_number.ensures) (given _)))))

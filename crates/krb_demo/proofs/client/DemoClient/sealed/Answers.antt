@@ -1,7 +1,6 @@
 use Rattle.std.proofs.Common.{◌≡◌, ◌≤◌, ◌+◌, ◌^◌, length, arith}
 use Rattle.std.proofs.lemmas.Result.{IfOk-weaker}
 use Rattle.krb_messages.specs.declared.encryption.EncryptedData.{EncryptedData}
-use Rattle.krb_demo.specs.Spelling.{spelling}
 use Rattle.krb_demo.proofs.Lengths.{authenticator_complete, authenticator_short, authenticator_below}
 use Rattle.krb_demo.proofs.client.DemoClient.sealed.Goals as goal
 
@@ -14,7 +13,6 @@ write-requires-clause-short c =
     let four : length c.args.cusec ≡ 4 = omega arith in rw c.in_ok-part.ensures (authenticator_below c.args.ctime c.args.cusec four)
 
 pub returns-clause-short : goal.returns-clause-short
-unfolding spelling
 returns-clause-short c =
     let four : length c.args.cusec ≡ 4 = omega arith in
     let short : length c.as_slice.result.now ≤ 1024 = rw (c.as_slice.ensures, c.in_ok-plain.ensures.is, c.in_ok-part.ensures) (authenticator_short c.args.ctime c.args.cusec four) in

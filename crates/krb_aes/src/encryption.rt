@@ -1,0 +1,60 @@
+//! The cipher (FIPS 197, section 5.1), on the lanes of a vector.
+
+ghost use Rattle.std.specs.Prelude.{◌≡◌, ◌≤◌, ℕ, List};
+ghost use Rattle.krb_aes.specs.Aes.{IsKey, aes, cipher};
+ghost use Rattle.krb_aes.specs.RoundKeys.{AreEncryptionKeys};
+
+use crate::lanes::{full_round, into_tower, last_round};
+use crate::schedule::{EncryptionSchedule, KeySchedule};
+use std::simd::prelude::*;
+
+/// Encrypts a block under the keys of its rounds.
+#[inline(never)]
+fn encrypted(keys: &[[u8; 16]; 15], rounds: usize, block: u8x16) -> u8x16
+    requires some { 2 ≤ rounds }
+    requires few { rounds ≤ 14 }
+    ensures { (words : List ℕ) → AreEncryptionKeys keys.now words rounds → result ≡ cipher rounds words block }
+{
+    let mut v = into_tower(block) ^ u8x16::from_array(keys[0]);
+    for round in 1..rounds {
+        v = full_round(v, u8x16::from_array(keys[round]));
+    }
+    last_round(v, u8x16::from_array(keys[rounds]))
+}
+
+impl KeySchedule {
+    ghost use Rattle.krb_aes.specs.Aes.{block_cipher};
+
+    /// Encrypts one block that stands in a vector.
+    pub fn encrypt_vector(&self, block: u8x16) -> u8x16
+        ensures { result ≡ block_cipher self.now block }
+    {
+        encrypted(&self.forward.keys, self.forward.rounds, block)
+    }
+
+    /// Encrypts one block.
+    pub fn encrypt_block(&self, block: [u8; 16]) -> [u8; 16]
+        ensures { result ≡ block_cipher self.now block }
+    {
+        self.encrypt_vector(u8x16::from_array(block)).to_array()
+    }
+}
+
+impl EncryptionSchedule {
+    ghost use Rattle.krb_aes.specs.Aes.{aes, AreWordsOf};
+
+    /// Encrypts one block.
+    pub fn encrypt_block(&self, block: [u8; 16]) -> [u8; 16]
+        ensures { (key : List ℕ) → AreWordsOf key self.now → result ≡ aes key block }
+    {
+        encrypted(&self.keys, self.rounds, u8x16::from_array(block)).to_array()
+    }
+}
+
+/// Encrypts one block under a key of 16 or 32 octets.
+pub fn encrypt_block(key: &[u8], block: [u8; 16]) -> [u8; 16]
+    requires { IsKey key.now }
+    ensures { result ≡ aes key.now block }
+{
+    EncryptionSchedule::new(key).encrypt_block(block)
+}

@@ -1,0 +1,245 @@
+#!/usr/bin/env python3
+"""Reads the machine code of what handles keys and texts, and fails where an address or a branch depends on one of them.
+
+    read.py PROGRAM
+
+What is loaded from memory or comes out of a vector register is a secret, and so is what is computed from one. What a function is given
+in general registers is none: pointers, lengths and counts. A register that is kept on the stack stays what it is. Refused are
+
+- an address that has a secret in it;
+- a jump under flags that a secret has set, or to a place that is one;
+- a division of or by a secret.
+
+A select under such flags (`cmov`, `set`) is no branch. The lists below have what is read, and what is no secret though it was loaded.
+Not seen are a store through a pointer to where a register is kept on the stack, and what the processor makes of an instruction.
+
+It was tried on two functions in C, a look-up in a table by octets of a text and a comparison that ends early: it refused both.
+"""
+import re
+import subprocess
+import sys
+
+# What is read, by the names of its functions, each with what is inlined in it. Each of these must be there.
+READ = [
+    r"^krb_aes::encryption::encrypted$",
+    r"^krb_aes::decryption::decrypted$",
+    r"^krb_aes::decryption::decrypted_four$",
+    r"^krb_aes::decryption::decrypted_eight$",
+    r"^krb_aes::schedule::EncryptionSchedule::new$",
+    r"^krb_aes::schedule::KeySchedule::new$",
+    r"^krb_crypto::cbc::",
+    r"^krb_crypto::sealing_key::SealingKey::new$",
+    r"^krb_crypto::sealing_key::SealingKey::checksum$",
+    r"^krb_crypto::sealing_key::SealingKey::open$",
+    r"^sha1::compress::compress$",
+    r"^sha1::Sha1::update$",
+]
+
+# Loads that are no secrets, by the name of the function and the address. And calls whose results are none.
+PUBLIC_LOADS = [
+    # the number of rounds, which the schedule for encryption has behind its words and keys
+    (r"^krb_aes::schedule::KeySchedule::new$", r"rsp\+0x2d8"),
+    # how many octets were digested
+    (r"^sha1::Sha1::update$", r"(rdi|r15)\+0x58"),
+]
+PUBLIC_CALLS = [r"<rattle_alloc>", r"<memcpy@plt>", r"<memmove@plt>"]
+
+# How many branches by a secret a function may have: an opening answers whether the checksum is the one.
+ANSWERS = {r"^krb_crypto::sealing_key::SealingKey::open$": 1}
+
+# Functions that are given secrets in general registers.
+GIVEN = {}
+
+WIDTHS = {}
+for at, name in enumerate("ax bx cx dx si di bp sp".split()):
+    low = f"{name[0]}l" if at < 4 else f"{name}l"
+    WIDTHS.update({form: f"r{name}" for form in (f"r{name}", f"e{name}", name, low)})
+    if at < 4:
+        WIDTHS[f"{name[0]}h"] = f"r{name}"
+for at in range(8, 16):
+    WIDTHS.update({f"r{at}{end}": f"r{at}" for end in ("", "d", "w", "b")})
+BRANCH = "a branch depends on a secret"
+CLOBBERED = {"rax", "rcx", "rdx", "rsi", "rdi", "r8", "r9", "r10", "r11"}
+VECTOR = re.compile(r"\b[xyz]mm\d+\b")
+PLACE = re.compile(r"\[([^\]]*)\]")
+WORD = re.compile(r"\b[a-z][a-z0-9]*\b")
+
+
+def functions(program):
+    """The functions of a program: name, and a list of address, mnemonic and operands."""
+    command = ["objdump", "-d", "-w", "-C", "-M", "intel", "--no-show-raw-insn", program]
+    name, body = None, []
+    for line in subprocess.run(command, check=True, capture_output=True, text=True).stdout.splitlines():
+        head = re.fullmatch(r"[0-9a-f]+ <(.*)>:", line)
+        if head:
+            if name:
+                yield name, body
+            name, body = head[1], []
+            continue
+        code = re.match(r"\s+([0-9a-f]+):\t(.*)", line)
+        if code and name:
+            text = re.sub(r"\b(rep|repz|repnz|lock|notrack|bnd|data16|cs|ds)\s+", lambda m: "rep_" if m[1].startswith("rep") else "", code[2].split("#")[0].strip())
+            mnemonic, _, rest = text.partition(" ")
+            operands = [part.strip() for part in re.split(r",(?![^\[]*\])", rest)] if rest.strip() else []
+            body.append((int(code[1], 16), mnemonic, operands))
+    if name:
+        yield name, body
+
+
+def registers(text):
+    return {WIDTHS[word] for word in WORD.findall(text) if word in WIDTHS}
+
+
+class Reading:
+    """What is known before an instruction: which registers and flags are secret, and which places of the stack are not."""
+
+    def __init__(self, secrets, places):
+        self.secrets, self.places = set(secrets), set(places)
+
+    def joined(self, other):
+        return Reading(self.secrets | other.secrets, self.places & other.places)
+
+    def same(self, other):
+        return self.secrets == other.secrets and self.places == other.places
+
+    def is_secret(self, name, operand):
+        place = PLACE.search(operand)
+        if place and place[1] in self.places:
+            return False
+        if place:
+            return not any(re.search(f, name) and re.fullmatch(p, place[1]) for f, p in PUBLIC_LOADS)
+        return bool(VECTOR.search(operand)) or bool(registers(operand) & self.secrets)
+
+    def put(self, operand, secret):
+        place = PLACE.search(operand)
+        if place:
+            if re.match(r"r[sb]p\b", place[1]):
+                wide = "QWORD" in operand and not VECTOR.search(operand)
+                (self.places.discard if secret or not wide else self.places.add)(place[1])
+            return
+        for register in registers(operand):
+            (self.secrets.add if secret else self.secrets.discard)(register)
+
+
+def step(name, now, mnemonic, operands):
+    """What an instruction leaves, and what is wrong with it."""
+    after = Reading(now.secrets, now.places)
+    wrong = None
+    for operand in operands:
+        place = PLACE.search(operand)
+        if place and mnemonic not in ("lea", "nop", "nopw", "nopl") and registers(place[1]) & now.secrets:
+            wrong = "an address depends on a secret"
+    secret = any(now.is_secret(name, operand) for operand in operands)
+    first = operands[0] if operands else ""
+    if mnemonic.startswith("j"):
+        if mnemonic == "jmp":
+            if registers(first) & now.secrets:
+                wrong = "a jump to a place that is a secret"
+        elif "flags" in now.secrets or mnemonic in ("jrcxz", "jecxz") and "rcx" in now.secrets:
+            wrong = BRANCH
+    elif mnemonic == "call":
+        is_public = any(re.search(pattern, " ".join(operands)) for pattern in PUBLIC_CALLS)
+        after.secrets |= CLOBBERED | {"flags"}
+        if is_public:
+            after.secrets -= {"rax", "rdx"}
+    elif mnemonic in ("push", "pop") or first == "rsp":
+        after.places.clear()
+        if mnemonic == "pop":
+            after.put(first, False)
+    elif mnemonic.startswith("rep_"):
+        if {"rcx", "rdi", "rsi"} & now.secrets and "stos" not in mnemonic or {"rcx", "rdi"} & now.secrets:
+            wrong = "a copy whose place or length is a secret"
+    elif mnemonic == "lea":
+        after.put(first, bool(registers(operands[1]) & now.secrets))
+    elif mnemonic in ("cmp", "test", "bt") or re.fullmatch(r"v?(ptest|testp[sd]|u?comis[sd])", mnemonic):
+        (after.secrets.add if secret else after.secrets.discard)("flags")
+    elif mnemonic.startswith("cmov"):
+        after.put(first, secret or "flags" in now.secrets)
+    elif mnemonic.startswith("set"):
+        after.put(first, "flags" in now.secrets)
+    elif mnemonic in ("div", "idiv"):
+        if secret or {"rax", "rdx"} & now.secrets:
+            wrong = "a division of a secret"
+    elif mnemonic.startswith("mov") and not VECTOR.search(first):
+        after.put(first, now.is_secret(name, operands[1]))
+    elif mnemonic in ("mul", "imul") and len(operands) == 1:
+        for register in ("rax", "rdx"):
+            after.put(register, secret or "rax" in now.secrets)
+    elif mnemonic in ("cdq", "cqo"):
+        after.put("rdx", "rax" in now.secrets)
+    elif VECTOR.search(first):
+        pass
+    elif mnemonic in ("xor", "sub") and first == operands[1]:
+        after.put(first, False)
+        after.secrets.discard("flags")
+    elif operands:
+        carries = mnemonic in ("adc", "sbb", "rcl", "rcr") and "flags" in now.secrets
+        result = secret or carries
+        if mnemonic.startswith(("pextr", "vpextr", "vmov", "bsf", "bsr", "tzcnt", "lzcnt", "popcnt", "rorx", "shlx", "shrx", "sarx", "andn", "imul")):
+            result = any(now.is_secret(name, operand) for operand in operands[1:])
+        after.put(first, result)
+        if mnemonic not in ("not", "bswap", "rorx", "shlx", "shrx", "sarx"):
+            (after.secrets.add if result else after.secrets.discard)("flags")
+        if mnemonic == "xchg":
+            after.put(operands[1], secret)
+    return after, wrong
+
+
+def successors(body, at):
+    address, mnemonic, operands = body[at]
+    if mnemonic in ("ret", "ud2", "hlt", "int3"):
+        return
+    if mnemonic.startswith("j"):
+        target = re.match(r"([0-9a-f]+)\b", operands[0])
+        places = {line[0]: place for place, line in enumerate(body)}
+        if target and int(target[1], 16) in places:
+            yield places[int(target[1], 16)]
+        if mnemonic == "jmp":
+            return
+    if at + 1 < len(body):
+        yield at + 1
+
+
+def faults(name, body):
+    """The instructions of a function that are refused."""
+    given = {register for pattern, some in GIVEN.items() if re.search(pattern, name) for register in some}
+    before = {0: Reading(given, ())}
+    work, found = [0], {}
+    while work:
+        at = work.pop()
+        after, wrong = step(name, before[at], body[at][1], body[at][2])
+        if wrong:
+            found[at] = wrong
+        for place in successors(body, at):
+            joined = before[place].joined(after) if place in before else after
+            if place not in before or not joined.same(before[place]):
+                before[place] = joined
+                work.append(place)
+    return [(body[at], wrong) for at, wrong in sorted(found.items())]
+
+
+def main():
+    read, refused = set(), 0
+    for name, body in functions(sys.argv[1]):
+        wanted = [pattern for pattern in READ if re.search(pattern, name)]
+        if not wanted:
+            continue
+        read.update(wanted)
+        wrong = faults(name, body)
+        answers = sum(count for pattern, count in ANSWERS.items() if re.search(pattern, name))
+        if len(wrong) == answers and all(why == BRANCH for _, why in wrong):
+            wrong = []
+        refused += len(wrong)
+        print(f"{'refused' if wrong else 'good'}: {name}, {len(body)} instructions")
+        for (address, mnemonic, operands), why in wrong:
+            print(f"    {address:x}: {mnemonic} {','.join(operands)}: {why}")
+    for pattern in READ:
+        if pattern not in read:
+            print(f"missing: no function is named {pattern}")
+            refused += 1
+    print(f"machine code: {refused} refused")
+    return 1 if refused else 0
+
+
+if __name__ == "__main__":
+    sys.exit(main())
