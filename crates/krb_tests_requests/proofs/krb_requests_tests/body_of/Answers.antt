@@ -6,6 +6,6 @@ pub returns : goal.returns
 returns c = c.generate_as_req_kdc_body.ensures.within (record {
   realm = let k = c.requires.realm in omega (arith, k);
   username = let k = c.requires.user in omega (arith, k);
-  snames = parts_short _ c.requires.service;
+  snames = let k = parts_short _ c.requires.service in omega (arith, k);
   hostname = let k = c.requires.host in omega (arith, k);
 })
