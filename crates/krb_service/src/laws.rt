@@ -9,6 +9,7 @@ pub use krb_machine::laws::{
 
 // How an input is answered, on one thread and on two.
 pub use krb_machine::laws::inputs_are_answered;
+pub use krb_printed::laws::texts_tell_the_journal;
 pub use krb_text::laws::cutters_hold_nothing_else;
 pub use krb_threads::laws::inputs_are_answered as inputs_of_threads_are_answered;
 

@@ -56,6 +56,16 @@ pub struct Session {
     pub sub_session_key: &'static str,
 }
 
+impl Session {
+    /// The reply of a KDC that has this place among those of the session, in hex.
+    pub fn reply(&self, place: usize) -> &'static str {
+        match self.replies.get(place) {
+            Some(digits) => digits,
+            None => "",
+        }
+    }
+}
+
 /// What is tried with both ends of a session.
 #[derive(Clone, Copy)]
 enum Trial {
@@ -75,7 +85,7 @@ fn is_key(alloc: Global, key: &Option<Secret<Octets>>, digits: &str) -> bool {
 }
 
 /// Whether an end is established as the session says.
-fn is_established(alloc: Global, session: &Session, context: &Kerberos) -> bool {
+pub fn is_established(alloc: Global, session: &Session, context: &Kerberos) -> bool {
     let params = &context.encryption_params;
     let filler = if session.dce { 16 } else { 0 };
     context.state.is_final()

@@ -1,13 +1,12 @@
 //! Where the session key of an initiator comes from: the replies that its own events brought.
 
 use crate::krb_ends_tests::Session;
-use crate::krb_ends_tests::parties::{credentials, env, initiator_of, octets};
+use crate::krb_ends_tests::parties::{add_initiator, client_draw, env, octets};
 use crate::krb_ends_tests::sessions::OVER_A_REFERRAL;
 use crate::krb_ends_tests::tokens::is_hex;
 use krb_der::Octets;
 use krb_machine::{Event, Input, Reply, Service};
 use krb_replay::ReplayBook;
-use krb_requests::name_of;
 use sspi_core::{ClientRequestFlags, Secret};
 use std::alloc::Global;
 use std::test::Fail;
@@ -66,19 +65,11 @@ fn stretches() -> &'static [Stretch] {
     &STRETCHES
 }
 
-/// The reply of a KDC, in hex.
-fn reply(session: &Session, place: usize) -> &'static str {
-    match session.replies.get(place) {
-        Some(digits) => digits,
-        None => "",
-    }
-}
-
 fn input(alloc: Global, session: &Session, brought: &Brought) -> Result<Input, Fail> {
     match brought {
         Brought::Start => Ok(Input::Start),
         Brought::Reply(place) | Brought::LateReply(place) => {
-            Ok(Input::KdcReply(octets(alloc, reply(session, *place))?))
+            Ok(Input::KdcReply(octets(alloc, session.reply(*place))?))
         }
         Brought::Fault(code) => Ok(Input::KdcFault(*code)),
     }
@@ -91,17 +82,6 @@ fn moment(brought: &Brought) -> u64 {
     }
 }
 
-/// The octets 0 to 63.
-fn random() -> [u8; 64] {
-    let mut random = [0; 64];
-    let mut octet = 0u8;
-    for place in random.iter_mut() {
-        *place = octet;
-        octet = octet.wrapping_add(1);
-    }
-    random
-}
-
 fn event(
     alloc: Global,
     session: &Session,
@@ -111,7 +91,7 @@ fn event(
     Ok(Event {
         connection,
         moment: moment(brought),
-        random: random(),
+        random: client_draw().random,
         flags: ClientRequestFlags::MUTUAL_AUTH,
         input: input(alloc, session, brought)?,
     })
@@ -177,27 +157,14 @@ fn leads_to_keys(
     runs(alloc, service, session, stretch, &mut events, &mut replies)
 }
 
-/// The session's initiator at a connection.
-fn add(
-    alloc: Global,
-    service: &mut Service<ReplayBook>,
-    session: &Session,
-    connection: u32,
-) -> Result<(), Fail> {
-    let target = name_of(alloc, "host/server.example.com")?;
-    let mut initiator = initiator_of(alloc, session)?;
-    initiator.auth_identity = Some(credentials(alloc, &session.has)?);
-    Ok(service.add_initiator(connection, Box::into_inner(initiator), Some(target))?)
-}
-
 fn keys_come(
     alloc: Global,
     service: &mut Service<ReplayBook>,
     session: &Session,
 ) -> Result<bool, Fail> {
     service.set_env(env(alloc)?);
-    add(alloc, service, session, 10)?;
-    add(alloc, service, session, 11)?;
+    add_initiator(alloc, service, session, 10)?;
+    add_initiator(alloc, service, session, 11)?;
     let begins = are_keys(alloc, service, session, false);
     for stretch in stretches() {
         if !leads_to_keys(alloc, service, session, stretch)? {

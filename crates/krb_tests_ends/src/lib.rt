@@ -1,5 +1,5 @@
-//! The tests of both ends together, over public items: what the laws of `krb_ends` and `krb_origins` speak of, with values
-//! that meet their premises. Nothing stands on them.
+//! The tests of both ends together, over public items: what the laws of `krb_ends`, `krb_origins` and `krb_served` speak of, with
+//! values that meet their premises. Nothing stands on them.
 //!
 //! The octets of replies and tokens are those of a second implementation.
 #![tactic(auto)]
@@ -8,3 +8,5 @@
 mod krb_ends_tests;
 #[cfg(test)]
 mod krb_origins_tests;
+#[cfg(test)]
+mod krb_served_tests;

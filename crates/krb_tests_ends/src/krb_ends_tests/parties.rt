@@ -8,6 +8,8 @@ use krb_conf::{Env, KerberosConfig};
 use krb_context::{Kerberos, ServerProperties};
 use krb_der::{Items, Octets, OutOfMemory, Text};
 use krb_initiator::InitOptions;
+use krb_machine::Service;
+use krb_replay::ReplayBook;
 use krb_requests::name_of;
 use sspi_core::{
     AuthIdentityBuffers, ClientRequestFlags, CredentialsBuffers, Draw, Error, KeytabIdentity,
@@ -17,7 +19,7 @@ use std::alloc::Global;
 use std::test::Fail;
 
 /// What an initiator's caller asks for.
-fn client_flags(all: bool, dce: bool) -> ClientRequestFlags {
+pub fn client_flags(all: bool, dce: bool) -> ClientRequestFlags {
     let mut flags = ClientRequestFlags::MUTUAL_AUTH;
     if all {
         flags.insert(ClientRequestFlags::REPLAY_DETECT);
@@ -56,11 +58,18 @@ fn draw_from(first: u8) -> Draw
     }
 }
 
-/// What a client draws at each of the steps that a run may take: the octets 0 to 63.
+/// What a client draws: the octets 0 to 63.
+pub fn client_draw() -> Draw
+    ensures { IsInRange result }
+{
+    draw_from(0)
+}
+
+/// What a client draws at each of the steps that a run may take.
 pub fn draws() -> [Draw; 13]
     ensures { AreInRange result }
 {
-    let draw = draw_from(0);
+    let draw = client_draw();
     [
         draw, draw, draw, draw, draw, draw, draw, draw, draw, draw, draw, draw, draw,
     ]
@@ -168,4 +177,17 @@ pub fn acceptor_of(alloc: Global, session: &Session) -> Result<Box<Kerberos>, Fa
     let config = config(alloc, "server")?;
     let properties = properties(alloc, key)?;
     Ok(acceptor_with(alloc, config, properties)?)
+}
+
+/// A session's client at a connection of a service, as an initiator.
+pub fn add_initiator(
+    alloc: Global,
+    service: &mut Service<ReplayBook>,
+    session: &Session,
+    connection: u32,
+) -> Result<(), Fail> {
+    let target = name_of(alloc, "host/server.example.com")?;
+    let mut initiator = initiator_of(alloc, session)?;
+    initiator.auth_identity = Some(credentials(alloc, &session.has)?);
+    Ok(service.add_initiator(connection, Box::into_inner(initiator), Some(target))?)
 }

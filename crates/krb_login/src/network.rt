@@ -1,0 +1,69 @@
+//! Who carries requests to a KDC. A program of yours opens its sockets here; this one has been given what comes back.
+
+ghost use Rattle.std.specs.Prelude.{◌≡◌};
+
+use krb_client::{NetFault, NetworkClient, NetworkRequest, Octets, OutOfMemory, TryCopy};
+use std::alloc::{AllocError, Global};
+use std::collections::VecDeque;
+use std::mem;
+
+/// Gives the replies that it was given, one after another, and keeps what it was asked. Behind the last one each request fails, with
+/// the code 0. It counts its failures.
+#[derive(Drop)]
+pub struct Network {
+    alloc: Global,
+    replies: VecDeque<Octets>,
+    requests: Vec<NetworkRequest>,
+    faults: u64,
+}
+
+impl Network {
+    pub fn new(alloc: Global) -> Network {
+        Network {
+            alloc,
+            replies: VecDeque::new(alloc),
+            requests: Vec::new(alloc),
+            faults: 0,
+        }
+    }
+
+    /// One more reply, behind those that are there.
+    pub fn add(&mut self, reply: Octets) -> Result<(), OutOfMemory> {
+        self.replies.push_back(reply)?;
+        Ok(())
+    }
+
+    /// What was asked since the last call.
+    pub fn take_requests(&mut self) -> Vec<NetworkRequest> {
+        mem::replace(&mut self.requests, Vec::new(self.alloc))
+    }
+
+    /// Keeps what is asked.
+    fn keep(&mut self, request: &NetworkRequest) -> Result<(), OutOfMemory>
+        ensures { self.new.faults ≡ self.old.faults }
+    {
+        let request = request.copy(self.alloc)?;
+        self.requests.push(request)?;
+        Ok(())
+    }
+}
+
+impl NetworkClient for Network {
+    ghost faults = { λ network. network.faults };
+
+    // A network may answer anything, so nothing is said of it but that it counts its failures.
+    ghost sends = { λ old request answer new. Unit {0} };
+
+    fn send(&mut self, request: &NetworkRequest) -> Result<Octets, NetFault> {
+        if self.keep(request).is_err() {
+            return Err(NetFault::OutOfMemory);
+        }
+        match self.replies.pop_front() {
+            Some(reply) => Ok(reply),
+            None => {
+                self.faults = self.faults.saturating_add(1);
+                Err(NetFault::Failed(0))
+            }
+        }
+    }
+}

@@ -1,0 +1,14 @@
+//! Laws of the printed lines, for all values.
+
+ghost use Rattle.std.specs.Prelude.{◌≡◌, ◌<◌, ◌^◌, ℕ, List, length};
+ghost use Rattle.krb_script.specs.Script.{Declared};
+ghost use Rattle.krb_threads.specs.Answers.{IsAnswer};
+
+/// The printed lines tell the journal: two runs over the same declarations, of fewer than 2^64 events, whose texts are equal have equal
+/// journals, with what was asked. Their replies are equal too.
+pub fn texts_tell_the_journal()
+    ensures journal { (so_far : Declared) (text : List ℕ) (one other : IsAnswer so_far text) → length so_far.events < 2 ^ 64
+        → one.journal ≡ other.journal }
+    ensures replies { (so_far : Declared) (text : List ℕ) (one other : IsAnswer so_far text) → length so_far.events < 2 ^ 64
+        → (one.first ≡ other.first) × (one.second ≡ other.second) }
+{}
