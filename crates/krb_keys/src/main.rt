@@ -95,16 +95,18 @@ fn print_key_lines<'a>(
     print(rt, &text)
 }
 
-/// Says on standard error why the program ends, and gives the status. Where that cannot be said, the status alone tells.
+/// Says it on standard error. Where that cannot be written, the status alone tells.
+fn say(rt: &HostRuntime, line: &[u8]) {
+    let _ = rt.stderr().write_all(line);
+}
+
+/// Says why the program ends, and gives the status.
 fn complain(rt: &HostRuntime, failure: Failure<'_>) -> u8 {
-    let said = match failure_line(rt.alloc(), failure) {
-        Ok(line) => rt.stderr().write_all(&line),
-        Err(_) => rt.stderr().write_all(b"krb_keys: memory ran out\n"),
-    };
-    match said {
-        Ok(()) => failure.status(),
-        Err(_) => failure.status(),
+    match failure_line(rt.alloc(), failure) {
+        Ok(line) => say(rt, &line),
+        Err(_) => say(rt, b"krb_keys: memory ran out\n"),
     }
+    failure.status()
 }
 
 fn ended(rt: &HostRuntime, answered: Result<(), Failure<'_>>) -> u8 {
