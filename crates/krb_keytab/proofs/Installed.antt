@@ -8,37 +8,38 @@ use Rattle.std.specs.Option.{option_to_list}
 use Rattle.std.proofs.lemmas.List.{map_push}
 use Rattle.std.proofs.lemmas.List.Sums.{fold_more}
 use Rattle.std.proofs.lemmas.List.Folds.{flat_map-map}
-use Rattle.indexmap.specs.IndexSet.{insert_key}
 use Rattle.krb_messages.specs.declared.principal_name.PrincipalName.{PrincipalName}
 use Rattle.krb_context.specs.ServiceKeys.{service_named}
 use Rattle.krb_keytab.specs.declared.entry.KeytabEntry.{KeytabEntry}
 use Rattle.krb_keytab.specs.declared.realm_keys.RealmKeys.{RealmKeys}
 use Rattle.krb_keytab.specs.Finding.{same_octets, same_names}
 use Rattle.krb_keytab.specs.Installing.{names_with, names_of, key_for, service_key_of, keys_of}
-use Rattle.krb_keytab.specs.RealmKeys.{LentName, same_name, key_at, pair_at}
+use Rattle.krb_keytab.specs.RealmKeys.{LentName, key_at, pair_at}
 
 pub any_map : {X Y : Type 0} (test : Y → Bool) (view : X → Y) (xs : List X) → list_any test (map view xs) ≡ list_any (λ x. test (view x)) xs
 any_map test view [] = refl
 any_map test view (x ∷ xs) = ap (λ (b : Bool). test (view x) || b) (any_map test view xs)
 
-module _ (realm : List ℕ) (names new : List LentName) (entry : KeytabEntry) (name : LentName) (own : name.now ≡ entry.components) where
+module _ (realm : List ℕ) (names new : List LentName) (entry : KeytabEntry) where
   abbrev seen : List (List (List ℕ))
   seen = map (λ (other : LentName). other.now) names
 
   -- a set compares the new name with each, a list of names each with the new one
-  same_any : list_any (λ other. same_names other entry.components) seen ≡ list_any (same_name name) names
+  abbrev is_among : Bool
+  is_among = list_any (λ (other : LentName). same_names entry.components other.now) names
+
+  same_any : list_any (λ other. same_names other entry.components) seen ≡ is_among
   same_any =
-      let symmetric = (lists_equiv (lists_equiv nat_eq_equiv)).symm in
-      let same : (other : LentName) → same_names other.now entry.components ≡ same_name name other = λ other. symmetric other.now entry.components ∙ ap (λ (n : List (List ℕ)). same_names n other.now) (sym own) in
-      any_map (λ (other : List (List ℕ)). same_names other entry.components) (λ (other : LentName). other.now) names ∙ (λ i. list_any (λ (other : LentName). same other i) names)
+      any_map (λ (other : List (List ℕ)). same_names other entry.components) (λ (other : LentName). other.now) names
+      ∙ (λ i. list_any (λ (other : LentName). (lists_equiv (lists_equiv nat_eq_equiv)).symm other.now entry.components i) names)
 
-  one_more : (among : Bool) → map (λ (other : LentName). other.now) (cond among names (names ++ name ∷ [])) ≡ cond (not among) (seen ++ entry.components ∷ []) seen
-  one_more true = refl
-  one_more false = map_push (λ (other : LentName). other.now) names name ∙ ap (λ (n : List (List ℕ)). seen ++ n ∷ []) own
+  one_more : (name : LentName) → name.now ≡ entry.components → (among : Bool) → map (λ (other : LentName). other.now) (cond among names (names ++ name ∷ [])) ≡ cond (not among) (seen ++ entry.components ∷ []) seen
+  one_more name own true = refl
+  one_more name own false = map_push (λ (other : LentName). other.now) names name ∙ ap (λ (n : List (List ℕ)). seen ++ n ∷ []) own
 
-  pub named : same_octets entry.realm realm ≡ true → new ≡ insert_key same_name names name → map (λ (other : LentName). other.now) new ≡ names_with realm seen entry
-  named of_realm e =
-      ap (map (λ (other : LentName). other.now)) e ∙ one_more (list_any (same_name name) names)
+  pub named : (name : LentName) → name.now ≡ entry.components → same_octets entry.realm realm ≡ true → new ≡ cond is_among names (names ++ name ∷ []) → map (λ (other : LentName). other.now) new ≡ names_with realm seen entry
+  named name own of_realm e =
+      ap (map (λ (other : LentName). other.now)) e ∙ one_more name own is_among
       ∙ ap (λ (among : Bool). cond (not among) (seen ++ entry.components ∷ []) seen) (sym same_any)
       ∙ ap (λ (b : Bool). cond (b && not (list_any (λ other. same_names other entry.components) seen)) (seen ++ entry.components ∷ []) seen) (sym of_realm)
 
@@ -54,7 +55,7 @@ unfolding keys_of
 named_keys realm entries names keys r old new are at done =
     let pair : List (List ℕ) → List (PrincipalName × List ℕ) = λ name. option_to_list (service_key_of entries realm name) in
     let found : flat_map (λ (name : LentName). option_to_list (pair_at keys name)) names ≡ flat_map (λ (name : LentName). pair name.now) names =
-    (λ i. flat_map (λ (name : LentName). option_to_list (option_map (λ key. (service_named name.now, key)) (at name i))) names) in
+    (λ i. flat_map (λ (name : LentName). option_to_list (option_map (λ (key : List ℕ). (service_named name.now, key)) (at name i))) names) in
     let all : flat_map (λ (name : LentName). option_to_list (pair_at keys name)) names ≡ flat_map pair (names_of realm entries) =
     found ∙ sym (flat_map-map pair (λ (name : LentName). name.now) names) ∙ ap (flat_map pair) are in
     subst (λ (pairs : List (PrincipalName × List ℕ)). OnOk r (new ≡ old ++ pairs)) all done

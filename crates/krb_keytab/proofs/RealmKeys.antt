@@ -27,33 +27,38 @@ module _ (realm : List ℕ) (suite : CipherSuite) (entry : KeytabEntry) where
   here name same = ap wants ((names_decide entry.components name).0 same)
 
   nowhere : wants entry.components ≡ false → (name : List (List ℕ)) → wants name ≡ false
-  nowhere no name = by (same_names entry.components name) refl
+  nowhere unwanted name = by (same_names entry.components name) refl
     where
       by : (same : Bool) → same_names entry.components name ≡ same → wants name ≡ false
-      by true e = sym (here name e) ∙ no
+      by true e = sym (here name e) ∙ unwanted
       by false e = elsewhere name e
 
   -- where the entry is not wanted the map stays
   pub left_out : {S : Type 0} (found : IndexMap LentName (Bor KeytabEntry) S) → wants entry.components ≡ false → (name : LentName) → found_at found name ≡ greatest_with (is_wanted (asked realm suite name.now)) (found_at found name) entry
-  left_out found no name = ap (λ (b : Bool). cond b (Some (greater (found_at found name) entry)) (found_at found name)) (sym (nowhere no name.now))
+  left_out found unwanted name = ap (λ (b : Bool). cond b (Some (greater (found_at found name) entry)) (found_at found name)) (sym (nowhere unwanted name.now))
+
+  -- what a map has at the entry's own name
+  abbrev at_own : {S : Type 0} → IndexMap LentName (Bor KeytabEntry) S → Option KeytabEntry
+  at_own found = option_map (λ (e : Bor KeytabEntry). e.now) (lookup (λ (k : LentName). same_names entry.components k.now) found.entries)
 
   -- where it is wanted it takes its place
-  module _ {S : Type 0} (old new : IndexMap LentName (Bor KeytabEntry) S) (key : LentName) (best : Bor KeytabEntry) (own : key.now ≡ entry.components) where
-    at_name : (name : LentName) → key.now ≡ name.now → found_at old key ≡ found_at old name
-    at_name name is = ap (λ (n : List (List ℕ)). option_map (λ (e : Bor KeytabEntry). e.now) (lookup (λ (k : LentName). same_names n k.now) old.entries)) is
+  module _ {S : Type 0} (old new : IndexMap LentName (Bor KeytabEntry) S) (best : Bor KeytabEntry) where
+    own_name : (name : LentName) → entry.components ≡ name.now → at_own old ≡ found_at old name
+    own_name name is = ap (λ (n : List (List ℕ)). option_map (λ (e : Bor KeytabEntry). e.now) (lookup (λ (k : LentName). same_names n k.now) old.entries)) is
 
-    one_name : wants entry.components ≡ true → best.now ≡ greater (found_at old key) entry → (name : LentName) (same : Bool) → same_name key name ≡ same
+    one_name : wants entry.components ≡ true → best.now ≡ greater (at_own old) entry → (name : LentName) (same : Bool) → same_names entry.components name.now ≡ same
         → option_map (λ (e : Bor KeytabEntry). e.now) (cond same (Some best) (get same_name old name)) ≡ greatest_with (is_wanted (asked realm suite name.now)) (found_at old name) entry
-    one_name yes top name true e =
-        let is : key.now ≡ name.now = (names_decide key.now name.now).0 e in
-        ap Some (top ∙ ap (λ (o : Option KeytabEntry). greater o entry) (at_name name is))
-        ∙ ap (λ (b : Bool). cond b (Some (greater (found_at old name) entry)) (found_at old name)) (sym yes ∙ ap wants (sym own ∙ is))
-    one_name yes top name false e =
-        ap (λ (b : Bool). cond b (Some (greater (found_at old name) entry)) (found_at old name)) (sym (elsewhere name.now (ap (λ (n : List (List ℕ)). same_names n name.now) (sym own) ∙ e)))
+    one_name wanted top name true e =
+        let is : entry.components ≡ name.now = (names_decide entry.components name.now).0 e in
+        ap Some (top ∙ ap (λ (o : Option KeytabEntry). greater o entry) (own_name name is))
+        ∙ ap (λ (b : Bool). cond b (Some (greater (found_at old name) entry)) (found_at old name)) (sym wanted ∙ ap wants is)
+    one_name wanted top name false e =
+        ap (λ (b : Bool). cond b (Some (greater (found_at old name) entry)) (found_at old name)) (sym (elsewhere name.now e))
 
-    pub put_in : wants entry.components ≡ true → best.now ≡ greater (found_at old key) entry → ((q : LentName) → get same_name new q ≡ cond (same_name key q) (Some best) (get same_name old q))
+    pub put_in : wants entry.components ≡ true → best.now ≡ greater (at_own old) entry
+        → ((q : LentName) → get same_name new q ≡ cond (same_names entry.components q.now) (Some best) (get same_name old q))
         → (name : LentName) → found_at new name ≡ greatest_with (is_wanted (asked realm suite name.now)) (found_at old name) entry
-    put_in yes top updates name = ap (option_map (λ (e : Bor KeytabEntry). e.now)) (updates name) ∙ one_name yes top name (same_name key name) refl
+    put_in wanted top updates name = ap (option_map (λ (e : Bor KeytabEntry). e.now)) (updates name) ∙ one_name wanted top name (same_names entry.components name.now) refl
 
 -- one more entry of those before it
 pub greatest_more : (passes : KeytabEntry → Bool) (entries : List KeytabEntry) (i : ℕ) (entry : KeytabEntry) → i < length entries → entry ≡ get_or entries i entry → greatest_with passes (greatest passes (take i entries)) entry ≡ greatest passes (take (i + 1) entries)
