@@ -1,5 +1,5 @@
 -- What is said on standard error where the program ends without its answer, and with which status.
-use Rattle.std.specs.Prelude.{◌≡◌, ℕ, true, false, List, [], ◌++◌, codes}
+use Rattle.std.specs.Prelude.{◌≡◌, ℕ, true, false, List, [], ◌++◌, length, codes}
 use Rattle.std.specs.Borrow.{Bor}
 use Rattle.std.specs.Fmt.{decimal}
 use Rattle.std.specs.List.{list_any}
@@ -55,6 +55,6 @@ failure_of errors.OutOfMemory = failures.OutOfMemory
 -- why a realm has no key lines: it is not in the file, or has no key there that an acceptor can use
 abbrev pub IsWhyNone : Bor (List ℕ) → List KeytabEntry → Failure → Type 0
 IsWhyNone realm entries (failures.NoEntry named) = (named ≡ realm) × (list_any (λ entry. same_octets entry.realm realm.now) entries ≡ false)
-IsWhyNone realm entries (failures.NoKey named) = (named ≡ realm) × (list_any (λ entry. same_octets entry.realm realm.now) entries ≡ true) × (keys_of realm.now entries ≡ [])
+IsWhyNone realm entries (failures.NoKey named) = (named ≡ realm) × (list_any (λ entry. same_octets entry.realm realm.now) entries ≡ true) × (length (keys_of realm.now entries) ≡ 0)
 IsWhyNone realm entries failures.OutOfMemory = Unit {0}
 IsWhyNone realm entries _ = ⊥
