@@ -52,12 +52,7 @@ fn check_fixed(rt: &(impl AllocGlobal + Abort)) -> Result<(), OutOfMemory> {
         5,
         "krb_keys: standard output could not be written\n",
     )?;
-    check(
-        rt,
-        Failure::OutOfMemory,
-        6,
-        "krb_keys: memory ran out\n",
-    )?;
+    check(rt, Failure::OutOfMemory, 6, "krb_keys: memory ran out\n")?;
     check(
         rt,
         Failure::TooLong,

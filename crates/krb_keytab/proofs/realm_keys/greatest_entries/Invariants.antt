@@ -1,4 +1,4 @@
-use Rattle.std.proofs.Common.{◌≡◌, take}
+use Rattle.std.proofs.Common.{take}
 use Rattle.krb_keytab.specs.RealmKeys.{HasGreatest}
 use Rattle.krb_keytab.proofs.realm_keys.greatest_entries.Given as goal
 
