@@ -21,7 +21,9 @@ command_view (commands.KeyLines realm acceptor) = KeyLines realm.now acceptor
 abbrev pub word_of : List ℕ → Option Command
 word_of word =
     if bytes_eq word (codes "--help") then Some Help else
+    if bytes_eq word (codes "-h") then Some Help else
     if bytes_eq word (codes "--version") then Some Version else
+    if bytes_eq word (codes "-V") then Some Version else
     if bytes_eq word (codes "list") then Some Listing else None
 
 -- lines <realm> <acceptor>: the acceptor is a decimal number of 32 bits without sign or leading zeros

@@ -52,8 +52,8 @@ fn word(word: &str) -> Option<Command<'static>>
     ensures { option_map command_view result ≡ word_of word.now }
 {
     match word {
-        "--help" => Some(Command::Help),
-        "--version" => Some(Command::Version),
+        "--help" | "-h" => Some(Command::Help),
+        "--version" | "-V" => Some(Command::Version),
         "list" => Some(Command::Listing),
         _ => None,
     }

@@ -5,8 +5,8 @@ krb_keys shows the keytab file on standard input, as MIT krb5 and Heimdal write 
 
     krb_keys list                       prints a line for each entry, and no key
     krb_keys lines <realm> <acceptor>   prints the keys of the realm's services as key lines of that acceptor, for krb_run
-    krb_keys --help                     this text
-    krb_keys --version                  the version
+    krb_keys --help, -h                 this text
+    krb_keys --version, -V              the version
 
 A line of list has six fields, with one space between two: the version of the key, the type of the name (RFC 4120,
 section 6.2), the name and the number of the encryption type (unknown, where the program has no name for it), the time of
@@ -22,11 +22,13 @@ in which the services first stand: its key of the greatest version, of equals th
 most 32 bits. A service that cannot stand in such a line, as one with a space or with a / inside a component, is left out:
 a line that begins with # stands in its place. These lines are secret.
 
-Where the input is no keytab, one line on standard error says at which octet, counted from 0.
+Where there is no answer, one line on standard error says why: of an input that is no keytab at which octet, counted
+from 0.
 
 Exit status:
 
     0    the whole input was answered
+    1    nothing was found: lines was asked for a realm without an entry, or without a key that an acceptor can use
     2    other words than these
     3    the input is no keytab
     4    a read failed

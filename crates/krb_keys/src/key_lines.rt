@@ -1,13 +1,16 @@
 //! The lines that give an acceptor its keys.
 
-ghost use Rattle.std.specs.Prelude.{◌≡◌, ◌++◌, ◌∷◌, [], IfOk, OnOk, codes};
+ghost use Rattle.std.specs.Prelude.{◌≡◌, ◌++◌, ◌∷◌, [], ◌<◌, IfOk, IfErr, OnOk, codes, length};
 ghost use Rattle.std.specs.Fmt.{decimal};
-ghost use Rattle.std.specs.List.{flat_map, list_all};
+ghost use Rattle.std.specs.List.{flat_map, list_all, list_any};
 ghost use Rattle.hex.specs.Hex.{encode_lower};
+ghost use Rattle.krb_keytab.specs.Finding.{same_octets};
 ghost use Rattle.krb_keytab.specs.Installing.{keys_of};
 ghost use Rattle.krb_keys.specs.Names.{components_text};
+ghost use Rattle.krb_keys.specs.Failures.{IsWhyNone};
 ghost use Rattle.krb_keys.specs.KeyLines.{is_plain_octet, is_plain, can_stand, service_text, key_line, left_out_line, line_of, key_lines_text};
 
+use crate::failure::Failure;
 use crate::names::push_components;
 use krb_der::{Name, Octets, OutOfMemory};
 use krb_keytab::Keytab;
@@ -165,16 +168,37 @@ fn lines_of(
     Ok(text)
 }
 
+/// Whether an entry is of the realm.
+fn has_realm(keytab: &Keytab, realm: &Name) -> bool
+    ensures { result ≡ list_any (λ entry. same_octets entry.realm realm.now) keytab.now.entries }
+{
+    keytab
+        .entries
+        .as_slice()
+        .iter()
+        .any(|entry| entry.realm == *realm)
+}
+
 /// A line for each service of the realm that has a key which an acceptor can use, in the order in which they first stand: its
 /// key of the greatest version, as a `key` line of that acceptor. Where no such line can have the name, a comment stands.
-pub fn key_lines_text(
+/// Where there is no such service, nothing is found.
+pub fn key_lines_text<'a>(
     alloc: Global,
     keytab: &Keytab,
-    realm: &Name,
+    realm: &'a Name,
     acceptor: u32,
-) -> Result<Vec<u8>, OutOfMemory>
-    ensures { IfOk result (λ text. text.items ≡ key_lines_text acceptor (keys_of realm.now keytab.now.entries)) }
+) -> Result<Vec<u8>, Failure<'a>>
+    ensures lines { IfOk result (λ text. text.items ≡ key_lines_text acceptor (keys_of realm.now keytab.now.entries)) }
+    ensures found { OnOk result (0 < length (keys_of realm.now keytab.now.entries)) }
+    ensures none { IfErr result (IsWhyNone realm.entry keytab.now.entries) }
 {
     let keys = keytab.service_keys(alloc, realm)?;
-    lines_of(alloc, acceptor, keys.as_slice())
+    if !keys.as_slice().is_empty() {
+        return Ok(lines_of(alloc, acceptor, keys.as_slice())?);
+    }
+    if has_realm(keytab, realm) {
+        Err(Failure::NoKey { realm })
+    } else {
+        Err(Failure::NoEntry { realm })
+    }
 }

@@ -38,7 +38,7 @@ fn push_octet(alloc: Global, text: &mut Vec<u8>, octet: u8) -> Result<(), OutOfM
 }
 
 /// Adds a component or a realm.
-fn push_part(alloc: Global, text: &mut Vec<u8>, part: &[u8]) -> Result<(), OutOfMemory>
+pub fn push_part(alloc: Global, text: &mut Vec<u8>, part: &[u8]) -> Result<(), OutOfMemory>
     ensures { OnOk result (text.new.items ≡ text.old.items ++ part_text part.now) }
 {
     for octet in part {

@@ -18,7 +18,7 @@ use Rattle.krb_keytab.specs.Installing.{names_with, names_of, sized_key, key_for
 octets_decide : (xs ys : List ℕ) → Decides (same_octets xs ys) (xs ≡ ys)
 octets_decide = pointwise_decides unsigned_Decides
 
-names_decide : (xs ys : List (List ℕ)) → Decides (same_names xs ys) (xs ≡ ys)
+pub names_decide : (xs ys : List (List ℕ)) → Decides (same_names xs ys) (xs ≡ ys)
 names_decide = pointwise_decides octets_decide
 
 -- ---- no entry, no key
@@ -29,10 +29,10 @@ none_greatest passes [] none = refl
 none_greatest passes (entry ∷ entries) none = rw none.0 (none_greatest passes entries none.1)
 
 -- an entry of another realm or name
-abbrev IsOther : List ℕ → List (List ℕ) → KeytabEntry → Type 0
+abbrev pub IsOther : List ℕ → List (List ℕ) → KeytabEntry → Type 0
 IsOther realm components entry = (same_octets entry.realm realm && same_names entry.components components) ≡ false
 
-not_wanted : (wanted : Wanted) (entry : KeytabEntry) → IsOther wanted.realm wanted.components entry → is_wanted wanted entry ≡ false
+pub not_wanted : (wanted : Wanted) (entry : KeytabEntry) → IsOther wanted.realm wanted.components entry → is_wanted wanted entry ≡ false
 not_wanted wanted entry other = rw other refl
 
 none_wanted : (wanted : Wanted) (entries : List KeytabEntry) → AllByRecursion (IsOther wanted.realm wanted.components) entries → AllByRecursion (λ entry. is_wanted wanted entry ≡ false) entries

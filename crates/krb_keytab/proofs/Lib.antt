@@ -8,3 +8,4 @@ mod Appends
 mod Greatest
 mod Installed
 mod FoundKeys
+mod RealmKeys

@@ -4,3 +4,4 @@ pub mod Views
 pub mod Writing
 pub mod Finding
 pub mod Installing
+pub mod RealmKeys

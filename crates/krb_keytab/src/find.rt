@@ -38,7 +38,7 @@ fn is_given_size(given: Option<usize>, size: usize) -> bool
 }
 
 /// Whether the entry is one of those that are asked for.
-fn is_wanted(wanted: &Wanted<'_>, entry: &KeytabEntry) -> bool
+pub fn is_wanted(wanted: &Wanted<'_>, entry: &KeytabEntry) -> bool
     ensures { result ≡ is_wanted (wanted_view wanted.now) entry.now }
 {
     entry.realm == *wanted.realm
@@ -48,7 +48,8 @@ fn is_wanted(wanted: &Wanted<'_>, entry: &KeytabEntry) -> bool
         && is_given_size(wanted.size, entry.key.as_ref().as_slice().len())
 }
 
-fn greater<'a>(best: Option<&'a KeytabEntry>, entry: &'a KeytabEntry) -> &'a KeytabEntry
+/// Of two entries the one of the greater version, of equals the later.
+pub fn greater<'a>(best: Option<&'a KeytabEntry>, entry: &'a KeytabEntry) -> &'a KeytabEntry
     ensures { result.now ≡ greater (option_copied best.entry) entry.now }
 {
     match best {

@@ -13,6 +13,7 @@ mod install;
 mod keytab;
 pub mod laws;
 mod read;
+mod realm_keys;
 mod write;
 
 pub use entry::KeytabEntry;

@@ -1,9 +1,9 @@
-//! `serve` over an input whose reads and writes fail in turn, that a reply is written before the next read, and long lines. The
-//! events are such that no service is asked for more than its first two checks. What whole inputs are answered stands in
-//! tests/cases.
+//! `serve` over an admission and a replay whose reads and writes fail in turn, that a reply is written before the next read, and
+//! long lines. What whole inputs are answered stands in tests/cases.
 
 ghost use Rattle.std.specs.Prelude.{None};
 
+use super::TOKEN;
 use krb_machine::{Calls, Failed, MemSink, MemSource, Sink, Source, Status, Words, serve};
 use std::alloc::{AllocError, Global};
 use std::cell::Cell;
@@ -29,14 +29,6 @@ fn whole_text() -> &'static [u8] {
     WHOLE_TEXT.as_bytes()
 }
 
-/// So many octets of what is written for the two events.
-fn front(count: usize) -> &'static [u8] {
-    match whole_text().get(..count) {
-        Some(front) => front,
-        None => &[],
-    }
-}
-
 fn word(alloc: Global, word: &str) -> Result<Words, AllocError> {
     let mut words = Vec::new(alloc);
     words.push(String::from_str(alloc, word)?)?;
@@ -44,7 +36,7 @@ fn word(alloc: Global, word: &str) -> Result<Words, AllocError> {
 }
 
 /// The call with this number fails, and each moves so many octets at most.
-fn failing(alloc: Global, number: u64, most: usize) -> Result<Calls, AllocError> {
+fn failing_call(alloc: Global, number: u64, most: usize) -> Result<Calls, AllocError> {
     let mut numbers = Vec::new(alloc);
     numbers.push(number)?;
     Ok(Calls::new(numbers, Some(most)))
@@ -132,94 +124,119 @@ fn pieces_of_any_length_give_one_answer(rt: HostRuntime) -> Result<(), Fail> {
     Ok(())
 }
 
-/// At most how many octets a read gives, the first and the last of the reads that fail, and how many octets were written
-/// before: the replies to the events whose lines had come.
-type FailedReads = (usize, u64, u64, usize);
+/// Three acceptors of one service and key, and the beginning of an event at the first.
+static TO_THE_FIRST: &str = "skew 300
+acceptor 1 100 server host/server.example.com
+acceptor 2 100 server host/server.example.com
+acceptor 3 100 server host/server.example.com
+key 1 host/server.example.com 000102030405060708090a0b0c0d0e0f101112131415161718191a1b1c1d1e1f
+key 2 host/server.example.com 000102030405060708090a0b0c0d0e0f101112131415161718191a1b1c1d1e1f
+key 3 host/server.example.com 000102030405060708090a0b0c0d0e0f101112131415161718191a1b1c1d1e1f
+event 1 1700000000000000 000102030405060708090a0b0c0d0e0f101112131415161718191a1b1c1d1e1f\
+202122232425262728292a2b2c2d2e2f303132333435363738393a3b3c3d3e3f - token ";
 
-static FAILED_READS: [FailedReads; 10] = [
-    (1, 1, 186, 0),
-    (1, 187, 350, 31),
-    (1, 351, 351, 63),
-    (7, 1, 27, 0),
-    (7, 28, 50, 31),
-    (7, 51, 51, 63),
-    (64, 1, 3, 0),
-    (64, 4, 6, 31),
-    (64, 7, 7, 63),
-    (186, 2, 2, 31),
+/// The beginning of an event at the second.
+static TO_THE_SECOND: &str = "
+event 2 1700000000000000 000102030405060708090a0b0c0d0e0f101112131415161718191a1b1c1d1e1f\
+202122232425262728292a2b2c2d2e2f303132333435363738393a3b3c3d3e3f - token ";
+
+/// What is written where a token comes at one acceptor, and again at another.
+static ADMITTED_AND_REPLAYED: &str = "ok -\nrefused InvalidToken Replayed\nend 1 1\n";
+
+/// That input: 2538 octets, of which 1485 are there with the first event.
+fn admission_and_replay(alloc: Global) -> Result<String, AllocError> {
+    let mut input = String::from_str(alloc, TO_THE_FIRST)?;
+    input.push_str(TOKEN)?;
+    input.push_str(TO_THE_SECOND)?;
+    input.push_str(TOKEN)?;
+    input.push_str("\n")?;
+    Ok(input)
+}
+
+/// So many octets of what is written for it.
+fn written_front(count: usize) -> &'static [u8] {
+    match ADMITTED_AND_REPLAYED.as_bytes().get(..count) {
+        Some(front) => front,
+        None => &[],
+    }
+}
+
+/// Which calls fail, each in a run of its own.
+#[derive(Clone, Copy)]
+enum Failing {
+    Reads,
+    Writes,
+}
+
+/// The calls that fail, at most how many octets each moves, the first and the last of them by number, the status, and how many
+/// octets were written before: the replies to the events whose lines had come, or a front of the text.
+type FailedCalls = (Failing, usize, u64, u64, u8, usize);
+
+static FAILED_CALLS: [FailedCalls; 21] = [
+    (Failing::Reads, 64, 1, 24, 4, 0),
+    (Failing::Reads, 64, 25, 40, 4, 5),
+    (Failing::Reads, 64, 41, 41, 4, 35),
+    (Failing::Reads, 64, 42, 42, 0, 43),
+    (Failing::Writes, 16, 1, 1, 5, 0),
+    (Failing::Writes, 16, 2, 2, 5, 5),
+    (Failing::Writes, 16, 3, 3, 5, 21),
+    (Failing::Writes, 16, 4, 4, 5, 35),
+    (Failing::Writes, 16, 5, 5, 0, 43),
+    // Octet by octet, about the ends of lines, and reads that end with the line.
+    (Failing::Reads, 1, 1485, 1485, 4, 0),
+    (Failing::Reads, 1, 1486, 1486, 4, 5),
+    (Failing::Reads, 1, 2538, 2538, 4, 5),
+    (Failing::Reads, 1, 2539, 2539, 4, 35),
+    (Failing::Reads, 1485, 2, 2, 4, 5),
+    (Failing::Writes, 1, 5, 5, 5, 4),
+    (Failing::Writes, 1, 6, 6, 5, 5),
+    (Failing::Writes, 1, 35, 35, 5, 34),
+    (Failing::Writes, 1, 36, 36, 5, 35),
+    (Failing::Writes, 1, 43, 43, 5, 42),
+    (Failing::Writes, 64, 2, 2, 5, 5),
+    (Failing::Writes, 64, 3, 3, 5, 35),
 ];
 
-fn failed_reads() -> &'static [FailedReads] {
-    &FAILED_READS
+fn failed_calls() -> &'static [FailedCalls] {
+    &FAILED_CALLS
 }
 
-/// Lets these reads of the two events fail, each in a call of its own.
-fn check_failed_reads(
-    rt: &(impl AllocGlobal + Abort),
-    &(most, first, last, written): &FailedReads,
-) -> Result<(), AllocError> {
-    let alloc = rt.alloc();
-    let words = word(alloc, "serve")?;
-    for number in first..=last {
-        let reads = failing(alloc, number, most)?;
-        let wanted = (4, front(written));
-        check(
-            rt,
-            &words,
-            (two_events(), reads),
-            Calls::sound(alloc),
-            wanted,
-        );
-    }
-    Ok(())
-}
-
-#[test]
-fn replies_before_each_failed_read_stand(rt: HostRuntime) -> Result<(), Fail> {
-    for reads in failed_reads() {
-        check_failed_reads(&rt, reads)?;
-    }
-    Ok(())
-}
-
-/// Lets each write in turn fail, where each takes at most so many octets. Before each of them so many were written.
-fn check_failed_writes(
-    rt: &(impl AllocGlobal + Abort),
+/// The calls of reading and of writing, of which one fails. The others move 64 and 16 octets at most.
+fn calls(
+    alloc: Global,
+    failing: Failing,
+    number: u64,
     most: usize,
-    written: &[usize],
-) -> Result<(), AllocError> {
-    let alloc = rt.alloc();
-    let words = word(alloc, "serve")?;
-    let mut number = 1u64;
-    for &count in written {
-        let writes = failing(alloc, number, most)?;
-        let wanted = (5, front(count));
-        check(
-            rt,
-            &words,
-            (two_events(), Calls::sound(alloc)),
-            writes,
-            wanted,
-        );
-        number = number.saturating_add(1);
+) -> Result<(Calls, Calls), AllocError> {
+    let failed = failing_call(alloc, number, most)?;
+    match failing {
+        Failing::Reads => Ok((failed, Calls::new(Vec::new(alloc), Some(16)))),
+        Failing::Writes => Ok((Calls::new(Vec::new(alloc), Some(64)), failed)),
     }
-    let none = failing(alloc, number, most)?;
-    check(
-        rt,
-        &words,
-        (two_events(), Calls::sound(alloc)),
-        none,
-        (0, whole_text()),
-    );
+}
+
+/// Lets each of these calls fail, in a run of its own.
+fn check_failed_calls(
+    rt: &(impl AllocGlobal + Abort),
+    words: &Words,
+    input: &str,
+    &(failing, most, first, last, status, written): &FailedCalls,
+) -> Result<(), AllocError> {
+    for number in first..=last {
+        let (reads, writes) = calls(rt.alloc(), failing, number, most)?;
+        let wanted = (status, written_front(written));
+        check(rt, words, (input.as_bytes(), reads), writes, wanted);
+    }
     Ok(())
 }
 
 #[test]
-fn each_failed_write_leaves_a_front(rt: HostRuntime) -> Result<(), Fail> {
-    let each: Vec<usize> = (0..71).collect(rt.alloc())?;
-    check_failed_writes(&rt, 1, &each)?;
-    check_failed_writes(&rt, 7, &[0, 7, 14, 21, 28, 31, 38, 45, 52, 59, 63, 70])?;
-    check_failed_writes(&rt, 64, &[0, 31, 63])?;
+fn replies_before_each_failed_call_stand(rt: HostRuntime) -> Result<(), Fail> {
+    let words = word(rt.alloc(), "serve")?;
+    let input = admission_and_replay(rt.alloc())?;
+    for row in failed_calls() {
+        check_failed_calls(&rt, &words, &input, row)?;
+    }
     Ok(())
 }
 

@@ -1,8 +1,7 @@
 use Rattle.std.proofs.Common.{sym, ◌∙◌, refl}
-use Rattle.krb_keytab.proofs.Installed.{pushed}
+use Rattle.krb_keytab.proofs.Installed.{named}
 use Rattle.krb_keytab.proofs.install.add_name.Goals as goal
 
-pub returns-in_ok-push : goal.returns-in_ok-push
-returns-in_ok-push c =
-    let new = rw c.as_slice.ensures.value at c.is_new.ensures in
-    pushed c.args.realm.now c.args.names.now.items c.push.new.self.items c.args.entry.now _ (sym new ∙ c.if-is_new.true) refl c.in_ok-push.ensures.items
+pub returns-in_ok-insert : goal.returns-in_ok-insert
+returns-in_ok-insert c =
+    named c.args.realm.now c.args.names.now.keys c.insert.new.self.keys c.args.entry.now _ refl (sym c.eq.ensures ∙ c.if-eq.true) c.in_ok-insert.ensures.keys

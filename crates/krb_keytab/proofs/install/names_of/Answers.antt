@@ -11,4 +11,4 @@ loop-entry-preserved c =
 
 pub loop-entry-init : goal.loop-entry-init
 unfolding names_of
-loop-entry-init c = ap (λ (names : List (Bor (List (List ℕ)))). map (λ name. name.now) names) c.new-names.ensures.items
+loop-entry-init c = ap (λ (names : List (Bor (List (List ℕ)))). map (λ name. name.now) names) c.new-names.ensures.empty
