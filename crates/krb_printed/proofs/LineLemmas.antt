@@ -88,7 +88,7 @@ record Same (p q : ℕ) (x y : Entry) : Type 0 where
 same_words : (p q : ℕ) (x y : Entry) → rest_of p x ≡ rest_of q y → Same p q x y
 same_words p q x y e =
     let t : decimal p ++ codes " " ++ decimal x.seat ++ codes " " ++ decimal x.call ++ codes " " ++ verdict_name x.verdict ++ codes "\n"
-        ≡ decimal q ++ codes " " ++ decimal y.seat ++ codes " " ++ decimal y.call ++ codes " " ++ verdict_name y.verdict ++ codes "\n" = cc in
+    ≡ decimal q ++ codes " " ++ decimal y.seat ++ codes " " ++ decimal y.call ++ codes " " ++ verdict_name y.verdict ++ codes "\n" = cc in
     let u = sym (apart (decimal p) (decimal x.seat) (decimal x.call) (verdict_name x.verdict)) ∙ t ∙ apart (decimal q) (decimal y.seat) (decimal y.call) (verdict_name y.verdict) in
     let places = split-first 32 (decimal p) (decimal q) _ _ (decimal-lacks 32 p is_space) (decimal-lacks 32 q is_space) u in
     let seats = split-first 32 (decimal x.seat) (decimal y.seat) _ _ (decimal-lacks 32 x.seat is_space) (decimal-lacks 32 y.seat is_space) places.1 in

@@ -40,8 +40,7 @@ hears_determined seat = record {
   same = λ old ask v w a b h k.
       let both : v ∷ a.verdicts ≡ w ∷ b.verdicts = sym h.verdicts ∙ k.verdicts in
       let same : v ≡ w = cc in
-      let rest : a.verdicts ≡ b.verdicts = cc in
-      (
+      let rest : a.verdicts ≡ b.verdicts = cc in (
         same,
         same_heard a b rest (h.entries ∙ ap (λ (x : Verdict). old.entries ++ record { seat = seat; call = length old.entries + 1; ask = ask; verdict = x } ∷ []) same ∙ sym k.entries),
       );
@@ -186,7 +185,7 @@ alike_in : (so_far : Declared) (text : List ℕ) → length so_far.events < 2 ^ 
 alike_in so_far text small one other =
     let front : IsAnswer so_far text → List ℕ = λ a. worker_text 0 (numbers_of 0 so_far.events) a.first ++ worker_text 1 (numbers_of 1 so_far.events) a.second in
     let before = before-end (front one ++ entries_text 1 one.journal.entries) (front other ++ entries_text 1 other.journal.entries) (admissions one.first + admissions one.second)
-        (admissions other.first + admissions other.second) one.journal.kept other.journal.kept (sym one.is ∙ other.is) in
+    (admissions other.first + admissions other.second) one.journal.kept other.journal.kept (sym one.is ∙ other.is) in
     told-alike (front one) (front other) one.journal.entries other.journal.entries (two-all one.journal.entries one.answers.whole) (two-all other.journal.entries other.answers.whole)
     (few_in so_far text small one) (few_in so_far text small other) before
 
