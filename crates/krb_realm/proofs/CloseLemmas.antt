@@ -1,5 +1,5 @@
 -- What is written with the last line.
-use Rattle.std.proofs.Common.{◌≡◌, ℕ, ◌+◌, Bool, true, false, List, [], ◌∷◌, ◌++◌, Option, Some, None, is_some, refl, ap, sym, ◌∙◌, subst}
+use Rattle.std.proofs.Common.{◌≡◌, ℕ, ◌+◌, Bool, true, false, List, [], ◌∷◌, ◌++◌, Option, Some, None, is_some, refl, ap, sym, subst}
 use Rattle.std.specs.Prelude.{if◌then◌else◌, IfSome}
 use Rattle.std.specs.Io.KnownBytes.{Appends}
 use Rattle.std.proofs.lemmas.List.{append-nil}
@@ -10,7 +10,7 @@ use Rattle.krb_text.proofs.OutputLemmas.{Appends-trans, AppendsFront-next}
 use Rattle.krb_realm.specs.Answering.{Reaches, EndsUnwritten, Written, AnswersInput}
 use Rattle.krb_realm.specs.Halts.{closing, status_at, Halts, HaltsAt}
 use Rattle.krb_realm.specs.Progress.{Progress}
-use Rattle.krb_realm.specs.Text.{end_line, bad_line, long_line, stopped_line}
+use Rattle.krb_realm.specs.Text.{end_line, bad_line, stopped_line}
 use Rattle.krb_realm.specs.declared.halt.Halt.{Halt}
 use Rattle.krb_realm.specs.declared.halt.Halt.TheVariants.{End, BadLine, LongLine, ReadFault, WriteFault, OutOfMemory}
 

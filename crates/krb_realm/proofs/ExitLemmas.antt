@@ -10,7 +10,7 @@ use Rattle.krb_text.specs.Reader.{Reader, ahead, IsWithin, CutsOn, TakesLine, Ta
 use Rattle.krb_text.specs.declared.status.Status.TheVariants.{OutOfMemory as MemoryStatus}
 use Rattle.krb_text.proofs.CutLemmas.{lines_line, lines_rest, cut_rest, some_end}
 use Rattle.krb_text.proofs.OutputLemmas.{Appends-trans, AppendsFront-next}
-use Rattle.krb_realm.specs.Answering.{octet_count, Reaches, EndsStopped, IsTaken}
+use Rattle.krb_realm.specs.Answering.{octet_count, IsTaken}
 use Rattle.krb_realm.specs.Halts.{Halts}
 use Rattle.krb_realm.specs.Progress.{Progress, new_progress, AreCountsOf, Takes, Refuses, Runs}
 use Rattle.krb_realm.specs.Text.{stopped_line}

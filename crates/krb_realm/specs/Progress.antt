@@ -1,5 +1,5 @@
 -- What is known behind some lines, and what one line more does.
-use Rattle.std.specs.Prelude.{◌≡◌, ℕ, ◌+◌, Bool, true, false, ◌&&◌, List, [], ◌∷◌, ◌++◌, Option, Some, None, is_some, is_none, IfSome, MatchBool}
+use Rattle.std.specs.Prelude.{◌≡◌, ℕ, ◌+◌, false, ◌&&◌, List, [], ◌∷◌, ◌++◌, Option, Some, None, is_some, is_none, IfSome, MatchBool}
 use Rattle.krb_text.specs.Lines.{is_skipped}
 use Rattle.krb_realm.specs.Items.{item_of}
 use Rattle.krb_realm.specs.Realms.{can_begin, BeginsRealm, can_add, addition_of, EntersRealm, is_moment, TellsReply}

@@ -1,5 +1,5 @@
 -- What lines make of a realm, and what it answers.
-use Rattle.std.specs.Prelude.{◌≡◌, ℕ, nat_le, ◌&&◌, Bool, true, List, ◌++◌, Option, Some, None, is_none}
+use Rattle.std.specs.Prelude.{◌≡◌, ℕ, nat_le, ◌&&◌, Bool, true, List, ◌++◌, Some, None, is_none}
 use Rattle.std.specs.List.{flat_map}
 use Rattle.krb_crypto.specs.Password.{password_key}
 use Rattle.sspi_core.specs.Moments.{last_moment}
