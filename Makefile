@@ -1,9 +1,10 @@
 # `make run` runs an example with every check at run time and no proof, `make build` proves and builds the program, `make test` is the
 # merge gate, and `make bench` measures and reads the machine code. Another example: make run EXAMPLE=examples/real-client
+# `make realm` proves and builds `krb_run` and `krb_realm`, and goes from a password to a sealed message with them.
 EXAMPLE ?= examples/one-client
 PROGRAM = crates/krb_run/out/krb_run
 
-.PHONY: run build test bench
+.PHONY: run build realm test bench
 run:
 	@cd crates/krb_run && rt try -- serve < $(abspath $(EXAMPLE))
 	@echo "This was not proved: it ran with every check at run time. make build proves."
@@ -11,6 +12,10 @@ run:
 build:
 	@cd crates/krb_run && rt run -- --version
 	@echo "Proved and built: $(PROGRAM)"
+
+realm: build
+	@cd crates/krb_realm && rt run -- --version
+	@examples/realm/run
 
 test:
 	rt ci

@@ -1,0 +1,58 @@
+//! What is said on standard error of how a run ended.
+
+ghost use Rattle.std.specs.Prelude.{◌≡◌, IfOk, string_bytes};
+ghost use Rattle.krb_console.specs.Reports.{report_of};
+
+use krb_text::Status;
+use std::alloc::{AllocError, Global};
+use std::io::Error;
+
+/// What is said where memory ran out.
+pub const NO_MEMORY: &str = "krb_run: memory ran out\n";
+
+/// What the system says of an error; nothing where there is none.
+pub fn cause_of(alloc: Global, error: Option<Error>) -> Result<String, AllocError> {
+    match error {
+        Some(error) => format!(in alloc; "{error}"),
+        None => Ok(String::new(alloc)),
+    }
+}
+
+/// One line that says why a run did not answer its whole input, and no text where it did. `read` and `written` are the lines that
+/// were read and written whole, and `cause` is what the system says of a read or a write that failed.
+pub fn report(
+    alloc: Global,
+    status: Status,
+    read: u64,
+    written: u64,
+    cause: &str,
+) -> Result<String, AllocError>
+    ensures { IfOk result (λ text. string_bytes text ≡ report_of status read written cause.now) }
+{
+    match status {
+        Status::Done => Ok(String::new(alloc)),
+        Status::BadWords => String::from_str(
+            alloc,
+            "krb_run: these words are no command: serve, threads, demo <n> are, and --help, which says more, and --version\n",
+        ),
+        Status::BadLine => String::from_str(
+            alloc,
+            "krb_run: a bad line: it is not in the table of lines that --help prints, or not where it may stand\n",
+        ),
+        Status::ReadFault => {
+            format!(in alloc;
+                "krb_run: a read of standard input failed behind {read} whole lines: {cause}\n"
+            )
+        }
+        Status::WriteFault => {
+            format!(in alloc;
+                "krb_run: a write to standard output failed behind {written} whole lines: {cause}\n"
+            )
+        }
+        Status::OutOfMemory => String::from_str(alloc, NO_MEMORY),
+        Status::TooLong => String::from_str(
+            alloc,
+            "krb_run: a long line: a line may have 1048576 octets, and an input 1073741824\n",
+        ),
+    }
+}

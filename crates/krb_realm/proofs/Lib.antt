@@ -1,0 +1,6 @@
+mod NameLemmas
+mod RealmLemmas
+mod RunLemmas
+mod StandingLemmas
+mod ExitLemmas
+mod CloseLemmas
