@@ -6,7 +6,8 @@ ghost use Rattle.krb_kdc.specs.declared.error.KdcError.TheVariants as refusals;
 ghost use Rattle.krb_script.specs.Gives.{Gives};
 ghost use Rattle.krb_script.specs.declared.fields.FieldError.TheVariants.{Bad};
 ghost use Rattle.krb_realm.specs.declared.item.Entry.TheVariants as entries;
-ghost use Rattle.krb_realm.specs.Realms.{can_begin, BeginsRealm, Addition, APrincipal, ATrust, ARoute, can_add, HasAdded, with_password, addition_of, EntersRealm, is_moment, TellsReply};
+ghost use Rattle.krb_realm.specs.Realms.{can_begin, BeginsRealm, APrincipal, ATrust, ARoute, can_add, HasAdded};
+ghost use Rattle.krb_realm.specs.Realms.{with_password, addition_of, EntersRealm, is_moment, TellsReply};
 
 use crate::item::{Entry, RealmLine, Request};
 use crate::reply::reply_line;
