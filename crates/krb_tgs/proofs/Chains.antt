@@ -8,7 +8,7 @@ use Rattle.sspi_core.specs.Checks.{Gives}
 use Rattle.sspi_generator.specs.declared.network.NetFault.{NetFault}
 use Rattle.sspi_core.specs.declared.identity.CredentialsBuffers.{CredentialsBuffers}
 use Rattle.krb_replies.specs.Keys.{HandsOnKey}
-use Rattle.krb_context.proofs.ChainLemmas.{passed, gave}
+use Rattle.sspi_core.proofs.Chain.{passed, gave}
 use Rattle.krb_exchange.specs.Layouts.{tgs_rep_layout}
 use Rattle.krb_as.specs.Replied.{Grants}
 use Rattle.krb_as.specs.ReplyKeys.{TakesReplyKey}
