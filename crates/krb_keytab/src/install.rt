@@ -9,7 +9,7 @@ ghost use Rattle.krb_keytab.specs.Installing.{is_new, names_with, names_of, size
 
 use crate::entry::KeytabEntry;
 use crate::find::{Wanted, greatest};
-use krb_context::ServerProperties;
+use krb_context::{AdditionalServiceKeys, ServerProperties};
 use krb_crypto::CipherSuite;
 use krb_der::{IntegerAsn1, Items, Name, Octets, OutOfMemory, TryCopy};
 use krb_messages::PrincipalName;
@@ -194,9 +194,9 @@ pub fn install(
     ensures stays { OnErr result (properties.new ≡ properties.old) }
 {
     let before = properties.additional_service_keys.as_slice().len();
-    let mut keys = properties.additional_service_keys.copy(alloc)?.into_inner();
+    let mut keys = properties.additional_service_keys.to_vec(alloc)?;
     push_keys(alloc, &mut keys, realm, entries)?;
     let count = keys.len() - before;
-    properties.additional_service_keys = Items::new(keys);
+    properties.additional_service_keys = AdditionalServiceKeys::new(alloc, keys)?;
     Ok(count)
 }
