@@ -1,0 +1,4 @@
+pub mod Wanted
+pub mod Reasons
+pub mod Judged
+pub mod Kept
