@@ -13,6 +13,9 @@ use Rattle.krb_aes.proofs.RoundLemmas.{cons_same, four_octets}
 
 -- ---- a word is a number, and the sum of two is that of their octets
 
+pub word_alike : {a a' b b' c c' d d' : ℕ} → a ≡ a' → b ≡ b' → c ≡ c' → d ≡ d' → from_be_bytes w32 (a ∷ b ∷ c ∷ d ∷ []) ≡ from_be_bytes w32 (a' ∷ b' ∷ c' ∷ d' ∷ [])
+word_alike e f g h = ap (from_be_bytes w32) (cons_same e (cons_same f (cons_same g (ap (λ (n : ℕ). n ∷ []) h))))
+
 nested : (a b c d : ℕ) → from_be_bytes w32 (a ∷ b ∷ c ∷ d ∷ []) ≡ ((a * 2 ^ 8 + b) * 2 ^ 8 + c) * 2 ^ 8 + d
 nested a b c d = omega arith
 
@@ -32,7 +35,7 @@ sum_of_words a b c d a' b' c' d' hb hc hd hb' hc' hd' =
 
 pub word_at-xor : (u v : List ℕ) → IsVector u → IsVector v → (i : ℕ) → i + 4 ≤ 16 → word_at (zip2 bit_xor u v) i ≡ bit_xor (word_at u i) (word_at v i)
 word_at-xor u v fu fv i h =
-    ap (from_be_bytes w32) (cons_same (at i (omega arith)) (cons_same (at (i + 1) (omega arith)) (cons_same (at (i + 2) (omega arith)) (cons_same (at (i + 3) (omega arith)) refl))))
+    word_alike (at i (omega arith)) (at (i + 1) (omega arith)) (at (i + 2) (omega arith)) (at (i + 3) (omega arith))
     ∙ sum_of_words _ _ _ _ _ _ _ _ (lane_fits u (i + 1) fu.1) (lane_fits u (i + 2) fu.1) (lane_fits u (i + 3) fu.1)
     (lane_fits v (i + 1) fv.1) (lane_fits v (i + 2) fv.1) (lane_fits v (i + 3) fv.1)
   where
@@ -101,11 +104,11 @@ pub next_lanes_are : (before added : List ℕ) (w : ℕ) → IsVector before →
     → words_in (next_lanes before added) ≡ chained_sums w (words_in before)
 next_lanes_are before added w fb fa ea =
     let one : List ℕ = one_on before in
-    let f1 : IsVector one = (refl, moved_fits before _ fb.1) in
+    let f1 : IsVector one = (refl, moved_fits before (0 ∷ 1 ∷ 2 ∷ 3 ∷ 16 ∷ 17 ∷ 18 ∷ 19 ∷ 20 ∷ 21 ∷ 22 ∷ 23 ∷ 24 ∷ 25 ∷ 26 ∷ 27 ∷ []) fb.1) in
     let pairs : List ℕ = zip2 bit_xor before one in
     let fp : IsVector pairs = vector-xor before one fb f1 in
     let two : List ℕ = two_on pairs in
-    let f2 : IsVector two = (refl, moved_fits pairs _ fp.1) in
+    let f2 : IsVector two = (refl, moved_fits pairs (0 ∷ 1 ∷ 2 ∷ 3 ∷ 4 ∷ 5 ∷ 6 ∷ 7 ∷ 16 ∷ 17 ∷ 18 ∷ 19 ∷ 20 ∷ 21 ∷ 22 ∷ 23 ∷ []) fp.1) in
     let pair : (i : ℕ) → i + 4 ≤ 16 → word_at pairs i ≡ bit_xor (word_at before i) (word_at one i) = word_at-xor before one fb f1 in
     let sum : (i : ℕ) → i + 4 ≤ 16 → word_at (zip2 bit_xor pairs two) i ≡ bit_xor (word_at pairs i) (word_at two i) = word_at-xor pairs two fp f2 in
     words_in-xor (zip2 bit_xor pairs two) added (vector-xor pairs two fp f2) fa
@@ -129,7 +132,7 @@ rotated a b c d ha hb hc hd =
 -- what a vector of look-ups has at a place
 looked_at : (key s : List ℕ) → IsVector key → s ≡ map sub key → (j : ℕ) → j < 16 → get_or (s ++ s) j 0 ≡ sub (get_or key j 0)
 looked_at key s fits e j h =
-    let long : length s ≡ 16 = ap length e ∙ length-map sub key ∙ fits.0 in
+    let long : length s ≡ 16 = ap length e ∙ length-map key sub ∙ fits.0 in
     get_or_append_left s s 0 j (omega (arith, long)) ∙ ap (λ (l : List ℕ). get_or l j 0) e ∙ get_or-map sub key j 0 0 (omega (arith, fits.0))
 
 -- the octets of the word at a place
@@ -153,7 +156,7 @@ pub last_words_are : (key s : List ℕ) → IsVector key → s ≡ map sub key
 unfolding sub_word
 last_words_are key s fits e =
     let at = looked_at key s fits e in
-    four_same (ap (from_be_bytes w32) (cons_same (at 12 (omega arith)) (cons_same (at 13 (omega arith)) (cons_same (at 14 (omega arith)) (cons_same (at 15 (omega arith)) refl))))
+    four_same (word_alike (at 12 (omega arith)) (at 13 (omega arith)) (at 14 (omega arith)) (at 15 (omega arith))
     ∙ sym (ap (λ (l : List ℕ). from_be_bytes w32 (map sub l)) (octets_back key 12 fits)))
 
 pub turned_words_are : (key s : List ℕ) → IsVector key → s ≡ map sub key
@@ -161,7 +164,7 @@ pub turned_words_are : (key s : List ℕ) → IsVector key → s ≡ map sub key
 unfolding sub_word
 turned_words_are key s fits e =
     let at = looked_at key s fits e in
-    four_same (ap (from_be_bytes w32) (cons_same (at 13 (omega arith)) (cons_same (at 14 (omega arith)) (cons_same (at 15 (omega arith)) (cons_same (at 12 (omega arith)) refl))))
+    four_same (word_alike (at 13 (omega arith)) (at 14 (omega arith)) (at 15 (omega arith)) (at 12 (omega arith))
     ∙ sym (ap (λ (l : List ℕ). from_be_bytes w32 (map sub l)) (octets_turned key fits)))
 
 -- the sum of two vectors of four equal words
@@ -181,7 +184,7 @@ constant_fits : (c : ℕ) → c < 256 → IsVector (constant_lanes c)
 constant_fits c h =
     let x : Fits w8 c = record { fits = h } in
     let z : Fits w8 0 = record { fits = omega arith } in
-    (refl, (x, z, z, z, x, z, z, z, x, z, z, z, x, z, z, z, tt))
+    (refl, (x, (z, (z, (z, (x, (z, (z, (z, (x, (z, (z, (z, (x, (z, (z, (z, tt)))))))))))))))))
 
 -- an octet that is p, in front of three zeros, added to each of four equal words
 pub constant_added : (words : List ℕ) (w c p : ℕ) → IsVector words → c < 256 → c ≡ p → words_in words ≡ replicate 4 w

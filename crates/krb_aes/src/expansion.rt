@@ -52,12 +52,12 @@ fn added_words(previous: u8x16, round: usize, size: usize) -> u8x16
     ensures { words_in result ≡ replicate 4 (added_word (4 * size) (4 * round) (word_at previous 12)) }
 {
     if size == 1 {
-        with_constant(rotated_word(previous), round)
-    } else if round % 2 == 0 {
-        with_constant(rotated_word(previous), round / 2)
-    } else {
-        substituted_word(previous)
+        return with_constant(rotated_word(previous), round);
     }
+    if round % 2 == 0 {
+        return with_constant(rotated_word(previous), round / 2);
+    }
+    substituted_word(previous)
 }
 
 /// The words of `before`, each with the word in front of it in the new key, and `added` with the first.
