@@ -24,12 +24,7 @@ fn encrypted(keys: &[[u8; 16]; 15], rounds: usize, block: u8x16) -> u8x16
 
 /// Encrypts two blocks side by side: none of their rounds waits for the other's.
 #[inline(never)]
-fn encrypted_two(
-    keys: &[[u8; 16]; 15],
-    rounds: usize,
-    block: u8x16,
-    other: u8x16,
-) -> (u8x16, u8x16)
+fn encrypted_two(keys: &[[u8; 16]; 15], rounds: usize, block: u8x16, other: u8x16) -> (u8x16, u8x16)
     requires some { 2 ≤ rounds }
     requires few { rounds ≤ 14 }
     ensures first { (words : List ℕ) → AreEncryptionKeys keys.now words rounds → result.0 ≡ cipher rounds words block }

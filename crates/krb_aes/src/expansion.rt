@@ -69,9 +69,7 @@ fn next_key(before: u8x16, added: u8x16) -> u8x16
     let pairs = before
         ^ zeros.shuffle(
             before,
-            [
-                0, 1, 2, 3, 16, 17, 18, 19, 20, 21, 22, 23, 24, 25, 26, 27,
-            ],
+            [0, 1, 2, 3, 16, 17, 18, 19, 20, 21, 22, 23, 24, 25, 26, 27],
         );
     pairs
         ^ zeros.shuffle(
