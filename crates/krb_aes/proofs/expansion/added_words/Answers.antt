@@ -1,4 +1,4 @@
-use Rattle.std.proofs.Common.{ℕ, ap, ◌∙◌, replicate, arith}
+use Rattle.std.proofs.Common.{ap, ◌∙◌, replicate, arith}
 use Rattle.krb_aes.specs.Word.{word_at}
 use Rattle.krb_aes.proofs.ScheduleLemmas.{first_of_one, first_of_two, fifth_of_two, is_two}
 use Rattle.krb_aes.proofs.expansion.added_words.Goals as goal

@@ -1,4 +1,4 @@
-use Rattle.std.proofs.Common.{length, sym, ap, ◌∙◌, arith}
+use Rattle.std.proofs.Common.{sym, ap, ◌∙◌, arith}
 use Rattle.krb_aes.specs.Round.{column_octets}
 use Rattle.krb_aes.proofs.ScheduleLemmas.{four_words}
 use Rattle.krb_aes.proofs.round_keys.octets_at.Goals as goal

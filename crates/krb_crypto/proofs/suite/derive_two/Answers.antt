@@ -9,7 +9,7 @@ pub returns-in-Aes256CtsHmacSha196-clause-first : goal.returns-in-Aes256CtsHmacS
 returns-in-Aes256CtsHmacSha196-clause-first c = λ key constant of is.
     dk_long c.args.suite key constant _ _ _ _ c.in-Aes256CtsHmacSha196.is is
     (c.encrypt_two.ensures.first key of)
-    (c.encrypt_two-2.ensures.first key of)
+    (c.encrypt_two-in-Aes256CtsHmacSha196.ensures.first key of)
     c.joined.ensures
 
 pub returns-in-Aes128CtsHmacSha196-clause-second : goal.returns-in-Aes128CtsHmacSha196-clause-second
@@ -20,5 +20,5 @@ pub returns-in-Aes256CtsHmacSha196-clause-second : goal.returns-in-Aes256CtsHmac
 returns-in-Aes256CtsHmacSha196-clause-second c = λ key constant of is.
     dk_long c.args.suite key constant _ _ _ _ c.in-Aes256CtsHmacSha196.is is
     (c.encrypt_two.ensures.second key of)
-    (c.encrypt_two-2.ensures.second key of)
-    c.joined-2.ensures
+    (c.encrypt_two-in-Aes256CtsHmacSha196.ensures.second key of)
+    c.joined-in-Aes256CtsHmacSha196.ensures
