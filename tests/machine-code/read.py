@@ -19,17 +19,16 @@ import re
 import subprocess
 import sys
 
-# What is read, by the names of its functions, each with what is inlined in it. Each of these must be there.
+# What is read, by the names of its functions, each with what is inlined in it. Each of these must be there. In `krb_bench` both
+# directions of a schedule are made inside `SealingKey::new`, and a checksum inside `open`.
 READ = [
     r"^krb_aes::encryption::encrypted$",
     r"^krb_aes::decryption::decrypted$",
     r"^krb_aes::decryption::decrypted_four$",
     r"^krb_aes::decryption::decrypted_eight$",
     r"^krb_aes::schedule::EncryptionSchedule::new$",
-    r"^krb_aes::schedule::KeySchedule::new$",
     r"^krb_crypto::cbc::",
     r"^krb_crypto::sealing_key::SealingKey::new$",
-    r"^krb_crypto::sealing_key::SealingKey::checksum$",
     r"^krb_crypto::sealing_key::SealingKey::open$",
     r"^sha1::compress::compress$",
     r"^sha1::Sha1::update$",
@@ -38,7 +37,7 @@ READ = [
 # Loads that are no secrets, by the name of the function and the address. And calls whose results are none.
 PUBLIC_LOADS = [
     # the number of rounds, which the schedule for encryption has behind its words and keys
-    (r"^krb_aes::schedule::KeySchedule::new$", r"rsp\+0x2d8"),
+    (r"^krb_crypto::sealing_key::SealingKey::new$", r"rsp\+0x420"),
     # how many octets were digested
     (r"^sha1::Sha1::update$", r"(rdi|r15)\+0x58"),
 ]
