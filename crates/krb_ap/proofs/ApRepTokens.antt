@@ -5,7 +5,7 @@ use Rattle.std.proofs.lemmas.Bool.{eqb-true}
 use Rattle.sspi_core.specs.declared.cause.Cause.{Cause}
 use Rattle.sspi_core.specs.declared.cause.Cause.TheVariants.{Shape, Reply}
 use Rattle.sspi_core.specs.Checks.{Finds, Answers}
-use Rattle.sspi_core.proofs.Chain.{held}
+use Rattle.sspi_core.proofs.Chain.{held, passed}
 use Rattle.krb_crypto.specs.Suite.{key_size}
 use Rattle.krb_crypto.specs.declared.suite.CipherSuite.{CipherSuite}
 use Rattle.krb_messages.specs.Frame.{IsFrame}
@@ -13,7 +13,6 @@ use Rattle.krb_messages.specs.Layouts.{ap_rep_layout}
 use Rattle.krb_messages.specs.declared.ap_rep.ApRep.{ApRep}
 use Rattle.krb_messages.specs.declared.ap_rep.EncApRepPart.{EncApRepPart}
 use Rattle.krb_messages.proofs.FrameLemmas.{one_frame_lem}
-use Rattle.krb_context.proofs.ChainLemmas.{passed}
 use Rattle.krb_replies.specs.Unseals.{IsRead, Unseals, OpensSealed}
 use Rattle.krb_replies.specs.Answered.{OpensApRep}
 use Rattle.krb_ap.specs.Answered.{IsApRep, ReadsApRep}

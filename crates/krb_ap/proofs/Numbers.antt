@@ -19,8 +19,7 @@ use Rattle.krb_messages.specs.declared.ap_rep.EncApRepPart.{EncApRepPart}
 use Rattle.sspi_core.specs.declared.cause.Cause.{Cause}
 use Rattle.sspi_core.specs.declared.cause.Cause.TheVariants.{Shape}
 use Rattle.sspi_core.specs.Checks.{Answers}
-use Rattle.sspi_core.proofs.Chain.{held}
-use Rattle.krb_context.proofs.ChainLemmas.{passed}
+use Rattle.sspi_core.proofs.Chain.{held, passed}
 use Rattle.krb_replies.specs.Unseals.{IsRead, Unseals, OpensSealed, session_key}
 use Rattle.krb_ap.specs.ApReps.{IsSendableNumber}
 use Rattle.krb_ap.specs.Answered.{IsApRep, ReadsApRep}

@@ -4,7 +4,7 @@ use Rattle.std.specs.Prelude.{codes, take}
 use Rattle.sspi_core.specs.declared.draw.Draw.{Draw}
 use Rattle.krb_der.specs.Der.{tlv}
 use Rattle.krb_der.proofs.Lengths.{tlv_le, append_le}
-use Rattle.krb_context.proofs.ChainLemmas.{passed, gave}
+use Rattle.sspi_core.proofs.Chain.{passed, gave}
 use Rattle.sspi_core.specs.Checks.{Answers}
 use Rattle.krb_messages.specs.declared.principal_name.PrincipalName.{PrincipalName}
 use Rattle.krb_exchange.specs.declared.kdc_req.KdcReqBody.{KdcReqBody}

@@ -1,7 +1,7 @@
 -- How often an AS exchange asks, also within a run.
 use Rattle.std.proofs.Common.{◌≡◌, ℕ, ◌+◌, ◌<◌, List, Result, Ok, refl, sym, subst, take, lit<}
 use Rattle.krb_exchange.specs.declared.kdc_req.KdcReqBody.{KdcReqBody}
-use Rattle.krb_context.proofs.ChainLemmas.{passed, gave}
+use Rattle.sspi_core.proofs.Chain.{passed, gave}
 use Rattle.sspi_core.specs.declared.cause.Cause.{Cause}
 use Rattle.sspi_core.specs.declared.draw.Draw.{Draw}
 use Rattle.sspi_core.specs.declared.error.Error.{Error}

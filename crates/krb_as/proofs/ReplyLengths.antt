@@ -22,10 +22,9 @@ use Rattle.sspi_core.specs.declared.protocol.NetworkProtocol.{NetworkProtocol}
 use Rattle.sspi_core.specs.declared.cause.Cause.{Cause}
 use Rattle.sspi_core.specs.declared.cause.Cause.TheVariants.{Shape}
 use Rattle.sspi_core.specs.Checks.{Answers}
-use Rattle.sspi_core.proofs.Chain.{held}
+use Rattle.sspi_core.proofs.Chain.{held, passed, gave}
 use Rattle.sspi_generator.specs.declared.network.NetFault.{NetFault}
 use Rattle.krb_as.specs.Replies.{is_short, Skips, Unpacks, Unwraps, Replies}
-use Rattle.krb_context.proofs.ChainLemmas.{passed, gave}
 use Rattle.krb_replies.specs.Told.{Hands}
 use Rattle.krb_requests.specs.Pieces.{Fits}
 use Rattle.krb_as.specs.Replied.{reply_in, Grants}

@@ -12,7 +12,7 @@ use Rattle.sspi_core.specs.declared.cause.Cause.TheVariants.{Sequence, KeyLength
 use Rattle.sspi_core.specs.declared.buffer.Part.TheVariants.{Plain}
 use Rattle.sspi_core.specs.Buffer.{Buffer}
 use Rattle.sspi_core.specs.Messages.{find_part}
-use Rattle.sspi_core.proofs.Chain.{held}
+use Rattle.sspi_core.proofs.Chain.{held, passed, took, gave}
 use Rattle.krb_context.specs.declared.context.Kerberos.{Kerberos}
 use Rattle.krb_context.specs.declared.params.EncryptionParams.{EncryptionParams}
 use Rattle.krb_context.specs.declared.state.KerberosState.{KerberosState}
@@ -27,7 +27,6 @@ use Rattle.krb_context.specs.Spelled.{spelled}
 use Rattle.krb_context.specs.Spelt.{SpeltClear}
 use Rattle.krb_context.specs.Unwraps.{has_key_size, has_room, Unwraps, message_number}
 use Rattle.krb_context.specs.Window.{number_verdict}
-use Rattle.krb_context.proofs.ChainLemmas.{passed, took, gave}
 use Rattle.krb_context.proofs.OpenableLemmas.{unwraps_openable}
 use Rattle.krb_context.proofs.PeerLemmas.{header_number}
 use Rattle.krb_context.proofs.TurnLemmas.{rotated}

@@ -6,13 +6,12 @@ use Rattle.sspi_core.specs.Buffer.{Buffer}
 use Rattle.sspi_core.specs.declared.cause.Cause.TheVariants.{Sequence, Buffers, KeyLength, TooSmall}
 use Rattle.sspi_core.specs.declared.buffer.Part.TheVariants.{Token}
 use Rattle.sspi_core.specs.Messages.{find_part}
-use Rattle.sspi_core.proofs.Chain.{follows, gives}
+use Rattle.sspi_core.proofs.Chain.{follows, gives, takes_some, holds_true}
 use Rattle.krb_context.specs.declared.context.Kerberos.{Kerberos}
 use Rattle.krb_context.specs.Parties.{ready_key}
 use Rattle.krb_context.specs.Unwraps.{has_key_size}
 use Rattle.krb_context.specs.Wrapped.{limit_of}
 use Rattle.krb_context.specs.Wraps.{has_parts, has_token_room, Readies, wrapped, Wraps}
-use Rattle.krb_context.proofs.ChainLemmas.{takes_some, holds_true}
 
 pub ready_wraps : (context : Kerberos) (key confounder : List ℕ) (buffers : List Buffer) → ready_key context.state context.encryption_params ≡ Some key
     → has_key_size context.encryption_params key ≡ true → has_parts buffers ≡ true → 60 + context.encryption_params.ec ≤ limit_of (find_part Token buffers)

@@ -5,14 +5,13 @@ use Rattle.std.proofs.lemmas.Bool.{eqb-true, leb-true}
 use Rattle.krb_crypto.specs.Hmac.{hmac12}
 use Rattle.krb_crypto.specs.Suite.{key_size}
 use Rattle.sspi_core.specs.declared.cause.Cause.TheVariants.{Header, Direction, Sealed, KeyLength}
-use Rattle.sspi_core.proofs.Chain.{held}
+use Rattle.sspi_core.proofs.Chain.{held, passed, took, gave}
 use Rattle.krb_context.specs.declared.params.EncryptionParams.{EncryptionParams}
 use Rattle.krb_context.specs.Header.{is_sealed, is_from}
 use Rattle.krb_context.specs.Mics.{mic_header, is_mic_header, mic_header_of, MicHeads, MicKeys, sign_key, signed, mic_token}
 use Rattle.krb_context.specs.Params.{suite_of}
 use Rattle.krb_context.specs.Parties.{sign_flags}
 use Rattle.krb_context.specs.Unwraps.{has_key_size}
-use Rattle.krb_context.proofs.ChainLemmas.{passed, took, gave}
 
 front_known : (long is : Bool) (front header : List ℕ) → (if long && is then Some front else None) ≡ Some header → (long ≡ true) × (is ≡ true) × (header ≡ front)
 front_known true true front header e = (refl, refl, cc)

@@ -9,7 +9,7 @@ use Rattle.krb_crypto.specs.declared.suite.CipherSuite.{CipherSuite}
 use Rattle.sspi_core.specs.declared.cause.Cause.{Cause}
 use Rattle.sspi_core.specs.declared.cause.Cause.TheVariants.{Header, Direction, Sealed, NoKey, NoSubKey, KeyLength}
 use Rattle.sspi_core.specs.Checks.{Holds}
-use Rattle.sspi_core.proofs.Chain.{follows, gives, held}
+use Rattle.sspi_core.proofs.Chain.{follows, gives, held, passed, took, gave, takes_some, holds_true}
 use Rattle.krb_context.specs.declared.context.Kerberos.{Kerberos}
 use Rattle.krb_context.specs.declared.server.ServerProperties.{ServerProperties}
 use Rattle.krb_context.specs.Contexts.{is_acceptor, is_peer_acceptor, next_number}
@@ -18,7 +18,6 @@ use Rattle.krb_context.specs.Mics.{mic_header, is_mic_header, sign_key, signed, 
 use Rattle.krb_context.specs.Params.{suite_of, or_else, key_of}
 use Rattle.krb_context.specs.Parties.{sign_usage, sign_flags}
 use Rattle.krb_context.specs.Unwraps.{has_key_size}
-use Rattle.krb_context.proofs.ChainLemmas.{passed, took, gave, takes_some, holds_true}
 
 holds_false : (cause : Cause) (test : Bool) → test ≡ false → Holds cause test (Err cause)
 holds_false cause true e = absurd cc

@@ -4,7 +4,7 @@ use Rattle.std.specs.Prelude.{Some}
 use Rattle.std.proofs.lemmas.List.{length-take-le}
 use Rattle.krb_crypto.specs.Hmac.{hmac12}
 use Rattle.sspi_core.specs.declared.cause.Cause.TheVariants.{Header, Direction, Sealed, NoKey, KeyLength}
-use Rattle.sspi_core.proofs.Chain.{follows, gives}
+use Rattle.sspi_core.proofs.Chain.{follows, gives, passed, took, gave, takes_some, holds_true}
 use Rattle.sspi_core.proofs.Once.{Once, then_once, finds_once, takes_once, holds_once, gives_once}
 use Rattle.krb_context.specs.declared.context.Kerberos.{Kerberos}
 use Rattle.krb_context.specs.declared.params.EncryptionParams.{EncryptionParams}
@@ -13,7 +13,6 @@ use Rattle.krb_context.specs.Header.{is_sealed, is_from}
 use Rattle.krb_context.specs.Mics.{is_mic_header, sign_key, signed, mic_header_of, IsSigned, IsMicToken, MicHeads, MicKeys, ReadsMic, ChecksMic}
 use Rattle.krb_context.specs.Params.{key_of}
 use Rattle.krb_context.specs.Unwraps.{has_key_size}
-use Rattle.krb_context.proofs.ChainLemmas.{passed, took, gave, takes_some, holds_true}
 use Rattle.krb_context.proofs.MicChecks.{is_headed}
 use Rattle.krb_context.proofs.MicLemmas.{header_read}
 use Rattle.krb_context.proofs.TurnLemmas.{halves}

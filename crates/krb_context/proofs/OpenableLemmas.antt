@@ -8,7 +8,7 @@ use Rattle.sspi_core.specs.declared.buffer.Part.TheVariants.{Plain}
 use Rattle.sspi_core.specs.Buffer.{Buffer}
 use Rattle.sspi_core.specs.Checks.{err_of}
 use Rattle.sspi_core.specs.Messages.{find_part}
-use Rattle.sspi_core.proofs.Chain.{follows, gives}
+use Rattle.sspi_core.proofs.Chain.{follows, gives, takes_some, holds_true}
 use Rattle.krb_context.specs.declared.context.Kerberos.{Kerberos}
 use Rattle.krb_context.specs.declared.window.NumberVerdict.TheVariants.{Fresh}
 use Rattle.krb_context.specs.Contexts.{is_peer_acceptor}
@@ -19,7 +19,6 @@ use Rattle.krb_context.specs.Spelled.{spelled}
 use Rattle.krb_context.specs.Spelt.{Spelt, SpeltClear}
 use Rattle.krb_context.specs.Unwraps.{header_of, has_count, has_key_size, Heads, extra_of, is_long, has_room, SpeltBy, OpensBody, aged, ReceivesMessage, Unwraps, message_number}
 use Rattle.krb_context.specs.Window.{number_verdict}
-use Rattle.krb_context.proofs.ChainLemmas.{takes_some, holds_true}
 use Rattle.krb_context.proofs.TurnLemmas.{halves}
 use Rattle.krb_context.proofs.UnwrapLemmas.{IsOpened, is_opened, length-spelt, length-spelt_clear, length-opened, number_fresh}
 use Rattle.krb_context.specs.Openable.{IsSpelling, IsOpenable}

@@ -7,7 +7,7 @@ use Rattle.sspi_core.specs.declared.cause.Cause.TheVariants.{Sequence, Buffers, 
 use Rattle.sspi_core.specs.declared.buffer.Part.TheVariants.{Token, Stream, Plain}
 use Rattle.sspi_core.specs.Buffer.{Buffer}
 use Rattle.sspi_core.specs.Messages.{find_part}
-use Rattle.sspi_core.proofs.Chain.{held}
+use Rattle.sspi_core.proofs.Chain.{held, passed, took, gave}
 use Rattle.krb_context.specs.declared.context.Kerberos.{Kerberos}
 use Rattle.krb_context.specs.declared.params.EncryptionParams.{EncryptionParams}
 use Rattle.krb_context.specs.declared.state.KerberosState.{KerberosState}
@@ -17,7 +17,6 @@ use Rattle.krb_context.specs.Spelled.{has_part}
 use Rattle.krb_context.specs.Unwraps.{has_key_size}
 use Rattle.krb_context.specs.Wrapped.{limit_of}
 use Rattle.krb_context.specs.Wraps.{has_parts, has_token_room, Readies, wrapped, Wraps}
-use Rattle.krb_context.proofs.ChainLemmas.{passed, took, gave}
 
 pub record IsReady (state : KerberosState) (params : EncryptionParams) (buffers : List Buffer) (key : List ℕ) : Type 0 where
   pub ready : ready_key state params ≡ Some key

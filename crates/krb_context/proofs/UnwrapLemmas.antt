@@ -15,7 +15,7 @@ use Rattle.sspi_core.specs.declared.cause.Cause.TheVariants.{Sequence, Buffers, 
 use Rattle.sspi_core.specs.declared.buffer.Part.TheVariants.{Stream, Plain}
 use Rattle.sspi_core.specs.Buffer.{Buffer}
 use Rattle.sspi_core.specs.Messages.{find_part}
-use Rattle.sspi_core.proofs.Chain.{held}
+use Rattle.sspi_core.proofs.Chain.{held, passed, took, gave, no_refusal}
 use Rattle.krb_context.specs.declared.context.Kerberos.{Kerberos}
 use Rattle.krb_context.specs.declared.params.EncryptionParams.{EncryptionParams}
 use Rattle.krb_context.specs.declared.window.NumberVerdict.{NumberVerdict}
@@ -28,7 +28,6 @@ use Rattle.krb_context.specs.Spelled.{spelled, has_part, covered}
 use Rattle.krb_context.specs.Spelt.{inner_text, sealed_body, sealed_turn, IsSealedAs, Spelt, SpeltClear}
 use Rattle.krb_context.specs.Unwraps.{header_of, has_count, has_key_size, Heads, extra_of, is_long, has_room, SpeltBy, OpensBody, aged, ReceivesMessage, message_number}
 use Rattle.krb_context.specs.Window.{number_verdict}
-use Rattle.krb_context.proofs.ChainLemmas.{passed, took, gave, no_refusal}
 
 header_known : (text header : List ℕ) (b : Bool) → b ≡ (nat_le 16 (length text) && is_wrap_header (take 16 text))
     → (if b then Some (take 16 text) else None) ≡ Some header → (b ≡ true) × (header ≡ take 16 text)

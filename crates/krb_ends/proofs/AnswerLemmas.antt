@@ -25,7 +25,7 @@ use Rattle.krb_messages.specs.declared.authenticator.Authenticator.{Authenticato
 use Rattle.krb_context.specs.declared.context.Kerberos.{Kerberos}
 use Rattle.krb_context.specs.declared.state.KerberosState.{KerberosState}
 use Rattle.krb_context.specs.Params.{suite_of}
-use Rattle.krb_context.proofs.ChainLemmas.{takes_some, holds_true}
+use Rattle.sspi_core.proofs.Chain.{takes_some, holds_true, follows, gives}
 use Rattle.krb_replies.specs.Unseals.{IsRead}
 use Rattle.krb_replies.specs.Answered.{OpensApRep}
 use Rattle.krb_requests.specs.Pieces.{whole_second}
@@ -44,7 +44,6 @@ use Rattle.krb_admission.specs.Admission.{mechanism, ap_rep_id, ap_rep_with, ap_
 use Rattle.sspi_core.specs.declared.cause.Cause.TheVariants.{Shape, Reply}
 use Rattle.sspi_core.specs.declared.draw.Draw.{Draw}
 use Rattle.sspi_core.specs.Usernames.{UserName}
-use Rattle.sspi_core.proofs.Chain.{follows, gives}
 use Rattle.krb_context.proofs.DrawnLemmas.{key_size_small}
 use Rattle.krb_ends.specs.Answers.{IsDraw, Offered, Hears}
 use Rattle.krb_ends.specs.Offers.{Offer, request_of, IsFor}

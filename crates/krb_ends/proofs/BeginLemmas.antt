@@ -4,10 +4,9 @@ use Rattle.std.specs.Prelude.{None, is_some}
 use Rattle.krb_conf.specs.Names.{target_parts}
 use Rattle.krb_context.specs.declared.context.Kerberos.{Kerberos}
 use Rattle.krb_context.specs.declared.state.KerberosState.{KerberosState}
-use Rattle.krb_context.proofs.ChainLemmas.{takes_some, holds_true}
+use Rattle.sspi_core.proofs.Chain.{takes_some, holds_true, follows, gives}
 use Rattle.sspi_core.specs.declared.cause.Cause.TheVariants.{NoTarget, Target, NoIdentity}
 use Rattle.sspi_core.specs.declared.identity.CredentialsBuffers.{CredentialsBuffers}
-use Rattle.sspi_core.proofs.Chain.{follows, gives}
 use Rattle.krb_replies.specs.Tickets.{TakesTicket}
 use Rattle.krb_as.specs.declared.client.Client.{Client}
 use Rattle.krb_ap.specs.Initiators.{is_bare}

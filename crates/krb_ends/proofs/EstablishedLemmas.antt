@@ -17,7 +17,7 @@ use Rattle.krb_context.specs.declared.server.ServerProperties.{ServerProperties}
 use Rattle.krb_context.specs.declared.state.KerberosState.{KerberosState}
 use Rattle.krb_context.specs.declared.state.KerberosState.TheVariants.{ApExchange}
 use Rattle.krb_context.specs.Contexts.{with_key, settled as with_change}
-use Rattle.krb_context.proofs.ChainLemmas.{takes_some, holds_true}
+use Rattle.sspi_core.proofs.Chain.{takes_some, holds_true, halts, follows}
 use Rattle.krb_replay.specs.declared.ask.Ask.{Ask}
 use Rattle.krb_replay.specs.declared.ask.Verdict.{Verdict}
 use Rattle.krb_replies.specs.Answered.{TellsNumber}
@@ -42,7 +42,6 @@ use Rattle.sspi_core.specs.declared.cause.Cause.{Cause}
 use Rattle.sspi_core.specs.declared.cause.Cause.TheVariants.{Sequence, Shape, Number}
 use Rattle.sspi_core.specs.declared.draw.Draw.{Draw}
 use Rattle.sspi_core.specs.Usernames.{UserName}
-use Rattle.sspi_core.proofs.Chain.{halts, follows}
 use Rattle.krb_ends.specs.Answers.{AdmitsOnly, IsDraw, Offered, AreNew, AreEstablishedBy, EndsWell, IsTakenToo, EndsWellInTurn, EndsWellIn}
 use Rattle.krb_ends.specs.Offers.{Offer, request_of, offered_token, IsFor}
 use Rattle.krb_ends.proofs.AnswerLemmas.{made, done_in, hears, moment_time, time_short}

@@ -17,11 +17,10 @@ use Rattle.krb_der.specs.Layout.{Layout}
 use Rattle.krb_context.specs.declared.context.Kerberos.{Kerberos}
 use Rattle.krb_context.specs.declared.server.ServerProperties.{ServerProperties}
 use Rattle.krb_context.specs.Contexts.{with_key, settled}
-use Rattle.krb_context.proofs.ChainLemmas.{takes_some, holds_true}
+use Rattle.sspi_core.proofs.Chain.{takes_some, holds_true, follows, gives}
 use Rattle.sspi_core.specs.declared.cause.Cause.TheVariants.{KeyLength, Hops, SameRealm}
 use Rattle.sspi_core.specs.declared.draw.Draw.{Draw}
 use Rattle.sspi_core.specs.declared.protocol.NetworkProtocol.{NetworkProtocol}
-use Rattle.sspi_core.proofs.Chain.{follows, gives}
 use Rattle.sspi_generator.specs.declared.network.NetworkRequest.{NetworkRequest}
 use Rattle.krb_as.specs.declared.kdc.Kdc.{Kdc}
 use Rattle.krb_as.specs.Kdcs.{FindsKdc}

@@ -24,7 +24,7 @@ use Rattle.krb_context.specs.declared.context.Kerberos.{Kerberos}
 use Rattle.krb_context.specs.declared.server.ServerProperties.{ServerProperties}
 use Rattle.krb_context.specs.ServiceKeys.{service_key}
 use Rattle.krb_context.specs.States.{is_waiting}
-use Rattle.krb_context.proofs.ChainLemmas.{takes_some, holds_true}
+use Rattle.sspi_core.proofs.Chain.{takes_some, holds_true, follows, gives}
 use Rattle.krb_replay.specs.declared.ask.Ask.{Ask}
 use Rattle.krb_replay.specs.declared.ask.Verdict.{Verdict}
 use Rattle.krb_replay.specs.declared.ask.Verdict.TheVariants.{Admitted}
@@ -49,7 +49,6 @@ use Rattle.sspi_core.specs.declared.cause.Cause.TheVariants.{Sequence, NoService
 use Rattle.sspi_core.specs.declared.cause.Cause.{Cause}
 use Rattle.sspi_core.specs.declared.draw.Draw.{Draw}
 use Rattle.sspi_core.specs.Usernames.{UserName}
-use Rattle.sspi_core.proofs.Chain.{follows, gives}
 use Rattle.krb_ends.specs.Answers.{admission_for, IsAnswered}
 use Rattle.krb_ends.specs.Offers.{Carries, Offer, message_of, octets_of, offered_token, request_of, IsHonest, IsFor}
 

@@ -2,8 +2,7 @@
 use Rattle.std.proofs.Common.{◌≡◌, ℕ, ◌+◌, ◌-◌, ◌<◌, List, Option, Some, None, Result, Ok, refl, sym, subst, take, arith, lit<}
 use Rattle.std.specs.Prelude.{nat_lt}
 use Rattle.std.proofs.lemmas.Bool.{ltb-true}
-use Rattle.krb_context.proofs.ChainLemmas.{passed, gave}
-use Rattle.sspi_core.proofs.Chain.{held}
+use Rattle.sspi_core.proofs.Chain.{passed, gave, held}
 use Rattle.sspi_core.specs.declared.cause.Cause.TheVariants.{Hops}
 use Rattle.sspi_core.specs.declared.draw.Draw.{Draw}
 use Rattle.sspi_core.specs.declared.error.Error.{Error}

@@ -22,8 +22,7 @@ use Rattle.sspi_core.specs.declared.cause.Cause.TheVariants.{Shape, ReplyShort}
 use Rattle.sspi_core.specs.declared.draw.Draw.{Draw}
 use Rattle.sspi_core.specs.declared.protocol.NetworkProtocol.TheVariants.{Tcp}
 use Rattle.sspi_core.specs.Moments.{last_moment}
-use Rattle.sspi_core.proofs.Chain.{follows, gives}
-use Rattle.krb_context.proofs.ChainLemmas.{holds_true}
+use Rattle.sspi_core.proofs.Chain.{follows, gives, holds_true}
 use Rattle.krb_as.specs.Replies.{Skips, Unpacks, Unwraps}
 use Rattle.krb_replies.specs.Salts.{NamesSalt}
 use Rattle.krb_as.specs.declared.asker.Asker.{Asker}

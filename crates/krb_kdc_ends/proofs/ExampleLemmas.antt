@@ -31,9 +31,8 @@ use Rattle.krb_initiator.specs.InitSteps.{body_of}
 use Rattle.krb_admission.specs.Clients.{client_of}
 use Rattle.sspi_core.specs.declared.cause.Cause.TheVariants.{NoKdc}
 use Rattle.sspi_core.specs.declared.protocol.NetworkProtocol.TheVariants.{Tcp}
-use Rattle.sspi_core.proofs.Chain.{follows, gives}
+use Rattle.sspi_core.proofs.Chain.{follows, gives, takes_some}
 use Rattle.sspi_generator.specs.Draws.{AreInRange}
-use Rattle.krb_context.proofs.ChainLemmas.{takes_some}
 use Rattle.krb_ends.specs.Answers.{IsDraw}
 use Rattle.krb_ends.specs.HonestKdc.{service_of}
 use Rattle.krb_kdc.specs.declared.grant.Grant.{Grant}

@@ -21,8 +21,7 @@ use Rattle.krb_exchange.specs.Layouts.{enc_kdc_rep_part_row, enc_as_rep_part_row
 use Rattle.sspi_core.specs.declared.cause.Cause.TheVariants.{Etype}
 use Rattle.sspi_core.specs.declared.draw.Draw.{Draw}
 use Rattle.sspi_core.specs.declared.protocol.NetworkProtocol.TheVariants.{Tcp}
-use Rattle.sspi_core.proofs.Chain.{follows, gives}
-use Rattle.krb_context.proofs.ChainLemmas.{takes_some}
+use Rattle.sspi_core.proofs.Chain.{follows, gives, takes_some}
 use Rattle.krb_replies.specs.Unseals.{suite_of_integer}
 use Rattle.krb_replies.specs.Salts.{TellsEtype}
 use Rattle.krb_as.specs.declared.asker.Asker.{Asker}

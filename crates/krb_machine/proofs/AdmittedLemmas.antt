@@ -19,7 +19,7 @@ use Rattle.krb_context.specs.ServiceKeys.{service_key}
 use Rattle.krb_context.specs.States.{is_waiting}
 use Rattle.krb_context.specs.declared.context.Kerberos.{Kerberos}
 use Rattle.krb_context.specs.declared.server.ServerProperties.{ServerProperties}
-use Rattle.krb_context.proofs.ChainLemmas.{takes_some, holds_true}
+use Rattle.sspi_core.proofs.Chain.{takes_some, holds_true, follows, gives}
 use Rattle.krb_exchange.specs.declared.user_to_user.TgtReq.{TgtReq}
 use Rattle.krb_replay.specs.Book.{Book, Follows, StandsFor}
 use Rattle.krb_replay.specs.History.{History, verdict_of}
@@ -43,7 +43,6 @@ use Rattle.krb_server.specs.Whole.{RunsAs, accepted_as, answered_as, AcceptsToke
 use Rattle.krb_server.specs.declared.accept.Accepted.{Accepted}
 use Rattle.krb_user_to_user.specs.declared.request.Beginning.{Beginning}
 use Rattle.krb_script.specs.declared.item.Event.{Event}
-use Rattle.sspi_core.proofs.Chain.{follows, gives}
 use Rattle.sspi_core.specs.Checks.{Holds, Takes, Passes, Goes, told, ◌>>◌}
 use Rattle.sspi_core.specs.declared.error.Place.TheVariants.{Elsewhere}
 use Rattle.sspi_core.specs.Usernames.{UserName}

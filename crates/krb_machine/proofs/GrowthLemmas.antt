@@ -3,7 +3,7 @@ use Rattle.std.proofs.Common.{◌≡◌, ℕ, ◌+◌, ◌≤◌, ◌⊎◌, inl
 use Rattle.std.specs.Prelude.{if◌then◌else◌}
 use Rattle.std.proofs.lemmas.List.{append-nil}
 use Rattle.krb_text.specs.Lines.{is_skipped}
-use Rattle.krb_script.specs.Options.{◌>>=◌}
+use Rattle.krb_der.specs.Reading.{◌>>=◌}
 use Rattle.krb_script.specs.Items.{item_of}
 use Rattle.krb_script.specs.Script.{Setup, Declared, Reading, set_up_before, declare, declare_line, read_lines, read_on}
 use Rattle.krb_text.specs.Limits.{is_long}

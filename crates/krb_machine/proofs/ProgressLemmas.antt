@@ -5,7 +5,7 @@ use Rattle.std.proofs.lemmas.List.{append-nil, take_at}
 use Rattle.std.proofs.lemmas.List.Concat.{flat_map-append}
 use Rattle.std.proofs.lemmas.List.Sums.{sum_by_push}
 use Rattle.krb_text.specs.Lines.{is_skipped}
-use Rattle.krb_script.specs.Options.{◌>>=◌}
+use Rattle.krb_der.specs.Reading.{◌>>=◌}
 use Rattle.krb_script.specs.Items.{item_of}
 use Rattle.krb_script.specs.Script.{Setup, Declared, set_up, set_up_before, declare, declare_line}
 use Rattle.krb_script.specs.declared.item.Item.{Item}

@@ -45,7 +45,7 @@ pub record State (G : Type 0) : Type 0 where
   pub env : Env
   pub gate : G
 
--- go on with what was found: a `do` block of this file is a function, whose value is its last line or the first refusal
+-- go on with what was found: a `do` block over this is a function, whose value is its last line or the first refusal
 infixl 10 ◌>>=◌
 abbrev pub ◌>>=◌ : {A B : Type 0} → Result A Cause → (A → Result B Cause) → Result B Cause
 Ok x >>= f = f x

@@ -1,6 +1,6 @@
 -- What an initiator begins is for its own context and credentials.
 use Rattle.std.proofs.Common.{◌≡◌, Bool, true, false, Some, Ok, refl, sym, ap, ◌∙◌, subst}
-use Rattle.krb_context.proofs.ChainLemmas.{passed, gave, took}
+use Rattle.sspi_core.proofs.Chain.{passed, gave, took}
 use Rattle.krb_context.specs.declared.context.Kerberos.{Kerberos}
 use Rattle.krb_context.specs.declared.state.KerberosState.{KerberosState}
 use Rattle.krb_context.specs.declared.state.KerberosState.TheVariants.{TgtExchange, Preauthentication, ApExchange, Final}

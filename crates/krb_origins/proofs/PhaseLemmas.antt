@@ -6,7 +6,7 @@ use Rattle.std.proofs.lemmas.List.{length-map}
 use Rattle.krb_der.specs.Layout.{Layout}
 use Rattle.krb_exchange.specs.declared.kdc_rep.TgsRep.{TgsRep}
 use Rattle.krb_exchange.specs.declared.result.KrbResult.{KrbResult}
-use Rattle.krb_context.proofs.ChainLemmas.{passed, gave}
+use Rattle.sspi_core.proofs.Chain.{passed, gave}
 use Rattle.krb_as.proofs.AsTurns.{asked_first, error_taken, as_rep_taken}
 use Rattle.krb_as.specs.AsPhases.{TakesReplyWithin}
 use Rattle.krb_as.specs.declared.as_phase.AsPhase.{AsPhase}

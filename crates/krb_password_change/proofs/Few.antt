@@ -1,6 +1,6 @@
 -- How often the change of a password asks.
 use Rattle.std.proofs.Common.{◌≡◌, ℕ, ◌+◌, ◌<◌, List, Result, Ok, refl, sym, subst, take, lit<}
-use Rattle.krb_context.proofs.ChainLemmas.{passed, gave}
+use Rattle.sspi_core.proofs.Chain.{passed, gave}
 use Rattle.krb_context.specs.declared.context.ContextChange.{ContextChange}
 use Rattle.sspi_core.specs.declared.draw.Draw.{Draw}
 use Rattle.sspi_core.specs.declared.error.Error.{Error}

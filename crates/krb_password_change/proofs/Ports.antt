@@ -4,7 +4,7 @@ use Rattle.std.specs.Prelude.{◌||◌, bytes_eq, codes, nat_eq, if◌then◌els
 use Rattle.std.specs.Option.{option_eq}
 use Rattle.sspi_core.specs.declared.cause.Cause.TheVariants.{Port}
 use Rattle.sspi_core.specs.Checks.{Takes, Answers}
-use Rattle.krb_context.proofs.ChainLemmas.{takes_some}
+use Rattle.sspi_core.proofs.Chain.{takes_some}
 use Rattle.url.specs.Parts.{Parts, cannot_have_credentials_or_port}
 use Rattle.url.specs.Parser.{Parsed, without_default_port}
 use Rattle.url.specs.Scheme.{default_port}

@@ -2,7 +2,7 @@
 use Rattle.std.proofs.Common.{◌≡◌, ◌<◌, ◌+◌, ℕ, List, [], ◌∷◌, ◌++◌, length, take, drop, get_or, Option, Some, None, refl, sym, ap, ap₂, ◌∙◌}
 use Rattle.std.specs.Prelude.{map}
 use Rattle.std.proofs.lemmas.List.{take-append-drop, take_more, drop_more, map-append}
-use Rattle.krb_script.specs.Options.{◌>>=◌}
+use Rattle.krb_der.specs.Reading.{◌>>=◌}
 use Rattle.krb_script.specs.Fields.{name_of}
 use Rattle.krb_realm.specs.Fields.{names_in}
 

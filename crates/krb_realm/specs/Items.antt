@@ -3,7 +3,7 @@ use Rattle.std.specs.Prelude.{ℕ, ◌-◌, ◌^◌, if◌then◌else◌, List, 
 use Rattle.std.specs.Str.{bytes_eq}
 use Rattle.krb_text.specs.Decimals.{decimal_up_to}
 use Rattle.krb_text.specs.Lines.{fields}
-use Rattle.krb_script.specs.Options.{◌>>=◌}
+use Rattle.krb_der.specs.Reading.{◌>>=◌}
 use Rattle.krb_script.specs.Fields.{octets_of, octets_or_none_of, name_of, random_of}
 use Rattle.krb_realm.specs.Fields.{components_in, suite_in}
 use Rattle.krb_realm.specs.declared.item.RealmLine.{RealmLine}

@@ -8,7 +8,7 @@ use Rattle.krb_context.specs.Refusals.{Refuses}
 use Rattle.krb_sasl.specs.declared.error.SaslError.{SaslError}
 use Rattle.krb_sasl.specs.Answers.{Answers}
 use Rattle.krb_sasl.specs.InContext.{InContext, refusal_of}
-use Rattle.krb_sasl.proofs.Chain.{is_err}
+use Rattle.sspi_core.proofs.Chain.{is_err}
 
 -- what was found is handed on
 pub tells_value : {A : Type 0} (checks : Result A Cause → Type 0) (x : A) → checks (Ok x) → Answers (InContext checks) (Ok x)

@@ -9,7 +9,7 @@ use Rattle.sspi_core.specs.Buffer.{Buffer}
 use Rattle.krb_context.specs.declared.context.Kerberos.{Kerberos}
 use Rattle.krb_context.specs.Spelled.{part_octets}
 use Rattle.krb_context.specs.Wraps.{Wraps}
-use Rattle.krb_context.proofs.ChainLemmas.{passed as passed_there, gave as gave_there}
+use Rattle.sspi_core.proofs.Chain.{passed, took, gave, held}
 use Rattle.krb_context.proofs.ClearLemmas.{length-clear}
 use Rattle.krb_context.proofs.ReadyLemmas.{is_wrapped}
 use Rattle.krb_context.proofs.SizeLemmas.{wrapped_sizes}
@@ -25,7 +25,6 @@ use Rattle.krb_sasl.specs.Frames.{unframed}
 use Rattle.krb_sasl.specs.InContext.{InContext, told}
 use Rattle.krb_sasl.specs.Layers.{message_size, takes_message}
 use Rattle.krb_sasl.specs.Streams.{as_data, WrapsSealed}
-use Rattle.krb_sasl.proofs.Chain.{passed, took, gave, held}
 
 -- what the context found
 told_value : {A : Type 0} (checks : Result A Cause → Type 0) (x : A) (outcome : Result A Cause) → checks outcome
@@ -45,8 +44,8 @@ pub record IsSealed (context : Kerberos) (confounder p message : List ℕ) : Typ
 pub is_sealed : (context : Kerberos) (confounder p message : List ℕ) → WrapsSealed context confounder p (Ok message) → IsSealed context confounder p message
 unfolding WrapsSealed
 is_sealed context confounder p message h =
-    let one = passed_there _ _ _ h in
-    record { made = one.found; wraps = one.first_held; is = gave_there _ _ one.rest_held }
+    let one = passed _ _ _ h in
+    record { made = one.found; wraps = one.first_held; is = gave _ _ one.rest_held }
 
 -- how long a sealed message is
 pub length-sealed : (context : Kerberos) (confounder p message : List ℕ) → context.encryption_params.ec < 2 ^ 16 → length confounder ≡ 16

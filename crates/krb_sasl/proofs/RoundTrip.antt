@@ -32,14 +32,14 @@ use Rattle.krb_sasl.specs.declared.error.SaslError.TheVariants.{State, TooLarge,
 use Rattle.krb_sasl.specs.declared.layer.Layer.{Layer}
 use Rattle.krb_sasl.specs.declared.layer.Layer.TheVariants.{None as NoLayer, Integrity, Confidentiality}
 use Rattle.krb_sasl.specs.Channels.{MakesInLayer, OpensInLayer, Seals, Unframes, Unseals, has_flags}
-use Rattle.krb_sasl.specs.Checks.{Holds, Takes, ok_or}
+use Rattle.sspi_core.specs.Checks.{Holds, Takes, ok_or}
 use Rattle.krb_context.specs.ClearWraps.{WrapsClear}
 use Rattle.krb_sasl.specs.Ends.{AreEnds, IsTakenFrame}
 use Rattle.krb_sasl.specs.Frames.{length_in, unframed}
 use Rattle.krb_sasl.specs.Layers.{message_size, takes_message}
 use Rattle.krb_sasl.specs.Streams.{as_stream, as_data, WrapsSealed}
 use Rattle.krb_sasl.proofs.AgreedLemmas.{spelled-stream}
-use Rattle.krb_sasl.proofs.Chain.{passed, gave, follows, gives}
+use Rattle.sspi_core.proofs.Chain.{passed, gave, follows, gives}
 use Rattle.krb_sasl.proofs.MessageLemmas.{context_found, is_sealed as was_sealed, length-made, taken_size, is_ready}
 
 -- ---- frames

@@ -10,7 +10,7 @@ use Rattle.krb_sasl.specs.declared.error.SaslError.{SaslError}
 use Rattle.krb_sasl.specs.declared.error.SaslError.TheVariants.{State, TooLarge, Frame}
 use Rattle.krb_sasl.specs.declared.layer.Layer.{Layer}
 use Rattle.krb_sasl.specs.declared.layer.Layer.TheVariants.{None as NoLayer, Integrity, Confidentiality}
-use Rattle.krb_sasl.specs.Checks.{Takes, Holds, Gives, ◌>>=◌, ◌>>◌}
+use Rattle.sspi_core.specs.Checks.{Takes, Holds, Gives, ◌>>=◌, ◌>>◌}
 use Rattle.krb_context.specs.ClearWraps.{WrapsClear}
 use Rattle.krb_sasl.specs.Frames.{unframed}
 use Rattle.krb_sasl.specs.InContext.{InContext}

@@ -8,7 +8,7 @@ use Rattle.krb_sasl.specs.declared.client.SaslClient.{SaslClient}
 use Rattle.krb_sasl.specs.declared.error.SaslError.{SaslError}
 use Rattle.krb_sasl.specs.declared.error.SaslError.TheVariants.{Layers, State, Offer, Layer as LayerRefused}
 use Rattle.krb_sasl.specs.declared.layer.Layer.{Layer}
-use Rattle.krb_sasl.specs.Checks.{Holds, Gives, ◌>>=◌, ◌>>◌}
+use Rattle.sspi_core.specs.Checks.{Holds, Gives, ◌>>=◌, ◌>>◌}
 use Rattle.krb_context.specs.ClearWraps.{WrapsClear}
 use Rattle.krb_sasl.specs.InContext.{InContext}
 use Rattle.krb_sasl.specs.Layers.{is_wish}

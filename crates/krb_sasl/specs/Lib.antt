@@ -1,7 +1,6 @@
 pub mod Agreed
 pub mod Answers
 pub mod Channels
-pub mod Checks
 pub mod Clients
 pub mod Ends
 pub mod Frames

@@ -9,7 +9,7 @@ use Rattle.krb_sasl.specs.declared.error.SaslError.{SaslError}
 use Rattle.krb_sasl.specs.declared.error.SaslError.TheVariants.{Layers, State, Offer, Layer as LayerRefused}
 use Rattle.krb_sasl.specs.declared.layer.Layer.{Layer}
 use Rattle.krb_sasl.specs.declared.server.SaslServer.{SaslServer}
-use Rattle.krb_sasl.specs.Checks.{Takes, Holds, Gives, ◌>>=◌, ◌>>◌}
+use Rattle.sspi_core.specs.Checks.{Takes, Holds, Gives, ◌>>=◌, ◌>>◌}
 use Rattle.krb_context.specs.ClearWraps.{WrapsClear}
 use Rattle.krb_sasl.specs.InContext.{InContext}
 use Rattle.krb_sasl.specs.Layers.{is_offer}

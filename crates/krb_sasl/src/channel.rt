@@ -18,7 +18,7 @@ ghost use Rattle.krb_sasl.specs.Channels.{
 ghost use Rattle.std.specs.Result.{result_map_both};
 ghost use Rattle.krb_context.specs.Header.{is_sealed};
 ghost use Rattle.krb_sasl.specs.declared.error.SaslError.TheVariants as refusals;
-ghost use Rattle.krb_sasl.specs.Checks.{Holds, Takes};
+ghost use Rattle.sspi_core.specs.Checks.{Holds, Takes};
 ghost use Rattle.krb_sasl.specs.Frames.{unframed};
 ghost use Rattle.krb_sasl.specs.Layers.{message_size, takes_message};
 ghost use Rattle.krb_sasl.specs.Servers.{new_channel};
@@ -108,7 +108,7 @@ impl Channel {
     }
 
     /// The agreement, once there is room for the message of `len` octets.
-    #[tactic(auto, using(crate::proofs::Chain::plain_chain), unfolding(crate::specs::Channels::Readies))]
+    #[tactic(auto, using(sspi_core::proofs::Chain::plain_chain), unfolding(crate::specs::Channels::Readies))]
     fn ready_to_seal(&self, len: usize) -> Result<Agreement, SaslError>
         requires { len < 2 ^ 63 }
         ensures ready { Readies self.now len result }

@@ -3,7 +3,7 @@
 ghost use Rattle.std.specs.Prelude.{◌≡◌, ◌≤◌, List, ℕ, length, IfOk, IfErr, OnOk, OnErr, Ok, is_none, true};
 ghost use Rattle.krb_sasl.specs.declared.error.SaslError.TheVariants as refusals;
 ghost use Rattle.krb_sasl.specs.Answers.{Answers, Refuses};
-ghost use Rattle.krb_sasl.specs.Checks.{Holds};
+ghost use Rattle.sspi_core.specs.Checks.{Holds};
 ghost use Rattle.krb_sasl.specs.Channels.{Seals, Unseals, sealed_by, unsealed_by};
 ghost use Rattle.krb_sasl.specs.Clients.{MayWish, Wishes, Suits, Reads, AnswersOffer, answered_by, channel_of, with_channel};
 ghost use Rattle.krb_context.specs.ClearWraps.{WrapsClear};
@@ -48,7 +48,7 @@ fn wished_name(
 }
 
 /// Checks the text of an offer, for who wants this layer.
-#[tactic(auto, using(crate::proofs::Chain::plain_chain), unfolding(crate::specs::Clients::Suits))]
+#[tactic(auto, using(sspi_core::proofs::Chain::plain_chain), unfolding(crate::specs::Clients::Suits))]
 fn suits(wanted: Layer, text: &[u8]) -> Result<(), SaslError>
     ensures suits { Suits wanted text.now result }
     ensures long { OnOk result (4 ≤ length text.now) }

@@ -4,7 +4,7 @@ ghost use Rattle.std.specs.Prelude.{◌≡◌, ◌≤◌, List, ℕ, length, IfO
 ghost use Rattle.krb_sasl.specs.declared.error.SaslError.TheVariants as refusals;
 ghost use Rattle.krb_sasl.specs.declared.layer.Layer.{Layer};
 ghost use Rattle.krb_sasl.specs.Answers.{Answers, Refuses};
-ghost use Rattle.krb_sasl.specs.Checks.{Holds};
+ghost use Rattle.sspi_core.specs.Checks.{Holds};
 ghost use Rattle.krb_sasl.specs.Channels.{Seals, Unseals, sealed_by, unsealed_by};
 ghost use Rattle.krb_sasl.specs.Servers.{MayServe, Serves, Offers, offered_by, awaits_answer, channel_of, with_channel, Chooses, Accepts, accepted_by, is_of_text, left_by};
 ghost use Rattle.krb_sasl.specs.Streams.{received};
@@ -30,7 +30,7 @@ pub struct SaslServer {
 }
 
 /// Checks the context, the layers and the size of a new server.
-#[tactic(auto, using(crate::proofs::Chain::plain_chain), unfolding(crate::specs::Servers::MayServe))]
+#[tactic(auto, using(sspi_core::proofs::Chain::plain_chain), unfolding(crate::specs::Servers::MayServe))]
 fn check_new(context: &Kerberos, layers: u8, size: u32) -> Result<(), SaslError>
     ensures { MayServe context.now layers size result }
 {
@@ -39,7 +39,7 @@ fn check_new(context: &Kerberos, layers: u8, size: u32) -> Result<(), SaslError>
 }
 
 /// The layer that an answer with this text chooses from these.
-#[tactic(auto, using(crate::proofs::Chain::plain_chain), unfolding(crate::specs::Servers::Chooses))]
+#[tactic(auto, using(sspi_core::proofs::Chain::plain_chain), unfolding(crate::specs::Servers::Chooses))]
 fn choose(layers: u8, text: &[u8]) -> Result<Layer, SaslError>
     ensures chosen { Chooses layers text.now result }
     ensures long { OnOk result (4 ≤ length text.now) }
@@ -55,7 +55,7 @@ impl SaslServer {
     ///
     /// The refusals, in their order: `Layers` where there are none or others, where the size is 2^24 or more, and where no
     /// layer alone is offered with a size; `State` where the exchange of the context is not over.
-    #[tactic(auto, using(crate::proofs::Chain::plain_chain), unfolding(crate::specs::Servers::Serves))]
+    #[tactic(auto, using(sspi_core::proofs::Chain::plain_chain), unfolding(crate::specs::Servers::Serves))]
     pub fn new(context: Kerberos, layers: u8, size: u32) -> Result<SaslServer, SaslError>
         ensures { Serves context layers size result }
     {

@@ -3,7 +3,7 @@ use Rattle.std.proofs.Common.{◌≡◌, ◌<◌, ◌+◌, ℕ, List, [], ◌∷
 use Rattle.std.specs.Prelude.{map}
 use Rattle.std.proofs.lemmas.List.{take-append-drop, take_more, drop_more, map-append}
 use Rattle.sspi_core.specs.Buffer.{Buffer}
-use Rattle.krb_script.specs.Options.{◌>>=◌}
+use Rattle.krb_der.specs.Reading.{◌>>=◌}
 use Rattle.krb_script.specs.Buffers.{buffer_of, buffers_of}
 
 abbrev joined : Option Buffer → Option (List Buffer) → Option (List Buffer)

@@ -11,7 +11,8 @@ use Rattle.sspi_core.specs.declared.buffer.BufferType.TheVariants.{Token, Data, 
 use Rattle.sspi_core.specs.Flags.{readonly_with_checksum}
 use Rattle.sspi_core.specs.declared.flags.SecurityBufferFlags.{SecurityBufferFlags}
 use Rattle.krb_text.specs.Decimals.{decimal_up_to}
-use Rattle.krb_script.specs.Options.{◌>>=◌, if_so}
+use Rattle.krb_der.specs.Reading.{◌>>=◌}
+use Rattle.krb_script.specs.Options.{if_so}
 
 -- the parts of a field between its colons
 abbrev pub parts : List ℕ → List (List ℕ)

@@ -8,7 +8,7 @@ use Rattle.sspi_core.specs.declared.identity.KeytabIdentity.{KeytabIdentity}
 use Rattle.sspi_core.specs.declared.identity.CredentialsBuffers.TheVariants.{AuthIdentity, Keytab}
 use Rattle.url.specs.Parts.{Parts}
 use Rattle.krb_text.specs.Decimals.{decimal_up_to, u32_of}
-use Rattle.krb_script.specs.Options.{◌>>=◌}
+use Rattle.krb_der.specs.Reading.{◌>>=◌}
 use Rattle.krb_script.specs.Fields.{octets_of, text_of, name_of, optional_name_of, name_or_none_of}
 use Rattle.krb_script.specs.Endpoints.{new_endpoint}
 use Rattle.krb_script.specs.declared.endpoint.Role.TheVariants.{Acceptor, Initiator}

@@ -6,7 +6,8 @@ use Rattle.std.specs.Str.{bytes_eq, is_utf8}
 use Rattle.std.specs.Result.{result_ok}
 use Rattle.std.specs.Int.RustNames.{bit_or}
 use Rattle.hex.specs.Hex.{decode_of, decode_sized}
-use Rattle.krb_script.specs.Options.{◌>>=◌, if_so}
+use Rattle.krb_der.specs.Reading.{◌>>=◌}
+use Rattle.krb_script.specs.Options.{if_so}
 use Rattle.sspi_core.specs.Flags as bits
 use Rattle.sspi_core.specs.declared.flags.ClientRequestFlags.{ClientRequestFlags}
 

@@ -1,7 +1,7 @@
 -- What an event brings to its connection.
 use Rattle.std.specs.Prelude.{ℕ, ◌-◌, ◌^◌, if◌then◌else◌, List, [], ◌∷◌, codes, Option, Some, None}
 use Rattle.std.specs.Str.{bytes_eq}
-use Rattle.krb_script.specs.Options.{◌>>=◌}
+use Rattle.krb_der.specs.Reading.{◌>>=◌}
 use Rattle.krb_text.specs.Decimals.{u32_of}
 use Rattle.krb_script.specs.Fields.{octets_or_none_of}
 use Rattle.krb_script.specs.Buffers.{message_of}

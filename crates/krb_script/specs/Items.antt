@@ -3,7 +3,7 @@ use Rattle.std.specs.Prelude.{ℕ, ◌-◌, ◌^◌, if◌then◌else◌, List, 
 use Rattle.std.specs.Str.{bytes_eq}
 use Rattle.krb_text.specs.Decimals.{decimal_up_to, u32_of}
 use Rattle.krb_text.specs.Lines.{fields}
-use Rattle.krb_script.specs.Options.{◌>>=◌}
+use Rattle.krb_der.specs.Reading.{◌>>=◌}
 use Rattle.krb_script.specs.Inputs.{input_of}
 use Rattle.krb_script.specs.Fields.{flags_of, random_of}
 use Rattle.krb_script.specs.Declarations.{declaration_of}

@@ -6,7 +6,7 @@ use Rattle.std.specs.Map.{lookup, set_value}
 use Rattle.krb_conf.specs.declared.env.Env.{Env}
 use Rattle.krb_text.specs.Limits.{is_long}
 use Rattle.krb_text.specs.Lines.{lines, is_skipped}
-use Rattle.krb_script.specs.Options.{◌>>=◌}
+use Rattle.krb_der.specs.Reading.{◌>>=◌}
 use Rattle.krb_script.specs.Endpoints.{with_attribute}
 use Rattle.krb_script.specs.Items.{item_of}
 use Rattle.krb_script.specs.declared.stop.Stop.{Stop}

@@ -4,11 +4,12 @@ use Rattle.krb_crypto.specs.declared.suite.CipherSuite.{CipherSuite}
 use Rattle.krb_exchange.specs.declared.kdc_rep.AsRep.{AsRep}
 use Rattle.krb_exchange.specs.declared.kdc_rep.TgsRep.{TgsRep}
 use Rattle.sspi_core.specs.declared.protocol.NetworkProtocol.{NetworkProtocol}
+use Rattle.sspi_core.specs.declared.cause.Cause.{Cause}
 use Rattle.sspi_core.specs.Checks.{Gives}
 use Rattle.sspi_generator.specs.declared.network.NetFault.{NetFault}
 use Rattle.sspi_core.specs.declared.identity.CredentialsBuffers.{CredentialsBuffers}
 use Rattle.krb_replies.specs.Keys.{HandsOnKey}
-use Rattle.krb_context.proofs.ChainLemmas.{passed, gave}
+use Rattle.sspi_core.proofs.Chain.{passed, gave}
 use Rattle.krb_exchange.specs.Layouts.{tgs_rep_layout}
 use Rattle.krb_as.specs.Replied.{Grants}
 use Rattle.krb_as.specs.ReplyKeys.{TakesReplyKey}
@@ -41,7 +42,7 @@ pub record TgsTaken (protocol : NetworkProtocol) (suite : CipherSuite) (key : Li
   pub brought : shown.rep ≡ rep.0
   pub same : shown.suite ≡ suite
 
-tgs_given : (suite : CipherSuite) (key : List ℕ) (rep : TgsRep) (shown : Grant) → Gives (record { suite = suite; key = key; rep = rep.0 }) (Ok shown)
+tgs_given : (suite : CipherSuite) (key : List ℕ) (rep : TgsRep) (shown : Grant) → Gives {E = Cause} (record { suite = suite; key = key; rep = rep.0 }) (Ok shown)
     → shown ≡ record { suite = suite; key = key; rep = rep.0 }
 tgs_given suite key rep shown h = gave _ _ h
 

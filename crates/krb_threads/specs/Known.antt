@@ -1,6 +1,8 @@
 -- What the lines of an input declare, and where its reading ends.
 use Rattle.std.specs.Prelude.{◌≡◌, ◌+◌, ℕ, List, Option, IfSome}
-use Rattle.krb_script.specs.Script.{Declared, nothing_declared, reading_of}
+use Rattle.krb_der.specs.Reading.{◌>>=◌}
+use Rattle.krb_script.specs.Items.{item_of}
+use Rattle.krb_script.specs.Script.{Declared, nothing_declared, declare, reading_of}
 use Rattle.krb_script.specs.declared.stop.Stop.TheVariants.{Whole as WholeStop, Bad as BadStop, Long as LongStop}
 use Rattle.krb_machine.specs.Serve.{IsTaken, IsSound}
 use Rattle.krb_threads.specs.declared.ending.Ending.{Ending}
@@ -13,6 +15,12 @@ pub record Known : Type 0 where
 
 abbrev pub nothing_known : Known
 nothing_known = record { so_far = nothing_declared; lines = 0 }
+
+-- what is declared with one line more, which is not skipped
+abbrev pub declare_content : Declared → List ℕ → Option Declared
+declare_content so_far line = do
+  item ← item_of line
+  declare so_far item
 
 -- where the reading of an input ends, of which these octets were taken: before a bad or a long line, which is the next, or at
 -- its end; and before that where a read failed

@@ -23,12 +23,11 @@ impl Model for Known {
 }
 
 impl Known {
-    ghost use Rattle.std.specs.Prelude.{◌≡◌, ◌<◌, ◌^◌, ◌+◌, is_some, option_and_then, OnOk, OnErr};
+    ghost use Rattle.std.specs.Prelude.{◌≡◌, ◌<◌, ◌^◌, ◌+◌, is_some, OnOk, OnErr};
     ghost use Rattle.krb_script.specs.Gives.{GivesAfter};
     ghost use Rattle.krb_script.specs.Script.{set_up_before, declare, declare_line};
-    ghost use Rattle.krb_script.specs.Items.{item_of};
     ghost use Rattle.krb_script.specs.declared.item.Item.TheVariants.{Event as EventItem};
-    ghost use Rattle.krb_threads.specs.Known.{nothing_known};
+    ghost use Rattle.krb_threads.specs.Known.{nothing_known, declare_content};
     ghost use Rattle.krb_threads.specs.Ahead.{Declares};
 
     pub fn new(alloc: Global) -> Known
@@ -103,7 +102,7 @@ impl Known {
         ahead: Option<HeldItem>,
     ) -> Result<(), FieldError>
         requires { Declares line.now ahead }
-        ensures given { GivesAfter (option_and_then (λ item. declare self.old.so_far item) (item_of line.now)) result self.new.so_far }
+        ensures given { GivesAfter (declare_content self.old.so_far line.now) result self.new.so_far }
         ensures err { OnErr result (self.new ≡ self.old) }
         ensures lines { self.new.lines ≡ self.old.lines }
     {

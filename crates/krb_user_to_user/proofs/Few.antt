@@ -1,6 +1,6 @@
 -- How often the exchange of a service asks.
 use Rattle.std.proofs.Common.{◌≡◌, ℕ, ◌+◌, ◌<◌, List, Result, Ok, refl, subst, take, lit<}
-use Rattle.krb_context.proofs.ChainLemmas.{gave}
+use Rattle.sspi_core.proofs.Chain.{gave}
 use Rattle.sspi_core.specs.declared.draw.Draw.{Draw}
 use Rattle.sspi_core.specs.declared.error.Error.{Error}
 use Rattle.sspi_generator.specs.declared.network.NetFault.{NetFault}

@@ -1,5 +1,4 @@
-use Rattle.sspi_core.proofs.Chain.{follows, halts, gives}
-use Rattle.krb_context.proofs.ChainLemmas.{lent_err}
+use Rattle.sspi_core.proofs.Chain.{follows, halts, gives, lent_err}
 use Rattle.krb_context.specs.Wraps.{Readies}
 use Rattle.krb_context.proofs.wrap.ready_to_wrap.Goals as goal
 

@@ -2,13 +2,12 @@ use Rattle.std.proofs.Common.{◌≡◌, ◌-◌, ◌%◌, ◌++◌, ℕ, List, 
 use Rattle.krb_crypto.specs.declared.suite.CipherSuite.{CipherSuite}
 use Rattle.krb_crypto.specs.Suite.{key_size, kc}
 use Rattle.sspi_core.specs.declared.cause.Cause.TheVariants.{Altered}
-use Rattle.sspi_core.proofs.Chain.{answers}
+use Rattle.sspi_core.proofs.Chain.{answers, finds_from}
 use Rattle.krb_context.specs.Header.{rrc_of}
 use Rattle.krb_context.specs.Params.{suite_of}
 use Rattle.krb_context.specs.Parties.{seal_usage}
 use Rattle.krb_context.specs.Spelled.{spelled}
 use Rattle.krb_context.specs.Spelt.{IsClearAs, SpeltClear}
-use Rattle.krb_context.proofs.ChainLemmas.{finds_from}
 use Rattle.krb_context.proofs.TurnLemmas.{IsTurned, to_clear, from_clear, found_as}
 use Rattle.krb_context.proofs.UnwrapLemmas.{clear_long}
 use Rattle.krb_context.proofs.headed.Headed.find_clear.Goals as goal

@@ -3,13 +3,12 @@ use Rattle.krb_crypto.specs.declared.suite.CipherSuite.{CipherSuite}
 use Rattle.krb_crypto.specs.SealingPair.{SealingPair, sealing_pair}
 use Rattle.krb_crypto.specs.Suite.{key_size}
 use Rattle.sspi_core.specs.declared.cause.Cause.TheVariants.{Altered}
-use Rattle.sspi_core.proofs.Chain.{answers}
+use Rattle.sspi_core.proofs.Chain.{answers, finds_from}
 use Rattle.krb_context.specs.declared.kept.Kept.{Kept}
 use Rattle.krb_context.specs.Header.{rrc_of}
 use Rattle.krb_context.specs.Parties.{keys_of}
 use Rattle.krb_context.specs.Spelled.{spelled}
 use Rattle.krb_context.specs.Spelt.{IsSealedAs, Spelt, sealed_turn}
-use Rattle.krb_context.proofs.ChainLemmas.{finds_from}
 use Rattle.krb_context.proofs.TurnLemmas.{IsTurned, to_spelt, from_spelt, found_as}
 use Rattle.krb_context.proofs.UnwrapLemmas.{sealed_long, count_is}
 use Rattle.krb_context.proofs.headed.Headed.find_sealed.Goals as goal

@@ -1,5 +1,4 @@
-use Rattle.sspi_core.proofs.Chain.{follows, halts, gives}
-use Rattle.krb_context.proofs.ChainLemmas.{lent_err}
+use Rattle.sspi_core.proofs.Chain.{follows, halts, gives, lent_err}
 use Rattle.krb_context.specs.Mics.{MicKeys}
 use Rattle.krb_context.proofs.params.EncryptionParams.mic_key.Goals as goal
 
