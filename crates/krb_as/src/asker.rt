@@ -147,15 +147,6 @@ pub fn sized_key(alloc: Global, asker: &Asker, salt: &Text) -> Result<Octets, Ca
     key_for(alloc, asker_suite(asker), salt, &asker.credentials)
 }
 
-fn env_of(alloc: Global, env: &Env) -> Result<Env, OutOfMemory>
-    ensures { IfOk result (λ copy. copy ≡ env.now) }
-{
-    Ok(Env {
-        vars: env.vars.copy(alloc)?,
-        files: env.files.copy(alloc)?,
-    })
-}
-
 /// A context that asks with these credentials, in the realm of their client.
 pub fn asker_of(
     alloc: Global,
@@ -168,6 +159,6 @@ pub fn asker_of(
 {
     let credentials = credentials.copy(alloc)?;
     let realm = client.realm.copy(alloc)?;
-    let env = env_of(alloc, env)?;
+    let env = env.copy(alloc)?;
     Asker::new(context, credentials, realm, env)
 }

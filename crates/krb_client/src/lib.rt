@@ -44,7 +44,7 @@ pub use krb_requests::{
 
 // What a client names beside, so that its imports come from here alone.
 pub use bitflags::Flags;
-pub use krb_conf::{Env, KerberosConfig};
+pub use krb_conf::{ConfigFile, Env, KerberosConfig};
 pub use krb_context::{
     ApOptions, ContextChange, EncryptionParams, GssFlags, KdcOptions, Kerberos, KerberosState,
     ProtocolConfig,

@@ -4,7 +4,7 @@ use Rattle.std.specs.List.{find, filter_map, slice_split}
 use Rattle.krb_conf.specs.Ascii.{colon}
 
 -- what the first pair of this name has
-abbrev pub named : List ℕ → List (List ℕ × List ℕ) → Option (List ℕ)
+abbrev pub named : {V : Type 0} → List ℕ → List (List ℕ × V) → Option V
 named name pairs = option_map (λ pair. pair.1) (find (λ pair. bytes_eq pair.0 name) pairs)
 
 -- the names of the files of krb5.conf: the parts between colons of the variable KRB5_CONFIG, or of the usual path where it is not set

@@ -5,7 +5,8 @@ ghost use Rattle.std.specs.List.{find, filter_map, slice_split};
 ghost use Rattle.krb_conf.specs.Env.{named, conf_texts};
 ghost use Rattle.krb_conf.specs.Ascii.{colon};
 
-use krb_der::{Items, OutOfMemory, Text};
+use crate::config_file::ConfigFile;
+use krb_der::{Items, OutOfMemory, Text, TryCopy};
 use std::alloc::Global;
 
 /// The variables of the environment and the texts of the files, each with its name; the first pair
@@ -14,43 +15,53 @@ use std::alloc::Global;
 pub struct Env {
     /// Variables and their values.
     pub vars: Items<(Text, Text)>,
-    /// Paths and the texts of the files there.
-    pub files: Items<(Text, Text)>,
+    /// Paths and the files there.
+    pub files: Items<(Text, ConfigFile)>,
 }
 
 /// What the first pair of this name has.
-pub(crate) fn lookup<'a>(pairs: &'a Items<(Text, Text)>, name: &str) -> Option<&'a str>
+fn lookup<'a, V>(pairs: &'a Items<(Text, V)>, name: &str) -> Option<&'a V>
     ensures { option_copied result ≡ named name.entry.now pairs.entry.now }
 {
     for (key, value) in pairs.as_slice() {
         if key.as_str() == name {
-            return Some(value.as_str());
+            return Some(value);
         }
     }
     None
 }
 
+/// The value of the variable of this name.
+pub(crate) fn variable<'a>(vars: &'a Items<(Text, Text)>, name: &str) -> Option<&'a str>
+    ensures { option_copied result ≡ named name.entry.now vars.entry.now }
+{
+    match lookup(vars, name) {
+        Some(value) => Some(value.as_str()),
+        None => None,
+    }
+}
+
 /// The files that are read where the variable `KRB5_CONFIG` is not set.
 const DEFAULT_PATHS: &str = "/etc/krb5.conf:/usr/local/etc/krb5.conf";
 
-/// The texts of these files that there are, in the order of the names, which colons separate.
-fn texts_of<'a>(
+/// Those of these files that there are, in the order of the names, which colons separate.
+fn files_of<'a>(
     alloc: Global,
-    files: &'a Items<(Text, Text)>,
+    files: &'a Items<(Text, ConfigFile)>,
     paths: &str,
-) -> Result<Vec<&'a str>, OutOfMemory>
-    ensures { IfOk result (λ texts. map (λ text. text.now) texts.items
+) -> Result<Vec<&'a ConfigFile>, OutOfMemory>
+    ensures { IfOk result (λ found. map (λ file. file.now) found.items
         ≡ filter_map (λ path. named path files.entry.now)
         (slice_split (λ octet. octet == colon) paths.entry.now)) }
 {
-    let mut texts = Vec::new(alloc);
+    let mut found = Vec::new(alloc);
     for path in paths.split(':') {
-        let Some(text) = lookup(files, path) else {
+        let Some(file) = lookup(files, path) else {
             continue;
         };
-        texts.push(text)?;
+        found.push(file)?;
     }
-    Ok(texts)
+    Ok(found)
 }
 
 impl Env {
@@ -64,12 +75,22 @@ impl Env {
         }
     }
 
-    /// The texts of the files of `krb5.conf`, in the order in which they are read.
-    pub(crate) fn conf_texts(&self, alloc: Global) -> Result<Vec<&str>, OutOfMemory>
-        ensures { IfOk result (λ texts. map (λ text. text.now) texts.items
+    /// The files of `krb5.conf`, in the order in which they are asked.
+    pub(crate) fn conf_files(&self, alloc: Global) -> Result<Vec<&ConfigFile>, OutOfMemory>
+        ensures { IfOk result (λ files. map (λ file. file.now) files.items
             ≡ conf_texts self.entry.now.vars self.entry.now.files) }
     {
-        let paths = lookup(&self.vars, "KRB5_CONFIG").unwrap_or(DEFAULT_PATHS);
-        texts_of(alloc, &self.files, paths)
+        let paths = variable(&self.vars, "KRB5_CONFIG").unwrap_or(DEFAULT_PATHS);
+        files_of(alloc, &self.files, paths)
+    }
+}
+
+impl TryCopy for Env {
+    fn copy(&self, alloc: Global) -> Result<Env, OutOfMemory> {
+        let vars = self.vars.copy(alloc)?;
+        Ok(Env {
+            vars,
+            files: self.files.copy(alloc)?,
+        })
     }
 }

@@ -6,9 +6,9 @@ ghost use Rattle.krb_conf.specs.Kdc.{kdc_host, first_given, with_protocol};
 ghost use Rattle.krb_conf.specs.Env.{named, conf_texts};
 ghost use Rattle.std.specs.Option.{option_or};
 
-use crate::env::{Env, lookup};
+use crate::config_file::ConfigFile;
+use crate::env::{Env, variable};
 use crate::key::join;
-use crate::krb5_conf::Krb5Conf;
 use crate::texts::concat;
 use krb_der::{OutOfMemory, Text};
 use std::alloc::Global;
@@ -23,13 +23,12 @@ const VARIABLE: &str = "SSPI_KDC_URL";
 /// The protocol of an address that names none.
 const TCP: &str = "tcp://";
 
-/// The address of the KDC that the text of a `krb5.conf` names for a realm.
-fn kdc_in(alloc: Global, text: &str, realm: &str) -> Result<Option<Text>, OutOfMemory>
-    ensures { IfOk result (λ kdc. kdc ≡ words.kdc_in realm.now text.now) }
+/// The address of the KDC that a file names for a realm.
+fn kdc_in(alloc: Global, file: &ConfigFile, realm: &str) -> Result<Option<Text>, OutOfMemory>
+    ensures { IfOk result (λ kdc. kdc ≡ words.kdc_in realm.now file.now) }
 {
     let key = join(alloc, &["realms", realm, "kdc"])?;
-    let conf = Krb5Conf::new_from_data(alloc, text)?;
-    match conf.find(key.as_str()) {
+    match file.conf().find(key.as_str()) {
         Some(kdc) => Ok(Some(concat(alloc, TCP, kdc.as_str())?)),
         None => Ok(None),
     }
@@ -40,9 +39,9 @@ fn kdc_in_files(alloc: Global, env: &Env, realm: &str) -> Result<Option<Text>, O
     ensures { IfOk result (λ kdc. kdc
         ≡ first_given (words.kdc_in realm.now) (conf_texts env.now.vars env.now.files)) }
 {
-    let texts = env.conf_texts(alloc)?;
-    for text in &texts {
-        if let Some(kdc) = kdc_in(alloc, text, realm)? {
+    let files = env.conf_files(alloc)?;
+    for file in &files {
+        if let Some(kdc) = kdc_in(alloc, file, realm)? {
             return Ok(Some(kdc));
         }
     }
@@ -55,9 +54,9 @@ fn configured<'a>(env: &'a Env, own: &str) -> Option<&'a str>
         ≡ option_or (named own.entry.now env.entry.now.vars)
         (named (codes "SSPI_KDC_URL") env.entry.now.vars) }
 {
-    match lookup(&env.vars, own) {
+    match variable(&env.vars, own) {
         Some(host) => Some(host),
-        None => lookup(&env.vars, VARIABLE),
+        None => variable(&env.vars, VARIABLE),
     }
 }
 

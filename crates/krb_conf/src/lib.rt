@@ -3,6 +3,7 @@
 #![tactic(auto)]
 
 mod config;
+mod config_file;
 mod env;
 mod kdc;
 mod key;
@@ -15,6 +16,7 @@ mod relation;
 mod texts;
 
 pub use config::KerberosConfig;
+pub use config_file::ConfigFile;
 pub use env::Env;
 pub use kdc::{detect_kdc_host, detect_kdc_url, parse_kdc_url};
 pub use krb5_conf::Krb5Conf;

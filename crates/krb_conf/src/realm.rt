@@ -9,6 +9,7 @@ ghost use Rattle.krb_conf.specs.Ascii.{at_sign, full_stop};
 ghost use Rattle.krb_conf.specs.Env.{conf_texts};
 ghost use Rattle.krb_conf.specs.Kdc.{first_given};
 
+use crate::config_file::ConfigFile;
 use crate::env::Env;
 use crate::key::{is_same_text, under};
 use crate::krb5_conf::Krb5Conf;
@@ -82,12 +83,11 @@ fn mapped_realm<'a>(conf: &'a Krb5Conf, domain: &str) -> Option<&'a Text>
     None
 }
 
-/// The realm to which the text of a `krb5.conf` maps the domain.
-fn realm_in(alloc: Global, text: &str, domain: &str) -> Result<Option<Text>, OutOfMemory>
-    ensures { IfOk result (λ realm. realm ≡ words.realm_in domain.now text.now) }
+/// The realm to which a file maps the domain.
+fn realm_in(alloc: Global, file: &ConfigFile, domain: &str) -> Result<Option<Text>, OutOfMemory>
+    ensures { IfOk result (λ realm. realm ≡ words.realm_in domain.now file.now) }
 {
-    let conf = Krb5Conf::new_from_data(alloc, text)?;
-    match mapped_realm(&conf, domain) {
+    match mapped_realm(file.conf(), domain) {
         Some(realm) => Ok(Some(realm.copy(alloc)?)),
         None => Ok(None),
     }
@@ -98,9 +98,9 @@ fn realm_in_files(alloc: Global, env: &Env, domain: &str) -> Result<Option<Text>
     ensures { IfOk result (λ realm. realm
         ≡ first_given (words.realm_in domain.now) (conf_texts env.now.vars env.now.files)) }
 {
-    let texts = env.conf_texts(alloc)?;
-    for text in &texts {
-        if let Some(realm) = realm_in(alloc, text, domain)? {
+    let files = env.conf_files(alloc)?;
+    for file in &files {
+        if let Some(realm) = realm_in(alloc, file, domain)? {
             return Ok(Some(realm));
         }
     }

@@ -22,7 +22,7 @@ use crate::endpoint::{Attribute, Endpoint, Role, ServiceKey};
 use crate::fields::{
     FieldError, name, named_text, number, number_u32, octets, optional_name, text, text_or_none,
 };
-use krb_conf::parse_kdc_url;
+use krb_conf::{ConfigFile, parse_kdc_url};
 use krb_der::{Octets, Text};
 use sspi_core::{
     AuthIdentityBuffers, CredentialsBuffers, KeytabIdentity, Secret, Username, UsernameError,
@@ -37,8 +37,8 @@ pub enum Declaration {
     Skew(u32),
     /// A variable of the environment, and its value.
     Variable(Text, Text),
-    /// The path of a file, and its text.
-    File(Text, Text),
+    /// The path of a file, and the file.
+    File(Text, ConfigFile),
     /// One end of a connection, at the connection's number.
     Endpoint(u32, Endpoint),
     /// What is added to the end with this number.
@@ -76,7 +76,7 @@ fn parse_file(alloc: Global, fields: &[&[u8]]) -> Result<Declaration, FieldError
         return Err(FieldError::Bad);
     };
     let path = named_text(alloc, path)?;
-    let contents = text(alloc, contents)?;
+    let contents = ConfigFile::new(alloc, text(alloc, contents)?)?;
     Ok(Declaration::File(path, contents))
 }
 

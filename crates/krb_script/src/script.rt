@@ -4,7 +4,7 @@ ghost use Rattle.std.specs.Prelude.{◌≡◌};
 use crate::declaration::Declaration;
 use crate::endpoint::{Attribute, Endpoint};
 use crate::fields::FieldError;
-use krb_conf::Env;
+use krb_conf::{ConfigFile, Env};
 use krb_der::{Items, Text};
 use std::alloc::Global;
 use std::collections::BTreeMap;
@@ -15,7 +15,7 @@ use std::marker::Model;
 pub struct Script {
     skew: Option<u32>,
     vars: Vec<(Text, Text)>,
-    files: Vec<(Text, Text)>,
+    files: Vec<(Text, ConfigFile)>,
     endpoints: BTreeMap<u32, Endpoint>,
 }
 

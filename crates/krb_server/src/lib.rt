@@ -30,7 +30,7 @@ pub use krb_user_to_user::{
 // What a server names beside, so that its imports come from here alone.
 pub use bitflags::Flags;
 pub use krb_as::InitDone;
-pub use krb_conf::{Env, KerberosConfig};
+pub use krb_conf::{ConfigFile, Env, KerberosConfig};
 pub use krb_context::{
     ContextChange, EncryptionParams, Kerberos, KerberosServerConfig, KerberosState, ProtocolConfig,
     ServerProperties,

@@ -26,7 +26,7 @@ pub use krb_text::{
 pub use krb_threads::{NoPause, Part, Pause, PausedGate, run_two, threads};
 
 // What names a service's parts beside.
-pub use krb_conf::{Env, KerberosConfig};
+pub use krb_conf::{ConfigFile, Env, KerberosConfig};
 pub use krb_context::{Kerberos, ServerProperties};
 pub use krb_der::{Items, Name, Octets, OutOfMemory, Text};
 pub use krb_replay::{ReplayBook, ReplayGate};

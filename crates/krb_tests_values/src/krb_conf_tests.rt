@@ -1,7 +1,7 @@
 //! Answers written out by hand. Beside each is the rule that decides it.
 
 use krb_conf::{
-    Env, KerberosConfig, Krb5Conf, detect_kdc_host, detect_kdc_url, get_client_principal_name,
+    ConfigFile, Env, KerberosConfig, Krb5Conf, detect_kdc_host, detect_kdc_url, get_client_principal_name,
     get_client_principal_name_type, get_client_principal_realm, parse_kdc_url, parse_target_name,
 };
 use krb_der::{Items, OutOfMemory, Text, TryCopy};
@@ -137,6 +137,20 @@ fn values_are_those_of_the_rules(rt: HostRuntime) -> Result<(), Fail> {
     Ok(())
 }
 
+/// A file, dropped behind its copy.
+fn copied_file(alloc: Global, text: &str) -> Result<ConfigFile, OutOfMemory> {
+    let file = ConfigFile::new(alloc, Text::from_str(alloc, text)?)?;
+    file.copy(alloc)
+}
+
+#[test]
+fn the_copy_of_a_file_has_its_text_and_its_values(rt: HostRuntime) -> Result<(), Fail> {
+    let copy = copied_file(rt.alloc(), AD)?;
+    assert_eq!(rt; copy.as_str(), AD);
+    assert!(rt; has_value(rt.alloc(), copy.conf(), &["realms", "x"], "y")?);
+    Ok(())
+}
+
 /// Whether these are the values below the path; none where there is no section.
 fn has_section(
     alloc: Global,
@@ -176,6 +190,19 @@ fn pairs(alloc: Global, pairs: &[(&str, &str)]) -> Result<Items<(Text, Text)>, O
     Ok(Items::new(items))
 }
 
+fn files(
+    alloc: Global,
+    files: &[(&str, &str)],
+) -> Result<Items<(Text, ConfigFile)>, OutOfMemory> {
+    let mut items = Vec::new(alloc);
+    for (path, text) in files {
+        let path = Text::from_str(alloc, path)?;
+        let text = Text::from_str(alloc, text)?;
+        items.push((path, ConfigFile::new(alloc, text)?))?;
+    }
+    Ok(Items::new(items))
+}
+
 /// Two files, of which the usual path has the first only.
 fn env(alloc: Global, vars: &[(&str, &str)]) -> Result<Env, OutOfMemory> {
     let mapped = "[domain_realm]\n\
@@ -185,7 +212,7 @@ fn env(alloc: Global, vars: &[(&str, &str)]) -> Result<Env, OutOfMemory> {
         .org = ORG";
     Ok(Env {
         vars: pairs(alloc, vars)?,
-        files: pairs(
+        files: files(
             alloc,
             &[
                 ("/etc/krb5.conf", AD),

@@ -24,17 +24,6 @@ pub struct Described {
     pub endpoints: BTreeMap<u32, Endpoint>,
 }
 
-/// The environment, for one worker.
-fn copied_env(alloc: Global, described: &Described) -> Result<Env, OutOfMemory>
-    ensures { IfOk result (λ env. env ≡ described.now.env) }
-{
-    let vars = described.env.vars.copy(alloc)?;
-    Ok(Env {
-        vars,
-        files: described.env.files.copy(alloc)?,
-    })
-}
-
 /// Puts a connection where its number stands, in the place of one that has it.
 fn put(
     made: &mut BTreeMap<u32, HeldConnection>,
@@ -77,7 +66,7 @@ pub struct Ends {
 pub fn ends_of(alloc: Global, described: &Described, worker: u32) -> Result<Ends, OutOfMemory>
     ensures { IfOk result (AreEnds described.now worker) }
 {
-    let env = copied_env(alloc, described)?;
+    let env = described.env.copy(alloc)?;
     Ok(Ends {
         env,
         connections: connections(alloc, described, worker)?,
