@@ -14,6 +14,7 @@ pub mod PeerLemmas
 pub mod PlaceLemmas
 pub mod ReadyLemmas
 pub mod RunLemmas
+pub mod ServiceKeyLemmas
 pub mod SizeLemmas
 pub mod TextLemmas
 pub mod TurnLemmas

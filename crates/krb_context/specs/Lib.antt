@@ -1,4 +1,5 @@
 pub mod Options
+pub mod AdditionalKeys
 pub mod ClearWraps
 pub mod Configs
 pub mod Contexts

@@ -1,7 +1,6 @@
 -- The service of an acceptor, and its keys by the components of a name.
-use Rattle.std.specs.Prelude.{◌≡◌, ◌⊎◌, ℕ, Bool, false, List, [], ◌∷◌, find, Option, None, option_map, ◌==◌, if◌then◌else◌}
+use Rattle.std.specs.Prelude.{◌≡◌, ◌⊎◌, ℕ, Bool, false, List, [], ◌∷◌, Option, None, if◌then◌else◌}
 use Rattle.std.specs.List.{list_all}
-use Rattle.std.specs.Cmp.Lexicographic.{pointwise}
 use Rattle.krb_der.specs.Schema.{is_ascii}
 use Rattle.krb_messages.specs.declared.principal_name.PrincipalName.{PrincipalName}
 use Rattle.sspi_core.specs.declared.cause.Cause.TheVariants.{Memory, NotAscii}
@@ -9,6 +8,7 @@ use Rattle.sspi_core.specs.declared.error.Error.{Error}
 use Rattle.sspi_core.specs.declared.identity.CredentialsBuffers.{CredentialsBuffers}
 use Rattle.sspi_core.specs.Kinds.{error_of}
 use Rattle.krb_context.specs.declared.server.ServerProperties.{ServerProperties}
+use Rattle.krb_context.specs.AdditionalKeys.{same_components, additional_key}
 use Rattle.krb_context.specs.Params.{or_else}
 
 abbrev pub all_ascii : List (List ℕ) → Bool
@@ -31,16 +31,6 @@ new_properties parts user skew key = record {
   ticket_decryption_key = key;
   additional_service_keys = [];
 }
-
--- the components of names, compared
-abbrev pub same_components : List (List ℕ) → List (List ℕ) → Bool
-same_components a b = pointwise (pointwise ◌==◌) a b
-
--- the key of the first further service with these components
-unfoldable pub additional_key : List (PrincipalName × List ℕ) → List (List ℕ) → Option (List ℕ)
-additional_key services components =
-    option_map (λ (service : PrincipalName × List ℕ). service.1)
-    (find (λ (service : PrincipalName × List ℕ). same_components service.0.name_string components) services)
 
 -- the key of a service: the primary one where the primary name has these components and there is one, else that of the first further name with them
 unfoldable pub service_key : ServerProperties → List (List ℕ) → Option (List ℕ)

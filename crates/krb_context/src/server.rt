@@ -4,14 +4,15 @@ ghost use Rattle.std.specs.Prelude.{◌≡◌, ◌++◌, ◌∷◌, [], IfOk, If
 ghost use Rattle.krb_der.specs.Schema.{is_ascii};
 ghost use Rattle.sspi_core.specs.Kinds.{error_of};
 ghost use Rattle.sspi_core.specs.declared.cause.Cause.TheVariants as causes;
-ghost use Rattle.krb_context.specs.ServiceKeys.{all_ascii, service_named, new_properties, same_components, additional_key, service_key, IsNotAscii};
+ghost use Rattle.krb_context.specs.AdditionalKeys.{same_components};
+ghost use Rattle.krb_context.specs.ServiceKeys.{all_ascii, service_named, new_properties, service_key, IsNotAscii};
 
+use crate::service_keys::AdditionalServiceKeys;
 use krb_der::{Copier, IntegerAsn1, Items, Name, Octets, OutOfMemory, TryCopy, is_ascii};
 use krb_messages::PrincipalName;
 use krb_messages::constants::NT_SRV_INST;
 use sspi_core::{Cause, CredentialsBuffers, Error, Secret, Username};
 use std::alloc::Global;
-use std::mem;
 
 /// An acceptor's service, the keys that open tickets for it, and whom it admitted.
 #[derive(Drop)]
@@ -27,7 +28,7 @@ pub struct ServerProperties {
     /// The key of the primary name.
     pub ticket_decryption_key: Option<Secret<Octets>>,
     /// Further names of services, each with its key.
-    pub additional_service_keys: Items<(PrincipalName, Secret<Octets>)>,
+    pub additional_service_keys: AdditionalServiceKeys,
 }
 
 /// Whether each part is ASCII.
@@ -89,20 +90,6 @@ fn same_components(a: &Items<Name>, b: &Items<Name>) -> bool
     a.as_slice() == b.as_slice()
 }
 
-/// The key of the first service with these components.
-#[tactic(auto, unfolding(crate::specs::ServiceKeys::additional_key))]
-fn additional_key<'a>(
-    services: &'a [(PrincipalName, Secret<Octets>)],
-    components: &Items<Name>,
-) -> Option<&'a Secret<Octets>>
-    ensures { option_map (λ key. key.now) result ≡ additional_key services.now components.now }
-{
-    services
-        .iter()
-        .find(|service| same_components(&service.0.name_string, components))
-        .map(|service| &service.1)
-}
-
 impl ServerProperties {
     /// A service with these components, a name of type 2 (RFC 4120, section 6.2), that admitted nobody and has no further
     /// keys. Refused as `NotAscii` exactly where a component is past ASCII.
@@ -123,7 +110,7 @@ impl ServerProperties {
             client: None,
             max_time_skew,
             ticket_decryption_key,
-            additional_service_keys: Items::new(Vec::new(alloc)),
+            additional_service_keys: AdditionalServiceKeys::empty(alloc),
         })
     }
 
@@ -143,14 +130,7 @@ impl ServerProperties {
         ensures stays { OnErr result (self.new ≡ self.old) }
     {
         let name = service_named(alloc, sname)?;
-        let mut keys = mem::replace(
-            &mut self.additional_service_keys,
-            Items::new(Vec::new(alloc)),
-        )
-        .into_inner();
-        let pushed = keys.push((name, key));
-        self.additional_service_keys = Items::new(keys);
-        pushed?;
+        self.additional_service_keys.push(alloc, name, key)?;
         Ok(())
     }
 
@@ -166,7 +146,7 @@ impl ServerProperties {
                 return Some(key);
             }
         }
-        additional_key(self.additional_service_keys.as_slice(), components)
+        self.additional_service_keys.find(components)
     }
 }
 

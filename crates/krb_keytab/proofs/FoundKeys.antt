@@ -10,7 +10,8 @@ use Rattle.std.proofs.lemmas.List.Folds.{list_any-append}
 use Rattle.krb_messages.specs.declared.principal_name.PrincipalName.{PrincipalName}
 use Rattle.krb_context.specs.declared.server.ServerProperties.{ServerProperties}
 use Rattle.krb_context.specs.Params.{or_else}
-use Rattle.krb_context.specs.ServiceKeys.{service_named, same_components, additional_key, service_key}
+use Rattle.krb_context.specs.AdditionalKeys.{same_components, additional_key}
+use Rattle.krb_context.specs.ServiceKeys.{service_named, service_key}
 use Rattle.krb_keytab.specs.declared.entry.KeytabEntry.{KeytabEntry}
 use Rattle.krb_keytab.specs.Finding.{Wanted, is_wanted, same_octets, same_names, greatest}
 use Rattle.krb_keytab.specs.Installing.{names_with, names_of, sized_key, key_for, service_key_of, keys_of, with_keys}

@@ -10,7 +10,7 @@ ghost use Rattle.krb_keytab.specs.RealmKeys.{pair_at};
 use crate::entry::KeytabEntry;
 use crate::realm_keys::RealmKeys;
 use indexmap::IndexSet;
-use krb_context::ServerProperties;
+use krb_context::{AdditionalServiceKeys, ServerProperties};
 use krb_der::{IntegerAsn1, Items, Name, Octets, OutOfMemory, TryCopy};
 use krb_messages::PrincipalName;
 use sspi_core::Secret;
@@ -129,9 +129,9 @@ pub fn install(
     ensures stays { OnErr result (properties.new ≡ properties.old) }
 {
     let before = properties.additional_service_keys.as_slice().len();
-    let mut keys = properties.additional_service_keys.copy(alloc)?.into_inner();
+    let mut keys = properties.additional_service_keys.to_vec(alloc)?;
     push_keys(alloc, &mut keys, realm, entries)?;
     let count = keys.len() - before;
-    properties.additional_service_keys = Items::new(keys);
+    properties.additional_service_keys = AdditionalServiceKeys::new(alloc, keys)?;
     Ok(count)
 }

@@ -27,7 +27,7 @@ pub use krb_threads::{NoPause, Part, Pause, PausedGate, run_two, threads};
 
 // What names a service's parts beside.
 pub use krb_conf::{ConfigFile, Env, KerberosConfig};
-pub use krb_context::{Kerberos, ServerProperties};
+pub use krb_context::{AdditionalServiceKeys, Kerberos, ServerProperties};
 pub use krb_der::{Items, Name, Octets, OutOfMemory, Text};
 pub use krb_replay::{ReplayBook, ReplayGate};
 pub use sspi_core::{Cause, ClientRequestFlags, Error, Message, Secret, SecurityStatus};

@@ -2,8 +2,8 @@
 
 use super::cause_of;
 use super::ends::{SHORT_ACCEPTOR, octets, properties};
-use krb_context::ServerProperties;
-use krb_der::TryCopy;
+use krb_context::{AdditionalServiceKeys, ServerProperties};
+use krb_der::{Octets, TryCopy};
 use krb_messages::PrincipalName;
 use sspi_core::{Cause, Secret};
 use std::alloc::Global;
@@ -79,5 +79,60 @@ fn have_keys(alloc: Global) -> Result<bool, Fail> {
 #[test]
 fn services_have_keys_by_their_components(rt: HostRuntime) -> Result<(), Fail> {
     assert!(rt; have_keys(rt.alloc())?);
+    Ok(())
+}
+
+fn numbered_service(alloc: Global, number: u16) -> Result<PrincipalName, Fail> {
+    let instance = format!(in alloc; "{number}")?;
+    let named = ServerProperties::new(alloc, &["host", instance.as_str()], None, 0, None)?;
+    Ok(named.service_name)
+}
+
+fn numbered_key(alloc: Global, number: u16) -> Result<Secret<Octets>, Fail> {
+    Ok(Secret::new(Octets::from_slice(
+        alloc,
+        &number.to_be_bytes(),
+    )?))
+}
+
+/// 300 services with the keys of their numbers, and the first once more with another key.
+fn many_keys(alloc: Global) -> Result<AdditionalServiceKeys, Fail> {
+    let mut services = Vec::new(alloc);
+    for number in 0..300 {
+        services.push((
+            numbered_service(alloc, number)?,
+            numbered_key(alloc, number)?,
+        ))?;
+    }
+    let mut keys = AdditionalServiceKeys::new(alloc, services)?;
+    keys.push(
+        alloc,
+        numbered_service(alloc, 0)?,
+        numbered_key(alloc, 999)?,
+    )?;
+    Ok(keys)
+}
+
+/// Whether the service with this number has the key of its number, or none.
+fn has_its_key(
+    alloc: Global,
+    keys: &AdditionalServiceKeys,
+    number: u16,
+    wanted: bool,
+) -> Result<bool, Fail> {
+    let service = numbered_service(alloc, number)?;
+    match keys.find(&service.name_string) {
+        Some(key) => Ok(wanted && key.as_ref().as_slice() == number.to_be_bytes().as_slice()),
+        None => Ok(!wanted),
+    }
+}
+
+#[test]
+fn the_first_key_of_a_name_is_found_among_many(rt: HostRuntime) -> Result<(), Fail> {
+    let keys = many_keys(rt.alloc())?;
+    assert_eq!(rt; keys.as_slice().len(), 301);
+    for (number, wanted) in [(0, true), (299, true), (300, false)] {
+        assert!(rt; has_its_key(rt.alloc(), &keys, number, wanted)?, "{number}");
+    }
     Ok(())
 }
