@@ -4,3 +4,4 @@ pub mod Order
 pub mod Runs
 pub mod Same
 pub mod Window
+pub mod TellingLemmas

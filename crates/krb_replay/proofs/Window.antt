@@ -46,7 +46,7 @@ and_first : (p q : Bool) → (p && q) ≡ true → p ≡ true
 and_first true q e = refl
 and_first false q e = e
 
-current_same : (skew moment : ℕ) (x r : Record) → record_eq x r ≡ true → is_current skew moment x ≡ is_current skew moment r
+pub current_same : (skew moment : ℕ) (x r : Record) → record_eq x r ≡ true → is_current skew moment x ≡ is_current skew moment r
 current_same skew moment x r e = ap (λ (t : ℤ). not (is_later (pos moment) (in_microseconds t) skew)) ((signed_Decides x.ctime r.ctime).0 (and_first _ _ e))
 
 open_by : (a b c d : Bool) → (if a || b then Some Skew else if c then Some NotYet else if d then Some Expired else None) ≡ None → not b ≡ true

@@ -7,4 +7,5 @@ pub mod Order
 pub mod Blocks
 pub mod Book
 pub mod Cache
+pub mod Telling
 pub mod Runs

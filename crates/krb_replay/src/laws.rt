@@ -1,6 +1,6 @@
 //! What holds for all values and all lists of asks.
 
-ghost use Rattle.std.specs.Prelude.{◌≡◌, ◌↔◌, ℕ, ◌+◌, ◌≤◌, List, [], ◌∷◌, ◌++◌, length, None, IsTrue};
+ghost use Rattle.std.specs.Prelude.{◌≡◌, ◌↔◌, ◌⊎◌, ℕ, ◌+◌, ◌≤◌, List, [], ◌∷◌, ◌++◌, length, None, IsTrue, true, false};
 ghost use Rattle.std.specs.Ordering.{int_cmp, is_eq};
 ghost use Rattle.std.specs.declared.cmp.Ordering.TheVariants.{Less};
 ghost use Rattle.krb_replay.specs.declared.record.Record.{Record};
@@ -13,6 +13,8 @@ ghost use Rattle.krb_replay.specs.declared.cache.AuthenticatorCacheRecord.{Authe
 ghost use Rattle.krb_replay.specs.Records.{record_eq, record_cmp, ask_eq, IsDistinct};
 ghost use Rattle.krb_replay.specs.Cache.{cache_eq};
 ghost use Rattle.krb_replay.specs.declared.ask.Verdict.TheVariants.{Admitted};
+ghost use Rattle.krb_replay.specs.declared.telling.TellingGate.{TellingGate};
+ghost use Rattle.krb_replay.specs.Telling.{AdmitsAsTold, AreTold, admitted_as_told};
 ghost use Rattle.krb_replay.specs.Clock.{clock_refusal};
 ghost use Rattle.krb_replay.specs.Gate.{Run};
 ghost use Rattle.krb_replay.specs.History.{History};
@@ -59,6 +61,21 @@ pub fn records_are_admitted_once()
         → IsDistinct h.admitted → IsDistinct (h.admitted ++ admitted_of asks (verdicts_of skew h asks)) }
     ensures by_a_book { (old new : Book) (asks : List Ask) (verdicts : List Verdict) (h : History)
         → StandsFor old h → Run (Follows StandsFor) old asks verdicts new → IsDistinct (h.admitted ++ admitted_of asks verdicts) }
+{}
+
+/// A telling gate admits the ask that it was told of alone, and only where the store did not have its record. Over every list
+/// of asks it admits nothing, or this one record.
+pub fn telling_gates_admit_once()
+    ensures only { (old new : TellingGate) (ask : Ask) → AdmitsAsTold old ask Admitted new
+        → (old.seen ≡ false) × (ask ≡ old.told) × (new.seen ≡ true) }
+    ensures once { (old new : TellingGate) (asks : List Ask) (verdicts : List Verdict) → Run AdmitsAsTold old asks verdicts new
+        → (admitted_of asks verdicts ≡ []) ⊎ (admitted_of asks verdicts ≡ old.told.entry ∷ []) }
+{}
+
+/// Over all gates that one store has told, whoever asked it, no record is admitted twice.
+pub fn stores_admit_records_once()
+    ensures { (skew time : ℕ) (stored : List Record) (gates : List TellingGate)
+        → AreTold skew time stored gates → IsDistinct (admitted_as_told gates) }
 {}
 
 /// Two records are equal exactly where all their parts are, and their order agrees with that and goes by time first.

@@ -13,7 +13,8 @@
 //! ```
 //!
 //! Its clock is the greatest moment that it was ever asked, so that a clock that falls back admits nothing anew. What
-//! stands above a gate is written for any [`ReplayGate`]; [`CacheGate`] is the one that does as the crate `sspi` does.
+//! stands above a gate is written for any [`ReplayGate`]; [`CacheGate`] is the one that does as the crate `sspi` does, and
+//! [`TellingGate`] the one of machines that share a store.
 #![tactic(auto)]
 
 mod ask;
@@ -25,9 +26,11 @@ mod clock;
 mod gate;
 pub mod laws;
 mod record;
+mod telling;
 
 pub use ask::{Ask, Verdict};
 pub use book::ReplayBook;
 pub use cache::{AuthenticatorCacheRecord, AuthenticatorsCache, CacheGate};
 pub use gate::ReplayGate;
 pub use record::Record;
+pub use telling::TellingGate;

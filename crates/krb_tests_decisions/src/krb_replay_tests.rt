@@ -5,7 +5,7 @@ mod table;
 use krb_der::{IntegerAsn1, Items, Name, Octets, OutOfMemory, Time, TryCopy};
 use krb_messages::PrincipalName;
 use krb_replay::Verdict::{self, Admitted, Expired, NotYet, Replayed, Skew};
-use krb_replay::{Ask, CacheGate, Record, ReplayBook, ReplayGate};
+use krb_replay::{Ask, CacheGate, Record, ReplayBook, ReplayGate, TellingGate};
 use std::alloc::Global;
 use std::process::Abort;
 use std::test::Fail;
@@ -99,9 +99,9 @@ fn first_verdicts(alloc: Global, skew: u32, ask: &Ask) -> Result<[Verdict; 2], F
 }
 
 /// A skew, an authenticator's time, a ticket's start and end, all in seconds, a moment in microseconds, and the verdict.
-type Judged = (u32, i64, i64, i64, u64, Verdict);
+type Clocked = (u32, i64, i64, i64, u64, Verdict);
 
-static JUDGED: [Judged; 21] = [
+static CLOCKED: [Clocked; 21] = [
     (300, T0, T0, FAR, M0 + 300_000_000, Admitted),
     (300, T0, T0, FAR, M0 + 300_000_001, Skew),
     (300, T0 + 300, T0, FAR, M0, Admitted),
@@ -125,12 +125,12 @@ static JUDGED: [Judged; 21] = [
     (86_400, 253_402_128_000, 0, FAR, LAST, Skew),
 ];
 
-fn judged() -> &'static [Judged] {
-    &JUDGED
+fn clocked() -> &'static [Clocked] {
+    &CLOCKED
 }
 
 /// What a new book and a new cache say of one row.
-fn verdicts_of_row(alloc: Global, row: &Judged) -> Result<[Verdict; 2], Fail> {
+fn verdicts_of_row(alloc: Global, row: &Clocked) -> Result<[Verdict; 2], Fail> {
     let &(skew, ctime, start, end, moment, _) = row;
     let ask = ask(alloc, ctime, start, end, moment)?;
     first_verdicts(alloc, skew, &ask)
@@ -138,7 +138,7 @@ fn verdicts_of_row(alloc: Global, row: &Judged) -> Result<[Verdict; 2], Fail> {
 
 #[test]
 fn every_gate_judges_by_the_clock(rt: HostRuntime) -> Result<(), Fail> {
-    for row in judged() {
+    for row in clocked() {
         let (skew, ctime, start, end, moment, verdict) = row;
         assert_eq!(rt;
             verdicts_of_row(rt.alloc(), row)?,
@@ -232,6 +232,73 @@ fn the_greatest_moment_decides(rt: HostRuntime) -> Result<(), Fail> {
     follow(&rt, &[first, later, early])?;
     follow(&rt, &[first, again, later])?;
     follow(&rt, &[later, early, early])
+}
+
+/// Seconds after T0: the store's own time when it answered that it did not have the record, and then the authenticator's time
+/// and the moment of each of two asks, with its verdict. What the store was asked about has T0 as both.
+type Stored = (u16, [(u16, u16, Verdict); 2]);
+
+fn stored() -> [Stored; 5] {
+    [
+        (0, [(0, 0, Admitted), (0, 0, Replayed)]),
+        (0, [(1, 0, Replayed), (0, 0, Admitted)]),
+        (0, [(0, 1, Replayed), (0, 0, Admitted)]),
+        (300, [(0, 0, Admitted), (0, 0, Replayed)]),
+        (301, [(0, 0, Skew), (301, 0, Replayed)]),
+    ]
+}
+
+fn moment_after(seconds: u16) -> u64 {
+    M0 + u64::from(seconds) * 1_000_000
+}
+
+/// The ask of this time and this moment.
+fn ask_after(alloc: Global, ctime: u16, moment: u16) -> Result<Ask, Fail> {
+    let ctime = T0 + i64::from(ctime);
+    ask(alloc, ctime, T0, T0 + 36_000, moment_after(moment))
+}
+
+/// The gate of a store.
+fn telling(alloc: Global, moment: u16, seen: bool) -> Result<TellingGate, Fail> {
+    Ok(TellingGate {
+        skew: 300,
+        moment: moment_after(moment),
+        told: ask_after(alloc, 0, 0)?,
+        seen,
+    })
+}
+
+fn answer_of(
+    alloc: Global,
+    gate: &mut TellingGate,
+    ctime: u16,
+    moment: u16,
+) -> Result<Verdict, Fail> {
+    verdict_of(gate, ask_after(alloc, ctime, moment)?)
+}
+
+fn is_answered_so(alloc: Global, row: &Stored) -> Result<bool, Fail> {
+    let &(moment, asks) = row;
+    let mut gate = telling(alloc, moment, false)?;
+    for (ctime, moment, verdict) in asks {
+        if answer_of(alloc, &mut gate, ctime, moment)? != verdict {
+            return Ok(false);
+        }
+    }
+    Ok(true)
+}
+
+#[test]
+fn a_telling_gate_admits_one_ask_once(rt: HostRuntime) -> Result<(), Fail> {
+    let rows = stored();
+    for row in &rows {
+        let (moment, _) = row;
+        assert!(rt; is_answered_so(rt.alloc(), row)?, "{moment}");
+    }
+    let mut gate = telling(rt.alloc(), 0, true)?;
+    let verdict = answer_of(rt.alloc(), &mut gate, 0, 0)?;
+    assert_eq!(rt; (verdict, gate.last_moment()), (Replayed, M0));
+    Ok(())
 }
 
 /// Whether the records go first by their times and then by their octets of cusec.

@@ -1,8 +1,9 @@
 //! Answers written out by hand. Beside each is the rule that decides it.
 
 use krb_conf::{
-    ConfigFile, Env, KerberosConfig, Krb5Conf, detect_kdc_host, detect_kdc_url, get_client_principal_name,
-    get_client_principal_name_type, get_client_principal_realm, parse_kdc_url, parse_target_name,
+    ConfigFile, Env, KerberosConfig, Krb5Conf, detect_kdc_host, detect_kdc_url,
+    get_client_principal_name, get_client_principal_name_type, get_client_principal_realm,
+    parse_kdc_url, parse_target_name,
 };
 use krb_der::{Items, OutOfMemory, Text, TryCopy};
 use sspi_core::Username;
@@ -190,10 +191,7 @@ fn pairs(alloc: Global, pairs: &[(&str, &str)]) -> Result<Items<(Text, Text)>, O
     Ok(Items::new(items))
 }
 
-fn files(
-    alloc: Global,
-    files: &[(&str, &str)],
-) -> Result<Items<(Text, ConfigFile)>, OutOfMemory> {
+fn files(alloc: Global, files: &[(&str, &str)]) -> Result<Items<(Text, ConfigFile)>, OutOfMemory> {
     let mut items = Vec::new(alloc);
     for (path, text) in files {
         let path = Text::from_str(alloc, path)?;

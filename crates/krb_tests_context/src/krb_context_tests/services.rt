@@ -89,10 +89,7 @@ fn numbered_service(alloc: Global, number: u16) -> Result<PrincipalName, Fail> {
 }
 
 fn numbered_key(alloc: Global, number: u16) -> Result<Secret<Octets>, Fail> {
-    Ok(Secret::new(Octets::from_slice(
-        alloc,
-        &number.to_be_bytes(),
-    )?))
+    Ok(Secret::new(Octets::from_slice(alloc, &number.to_be_bytes())?))
 }
 
 /// 300 services with the keys of their numbers, and the first once more with another key.
