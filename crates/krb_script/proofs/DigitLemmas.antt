@@ -76,3 +76,6 @@ none_sized text (Err error) e other = refl
 
 pub not_sized : (text : List ℕ) → (length text ≡ 128 → ⊥) → result_ok (decode_sized text 64) ≡ None
 not_sized text other = none_sized text (decode_sized text 64) refl other
+
+-- what 128 digits stand for, and that other texts stand for nothing
+pub ruleset sized = (sized_decoded, sized_not_decoded, not_sized, all_of)

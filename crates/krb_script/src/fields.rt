@@ -184,7 +184,7 @@ pub fn text_or_none(alloc: Global, text: &[u8]) -> Result<Text, FieldError>
 }
 
 /// The 64 octets that 128 hex digits stand for.
-#[tactic(auto, using(crate::proofs::DigitLemmas::sized_decoded, crate::proofs::DigitLemmas::sized_not_decoded, crate::proofs::DigitLemmas::not_sized, crate::proofs::DigitLemmas::all_of))]
+#[tactic(auto, using(crate::proofs::DigitLemmas::sized))]
 pub fn random_octets(text: &[u8]) -> Result<[u8; 64], FieldError>
     ensures { Gives (random_of text.now) result }
 {
