@@ -22,6 +22,26 @@ fn encrypted(keys: &[[u8; 16]; 15], rounds: usize, block: u8x16) -> u8x16
     last_round(v, u8x16::from_array(keys[rounds]))
 }
 
+/// Encrypts two blocks side by side: none of their rounds waits for the other's.
+#[inline(never)]
+fn encrypted_two(keys: &[[u8; 16]; 15], rounds: usize, block: u8x16, other: u8x16) -> (u8x16, u8x16)
+    requires some { 2 ≤ rounds }
+    requires few { rounds ≤ 14 }
+    ensures first { (words : List ℕ) → AreEncryptionKeys keys.now words rounds → result.0 ≡ cipher rounds words block }
+    ensures second { (words : List ℕ) → AreEncryptionKeys keys.now words rounds → result.1 ≡ cipher rounds words other }
+{
+    let start = u8x16::from_array(keys[0]);
+    let mut v = into_tower(block) ^ start;
+    let mut w = into_tower(other) ^ start;
+    for round in 1..rounds {
+        let key = u8x16::from_array(keys[round]);
+        v = full_round(v, key);
+        w = full_round(w, key);
+    }
+    let end = u8x16::from_array(keys[rounds]);
+    (last_round(v, end), last_round(w, end))
+}
+
 impl KeySchedule {
     ghost use Rattle.krb_aes.specs.Aes.{block_cipher};
 
@@ -48,6 +68,20 @@ impl EncryptionSchedule {
         ensures { (key : List ℕ) → AreWordsOf key self.now → result ≡ aes key block }
     {
         encrypted(&self.keys, self.rounds, u8x16::from_array(block)).to_array()
+    }
+
+    /// Encrypts two blocks, neither of which waits for the other.
+    pub fn encrypt_two(&self, block: [u8; 16], other: [u8; 16]) -> ([u8; 16], [u8; 16])
+        ensures first { (key : List ℕ) → AreWordsOf key self.now → result.0 ≡ aes key block }
+        ensures second { (key : List ℕ) → AreWordsOf key self.now → result.1 ≡ aes key other }
+    {
+        let (first, second) = encrypted_two(
+            &self.keys,
+            self.rounds,
+            u8x16::from_array(block),
+            u8x16::from_array(other),
+        );
+        (first.to_array(), second.to_array())
     }
 }
 

@@ -1,85 +1,111 @@
-//! The words of a key schedule (FIPS 197, section 5.2).
+//! The round keys of a key (FIPS 197, section 5.2), each as 16 octets. The four words of a round key are made at once.
 
-ghost use Rattle.std.specs.Prelude.{◌≡◌, ◌⊎◌, ◌+◌, ◌*◌, ◌/◌, ◌%◌, ◌<◌, ◌≤◌, length, take};
-ghost use Rattle.krb_aes.specs.Word.{sub_word, word_at, added_word};
+ghost use Rattle.std.specs.Prelude.{◌≡◌, ◌⊎◌, ◌+◌, ◌*◌, ◌%◌, ◌<◌, ◌≤◌, ℕ, length, take, drop, replicate, bit_xor};
+ghost use Rattle.std.specs.Int.{w32, rotate_left};
+ghost use Rattle.krb_aes.specs.Word.{sub_word, word_at, round_constant, added_word, chained_sums, words_in, words_of};
 ghost use Rattle.krb_aes.specs.Aes.{IsKey, round_count, key_expansion};
 
 use crate::lanes::substituted;
 use std::simd::prelude::*;
 
-/// The octets x^0 to x^9 of the field, each in front of three zero octets (section 5.2).
-static ROUND_CONSTANTS: [u32; 10] = [
-    0x0100_0000,
-    0x0200_0000,
-    0x0400_0000,
-    0x0800_0000,
-    0x1000_0000,
-    0x2000_0000,
-    0x4000_0000,
-    0x8000_0000,
-    0x1b00_0000,
-    0x3600_0000,
-];
+/// The octets x^0 to x^9 of the field (section 5.2).
+static ROUND_CONSTANTS: [u8; 10] = [0x01, 0x02, 0x04, 0x08, 0x10, 0x20, 0x40, 0x80, 0x1b, 0x36];
 
-fn sub_word(word: u32) -> u32
-    ensures { result ≡ sub_word word }
+/// SubWord of the last word, in the place of each word.
+#[inline(always)]
+fn substituted_word(key: u8x16) -> u8x16
+    ensures { words_in result ≡ replicate 4 (sub_word (word_at key 12)) }
 {
-    let [a, b, c, d] = word.to_be_bytes();
-    let octets = u8x16::from_array([a, b, c, d, 0, 0, 0, 0, 0, 0, 0, 0, 0, 0, 0, 0]);
-    let out = substituted(octets).to_array();
-    u32::from_be_bytes([out[0], out[1], out[2], out[3]])
+    substituted(key).swizzle([
+        12, 13, 14, 15, 12, 13, 14, 15, 12, 13, 14, 15, 12, 13, 14, 15,
+    ])
 }
 
-pub fn load_word(octets: &[u8], at: usize) -> u32
-    requires { at + 4 ≤ length octets.now }
-    ensures { result ≡ word_at octets.now at }
+/// SubWord and RotWord of the last word, in the place of each word.
+#[inline(always)]
+fn rotated_word(key: u8x16) -> u8x16
+    ensures { words_in result ≡ replicate 4 (sub_word (rotate_left w32 (word_at key 12) 8)) }
 {
-    u32::from_be_bytes([octets[at], octets[at + 1], octets[at + 2], octets[at + 3]])
+    substituted(key).swizzle([
+        13, 14, 15, 12, 13, 14, 15, 12, 13, 14, 15, 12, 13, 14, 15, 12,
+    ])
 }
 
-/// Where word `i` stands in its group of `key_words` words, and the number of that group. No division is by a variable.
-fn place_of(i: usize, key_words: usize) -> (usize, usize)
-    requires size { (key_words ≡ 4) ⊎ (key_words ≡ 8) }
-    ensures { result ≡ (i % key_words, i / key_words) }
+/// A word in the place of each word, with a round constant added.
+#[inline(always)]
+fn with_constant(words: u8x16, group: usize) -> u8x16
+    requires some { 1 ≤ group }
+    requires few { group ≤ 10 }
+    ensures { (w : ℕ) → words_in words ≡ replicate 4 w → words_in result ≡ replicate 4 (bit_xor w (round_constant group)) }
 {
-    if key_words == 4 {
-        (i % 4, i / 4)
-    } else {
-        (i % 8, i / 8)
+    let c = ROUND_CONSTANTS[group - 1];
+    words ^ u8x16::from_array([c, 0, 0, 0, c, 0, 0, 0, c, 0, 0, 0, c, 0, 0, 0])
+}
+
+/// What is added to the first word of round key `round`, behind the round key `previous`, in the place of each word. A key has
+/// `size` round keys in it, and no division is by a variable.
+#[inline(always)]
+fn added_words(previous: u8x16, round: usize, size: usize) -> u8x16
+    requires sizes { (size ≡ 1) ⊎ (size ≡ 2) }
+    requires low { size ≤ round }
+    requires high { round < 4 * size + 7 }
+    ensures { words_in result ≡ replicate 4 (added_word (4 * size) (4 * round) (word_at previous 12)) }
+{
+    if size == 1 {
+        return with_constant(rotated_word(previous), round);
     }
-}
-
-/// What is added to word `i - key_words` to give word `i`, after the word `previous`.
-fn added_word(previous: u32, i: usize, key_words: usize) -> u32
-    requires size { (key_words ≡ 4) ⊎ (key_words ≡ 8) }
-    requires low { key_words ≤ i }
-    requires high { i < 4 * (key_words + 7) }
-    ensures { result ≡ added_word key_words i previous }
-{
-    let (place, group) = place_of(i, key_words);
-    if place == 0 {
-        sub_word(previous.rotate_left(8)) ^ ROUND_CONSTANTS[group - 1]
-    } else if place == 4 {
-        sub_word(previous)
-    } else {
-        previous
+    if round % 2 == 0 {
+        return with_constant(rotated_word(previous), round / 2);
     }
+    substituted_word(previous)
 }
 
-/// The words of the round keys of a key of 16 or 32 octets.
-pub fn expanded(key: &[u8]) -> [u32; 60]
+/// The words of `before`, each with the word in front of it in the new key, and `added` with the first.
+#[inline(always)]
+fn next_key(before: u8x16, added: u8x16) -> u8x16
+    ensures { (w : ℕ) → words_in added ≡ replicate 4 w → words_in result ≡ chained_sums w (words_in before) }
+{
+    let zeros = u8x16::splat(0);
+    let pairs = before
+        ^ zeros.shuffle(
+            before,
+            [0, 1, 2, 3, 16, 17, 18, 19, 20, 21, 22, 23, 24, 25, 26, 27],
+        );
+    pairs
+        ^ zeros.shuffle(
+            pairs,
+            [0, 1, 2, 3, 4, 5, 6, 7, 16, 17, 18, 19, 20, 21, 22, 23],
+        )
+        ^ added
+}
+
+/// The 16 octets of a key from `at` on.
+fn octets_from(key: &[u8], at: usize) -> [u8; 16]
+    requires { at + 16 ≤ length key.now }
+    ensures { result ≡ take 16 (drop at key.now) }
+{
+    let mut octets = [0; 16];
+    octets.copy_from_slice(&key[at..at + 16]);
+    octets
+}
+
+/// The round keys of a key of 16 or 32 octets.
+#[inline(always)]
+pub fn round_keys(key: &[u8]) -> [[u8; 16]; 15]
     requires { IsKey key.now }
-    ensures { take (4 * (round_count key.now + 1)) result ≡ key_expansion key.now }
+    ensures { take (4 * (round_count key.now + 1)) (words_of result) ≡ key_expansion key.now }
 {
-    let key_words = key.len() / 4;
-    let mut words = [0; 60];
-    'load: for i in 0..key_words {
-        words[i] = load_word(key, 4 * i);
+    let size = key.len() / 16;
+    let mut keys = [[0; 16]; 15];
+    'load: for round in 0..size {
+        keys[round] = octets_from(key, 16 * round);
     }
-    'expand: for i in key_words..4 * (key_words + 7) {
-        words[i] = words[i - key_words] ^ added_word(words[i - 1], i, key_words);
+    'expand: for round in size..4 * size + 7 {
+        let before = u8x16::from_array(keys[round - size]);
+        let added = added_words(u8x16::from_array(keys[round - 1]), round, size);
+        keys[round] = next_key(before, added).to_array();
     }
-    words
+    keys
 }
 
 /// The number of rounds: 10 for 16 octets of key, 14 for 32.

@@ -158,6 +158,29 @@ fn derive(suite: CipherSuite, schedule: &EncryptionSchedule, block: [u8; 16]) ->
     }
 }
 
+/// Two keys derived from one, each from a constant as one block, side by side.
+fn derive_two(
+    suite: CipherSuite,
+    schedule: &EncryptionSchedule,
+    block: [u8; 16],
+    other: [u8; 16],
+) -> (DerivedKey, DerivedKey)
+    ensures first { (key constant : List ℕ) → AreWordsOf key schedule.now → block ≡ constant_block constant → key_octets result.0 ≡ dk suite key constant }
+    ensures second { (key constant : List ℕ) → AreWordsOf key schedule.now → other ≡ constant_block constant → key_octets result.1 ≡ dk suite key constant }
+{
+    let (first, second) = schedule.encrypt_two(block, other);
+    match suite {
+        CipherSuite::Aes128CtsHmacSha196 => (DerivedKey::Short(first), DerivedKey::Short(second)),
+        CipherSuite::Aes256CtsHmacSha196 => {
+            let (after_first, after_second) = schedule.encrypt_two(first, second);
+            (
+                DerivedKey::Long(joined(&first, &after_first)),
+                DerivedKey::Long(joined(&second, &after_second)),
+            )
+        }
+    }
+}
+
 /// DK(key, constant) of RFC 3961, section 5.1. The constant has 1 to 1,024 octets.
 pub fn derive_key(suite: CipherSuite, key: &[u8], constant: &[u8]) -> DerivedKey
     requires size { length key.now ≡ key_size suite }
@@ -178,10 +201,11 @@ pub(crate) fn sealing_keys(suite: CipherSuite, key: &[u8], usage: u32) -> (Deriv
     ensures encryption { key_octets result.0 ≡ ke suite key.now usage }
     ensures integrity { key_octets result.1 ≡ ki suite key.now usage }
 {
-    let schedule = EncryptionSchedule::new(key);
-    (
-        derive(suite, &schedule, encryption_block(usage)),
-        derive(suite, &schedule, integrity_block(usage)),
+    derive_two(
+        suite,
+        &EncryptionSchedule::new(key),
+        encryption_block(usage),
+        integrity_block(usage),
     )
 }
 

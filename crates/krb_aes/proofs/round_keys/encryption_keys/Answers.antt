@@ -1,6 +1,7 @@
 use Rattle.std.proofs.Common.{◌≡◌, ℕ, List, map, length, inl, refl, ap, ◌∙◌, arith}
 use Rattle.std.proofs.lemmas.List.{length-set}
 use Rattle.krb_aes.specs.Round.{round_key}
+use Rattle.krb_aes.specs.Word.{words_of}
 use Rattle.krb_aes.proofs.InjectiveLemmas.{IsBlock-column_octets}
 use Rattle.krb_aes.specs.Tower.{tower_key, plain_key}
 use Rattle.krb_aes.proofs.RoundKeyLemmas.{tower_key_is, plain_is, set_here, set_elsewhere, set_next}
@@ -8,7 +9,7 @@ use Rattle.krb_aes.proofs.round_keys.encryption_keys.Goals as goal
 
 pub loop-round-preserved : goal.loop-round-preserved
 loop-round-preserved c =
-    let words : List ℕ = c.args.words.now in
+    let words : List ℕ = words_of c.args.octets.now in
     let i : ℕ = c.loop-round.round in
     let is = c.loop-round.invariant in
     let long = ap length c.octets_at-in-loop-round.ensures ∙ (IsBlock-column_octets _).size in (

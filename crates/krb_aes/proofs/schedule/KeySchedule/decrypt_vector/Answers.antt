@@ -1,4 +1,5 @@
+use Rattle.krb_aes.specs.Word.{words_of}
 use Rattle.krb_aes.proofs.schedule.KeySchedule.decrypt_vector.Goals as goal
 
 pub returns : goal.returns
-returns c = c.decrypted.ensures c.args.self.now.forward.words c.args.self.now.inverse
+returns c = c.decrypted.ensures (words_of c.args.self.now.forward.octets) c.args.self.now.inverse
