@@ -13,16 +13,18 @@ in general registers is none: pointers, lengths and counts. A register that is k
 A select under such flags (`cmov`, `set`) is no branch. The lists below have what is read, and what is no secret though it was loaded.
 Not seen are a store through a pointer to where a register is kept on the stack, and what the processor makes of an instruction.
 
-It was tried on two functions in C, a look-up in a table by octets of a text and a comparison that ends early: it refused both.
+It was tried on functions in C. It refused a look-up in a table by octets of a text, a comparison that ends early, and a loop that ends by
+an octet of a record that a call made. It passed a comparison with no early end, and a loop that ends by the field of PUBLIC_FIELDS.
 """
 import re
 import subprocess
 import sys
 
 # What is read, by the names of its functions, each with what is inlined in it. Each of these must be there. In `krb_bench` both
-# directions of a schedule are made inside `SealingKey::new`, and a checksum inside `open`.
+# directions of a schedule are made inside `SealingKey::new`, and a checksum inside `open`: they are read where they stand alone too.
 READ = [
     r"^krb_aes::encryption::encrypted$",
+    r"^krb_aes::encryption::encrypted_two$",
     r"^krb_aes::decryption::decrypted$",
     r"^krb_aes::decryption::decrypted_four$",
     r"^krb_aes::decryption::decrypted_eight$",
@@ -33,13 +35,17 @@ READ = [
     r"^sha1::compress::compress$",
     r"^sha1::Sha1::update$",
 ]
+READ_WHERE_ALONE = [r"^krb_aes::schedule::KeySchedule::new$", r"^krb_crypto::sealing_key::SealingKey::checksum$"]
 
 # Loads that are no secrets, by the name of the function and the address. And calls whose results are none.
 PUBLIC_LOADS = [
-    # the number of rounds, which the schedule for encryption has behind its words and keys
-    (r"^krb_crypto::sealing_key::SealingKey::new$", r"rsp\+0x420"),
     # how many octets were digested
     (r"^sha1::Sha1::update$", r"(rdi|r15)\+0x58"),
+]
+# What a call writes that is no secret: how far behind the place on the stack that it is given to write to.
+PUBLIC_FIELDS = [
+    # the number of rounds, which a schedule for encryption has behind the 240 octets of its round keys
+    (r"<krb_aes::schedule::EncryptionSchedule::new>", 240),
 ]
 PUBLIC_CALLS = [r"<rattle_alloc>", r"<memcpy@plt>", r"<memmove@plt>"]
 
@@ -90,16 +96,18 @@ def registers(text):
 
 
 class Reading:
-    """What is known before an instruction: which registers and flags are secret, and which places of the stack are not."""
+    """What is known before an instruction: which registers and flags are secret, which places of the stack are not, and which registers
+    point to the stack, and where."""
 
-    def __init__(self, secrets, places):
-        self.secrets, self.places = set(secrets), set(places)
+    def __init__(self, secrets, places, pointers=()):
+        self.secrets, self.places, self.pointers = set(secrets), set(places), dict(pointers)
 
     def joined(self, other):
-        return Reading(self.secrets | other.secrets, self.places & other.places)
+        pointers = set(self.pointers.items()) & set(other.pointers.items())
+        return Reading(self.secrets | other.secrets, self.places & other.places, pointers)
 
     def same(self, other):
-        return self.secrets == other.secrets and self.places == other.places
+        return (self.secrets, self.places, self.pointers) == (other.secrets, other.places, other.pointers)
 
     def is_secret(self, name, operand):
         place = PLACE.search(operand)
@@ -118,11 +126,20 @@ class Reading:
             return
         for register in registers(operand):
             (self.secrets.add if secret else self.secrets.discard)(register)
+            self.pointers.pop(register, None)
+
+    def point(self, register, source):
+        """A register takes an address: `source` is a register, or what stands between the brackets."""
+        at = re.fullmatch(r"(\w+)(?:\+(0x[0-9a-f]+))?", source)
+        start = 0 if at and at[1] == "rsp" else self.pointers.get(at[1]) if at else None
+        self.pointers.pop(register, None)
+        if start is not None:
+            self.pointers[register] = start + int(at[2] or "0", 16)
 
 
 def step(name, now, mnemonic, operands):
     """What an instruction leaves, and what is wrong with it."""
-    after = Reading(now.secrets, now.places)
+    after = Reading(now.secrets, now.places, now.pointers)
     wrong = None
     for operand in operands:
         place = PLACE.search(operand)
@@ -141,15 +158,25 @@ def step(name, now, mnemonic, operands):
         after.secrets |= CLOBBERED | {"flags"}
         if is_public:
             after.secrets -= {"rax", "rdx"}
+        for pattern, behind in PUBLIC_FIELDS:
+            if "rdi" in now.pointers and re.search(pattern, " ".join(operands)):
+                after.places.add(f"rsp+{now.pointers['rdi'] + behind:#x}")
+        for register in CLOBBERED:
+            after.pointers.pop(register, None)
     elif mnemonic in ("push", "pop") or first == "rsp":
         after.places.clear()
+        after.pointers.clear()
         if mnemonic == "pop":
             after.put(first, False)
     elif mnemonic.startswith("rep_"):
         if {"rcx", "rdi", "rsi"} & now.secrets and "stos" not in mnemonic or {"rcx", "rdi"} & now.secrets:
             wrong = "a copy whose place or length is a secret"
+        for register in ("rcx", "rdi", "rsi"):
+            after.pointers.pop(register, None)
     elif mnemonic == "lea":
         after.put(first, bool(registers(operands[1]) & now.secrets))
+        if first in WIDTHS.values():
+            after.point(first, PLACE.search(operands[1])[1])
     elif mnemonic in ("cmp", "test", "bt") or re.fullmatch(r"v?(ptest|testp[sd]|u?comis[sd])", mnemonic):
         (after.secrets.add if secret else after.secrets.discard)("flags")
     elif mnemonic.startswith("cmov"):
@@ -161,6 +188,8 @@ def step(name, now, mnemonic, operands):
             wrong = "a division of a secret"
     elif mnemonic.startswith("mov") and not VECTOR.search(first):
         after.put(first, now.is_secret(name, operands[1]))
+        if first in WIDTHS.values() and operands[1] in WIDTHS.values():
+            after.point(first, operands[1])
     elif mnemonic in ("mul", "imul") and len(operands) == 1:
         for register in ("rax", "rdx"):
             after.put(register, secret or "rax" in now.secrets)
@@ -220,7 +249,7 @@ def faults(name, body):
 def main():
     read, refused = set(), 0
     for name, body in functions(sys.argv[1]):
-        wanted = [pattern for pattern in READ if re.search(pattern, name)]
+        wanted = [pattern for pattern in READ + READ_WHERE_ALONE if re.search(pattern, name)]
         if not wanted:
             continue
         read.update(wanted)
