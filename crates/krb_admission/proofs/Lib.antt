@@ -4,3 +4,4 @@ pub mod Lengths
 pub mod Once
 pub mod Steps
 pub mod Words
+pub mod HalvesLemmas

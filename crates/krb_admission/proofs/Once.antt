@@ -26,7 +26,7 @@ use Rattle.krb_admission.specs.Tokens.{IsApReq, ReceivesApReq}
 use Rattle.krb_admission.specs.Requests.{OpensTicket, OpensAuthenticator, Requests}
 use Rattle.krb_admission.specs.Complete.{Completes}
 use Rattle.krb_admission.specs.ThirdLeg.{ReadsApRep, TellsLast, IsLastWord, Closes, Concludes}
-use Rattle.krb_admission.specs.Accepts.{BeginsAdmission, FinishesAdmission, Judged}
+use Rattle.krb_admission.specs.Accepts.{BeginsAdmission, FinishesAdmission, DecidesAdmission}
 use Rattle.krb_admission.proofs.Frames.{same_message}
 
 -- octets spell one record
@@ -86,12 +86,12 @@ finishes_once : (server : Kerberos) (dce : Bool) (draw : Draw) (request : Reques
 unfolding FinishesAdmission
 finishes_once server dce draw request = then_once _ _ (completes_once request) (λ client. gives_once _)
 
-judged_once : (server : Kerberos) (dce : Bool) (token : List ℕ) (draw : Draw) (verdict : Verdict) → Once (Judged server dce token draw verdict)
-unfolding Judged
+judged_once : (server : Kerberos) (dce : Bool) (token : List ℕ) (draw : Draw) (verdict : Verdict) → Once (DecidesAdmission server dce token draw verdict)
+unfolding DecidesAdmission
 judged_once server dce token draw verdict =
     then_once _ _ (begins_once server dce token) (λ request. then_once _ _ (passes_once _) (λ _. finishes_once server dce draw request))
 
-pub one_outcome_lem : (server : Kerberos) (dce : Bool) (token : List ℕ) (draw : Draw) (verdict : Verdict) (r s : Result Admission Cause) → Judged server dce token draw verdict r → Judged server dce token draw verdict s → r ≡ s
+pub one_outcome_lem : (server : Kerberos) (dce : Bool) (token : List ℕ) (draw : Draw) (verdict : Verdict) (r s : Result Admission Cause) → DecidesAdmission server dce token draw verdict r → DecidesAdmission server dce token draw verdict s → r ≡ s
 one_outcome_lem server dce token draw verdict r s h k = (judged_once server dce token draw verdict).same r s h k
 
 -- ---- the third leg

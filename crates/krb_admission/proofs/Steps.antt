@@ -15,7 +15,7 @@ use Rattle.krb_admission.specs.declared.admission.Admission.{Admission}
 use Rattle.krb_admission.specs.declared.admission.Answer.{Answer}
 use Rattle.krb_admission.specs.Requests.{ask_of}
 use Rattle.krb_admission.specs.Complete.{Completes}
-use Rattle.krb_admission.specs.Accepts.{BeginsAdmission, FinishesAdmission, Judged, Accepts, MakesAnswer, Ends, awaits_last_word, refusal}
+use Rattle.krb_admission.specs.Accepts.{BeginsAdmission, FinishesAdmission, DecidesAdmission, Accepts, MakesAnswer, Ends, awaits_last_word, refusal}
 use Rattle.krb_admission.specs.ThirdLeg.{Concludes}
 use Rattle.krb_context.specs.States.{is_waiting}
 use Rattle.krb_context.specs.declared.state.KerberosState.{KerberosState}
@@ -61,7 +61,7 @@ module _ {G : Type 0} (admits : G → Ask → Verdict → G → Type 0) (server 
 
   -- the last word, at which no gate is asked
   pub last_word : (answer : Result Answer Cause) (server' : Kerberos) → awaits_last_word dce server.state ≡ true → Concludes server token answer server' → Accepts admits server dce token draw old answer server' old
-  unfolding Judged BeginsAdmission
+  unfolding DecidesAdmission BeginsAdmission
   last_word answer server' last concludes =
       let begun : BeginsAdmission server dce token (Err Sequence) = halts _ _ Sequence _ (record { is = rw (not_waiting dce server.state last) refl }) refl in record {
         verdict = Admitted;
@@ -73,44 +73,43 @@ module _ {G : Type 0} (admits : G → Ask → Verdict → G → Type 0) (server 
         made = subst (λ (b : Bool). Ends b server token (Err Sequence) answer server') (sym last) concludes;
       }
 
-  pub refused_before : (e : Cause) (answer : Result Answer Cause) → awaits_last_word dce server.state ≡ false → Answers (BeginsAdmission server dce token) (Err e) → IsErrAnd answer (λ d. d ≡ e) → (answer ≡ Err Memory → ⊥) → Accepts admits server dce token draw old answer server old
-  unfolding Judged
-  refused_before e answer last h is ne =
-      let begun : BeginsAdmission server dce token (Err e) = h.so (λ z. ne (is_err answer e is ∙ ap Err (same_err {A = Request} e Memory z))) in record {
-        verdict = Admitted;
-        request = Err e;
-        begun = begun;
-        gate = refl;
-        outcome = Err e;
-        judged = halts _ _ e _ begun refl;
-        made = ends (Err e) answer server last (is_err answer e is, refl);
-      }
+  -- a refusal before the gate
+  pub refused : (e : Cause) → awaits_last_word dce server.state ≡ false → BeginsAdmission server dce token (Err e) → Accepts admits server dce token draw old (Err e) server old
+  unfolding DecidesAdmission
+  refused e last begun = record {
+    verdict = Admitted;
+    request = Err e;
+    begun = begun;
+    gate = refl;
+    outcome = Err e;
+    judged = halts _ _ e _ begun refl;
+    made = ends (Err e) (Err e) server last (refl, refl);
+  }
 
   -- a request that came to the gate: what is judged behind the gate's verdict, and what is made of it
   pub answered_at_gate : (request : Request) (ask : Ask) (verdict : Verdict) (new : G) (outcome : Result Admission Cause) (answer : Result Answer Cause) (server' : Kerberos)
-      → awaits_last_word dce server.state ≡ false → Answers (BeginsAdmission server dce token) (Ok request) → ask ≡ ask_of request draw.moment → admits old ask verdict new
+      → awaits_last_word dce server.state ≡ false → BeginsAdmission server dce token (Ok request) → ask ≡ ask_of request draw.moment → admits old ask verdict new
       → (Passes (refusal verdict) >> FinishesAdmission server dce draw request) outcome → MakesAnswer server outcome answer server' → Accepts admits server dce token draw old answer server' new
-  unfolding Judged
-  answered_at_gate request ask verdict new outcome answer server' last h asked step judged made =
-      let begun = answered _ _ h in record {
-        verdict = verdict;
-        request = Ok request;
-        begun = begun;
-        gate = subst (λ (q : Ask). admits old q verdict new) asked step;
-        outcome = outcome;
-        judged = follows _ _ request _ begun judged;
-        made = ends outcome answer server' last made;
-      }
+  unfolding DecidesAdmission
+  answered_at_gate request ask verdict new outcome answer server' last begun asked step judged made = record {
+    verdict = verdict;
+    request = Ok request;
+    begun = begun;
+    gate = subst (λ (q : Ask). admits old q verdict new) asked step;
+    outcome = outcome;
+    judged = follows _ _ request _ begun judged;
+    made = ends outcome answer server' last made;
+  }
 
   -- an AP-REQ that passes every check is accepted
-  pub completed : (new : G) (answer : Result Answer Cause) (server' : Kerberos) (admission : Admission) (step : Accepts admits server dce token draw old answer server' new) → step.verdict ≡ Admitted → Judged server dce token draw Admitted (Ok admission)
+  pub completed : (new : G) (answer : Result Answer Cause) (server' : Kerberos) (admission : Admission) (step : Accepts admits server dce token draw old answer server' new) → step.verdict ≡ Admitted → DecidesAdmission server dce token draw Admitted (Ok admission)
       → MakesAnswer server (Ok admission) answer server'
-  unfolding Judged
+  unfolding DecidesAdmission
   completed new answer server' admission step admits_it passes =
       let begun = goes_on _ _ admission passes in
       let last = waits server dce token begun.0 begun.1 in
       let made = subst (λ (b : Bool). Ends b server token step.outcome answer server') last step.made in
-      let e = one_outcome_lem server dce token draw Admitted step.outcome (Ok admission) (subst (λ (v : Verdict). Judged server dce token draw v step.outcome) admits_it step.judged) passes in
+      let e = one_outcome_lem server dce token draw Admitted step.outcome (Ok admission) (subst (λ (v : Verdict). DecidesAdmission server dce token draw v step.outcome) admits_it step.judged) passes in
       subst (λ (r : Result Admission Cause). MakesAnswer server r answer server') e made
 
 -- ---- no check behind the gate is refused because memory ran out

@@ -54,8 +54,8 @@ FinishesAdmission server dce draw request = do
   Gives (admission_of dce server.krb5_user_to_user server.seq_number draw request client)
 
 -- an AP-REQ, judged by the ordered checks, with this verdict of the gate
-unfoldable pub Judged : Kerberos → Bool → List ℕ → Draw → Verdict → Result Admission Cause → Type 0
-Judged server dce token draw verdict = do
+unfoldable pub DecidesAdmission : Kerberos → Bool → List ℕ → Draw → Verdict → Result Admission Cause → Type 0
+DecidesAdmission server dce token draw verdict = do
   request ← BeginsAdmission server dce token
   Passes (refusal verdict)
   FinishesAdmission server dce draw request
@@ -84,5 +84,5 @@ pub record Accepts {G : Type 0} (admits : G → Ask → Verdict → G → Type 0
   pub begun : BeginsAdmission server dce token request
   pub gate : Asks admits draw.moment old request verdict new
   pub outcome : Result Admission Cause
-  pub judged : Judged server dce token draw verdict outcome
+  pub judged : DecidesAdmission server dce token draw verdict outcome
   pub made : Ends (awaits_last_word dce server.state) server token outcome answer server'

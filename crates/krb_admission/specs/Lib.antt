@@ -5,3 +5,4 @@ pub mod Complete
 pub mod Admission
 pub mod ThirdLeg
 pub mod Accepts
+pub mod Halves

@@ -1,6 +1,6 @@
 //! Laws of admission, for all values.
 
-ghost use Rattle.std.specs.Prelude.{◌≡◌, ℕ, Bool, List, Result, Ok};
+ghost use Rattle.std.specs.Prelude.{◌≡◌, ◌↔◌, ℕ, Bool, false, List, Result, Ok};
 ghost use Rattle.sspi_core.specs.declared.cause.Cause.{Cause};
 ghost use Rattle.sspi_core.specs.declared.draw.Draw.{Draw};
 ghost use Rattle.krb_replay.specs.declared.ask.Verdict.{Verdict};
@@ -8,7 +8,8 @@ ghost use Rattle.krb_replay.specs.declared.ask.Verdict.TheVariants.{Admitted};
 ghost use Rattle.krb_context.specs.declared.context.Kerberos.{Kerberos};
 ghost use Rattle.krb_admission.specs.declared.admission.Answer.{Answer};
 ghost use Rattle.krb_admission.specs.declared.admission.Admission.{Admission};
-ghost use Rattle.krb_admission.specs.Accepts.{Judged, Accepts, MakesAnswer};
+ghost use Rattle.krb_admission.specs.Accepts.{awaits_last_word, DecidesAdmission, Accepts, MakesAnswer};
+ghost use Rattle.krb_admission.specs.Halves.{JudgesAndAdmits};
 ghost use Rattle.krb_admission.specs.ThirdLeg.{Concludes};
 
 use krb_replay::ReplayGate;
@@ -17,14 +18,22 @@ use krb_replay::ReplayGate;
 /// sealed to one plain text.
 pub fn one_outcome()
     ensures { (server : Kerberos) (dce : Bool) (token : List ℕ) (draw : Draw) (verdict : Verdict) (r s : Result Admission Cause)
-        → Judged server dce token draw verdict r → Judged server dce token draw verdict s → r ≡ s }
+        → DecidesAdmission server dce token draw verdict r → DecidesAdmission server dce token draw verdict s → r ≡ s }
 {}
 
 /// An AP-REQ that passes every check, and that the gate admits, is accepted, and the context is settled.
 pub fn completeness<G: ReplayGate>()
     ensures { (server server' : Kerberos) (dce : Bool) (token : List ℕ) (draw : Draw) (old new : G) (answer : Result Answer Cause) (admission : Admission)
         → (step : Accepts G.admits server dce token draw old answer server' new) → step.verdict ≡ Admitted
-        → Judged server dce token draw Admitted (Ok admission) → MakesAnswer server (Ok admission) answer server' }
+        → DecidesAdmission server dce token draw Admitted (Ok admission) → MakesAnswer server (Ok admission) answer server' }
+{}
+
+/// Where no last word is awaited, a token is answered as `judge` and `admit` answer it, one behind the other at one context,
+/// whatever the gate: the same refusals in the same order, with the gate's verdict in its place.
+pub fn admission_has_two_halves<G: ReplayGate>()
+    ensures { (server server' : Kerberos) (dce : Bool) (token : List ℕ) (draw : Draw) (old new : G) (answer : Result Answer Cause)
+        → awaits_last_word dce server.state ≡ false
+        → Accepts G.admits server dce token draw old answer server' new ↔ JudgesAndAdmits G.admits server dce token draw old answer server' new }
 {}
 
 /// Each context and last word of an initiator has at most one answer, and one context afterwards.

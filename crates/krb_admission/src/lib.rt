@@ -2,22 +2,28 @@
 //! section 3.2.3).
 //!
 //! [`judge_token`] judges a token at an acceptor's context, over any replay gate, and says what the context is
-//! afterwards and what the client is answered. The checks are one chain, `Judged` of `specs/Accepts`, each with a
+//! afterwards and what the client is answered. The checks are one chain, `DecidesAdmission` of `specs/Accepts`, each with a
 //! function of its own; those of the third leg of DCE style are another, `IsLastWord` of `specs/ThirdLeg`. Who writes a
 //! server calls `krb_server`, which stands on this.
+//!
+//! An AP-REQ is admitted in two halves, [`judge`] without a gate and [`admit`] at one. [`Judged`] stands between them.
 #![tactic(auto)]
 
 mod admission;
 mod ap_rep;
 mod client;
 mod complete;
-mod judge;
+mod halves;
+mod judged;
 pub mod laws;
 mod request;
 mod third_leg;
 mod token;
+mod whole;
 
 pub use admission::Answer;
 pub use ap_rep::generate_ap_rep;
 pub use client::client_upn;
-pub use judge::judge_token;
+pub use halves::{admit, judge};
+pub use judged::{Judged, TicketTimes};
+pub use whole::judge_token;

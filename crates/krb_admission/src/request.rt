@@ -10,7 +10,7 @@ ghost use Rattle.krb_admission.specs.Requests.{is_same_client, OpensTicket, Open
 use crate::token::receive;
 use krb_context::{KeptKey, ServerProperties};
 use krb_crypto::CipherSuite;
-use krb_der::{Blank, Octets, OutOfMemory, boxed};
+use krb_der::{Blank, Copier, Octets, OutOfMemory, boxed};
 use krb_messages::constants::{AP_REQ_AUTHENTICATOR_USAGE, TICKET_USAGE};
 use krb_messages::{ApReq, Authenticator, EncTicketPart, PrincipalName};
 use krb_replay::{Ask, Record};
@@ -131,4 +131,25 @@ pub(crate) fn ask_of(alloc: Global, request: &mut Request, moment: u64) -> Ask
         end,
         moment,
     }
+}
+
+/// The same question, of copies.
+pub(crate) fn copy_ask(alloc: Global, request: &Request, moment: u64) -> Result<Ask, OutOfMemory>
+    ensures { IfOk result (λ ask. ask ≡ ask_of request.now moment) }
+{
+    let authenticator = &request.authenticator;
+    let mut copier = Copier::new(alloc);
+    let ask = Ask {
+        entry: Record {
+            ctime: authenticator.ctime,
+            cusec: Octets::new(copier.copy(&authenticator.cusec).into_inner()),
+            realm: copier.copy(&authenticator.crealm),
+            name: copier.copy(&authenticator.cname),
+        },
+        sname: copier.copy(&request.message.ticket.sname),
+        start: request.part.starttime.unwrap_or(request.part.authtime),
+        end: request.part.endtime,
+        moment,
+    };
+    copier.finish(ask)
 }

@@ -35,7 +35,7 @@ use Rattle.krb_ap.specs.Shown.{framed_ap_req}
 use Rattle.krb_admission.specs.declared.admission.Answer.{Answer}
 use Rattle.krb_admission.specs.declared.admission.Admission.{Admission}
 use Rattle.krb_admission.specs.declared.request.Request.{Request}
-use Rattle.krb_admission.specs.Accepts.{BeginsAdmission, FinishesAdmission, Judged, Accepts, Asks}
+use Rattle.krb_admission.specs.Accepts.{BeginsAdmission, FinishesAdmission, DecidesAdmission, Accepts, Asks}
 use Rattle.krb_admission.specs.Clients.{client_of}
 use Rattle.krb_admission.specs.Complete.{is_known_options, is_mutual, has_good_subkey, Completes}
 use Rattle.krb_admission.specs.Requests.{is_same_client, OpensTicket, OpensAuthenticator, Requests, ask_of}
@@ -211,8 +211,8 @@ finishes server draw client offer for_it =
     follows _ _ client _ (completes server client offer for_it) (record { is = rw for_it.honest.mutual_asked refl })
 
 pub admitted : (server : Kerberos) (draw : Draw) (client : UserName) (offer : Offer) → IsFor server client offer
-    → Judged server offer.dce (offered_token offer) draw Admitted (Ok (admission_for server draw client offer))
-unfolding Judged
+    → DecidesAdmission server offer.dce (offered_token offer) draw Admitted (Ok (admission_for server draw client offer))
+unfolding DecidesAdmission
 admitted server draw client offer for_it =
     follows _ _ (request_of offer) _ (begins server client offer for_it) (follows _ _ tt _ (record { is = refl }) (finishes server draw client offer for_it))
 

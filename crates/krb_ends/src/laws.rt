@@ -20,7 +20,7 @@ ghost use Rattle.krb_initiator.specs.declared.options.InitOptions.{InitOptions};
 ghost use Rattle.krb_initiator.specs.declared.seeker.Seeker.{Seeker};
 ghost use Rattle.krb_initiator.specs.declared.seeker.Initiation.TheVariants.{Seeks};
 ghost use Rattle.krb_initiator.specs.Beginnings.{BeginsInitiation};
-ghost use Rattle.krb_admission.specs.Accepts.{Judged};
+ghost use Rattle.krb_admission.specs.Accepts.{DecidesAdmission};
 ghost use Rattle.krb_admission.specs.Clients.{client_of};
 ghost use Rattle.krb_admission.specs.Requests.{ask_of};
 ghost use Rattle.krb_server.specs.declared.accept.Accepted.{Accepted};
@@ -79,7 +79,7 @@ pub fn runs_have_one_end()
 /// gate's verdict Admitted it makes the admission that its options ask for, with an AP-REP.
 pub fn honest_requests_are_admitted()
     ensures { (server : Kerberos) (draw : Draw) (client : UserName) (offer : Offer) → IsFor server client offer
-        → Judged server offer.dce (offered_token offer) draw Admitted (Ok (admission_for server draw client offer)) }
+        → DecidesAdmission server offer.dce (offered_token offer) draw Admitted (Ok (admission_for server draw client offer)) }
 {}
 
 /// An acceptor asks its gate for that AP-REQ, and where the gate admits it, answers it by the AP-REP and is settled.

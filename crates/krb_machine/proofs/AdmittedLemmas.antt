@@ -27,7 +27,7 @@ use Rattle.krb_replay.specs.Verdicts.{is_admitted}
 use Rattle.krb_replay.specs.declared.ask.Verdict.{Verdict}
 use Rattle.krb_replay.specs.declared.ask.Verdict.TheVariants.{Admitted, Skew, NotYet, Expired, Replayed}
 use Rattle.krb_replies.specs.Unseals.{suite_of_integer, own_key, Unseals, OpensSealed, OpensData}
-use Rattle.krb_admission.specs.Accepts.{asks_dce_style, BeginsAdmission, FinishesAdmission, Judged, Asks, refusal}
+use Rattle.krb_admission.specs.Accepts.{asks_dce_style, BeginsAdmission, FinishesAdmission, DecidesAdmission, Asks, refusal}
 use Rattle.krb_admission.specs.Admission.{reply_message, token_with, state_behind, status_in, admission_of, answer_for, mutual_admission, one_way_admission}
 use Rattle.krb_admission.specs.Clients.{client_of}
 use Rattle.krb_admission.specs.Complete.{is_known_options, is_mutual, has_good_subkey, Completes}
@@ -245,8 +245,8 @@ admits_it : (dce user_to_user : Bool) (number : ℕ) (draw : Draw) (request : Re
 admits_it dce user_to_user number draw request = admits_by (is_mutual request.message.ap_options) dce user_to_user number draw request
 
 judged_there : (server : Kerberos) (dce : Bool) (token : List ℕ) (draw : Draw) (request : Request) (admission : Admission) → BeginsAdmission server dce token (Ok request) → FinishesAdmission server dce draw request (Ok admission)
-    → Judged server dce token draw Admitted (Ok admission)
-unfolding Judged
+    → DecidesAdmission server dce token draw Admitted (Ok admission)
+unfolding DecidesAdmission
 judged_there server dce token draw request admission begun finished = follows _ _ request _ begun (follows _ _ tt _ (record { is = refl }) finished)
 
 -- an admissible event is answered so
@@ -297,8 +297,8 @@ record Passing (skew moment : ℕ) (h : History) (context : Kerberos) (dce : Boo
   in_order : IsInOrder request
 
 judged_passing : (skew : ℕ) (h after : History) (context : Kerberos) (dce : Bool) (token : List ℕ) (draw : Draw) (verdict : Verdict) (request : Result Request Cause) (admission : Admission)
-    → BeginsAdmission context dce token request → Asks (Remembers skew) draw.moment h request verdict after → Judged context dce token draw verdict (Ok admission) → Passing skew draw.moment h context dce token
-unfolding Judged
+    → BeginsAdmission context dce token request → Asks (Remembers skew) draw.moment h request verdict after → DecidesAdmission context dce token draw verdict (Ok admission) → Passing skew draw.moment h context dce token
+unfolding DecidesAdmission
 judged_passing skew h after context dce token draw verdict (Ok request) admission begun asks judged =
     let same : judged.middle ≡ Ok request = (begins_once context dce token).same judged.middle (Ok request) judged.held begun in
     let R : Result Request Cause → Type 0 = λ m. Goes (λ (request : Request). Passes (refusal verdict) >> FinishesAdmission context dce draw request) m (Ok admission) in
@@ -326,7 +326,7 @@ made_passing : (skew : ℕ) (context : Kerberos) (dce : Bool) (token : List ℕ)
 made_passing skew context dce token env draw old (Some tgt_req) answer context' new made accepted is done = absurd (no_run made.0.beginning answer accepted made.0.runs is)
 made_passing skew context dce token env draw old None answer context' new made accepted is done =
     let a = made_admission (Remembers skew) context dce token draw old new answer context' made accepted is done in
-    let J : Result Admission Cause → Type 0 = λ o. Judged context dce token draw made.accepts.verdict o in
+    let J : Result Admission Cause → Type 0 = λ o. DecidesAdmission context dce token draw made.accepts.verdict o in
     judged_passing skew old new context dce token draw made.accepts.verdict made.accepts.request a.0 made.accepts.begun made.accepts.gate (subst J a.1 made.accepts.judged)
 
 behind_admissible : (skew : ℕ) (state after : State History) (event : Event) (found : Result (Connection × List ℕ) Cause) (reply : Reply) → reached state.connections event ≡ found

@@ -8,7 +8,7 @@ use Rattle.krb_replay.specs.Verdicts.{is_admitted}
 use Rattle.krb_replay.specs.declared.ask.Ask.{Ask}
 use Rattle.krb_replay.specs.declared.ask.Verdict.{Verdict}
 use Rattle.krb_admission.proofs.Once.{begins_once, one_outcome_lem}
-use Rattle.krb_admission.specs.Accepts.{Asks, BeginsAdmission, FinishesAdmission, Judged, MakesAnswer, Ends, refusal, asks_dce_style}
+use Rattle.krb_admission.specs.Accepts.{Asks, BeginsAdmission, FinishesAdmission, DecidesAdmission, MakesAnswer, Ends, refusal, asks_dce_style}
 use Rattle.krb_admission.proofs.Steps.{waits}
 use Rattle.krb_admission.specs.Requests.{ask_of}
 use Rattle.krb_server.specs.Whole.{JudgesOther, answered_as, AcceptsToken}
@@ -36,8 +36,8 @@ use Rattle.krb_machine.proofs.LeftLemmas.{made_admission, judged-other, passed_a
 
 -- what passes is admitted by the gate
 admitted_by : (server : Kerberos) (dce : Bool) (token : List ℕ) (draw : Draw) (verdict : Verdict) (request : Request) (admission : Admission) → BeginsAdmission server dce token (Ok request)
-    → Judged server dce token draw verdict (Ok admission) → is_admitted verdict ≡ true
-unfolding Judged
+    → DecidesAdmission server dce token draw verdict (Ok admission) → is_admitted verdict ≡ true
+unfolding DecidesAdmission
 admitted_by server dce token draw verdict request admission begun judged =
     let same : judged.middle ≡ Ok request = (begins_once server dce token).same judged.middle (Ok request) judged.held begun in
     let R : Result Request Cause → Type 0 = λ m. Goes (λ (request : Request). Passes (refusal verdict) >> FinishesAdmission server dce draw request) m (Ok admission) in
@@ -46,8 +46,8 @@ admitted_by server dce token draw verdict request admission begun judged =
 
 -- what the gate refuses is refused so
 refused_by : (server : Kerberos) (dce : Bool) (token : List ℕ) (draw : Draw) (verdict : Verdict) (request : Request) (cause : Cause) → BeginsAdmission server dce token (Ok request) → refusal verdict ≡ Some cause
-    → Judged server dce token draw verdict (Err cause)
-unfolding Judged
+    → DecidesAdmission server dce token draw verdict (Err cause)
+unfolding DecidesAdmission
 refused_by server dce token draw verdict request cause begun is = follows _ _ request _ begun (halts _ _ cause (Err cause) (record { is = sym (ap err_of is) }) refl)
 
 open_not : (o : Option Verdict) (verdict v : Verdict) → MatchOption o (IsOpen verdict) (λ w. verdict ≡ w) → o ≡ Some v → verdict ≡ v
@@ -118,7 +118,7 @@ module _ {G : Type 0} (admits : G → Ask → Verdict → G → Type 0) (skew mo
       let dce = asks_dce_style (server_flags event.flags) in
       let t = settles_admitted (draw_of event) _ g.judges.answer reply g.judges.next g.judges.settles done in
       let a = made_admission admits server dce b.token (draw_of event) state.gate after.gate g.judges.answer g.judges.server other t.accepted t.answer_is (ap admits_peer (sym t.reply_is) ∙ done) in
-      let J : Result Admission Cause → Type 0 = λ o. Judged server dce b.token (draw_of event) other.accepts.verdict o in
+      let J : Result Admission Cause → Type 0 = λ o. DecidesAdmission server dce b.token (draw_of event) other.accepts.verdict o in
       admitted_in_time (skew state.gate) (moment after.gate) (ask_of request event.moment) other.accepts.verdict g.verdict
       (admitted_by server dce b.token (draw_of event) other.accepts.verdict request a.0 b.begun (subst J a.1 other.accepts.judged))
 
@@ -132,7 +132,7 @@ module _ {G : Type 0} (admits : G → Ask → Verdict → G → Type 0) (skew mo
       let dce = asks_dce_style (server_flags event.flags) in
       let draw = draw_of event in
       let same : other.accepts.verdict ≡ v = open_not (clock_refusal (skew state.gate) (moment after.gate) (ask_of request event.moment)) other.accepts.verdict v g.verdict.first clock in
-      let J : Verdict → Type 0 = λ w. Judged server dce b.token draw w other.accepts.outcome in
+      let J : Verdict → Type 0 = λ w. DecidesAdmission server dce b.token draw w other.accepts.outcome in
       let out = one_outcome_lem server dce b.token draw v other.accepts.outcome (Err cause) (subst J same other.accepts.judged) (refused_by server dce b.token draw v request cause b.begun is) in
       let E : Bool → Type 0 = λ last. Ends last server b.token other.accepts.outcome other.judged g.judges.server in
       let M : Result Admission Cause → Type 0 = λ o. MakesAnswer server o other.judged g.judges.server in

@@ -13,7 +13,7 @@ use Rattle.krb_replay.specs.declared.ask.Verdict.TheVariants.{Admitted, Skew, No
 use Rattle.krb_replay.specs.declared.record.Record.{Record}
 use Rattle.krb_admission.proofs.Once.{begins_once}
 use Rattle.krb_admission.proofs.Steps.{completed}
-use Rattle.krb_admission.specs.Accepts.{BeginsAdmission, FinishesAdmission, Judged, Asks, MakesAnswer, Ends, awaits_last_word, refusal, asks_dce_style}
+use Rattle.krb_admission.specs.Accepts.{BeginsAdmission, FinishesAdmission, DecidesAdmission, Asks, MakesAnswer, Ends, awaits_last_word, refusal, asks_dce_style}
 use Rattle.krb_admission.specs.ThirdLeg.{Closes}
 use Rattle.krb_admission.specs.Admission.{answer_for}
 use Rattle.krb_admission.specs.Requests.{ask_of}
@@ -139,8 +139,8 @@ one_left : (verdict : Verdict) (request : Request) (moment : ℕ) → is_admitte
 one_left verdict request moment is = rw is refl
 
 goes_left : (server : Kerberos) (dce : Bool) (token : List ℕ) (draw : Draw) (verdict : Verdict) (request : Result Request Cause) (admission : Admission) → BeginsAdmission server dce token request
-    → Judged server dce token draw verdict (Ok admission) → length (left_by request verdict draw.moment) ≡ 1
-unfolding Judged
+    → DecidesAdmission server dce token draw verdict (Ok admission) → length (left_by request verdict draw.moment) ≡ 1
+unfolding DecidesAdmission
 goes_left server dce token draw verdict (Ok request) admission begun judged =
     let same : judged.middle ≡ Ok request = (begins_once server dce token).same judged.middle (Ok request) judged.held begun in
     let R : Result Request Cause → Type 0 = λ m. Goes (λ (request : Request). Passes (refusal verdict) >> FinishesAdmission server dce draw request) m (Ok admission) in
@@ -198,7 +198,7 @@ module _ {G : Type 0} (admits : G → Ask → Verdict → G → Type 0) where
   done_made server dce token env draw old (Some tgt_req) answer server' new made accepted is done = absurd (no_run made.0.beginning answer accepted made.0.runs is)
   done_made server dce token env draw old None answer server' new made accepted is done =
       let a = made_admission server dce token draw old new answer server' made accepted is done in
-      let J : Result Admission Cause → Type 0 = λ o. Judged server dce token draw made.accepts.verdict o in
+      let J : Result Admission Cause → Type 0 = λ o. DecidesAdmission server dce token draw made.accepts.verdict o in
       goes_left server dce token draw made.accepts.verdict made.accepts.request a.0 made.accepts.begun (subst J a.1 made.accepts.judged)
 
   done_behind : (state : State G) (event : Event) (found : Result (Connection × List ℕ) Cause) (reply : Reply) (after : State G) → (b : Behind admits state event found reply after) → admits_peer reply ≡ true
@@ -238,8 +238,8 @@ module _ {G : Type 0} (admits : G → Ask → Verdict → G → Type 0) where
       subst M (ap_req_begins_none connection.context dce token request begun j.accepts.tgt_req j.accepts.found) j.accepts.made
 
 judged_admitted : (server : Kerberos) (dce : Bool) (token : List ℕ) (draw : Draw) (request : Request) (admission : Admission) → BeginsAdmission server dce token (Ok request) → FinishesAdmission server dce draw request (Ok admission)
-    → Judged server dce token draw Admitted (Ok admission)
-unfolding Judged
+    → DecidesAdmission server dce token draw Admitted (Ok admission)
+unfolding DecidesAdmission
 judged_admitted server dce token draw request admission begun finished = follows _ _ request _ begun (follows _ _ tt _ (record { is = refl }) finished)
 
 asked_verdict : (skew moment : ℕ) (h : History) (p : Result Request Cause) (request : Request) (verdict : Verdict) (after : History) → p ≡ Ok request → Asks (Remembers skew) moment h p verdict after

@@ -8,7 +8,7 @@ use Rattle.krb_replay.specs.History.{History}
 use Rattle.krb_replay.specs.declared.ask.Ask.{Ask}
 use Rattle.krb_replay.specs.declared.ask.Verdict.{Verdict}
 use Rattle.krb_admission.proofs.Once.{begins_once, one_outcome_lem, concludes_once}
-use Rattle.krb_admission.specs.Accepts.{BeginsAdmission, FinishesAdmission, Judged, Asks, MakesAnswer, Ends, Accepts, awaits_last_word, refusal, asks_dce_style}
+use Rattle.krb_admission.specs.Accepts.{BeginsAdmission, FinishesAdmission, DecidesAdmission, Asks, MakesAnswer, Ends, Accepts, awaits_last_word, refusal, asks_dce_style}
 use Rattle.krb_admission.specs.declared.admission.Answer.{Answer}
 use Rattle.krb_server.proofs.Once.{found_once, tgt_req_once}
 use Rattle.krb_server.specs.Whole.{answered_as, AcceptsWhole, AcceptsToken}
@@ -37,8 +37,8 @@ use Rattle.krb_machine.specs.Text.{IsText, last_line}
 
 -- where the checks before the gate refuse, the verdict does not matter
 pub judged_refused : (server : Kerberos) (dce : Bool) (token : List ℕ) (draw : Draw) (verdict : Verdict) (cause : Cause) (outcome : Result Admission Cause) → BeginsAdmission server dce token (Err cause)
-    → Judged server dce token draw verdict outcome → outcome ≡ Err cause
-unfolding Judged
+    → DecidesAdmission server dce token draw verdict outcome → outcome ≡ Err cause
+unfolding DecidesAdmission
 judged_refused server dce token draw verdict cause outcome begun judged =
     let same : judged.middle ≡ Err cause = (begins_once server dce token).same judged.middle (Err cause) judged.held begun in
     let R : Result Request Cause → Type 0 = λ m. Goes (λ (request : Request). Passes (refusal verdict) >> FinishesAdmission server dce draw request) m outcome in
@@ -65,11 +65,11 @@ remembers-determined skew = record { same = λ old ask v w a b h k. (h.0 ∙ sym
 module _ {G : Type 0} (admits : G → Ask → Verdict → G → Type 0) (determined : IsDetermined admits) where
   outcome_once : (server : Kerberos) (dce : Bool) (token : List ℕ) (draw : Draw) (old : G) (p q : Result Request Cause) (v w : Verdict) (a b : G) (o u : Result Admission Cause) → p ≡ q
       → BeginsAdmission server dce token p → Asks admits draw.moment old p v a → Asks admits draw.moment old q w b
-      → Judged server dce token draw v o → Judged server dce token draw w u → (o ≡ u) × (a ≡ b)
+      → DecidesAdmission server dce token draw v o → DecidesAdmission server dce token draw w u → (o ≡ u) × (a ≡ b)
   outcome_once server dce token draw old (Ok x) (Ok y) v w a b o u e begun h k j l =
       let P : Result Request Cause → Type 0 = λ r. Asks admits draw.moment old r w b in
       let same = determined.same old _ v w a b h (subst P (sym e) k) in
-      let J : Verdict → Type 0 = λ x. Judged server dce token draw x o in
+      let J : Verdict → Type 0 = λ x. DecidesAdmission server dce token draw x o in
       (one_outcome_lem server dce token draw w o u (subst J same.0 j) l, same.1)
   outcome_once server dce token draw old (Err x) (Err y) v w a b o u e begun h k j l =
       (judged_refused server dce token draw v x o begun j ∙ sym (judged_refused server dce token draw w x u begun l), h ∙ sym k)

@@ -1,3 +1,4 @@
 pub mod Frames
 pub mod Retold
 pub mod Once
+pub mod HalvesLemmas

@@ -73,6 +73,9 @@ none_found dce state token message is (Some tgt_req) h = absurd (no_tgt_req dce 
 pub ap_req_begins_none : (server : Kerberos) (dce : Bool) (token : List ℕ) (request : Request) → BeginsAdmission server dce token (Ok request) → (found : Option TgtReq) → Found (BeginsUserToUser dce server.state token) found → found ≡ None
 ap_req_begins_none server dce token request begun found h = let came = ap_req_in server dce token request begun in none_found dce server.state token came.0 came.1 found h
 
+pub no_tgt_req_at : (server : Kerberos) (dce : Bool) (token : List ℕ) (request : Request) → BeginsAdmission server dce token (Ok request) → (tgt_req : TgtReq) → BeginsUserToUser dce server.state token tgt_req → ⊥
+no_tgt_req_at server dce token request begun tgt_req h = let came = ap_req_in server dce token request begun in no_tgt_req dce token came.0 tgt_req came.1 h.is
+
 -- a run is who asks and how far it has come
 pub same_run : (x y : AcceptRun) → x.acceptor ≡ y.acceptor → x.phase ≡ y.phase → x ≡ y
 same_run x y a p = ap (λ z. record { alloc = x.alloc; acceptor = z; phase = x.phase }) a ∙ ap (λ z. record { alloc = x.alloc; acceptor = y.acceptor; phase = z }) p

@@ -13,6 +13,7 @@ use Rattle.sspi_core.specs.declared.cause.Cause.TheVariants.{Credentials}
 use Rattle.sspi_core.specs.Checks.{Takes, ◌>>=◌}
 use Rattle.krb_admission.specs.declared.admission.Answer.{Answer}
 use Rattle.krb_admission.specs.Accepts.{Accepts}
+use Rattle.krb_admission.specs.Halves.{JudgesAndAdmits}
 use Rattle.krb_user_to_user.specs.declared.request.Beginning.{Beginning}
 use Rattle.krb_user_to_user.specs.declared.accept_run.AcceptRun.{AcceptRun}
 use Rattle.krb_user_to_user.specs.declared.steps.AcceptPhase.TheVariants.{New}
@@ -55,6 +56,13 @@ pub record JudgesOther {G : Type 0} (admits : G → Ask → Verdict → G → Ty
     (draw : Draw) (old : G) (answer : Result Accepted Cause) (server' : Kerberos) (new : G) : Type 0 where
   pub judged : Result Answer Cause
   pub accepts : Accepts admits server dce token draw old judged server' new
+  pub answer_is : answer ≡ answered_as judged
+
+-- the same, by the two halves of an admission, one behind the other
+pub record AcceptsInHalves {G : Type 0} (admits : G → Ask → Verdict → G → Type 0) (server : Kerberos) (dce : Bool) (token : List ℕ)
+    (draw : Draw) (old : G) (answer : Result Accepted Cause) (server' : Kerberos) (new : G) : Type 0 where
+  pub judged : Result Answer Cause
+  pub halves : JudgesAndAdmits admits server dce token draw old judged server' new
   pub answer_is : answer ≡ answered_as judged
 
 -- which of the two a token is decides

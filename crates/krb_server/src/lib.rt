@@ -15,14 +15,20 @@
 //! }
 //! ```
 //!
+//! The same call in two halves is [`judge`], which asks no gate, and [`admit`], which is short: for threads that share a book under a
+//! lock, and for machines that share a store ([`TellingGate`]). A [`Judged`] between them tells who the client is, whole.
+//!
 //! The ordered checks of an AP-REQ stand in `krb_admission`, the run of user-to-user in `krb_user_to_user`.
 #![tactic(auto)]
 
 mod accept;
+mod halves;
+pub mod laws;
 mod tgt_req;
 
 pub use accept::{Accepted, accept_security_context};
-pub use krb_admission::{client_upn, generate_ap_rep};
+pub use halves::{admit, judge};
+pub use krb_admission::{Answer, Judged, TicketTimes, client_upn, generate_ap_rep};
 pub use krb_user_to_user::{
     AcceptRun, GeneratorAcceptSecurityContext, generate_tgt_rep, request_tgt,
 };
@@ -35,10 +41,10 @@ pub use krb_context::{
     AdditionalServiceKeys, ContextChange, EncryptionParams, Kerberos, KerberosServerConfig,
     KerberosState, ProtocolConfig, ServerProperties,
 };
-pub use krb_der::{IntegerAsn1, Items, Name, Octets, OutOfMemory, Text, Time, TryCopy};
+pub use krb_der::{Bits, IntegerAsn1, Items, Name, Octets, OutOfMemory, Text, Time, TryCopy};
 pub use krb_exchange::{TgtRep, TgtReq};
-pub use krb_messages::{ApRep, PrincipalName, Ticket};
-pub use krb_replay::{Ask, CacheGate, Record, ReplayBook, ReplayGate, Verdict};
+pub use krb_messages::{ApRep, AuthorizationData, PrincipalName, Ticket};
+pub use krb_replay::{Ask, CacheGate, Record, ReplayBook, ReplayGate, TellingGate, Verdict};
 pub use sspi_core::{
     AuthIdentity, AuthIdentityBuffers, BufferType, Cause, ContextNames, ContextSizes,
     CredentialsBuffers, Draw, Error, ErrorKind, KeytabIdentity, MAX_MOMENT, Message,

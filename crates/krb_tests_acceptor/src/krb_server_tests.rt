@@ -5,6 +5,7 @@ mod ap_rep;
 mod clients;
 mod established;
 mod gates;
+mod halves;
 mod long;
 mod states;
 mod third_leg;

@@ -1,7 +1,7 @@
 use Rattle.std.proofs.Common.{rules}
 use Rattle.krb_admission.specs.Accepts.{BeginsAdmission}
 use Rattle.sspi_core.proofs.Chain.{chain}
-use Rattle.krb_admission.proofs.judge.begin.Goals as goal
+use Rattle.krb_admission.proofs.halves.begin.Goals as goal
 
 pub returns-in_err-check_state-clause-begins : goal.returns-in_err-check_state-clause-begins
 unfolding BeginsAdmission

@@ -1,6 +1,6 @@
 use Rattle.std.proofs.Common.{sym, ◌∙◌}
 use Rattle.krb_admission.proofs.Steps.{last_word}
-use Rattle.krb_admission.proofs.judge.judge_token.Goals as goal
+use Rattle.krb_admission.proofs.whole.judge_token.Goals as goal
 
 pub returns-then-awaits_last_word-clause-step : goal.returns-then-awaits_last_word-clause-step
 returns-then-awaits_last_word-clause-step g c =

@@ -1,7 +1,7 @@
 use Rattle.std.proofs.Common.{ap, Ok, refl}
 use Rattle.krb_admission.specs.Accepts.{FinishesAdmission}
 use Rattle.sspi_core.proofs.Chain.{halts, follows}
-use Rattle.krb_admission.proofs.judge.finish.Goals as goal
+use Rattle.krb_admission.proofs.halves.finish.Goals as goal
 
 pub returns-in_ok-admission_of-in-Ok : goal.returns-in_ok-admission_of-in-Ok
 unfolding FinishesAdmission

@@ -1,0 +1,142 @@
+//! The two halves of an admission: an AP-REQ is judged without a gate, and admitted at one.
+
+ghost use Rattle.std.specs.Prelude.{◌≡◌, IfOk, Err, Result};
+ghost use Rattle.sspi_core.specs.declared.cause.Cause.TheVariants as causes;
+ghost use Rattle.sspi_core.specs.Checks.{Answers, Holds};
+ghost use Rattle.krb_admission.specs.Admission.{IsAnswerable};
+ghost use Rattle.krb_context.specs.States.{is_waiting};
+ghost use Rattle.krb_admission.specs.Accepts.{refusal, BeginsAdmission, FinishesAdmission, MakesAnswer};
+ghost use Rattle.krb_admission.specs.Halves.{JudgesApReq, AdmitsPrepared, outcome_behind};
+
+use crate::admission::{Acceptor, Admission, Answer, admission_of, settle};
+use crate::complete::complete;
+use crate::judged::Judged;
+use crate::request::{Request, ask_of, read_request};
+use crate::third_leg::properties;
+use krb_context::Kerberos;
+use krb_der::{OutOfMemory, boxed};
+use krb_replay::{ReplayGate, Verdict};
+use sspi_core::{Cause, Draw, hold};
+use std::alloc::Global;
+
+fn check_state(server: &Kerberos) -> Result<(), Cause>
+    ensures { Holds causes.Sequence (is_waiting server.now.state) result }
+{
+    hold(server.state.is_waiting(), Cause::Sequence)
+}
+
+/// The checks before the gate. The keys that open a ticket are kept in the context.
+fn begin(alloc: Global, server: &mut Kerberos, dce: bool, token: &[u8]) -> Result<Request, Cause>
+    ensures stays { server.new ≡ server.old }
+    ensures begins { Answers (BeginsAdmission server.old dce token.now) result }
+{
+    check_state(server)?;
+    let properties = properties(&server.server)?;
+    read_request(alloc, properties, &mut server.kept_to_open, dce, token)
+}
+
+/// The checks behind the gate, and what admission makes, ready before the gate is asked.
+fn finish(
+    alloc: Global,
+    server: &Kerberos,
+    dce: bool,
+    draw: &Draw,
+    request: &Request,
+) -> Result<Result<Admission, Cause>, OutOfMemory>
+    requires { IsAnswerable request.now }
+    ensures { IfOk result (FinishesAdmission server.now dce draw.now request.now) }
+{
+    let completed = complete(alloc, request)?;
+    let acceptor = Acceptor {
+        dce,
+        user_to_user: server.krb5_user_to_user,
+        number: server.seq_number,
+        draw,
+    };
+    match completed {
+        Ok(client) => Ok(Ok(admission_of(alloc, &acceptor, request, client)?)),
+        Err(cause) => Ok(Err(cause)),
+    }
+}
+
+/// Judges an AP-REQ without a gate: the first half of [`judge_token`](crate::judge_token). All that needs memory or a cipher
+/// is done here, and nothing is changed. In DCE style the token is bare, and else framed.
+///
+/// The refusals, in their order: Sequence where the context waits for no AP-REQ, as where it waits for the initiator's last
+/// word; those of the checks of RFC 4120, section 3.2.3, before the gate, as `specs/Requests` has them. A TGT-REQ is no AP-REQ: Shape.
+/// What the checks behind the gate refuse is told by [`admit`], behind the gate's refusal.
+pub fn judge(
+    alloc: Global,
+    server: &mut Kerberos,
+    dce: bool,
+    token: &[u8],
+    draw: &Draw,
+) -> Result<Judged, Cause>
+    ensures stays { server.new ≡ server.old }
+    ensures judges { Answers (JudgesApReq server.old dce token.now draw.now) result }
+{
+    let request = begin(alloc, server, dce, token)?;
+    let held = boxed(alloc, request)?;
+    let outcome = finish(alloc, server, dce, draw, &held)?;
+    Ok(Judged {
+        request: held,
+        outcome,
+        moment: draw.moment,
+    })
+}
+
+/// What the gate's verdict refuses.
+fn refusal(verdict: Verdict) -> Option<Cause>
+    ensures { result ≡ refusal verdict }
+{
+    match verdict {
+        Verdict::Admitted => None,
+        Verdict::Skew => Some(Cause::Skew),
+        Verdict::NotYet => Some(Cause::NotYet),
+        Verdict::Expired => Some(Cause::Expired),
+        Verdict::Replayed => Some(Cause::Replayed),
+    }
+}
+
+/// What the gate's verdict leaves of what was ready.
+fn settle_behind(
+    server: &mut Kerberos,
+    refused: Option<Cause>,
+    outcome: Result<Admission, Cause>,
+) -> Result<Answer, Cause>
+    ensures { MakesAnswer server.old (outcome_behind refused outcome) result server.new }
+{
+    match refused {
+        Some(cause) => Err(cause),
+        None => match outcome {
+            Ok(admission) => Ok(settle(server, admission)),
+            Err(cause) => Err(cause),
+        },
+    }
+}
+
+/// Admits what was judged, at the context that it was judged at: the second half of [`judge_token`](crate::judge_token). The gate
+/// is asked, and what follows it takes no memory and no cipher, so that many threads may have one gate under a lock.
+///
+/// The refusals, in their order: Sequence where the context waits for no AP-REQ any more, as after another admission, and no
+/// gate is asked then; the gate's, Skew, NotYet, Expired or Replayed; those of `specs/Complete`.
+pub fn admit<G: ReplayGate>(
+    alloc: Global,
+    judged: Judged,
+    server: &mut Kerberos,
+    gate: &mut G,
+) -> Result<Answer, Cause>
+    ensures step { (result ≡ Err causes.Memory → ⊥) → AdmitsPrepared G.admits judged server.old gate.old result server.new gate.new }
+    // It is the gate alone that may run out of memory: context and gate are as before then.
+    ensures memory { result ≡ Err causes.Memory → (server.new ≡ server.old) × G.is_same gate.old gate.new }
+{
+    check_state(server)?;
+    let Judged {
+        mut request,
+        outcome,
+        moment,
+    } = judged;
+    let ask = ask_of(alloc, &mut request, moment);
+    let verdict = gate.admit(ask)?;
+    settle_behind(server, refusal(verdict), outcome)
+}

@@ -1,0 +1,125 @@
+//! An AP-REQ between the two halves of an admission.
+
+use crate::admission::Admission;
+use crate::request::{Request, copy_ask};
+use krb_der::{Bits, Name, OutOfMemory, Time};
+use krb_messages::{AuthorizationData, PrincipalName};
+use krb_replay::Ask;
+use sspi_core::Cause;
+use std::alloc::Global;
+use std::marker::Model;
+
+/// An AP-REQ that passed every check before the gate, with what the checks behind it will answer. [`judge`](crate::judge) alone
+/// makes one, and [`admit`](crate::admit) uses it up. What it tells is told by the ticket and the authenticator that were opened;
+/// **nobody is admitted yet**.
+///
+/// It lends no key.
+#[derive(Drop)]
+pub struct Judged {
+    pub(crate) request: Box<Request>,
+    /// What the checks behind the gate will answer.
+    pub(crate) outcome: Result<Admission, Cause>,
+    /// The moment to ask the gate at.
+    pub(crate) moment: u64,
+}
+
+impl Model for Judged {
+    ghost use Rattle.krb_admission.specs.Halves.{Prepared, IsPrepared};
+
+    ghost Value = { Prepared };
+
+    ghost view = { λ judged. record { request = judged.request.value; outcome = judged.outcome; moment = judged.moment } };
+
+    // What it tells has passed the checks before the gate.
+    ghost invariant = { λ judged. ∥ IsPrepared (record { request = judged.request.value; outcome = judged.outcome; moment = judged.moment }) ∥₁ };
+}
+
+/// When a ticket may be used (RFC 4120 5.3).
+#[derive(Clone, Copy, Debug, PartialEq, Eq)]
+pub struct TicketTimes {
+    /// When the client was first authenticated.
+    pub authtime: Time,
+    /// From when it is valid, where that is not `authtime`.
+    pub starttime: Option<Time>,
+    /// Until when it is valid.
+    pub endtime: Time,
+    /// Until when it may be renewed.
+    pub renew_till: Option<Time>,
+}
+
+impl Judged {
+    ghost use Rattle.std.specs.Prelude.{◌≡◌, ◌-ℤ◌, pos, IfOk};
+    ghost use Rattle.std.specs.Option.{option_copied};
+    ghost use Rattle.krb_replay.specs.Clock.{in_microseconds};
+    ghost use Rattle.krb_admission.specs.Halves.{question, ticket_times};
+
+    /// The client's name, whole: its type and all its components.
+    pub fn client_name(&self) -> &PrincipalName
+        ensures { result.now ≡ self.now.request.part.cname }
+    {
+        &self.request.part.cname
+    }
+
+    /// The client's realm.
+    pub fn client_realm(&self) -> &Name
+        ensures { result.now ≡ self.now.request.part.crealm }
+    {
+        &self.request.part.crealm
+    }
+
+    /// The service's name, as it stands in the clear part of the ticket: the key of that service opened it.
+    pub fn service_name(&self) -> &PrincipalName
+        ensures { result.now ≡ self.now.request.message.ticket.sname }
+    {
+        &self.request.message.ticket.sname
+    }
+
+    /// The realm that issued the ticket, as it stands in its clear part, which is sealed by nothing.
+    pub fn service_realm(&self) -> &Name
+        ensures { result.now ≡ self.now.request.message.ticket.realm }
+    {
+        &self.request.message.ticket.realm
+    }
+
+    /// The ticket's flags (RFC 4120 2).
+    pub fn ticket_flags(&self) -> &Bits
+        ensures { result.now ≡ self.now.request.part.flags }
+    {
+        &self.request.part.flags
+    }
+
+    /// The ticket's times.
+    pub fn ticket_times(&self) -> TicketTimes
+        ensures { result ≡ ticket_times self.now.request.part }
+    {
+        let part = &self.request.part;
+        TicketTimes {
+            authtime: part.authtime,
+            starttime: part.starttime,
+            endtime: part.endtime,
+            renew_till: part.renew_till,
+        }
+    }
+
+    /// The ticket's authorization data (RFC 4120 5.2.6): what the KDC, or the client's own restrictions, say of it. No check here reads it.
+    pub fn authorization_data(&self) -> Option<&AuthorizationData>
+        ensures { option_copied result ≡ self.now.request.part.authorization_data }
+    {
+        self.request.part.authorization_data.as_ref()
+    }
+
+    /// By how many microseconds the client's clock is ahead of the moment of the call that judged it; behind it, negative ones.
+    /// The client's time counts in whole seconds, as for the gate.
+    pub fn clock_distance(&self) -> i128
+        ensures { result ≡ in_microseconds self.now.request.authenticator.ctime -ℤ pos self.now.moment }
+    {
+        self.request.authenticator.ctime.microseconds() - i128::from(self.moment)
+    }
+
+    /// What the gate will be asked, for a store outside that is to be asked first (`TellingGate` of `krb_replay`).
+    pub fn question(&self, alloc: Global) -> Result<Ask, OutOfMemory>
+        ensures { IfOk result (λ ask. ask ≡ question self.now) }
+    {
+        copy_ask(alloc, &self.request, self.moment)
+    }
+}

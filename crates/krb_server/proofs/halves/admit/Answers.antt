@@ -1,0 +1,10 @@
+use Rattle.std.proofs.Common.{Err, ap, ◌∙◌}
+use Rattle.sspi_core.specs.declared.cause.Cause.TheVariants as causes
+use Rattle.sspi_core.specs.Kinds.{error_of}
+use Rattle.sspi_core.proofs.Chain.{same_err}
+use Rattle.krb_admission.specs.declared.admission.Answer.{Answer}
+use Rattle.krb_server.proofs.halves.admit.Goals as goal
+
+pub returns-in-Err-clause-step : goal.returns-in-Err-clause-step
+returns-in-Err-clause-step g c =
+    λ ne. (Err c.in-Err.cause, ap Err c.from.ensures, c.in-Err.ensures.step (λ z. ne (ap Err (c.from.ensures ∙ ap error_of (same_err {A = Answer} c.in-Err.cause causes.Memory z)))))
