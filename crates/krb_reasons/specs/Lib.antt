@@ -1,0 +1,5 @@
+pub mod Wanted
+pub mod Shapes
+pub mod Reasons
+pub mod Judged
+pub mod Kept

@@ -1,0 +1,79 @@
+//! Which line of an input is bad, and why.
+
+ghost use Rattle.std.specs.Prelude.{◌≡◌, IfOk, string_bytes};
+ghost use Rattle.krb_reasons.specs.Reasons.{bad_line_text};
+
+use crate::judge::{Complaint, Judge};
+use crate::kept::Kept;
+use crate::reason::Reason;
+use krb_der::OutOfMemory;
+use krb_script::split;
+use std::alloc::{AllocError, Global};
+
+/// A line that is bad, by its number from 1.
+#[derive(Clone, Copy, Debug, PartialEq, Eq)]
+pub struct BadLine {
+    pub number: u64,
+    pub reason: Reason,
+}
+
+impl BadLine {
+    /// The line that the program writes on standard error.
+    pub fn text(self, alloc: Global) -> Result<String, AllocError>
+        ensures { IfOk result (λ text. string_bytes text ≡ bad_line_text self) }
+    {
+        let (number, reason) = (self.number, self.reason.text(alloc)?);
+        format!(in alloc; "krb_run: bad line {number}: {reason}\n")
+    }
+}
+
+/// Lines that were taken.
+#[derive(Drop)]
+struct Walk {
+    judge: Judge,
+    lines: u64,
+}
+
+impl Walk {
+    /// Takes the lines of a text. Behind its last 0A a line begins, which may be empty and is then none.
+    fn take_lines(&mut self, alloc: Global, octets: &[u8]) -> Result<(), Complaint> {
+        let mut lines = split(alloc, b'\n', octets)?;
+        if octets.is_empty() || octets.ends_with(b"\n") {
+            lines.pop();
+        }
+        for line in &lines {
+            self.judge.take(alloc, line)?;
+            self.lines = self.lines.saturating_add(1);
+        }
+        Ok(())
+    }
+
+    fn take_kept(&mut self, alloc: Global, kept: &Kept) -> Result<(), Complaint> {
+        self.take_lines(alloc, kept.head())?;
+        self.lines = self.lines.saturating_add(kept.dropped());
+        self.take_lines(alloc, kept.tail())?;
+        match self.judge.missing() {
+            Some(reason) => Err(Complaint::Bad(reason)),
+            None => Ok(()),
+        }
+    }
+}
+
+/// The first bad line of what was kept of an input. An input without a `skew` line has a bad line after its last.
+pub fn first_bad_line(alloc: Global, kept: &Kept) -> Result<Option<BadLine>, OutOfMemory> {
+    if kept.is_lost() {
+        return Err(OutOfMemory);
+    }
+    let mut walk = Walk {
+        judge: Judge::new(alloc),
+        lines: 0,
+    };
+    match walk.take_kept(alloc, kept) {
+        Ok(()) => Ok(None),
+        Err(Complaint::OutOfMemory) => Err(OutOfMemory),
+        Err(Complaint::Bad(reason)) => Ok(Some(BadLine {
+            number: walk.lines.saturating_add(1),
+            reason,
+        })),
+    }
+}

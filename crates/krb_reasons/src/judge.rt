@@ -1,0 +1,173 @@
+//! The lines of an input, one after another.
+
+ghost use Rattle.std.specs.Prelude.{◌≡◌, not, is_some, Some};
+ghost use Rattle.krb_reasons.specs.Shapes.{reason_of};
+ghost use Rattle.krb_reasons.specs.Judged.{needed, attribute_conflict, conflict, conflict_in};
+ghost use Rattle.krb_reasons.specs.declared.reason.Reason.{Reason};
+ghost use Rattle.krb_reasons.specs.declared.judge.Complaint.TheVariants.{Bad};
+
+use crate::reason::Reason;
+use crate::shapes::reason_of;
+use krb_script::{Attribute, Declaration, Event, FieldError, Item, Script, parse_item};
+use krb_text::is_skipped;
+use std::alloc::{AllocError, Global};
+use std::marker::Model;
+use std::mem;
+
+/// Why a line is not taken.
+#[derive(Clone, Copy, Debug, PartialEq, Eq)]
+pub enum Complaint {
+    Bad(Reason),
+    OutOfMemory,
+}
+
+impl From<AllocError> for Complaint {
+    ghost use Rattle.std.specs.Prelude.{◌≡◌};
+    ghost use Rattle.krb_reasons.specs.declared.judge.Complaint.TheVariants.{OutOfMemory as NoMemory};
+
+    ghost from_gives = { λ _ e. e ≡ NoMemory };
+
+    fn from(_: AllocError) -> Self {
+        Complaint::OutOfMemory
+    }
+}
+
+/// The connection that a declaration adds to.
+fn needed(declaration: &Declaration) -> Option<u32>
+    ensures { result ≡ needed declaration.now }
+{
+    match declaration {
+        Declaration::Attribute(id, _) => Some(*id),
+        _ => None,
+    }
+}
+
+/// Why something that a line adds to a connection is not taken where this is declared.
+fn attribute_conflict(id: u32, attribute: &Attribute) -> Reason
+    ensures { result ≡ attribute_conflict id attribute.now }
+{
+    match attribute {
+        Attribute::Key(_) => Reason::KeyOfInitiator { id },
+        Attribute::Credentials(_) => Reason::SecondCredentials { id },
+        Attribute::Kdc(_) => Reason::SecondKdc { id },
+    }
+}
+
+/// Why a declaration is not taken behind the skew, where the connection that it adds to is declared.
+fn conflict(declaration: &Declaration) -> Reason
+    ensures { result ≡ conflict declaration.now }
+{
+    match declaration {
+        Declaration::Endpoint(id, _) => Reason::DeclaredTwice { id: *id },
+        Declaration::Attribute(id, attribute) => attribute_conflict(*id, attribute),
+        _ => Reason::SecondSkew,
+    }
+}
+
+/// The same, or that this connection is not declared.
+fn conflict_in(script: Script, needed: Option<u32>, reason: Reason) -> Reason
+    ensures { result ≡ conflict_in script needed reason }
+{
+    let (_, _, endpoints) = script.into_parts();
+    match needed {
+        Some(id) if !endpoints.contains_key(&id) => Reason::NotDeclared { id },
+        _ => reason,
+    }
+}
+
+/// What the lines so far declare, and whether an event is among them.
+#[derive(Drop)]
+pub struct Judge {
+    script: Script,
+    has_events: bool,
+}
+
+impl Model for Judge {
+    ghost use Rattle.krb_reasons.specs.Judged.{Judged};
+
+    ghost Value = { Judged };
+
+    ghost view = { λ j. record { setup = j.script; has_events = j.has_events } };
+}
+
+impl Judge {
+    ghost use Rattle.krb_script.specs.declared.item.Item.TheVariants.{Declaration as DeclarationItem, Event as EventItem};
+    ghost use Rattle.krb_reasons.specs.Judged.{nothing_judged, step, after, refusal, why, TakesLine};
+
+    /// No line was taken.
+    pub fn new(alloc: Global) -> Judge
+        ensures { result ≡ nothing_judged }
+    {
+        Judge {
+            script: Script::new(alloc),
+            has_events: false,
+        }
+    }
+
+    /// Why the input may not end here: no line told the skew.
+    pub fn missing(&self) -> Option<Reason>
+        ensures { is_some result ≡ not (is_some self.now.setup.skew) }
+    {
+        if self.script.has_begun() {
+            None
+        } else {
+            Some(Reason::NoSkew)
+        }
+    }
+
+    fn take_event(&mut self, event: Event) -> Result<(), Complaint>
+        ensures { TakesLine (step self.old (EventItem event)) (Some (refusal self.old (EventItem event))) result self.new }
+    {
+        drop(event);
+        if !self.script.has_begun() {
+            return Err(Complaint::Bad(Reason::NoSkew));
+        }
+        self.has_events = true;
+        Ok(())
+    }
+
+    fn declare(&mut self, alloc: Global, declaration: Declaration) -> Result<(), Complaint>
+        ensures { TakesLine (step self.old (DeclarationItem declaration)) (Some (refusal self.old (DeclarationItem declaration))) result self.new }
+    {
+        if self.has_events {
+            drop(declaration);
+            return Err(Complaint::Bad(Reason::BehindEvent));
+        }
+        let has_begun = self.script.has_begun();
+        let (connection, reason) = (needed(&declaration), conflict(&declaration));
+        match self.script.set_up(declaration) {
+            Ok(()) => Ok(()),
+            Err(FieldError::OutOfMemory) => Err(Complaint::OutOfMemory),
+            Err(FieldError::Bad) if !has_begun => Err(Complaint::Bad(Reason::NoSkew)),
+            Err(FieldError::Bad) => {
+                let script = mem::replace(&mut self.script, Script::new(alloc));
+                Err(Complaint::Bad(conflict_in(script, connection, reason)))
+            }
+        }
+    }
+
+    /// One line more, or why it is bad. Behind a bad line no other is to be taken.
+    pub fn take(&mut self, alloc: Global, line: &[u8]) -> Result<(), Complaint>
+        ensures { TakesLine (after self.old line.now) (why self.old line.now) result self.new }
+    {
+        if is_skipped(line) {
+            return Ok(());
+        }
+        match parse_item(alloc, line) {
+            Ok(Item::Event(event)) => self.take_event(event),
+            Ok(Item::Declaration(declaration)) => self.declare(alloc, declaration),
+            Err(FieldError::OutOfMemory) => Err(Complaint::OutOfMemory),
+            Err(FieldError::Bad) => Err(refused(alloc, line)),
+        }
+    }
+}
+
+/// Why a line is not in the table.
+fn refused(alloc: Global, line: &[u8]) -> Complaint
+    ensures { (reason : Reason) → result ≡ Bad reason → reason_of line.now ≡ Some reason }
+{
+    match reason_of(alloc, line) {
+        Ok(Some(reason)) => Complaint::Bad(reason),
+        Ok(None) | Err(_) => Complaint::OutOfMemory,
+    }
+}

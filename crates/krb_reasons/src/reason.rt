@@ -1,0 +1,113 @@
+//! Why a line is bad.
+
+ghost use Rattle.std.specs.Prelude.{◌≡◌, ◌++◌, codes, IfOk, string_bytes};
+ghost use Rattle.std.specs.Fmt.{decimal};
+ghost use Rattle.krb_reasons.specs.Wanted.{field_name, wish};
+ghost use Rattle.krb_reasons.specs.Reasons.{octet_name, reason_text};
+
+use crate::wanted::Wanted;
+use std::alloc::{AllocError, Global};
+
+/// Why a line is bad. A place counts the fields of the line from 1, with its word.
+#[derive(Clone, Copy, Debug, PartialEq, Eq)]
+pub enum Reason {
+    /// The field has no octet: two spaces stand together, or one at an end of the line.
+    Gap { place: usize },
+    /// The field has an octet that no field has: a tab, a carriage return, or 0 for any other.
+    Octet { place: usize, octet: u8 },
+    /// The field is not what it should be.
+    Field { place: usize, wanted: Wanted },
+    /// The line ends before this field.
+    Missing { place: usize, wanted: Wanted },
+    /// The line has more fields than it may.
+    Surplus { place: usize },
+    /// Each buffer of the message is one, and two of them do not go together.
+    Buffers,
+    /// No line told the skew.
+    NoSkew,
+    /// A line before told the skew.
+    SecondSkew,
+    /// An event stands before this declaration.
+    BehindEvent,
+    /// A connection with this number was declared before.
+    DeclaredTwice { id: u32 },
+    /// No connection with this number was declared before.
+    NotDeclared { id: u32 },
+    /// The connection is an initiator.
+    KeyOfInitiator { id: u32 },
+    /// The connection has a `password` or a `keytab` line.
+    SecondCredentials { id: u32 },
+    /// The connection has a `kdc` line.
+    SecondKdc { id: u32 },
+}
+
+/// An octet that no field has, in words.
+fn octet_name(octet: u8) -> &'static str
+    ensures { result.now ≡ octet_name octet }
+{
+    match octet {
+        b'\t' => "a tab",
+        b'\r' => "a carriage return",
+        _ => "an octet below 21 or above 7E",
+    }
+}
+
+/// What a field wants, behind its place and name and these words.
+fn field_text(
+    alloc: Global,
+    place: usize,
+    wanted: Wanted,
+    words: &str,
+) -> Result<String, AllocError>
+    ensures { IfOk result (λ text. string_bytes text ≡ codes "field " ++ (decimal place ++ (codes ", " ++ (field_name wanted ++ (words.now ++ wish wanted))))) }
+{
+    let (name, wish) = (wanted.name(), wanted.wish());
+    format!(in alloc; "field {place}, {name}{words}{wish}")
+}
+
+impl Reason {
+    /// The reason in words, without a line end.
+    pub fn text(self, alloc: Global) -> Result<String, AllocError>
+        ensures { IfOk result (λ text. string_bytes text ≡ reason_text self) }
+    {
+        match self {
+            Reason::Gap { place } => format!(in alloc;
+                "field {place} is empty: one space stands between two fields, and none at an end of the line"
+            ),
+            Reason::Octet { place, octet } => {
+                let octet = octet_name(octet);
+                format!(in alloc; "field {place} has {octet}")
+            }
+            Reason::Field { place, wanted } => field_text(alloc, place, wanted, ", wants "),
+            Reason::Missing { place, wanted } => {
+                field_text(alloc, place, wanted, ", is missing: ")
+            }
+            Reason::Surplus { place } => format!(in alloc; "field {place} is one too many"),
+            Reason::Buffers => String::from_str(
+                alloc,
+                "a message has one buffer T, one D and one S at most",
+            ),
+            Reason::NoSkew => String::from_str(alloc, "no line skew <seconds> stands before it"),
+            Reason::SecondSkew => String::from_str(alloc, "a line before told the skew"),
+            Reason::BehindEvent => String::from_str(
+                alloc,
+                "behind the first event only events stand",
+            ),
+            Reason::DeclaredTwice { id } => {
+                format!(in alloc; "a line before declared connection {id}")
+            }
+            Reason::NotDeclared { id } => {
+                format!(in alloc; "no line before declared connection {id}")
+            }
+            Reason::KeyOfInitiator { id } => {
+                format!(in alloc; "connection {id} is an initiator, and a key is an acceptor's")
+            }
+            Reason::SecondCredentials { id } => {
+                format!(in alloc; "a line before is the password or keytab line of connection {id}")
+            }
+            Reason::SecondKdc { id } => {
+                format!(in alloc; "a line before is the kdc line of connection {id}")
+            }
+        }
+    }
+}
