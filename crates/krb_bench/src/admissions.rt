@@ -24,13 +24,13 @@ const MOMENT: u64 = 1_700_000_000_000_000;
 const OPTIONS: usize = 40;
 
 /// No option.
-const ONE_WAY: u8 = 0;
+pub const ONE_WAY: u8 = 0;
 
 /// The option by which the client asks for an answer (RFC 4120, section 5.5.1).
 const MUTUAL_REQUIRED: u8 = 0x20;
 
 /// How many tokens are made before they are put to the acceptor under the clock.
-const BATCH: u32 = 1_000;
+pub const BATCH: u32 = 1_000;
 
 /// How many tokens are admitted in all, where that is to be measured.
 const FULL: u32 = 100_000;
@@ -49,7 +49,7 @@ fn token(alloc: Global, client: &DemoClient, options: u8, microseconds: u32) -> 
 }
 
 /// The tokens with the microseconds from `first` up to `end`, and no more than a batch.
-fn tokens(
+pub fn tokens(
     alloc: Global,
     client: &DemoClient,
     options: u8,
@@ -87,7 +87,7 @@ fn service(alloc: Global) -> Result<Box<ServerProperties>, Error> {
 }
 
 /// An acceptor of the service.
-fn acceptor(alloc: Global) -> Result<Box<Kerberos>, Error> {
+pub fn acceptor(alloc: Global) -> Result<Box<Kerberos>, Error> {
     let service = service(alloc)?;
     let config = config(alloc)?;
     let acceptor = Kerberos::new_server_from_config(
@@ -129,12 +129,17 @@ fn is_admitted(alloc: Global, door: &mut Door, token: &[u8], draw: &Draw) -> boo
     .is_ok()
 }
 
-/// How many of the tokens are admitted.
-fn admitted(alloc: Global, door: &mut Door, tokens: &[Vec<u8>]) -> u32 {
-    let draw = Draw {
+/// The moment of all tokens, and no random octets.
+pub fn draw() -> Draw {
+    Draw {
         moment: MOMENT,
         random: [0; 64],
-    };
+    }
+}
+
+/// How many of the tokens are admitted.
+fn admitted(alloc: Global, door: &mut Door, tokens: &[Vec<u8>]) -> u32 {
+    let draw = draw();
     let mut admitted = 0u32;
     for token in tokens {
         if is_admitted(alloc, door, token.as_slice(), &draw) {
