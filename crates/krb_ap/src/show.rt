@@ -20,6 +20,7 @@ ghost use Rattle.krb_ap.specs.Shown.{
   message,
   framed_ap_req,
   shown_token,
+  kept_subkey,
   change_of,
   shown,
   ShowsTicket,
@@ -27,7 +28,9 @@ ghost use Rattle.krb_ap.specs.Shown.{
 };
 
 use crate::errand::Errand;
-use crate::initiator::{Initiator, exchange_flags, is_bare};
+use crate::initiator::{
+    Initiator, exchange_flags, is_bare, is_one_way, keeps_subkey, settled_number,
+};
 use bitflags::Flags;
 use krb_as::InitDone;
 use krb_authenticators::{
@@ -191,36 +194,51 @@ fn token_of(alloc: Global, errand: &Errand, message: Octets) -> Result<Octets, O
     }
 }
 
+/// The parameters with these keys: the authenticator's subkey is the sub-session key where it is kept.
 fn keyed_params(
     alloc: Global,
-    params: &EncryptionParams,
+    initiator: &Initiator,
     suite: CipherSuite,
     key: Secret<Octets>,
+    draw: &Draw,
 ) -> Result<EncryptionParams, OutOfMemory>
-    ensures { IfOk result (λ made. made ≡ record params.now { encryption_type = Some suite; session_key = Some key }) }
+    ensures { IfOk result (λ made. made ≡ record initiator.now.params {
+      encryption_type = Some suite;
+      session_key = Some key;
+      sub_session_key = kept_subkey initiator.now suite draw.now;
+    }) }
 {
-    let mut made = params.copy_for(alloc, suite)?;
+    let mut made = initiator.params.copy_for(alloc, suite)?;
     made.session_key = Some(key);
+    if keeps_subkey(initiator) {
+        made.sub_session_key = Some(drawn_secret(alloc, suite, draw)?);
+    }
     Ok(made)
 }
 
-/// What the context becomes: the service's answer is awaited.
+/// What the context becomes: the service's answer is awaited, or it is established at once.
 fn change_of(
     alloc: Global,
     initiator: &Initiator,
     suite: CipherSuite,
     key: Secret<Octets>,
     home: &Name,
+    draw: &Draw,
 ) -> Result<ContextChange, OutOfMemory>
-    ensures { IfOk result (λ change. change ≡ change_of initiator.now suite key home.now) }
+    ensures { IfOk result (λ change. change ≡ change_of initiator.now suite key home.now draw.now) }
 {
     let realm = Text::from_str(alloc, home.as_str())?;
-    let encryption_params = keyed_params(alloc, &initiator.params, suite, key)?;
+    let encryption_params = keyed_params(alloc, initiator, suite, key, draw)?;
+    let (state, seq_number) = if is_one_way(initiator) {
+        (KerberosState::Final, settled_number(initiator))
+    } else {
+        (KerberosState::ApExchange, initiator.number)
+    };
     Ok(ContextChange {
-        state: KerberosState::ApExchange,
+        state,
         realm: Some(realm),
         encryption_params,
-        seq_number: initiator.number,
+        seq_number,
         krb5_user_to_user: initiator.user_to_user,
         ticket_decryption_key: None,
     })
@@ -244,9 +262,14 @@ fn shown(
 {
     let message = message(alloc, errand, suite, &key, rep, draw)?;
     let token = token_of(alloc, errand, message)?;
-    let change = change_of(alloc, &errand.initiator, suite, key, home)?;
+    let change = change_of(alloc, &errand.initiator, suite, key, home, draw)?;
+    let status = if is_one_way(&errand.initiator) {
+        SecurityStatus::Ok
+    } else {
+        SecurityStatus::ContinueNeeded
+    };
     Ok(InitDone {
-        status: SecurityStatus::ContinueNeeded,
+        status,
         token,
         change,
     })
@@ -276,8 +299,8 @@ fn all_shown(
     Ok(shown(alloc, errand, suite, key, rep, home, draw)?)
 }
 
-/// The end of the exchange with the KDCs: the ticket of this reply is shown to the service, whose answer is awaited. The key is the
-/// ticket's session key, `home` the client's own realm.
+/// The end of the exchange with the KDCs: the ticket of this reply is shown to the service, whose answer is awaited. Where it is allowed,
+/// a context that asked for no answer is established at once. The key is the ticket's session key, `home` the client's own realm.
 ///
 /// The AP-REQ has the options that the flags ask for. Its authenticator, under that key, has the number after the context's own,
 /// which stays, a drawn subkey, and a checksum of type 8003 hex with the context's flags and the bindings. It is framed, or bare in

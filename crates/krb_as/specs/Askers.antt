@@ -10,7 +10,7 @@ use Rattle.sspi_core.specs.declared.identity.CredentialsBuffers.{CredentialsBuff
 use Rattle.sspi_core.specs.declared.identity.CredentialsBuffers.TheVariants.{AuthIdentity as Password, Keytab as Key}
 use Rattle.krb_as.specs.declared.asker.Asker.{Asker}
 
--- a client that asks the KDC of a realm: at its own URL if it has one, and under its suite
+-- a client that asks the KDC of a realm: at its own URL if it has one, under its suite, and with what its context allows
 abbrev pub asker_of : Kerberos → CredentialsBuffers → List ℕ → Env → Asker
 asker_of client credentials realm env = record {
   kdc_url = client.config.kdc_url;
@@ -18,6 +18,7 @@ asker_of client credentials realm env = record {
   realm = realm;
   suite = suite_of client.encryption_params;
   credentials = credentials;
+  interoperability = client.interoperability;
 }
 
 -- the suite of the client's key: the context's for a password, the key's own for a keytab

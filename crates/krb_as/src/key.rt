@@ -10,6 +10,7 @@ ghost use Rattle.krb_as.specs.ReplyKeys.{TakesReplyKey};
 
 use crate::asker::Asker;
 use crate::kdc::Kdc;
+use krb_context::Interoperability;
 use krb_crypto::{CipherSuite, generate_key_from_password};
 use krb_der::{Octets, Text};
 use krb_exchange::{AsRep, KdcRep};
@@ -53,21 +54,23 @@ pub struct ReplyKey {
 /// The session key that is sealed under the key of the credentials.
 fn session_key(
     alloc: Global,
+    options: Interoperability,
     credentials: &CredentialsBuffers,
     suite: CipherSuite,
     salt: &Text,
     as_rep: &AsRep,
 ) -> Result<Secret<Octets>, Cause>
-    ensures { Answers (BringsKey suite (client_key suite salt.now credentials.now) as_rep.now) result }
+    ensures { Answers (BringsKey options suite (client_key suite salt.now credentials.now) as_rep.now) result }
 {
     match credentials {
         CredentialsBuffers::AuthIdentity(identity) => {
             let password = identity.password.as_ref().as_str().as_bytes();
             let key = generate_key_from_password(suite, password, salt.as_str().as_bytes());
-            session_key_in_as_rep(alloc, suite, key.as_slice(), as_rep)
+            session_key_in_as_rep(alloc, options, suite, key.as_slice(), as_rep)
         }
         CredentialsBuffers::Keytab(identity) => {
-            session_key_in_as_rep(alloc, suite, identity.key.as_ref().as_slice(), as_rep)
+            let key = identity.key.as_ref().as_slice();
+            session_key_in_as_rep(alloc, options, suite, key, as_rep)
         }
     }
 }
@@ -82,15 +85,16 @@ fn told_hint(alloc: Global, used: &Text, as_rep: &AsRep) -> Result<(u8, Text), C
 /// The session key, in the suite and with the salt that were told.
 fn told_key(
     alloc: Global,
-    credentials: &CredentialsBuffers,
+    asker: &Asker,
     hint: &(u8, Text),
     as_rep: &AsRep,
 ) -> Result<Secret<Octets>, Cause>
-    ensures { Answers (BringsKey (suite_of_etype hint.now.0) (client_key (suite_of_etype hint.now.0) hint.now.1 credentials.now) as_rep.now) result }
+    ensures { Answers (BringsKey asker.now.interoperability (suite_of_etype hint.now.0) (client_key (suite_of_etype hint.now.0) hint.now.1 asker.now.credentials) as_rep.now) result }
 {
     session_key(
         alloc,
-        credentials,
+        asker.interoperability,
+        &asker.credentials,
         CipherSuite::of_etype(hint.0),
         &hint.1,
         as_rep,
@@ -111,7 +115,7 @@ fn with_suite(etype: u8, key: Secret<Octets>) -> Result<ReplyKey, Cause>
 ///
 /// Refused as `Shape`, `EtypeEntry`, `Salt` and `Etype` as `told_etype` refuses; as `KeyLength` where the key is a keytab's and
 /// has not the length of the suite's keys; as `Short` where the sealed part has under 28 octets, as `Altered` where nothing is
-/// sealed to it under that key, as `Inner` where what is sealed is no EncASRepPart.
+/// sealed to it under that key, as `Inner` where what is sealed is no EncASRepPart, nor one with tag 26 where that is allowed.
 #[tactic(auto, unfolding(crate::specs::ReplyKeys::TakesReplyKey))]
 pub fn reply_key(
     alloc: Global,
@@ -119,10 +123,10 @@ pub fn reply_key(
     salt: &Text,
     as_rep: &AsRep,
 ) -> Result<ReplyKey, Cause>
-    ensures { Answers (TakesReplyKey asker.now.credentials salt.now as_rep.now) result }
+    ensures { Answers (TakesReplyKey asker.now.interoperability asker.now.credentials salt.now as_rep.now) result }
 {
     let hint = told_hint(alloc, salt, as_rep)?;
-    let key = told_key(alloc, &asker.credentials, &hint, as_rep)?;
+    let key = told_key(alloc, asker, &hint, as_rep)?;
     with_suite(hint.0, key)
 }
 
@@ -137,18 +141,19 @@ fn is_kept(sealed: &SealedTime, hint: &(u8, Text)) -> bool
 /// The session key, in the suite and with the salt that were told. A password's key is made again only where these are others.
 fn kept_or_told_key(
     alloc: Global,
-    credentials: &CredentialsBuffers,
+    asker: &Asker,
     sealed: &SealedTime,
     hint: &(u8, Text),
     as_rep: &AsRep,
 ) -> Result<Secret<Octets>, Cause>
-    requires { sealed.now.key ≡ client_key sealed.now.suite sealed.now.salt credentials.now }
-    ensures { Answers (BringsKey (suite_of_etype hint.now.0) (client_key (suite_of_etype hint.now.0) hint.now.1 credentials.now) as_rep.now) result }
+    requires { sealed.now.key ≡ client_key sealed.now.suite sealed.now.salt asker.now.credentials }
+    ensures { Answers (BringsKey asker.now.interoperability (suite_of_etype hint.now.0) (client_key (suite_of_etype hint.now.0) hint.now.1 asker.now.credentials) as_rep.now) result }
 {
     if is_kept(sealed, hint) {
-        session_key_in_as_rep(alloc, sealed.suite, sealed.key.as_ref().as_slice(), as_rep)
+        let key = sealed.key.as_ref().as_slice();
+        session_key_in_as_rep(alloc, asker.interoperability, sealed.suite, key, as_rep)
     } else {
-        told_key(alloc, credentials, hint, as_rep)
+        told_key(alloc, asker, hint, as_rep)
     }
 }
 
@@ -161,9 +166,9 @@ pub(crate) fn kept_reply_key(
     as_rep: &AsRep,
 ) -> Result<ReplyKey, Cause>
     requires { sealed.now.key ≡ client_key sealed.now.suite sealed.now.salt asker.now.credentials }
-    ensures { Answers (TakesReplyKey asker.now.credentials sealed.now.salt as_rep.now) result }
+    ensures { Answers (TakesReplyKey asker.now.interoperability asker.now.credentials sealed.now.salt as_rep.now) result }
 {
     let hint = told_hint(alloc, &sealed.salt, as_rep)?;
-    let key = kept_or_told_key(alloc, &asker.credentials, sealed, &hint, as_rep)?;
+    let key = kept_or_told_key(alloc, asker, sealed, &hint, as_rep)?;
     with_suite(hint.0, key)
 }

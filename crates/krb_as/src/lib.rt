@@ -37,6 +37,6 @@ pub use done::InitDone;
 pub use kdc::{Kdc, find_kdc};
 pub use key::{Grant, ReplyKey, SealedTime, reply_key};
 pub use receiving::{MAX_REPLY, read_reply, unwrap_reply};
-pub use reply::{granted, granted_as_rep, granted_tgs_rep, wanted_salt};
+pub use reply::{granted, granted_as_rep, granted_tgs_rep, left_salt};
 pub use sending::request_to;
 pub use turn::{Turn, go_on, is_want};

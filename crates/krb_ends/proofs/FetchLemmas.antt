@@ -1,6 +1,6 @@
 -- Over honest KDCs the run of an initiator comes to its end, by induction on the referrals.
-use Rattle.std.proofs.Common.{◌≡◌, ℕ, ◌+◌, ◌<◌, ◌≤◌, not, List, [], ◌∷◌, length, Option, Some, None, refl, sym, subst, ap, arith, Ok}
-use Rattle.std.specs.Prelude.{◌==◌, nat_lt, option_map}
+use Rattle.std.proofs.Common.{◌≡◌, ℕ, ◌+◌, ◌<◌, ◌≤◌, Bool, true, false, not, List, [], ◌∷◌, length, Option, Some, None, refl, sym, subst, ap, arith, Ok}
+use Rattle.std.specs.Prelude.{◌==◌, ◌&&◌, nat_lt, option_map}
 use Rattle.std.proofs.lemmas.Bool.{lt-ltb, eq-eqb}
 use Rattle.krb_crypto.specs.Suite.{key_size, suite_number, suite_of_etype}
 use Rattle.krb_crypto.specs.declared.suite.CipherSuite.{CipherSuite}
@@ -12,7 +12,7 @@ use Rattle.krb_exchange.specs.declared.kdc_rep.KdcRep.{KdcRep}
 use Rattle.krb_exchange.specs.declared.kdc_rep.TgsRep.{TgsRep}
 use Rattle.krb_exchange.specs.declared.kdc_req.KdcReqBody.{KdcReqBody}
 use Rattle.krb_exchange.specs.declared.result.KrbResult.TheVariants.{Ok as Reply, Err as Refusal}
-use Rattle.krb_exchange.specs.Layouts.{as_rep_layout, tgs_rep_layout, enc_as_rep_part_layout, enc_tgs_rep_part_layout}
+use Rattle.krb_exchange.specs.Layouts.{as_rep_layout, tgs_rep_layout, enc_tgs_rep_part_layout}
 use Rattle.krb_der.specs.Layout.{Layout}
 use Rattle.krb_context.specs.declared.context.Kerberos.{Kerberos}
 use Rattle.krb_context.specs.declared.server.ServerProperties.{ServerProperties}
@@ -25,7 +25,7 @@ use Rattle.sspi_generator.specs.declared.network.NetworkRequest.{NetworkRequest}
 use Rattle.krb_as.specs.declared.kdc.Kdc.{Kdc}
 use Rattle.krb_as.specs.Kdcs.{FindsKdc}
 use Rattle.krb_as.specs.Replies.{Replies}
-use Rattle.krb_replies.specs.Unseals.{own_key, session_key}
+use Rattle.krb_replies.specs.Unseals.{session_key}
 use Rattle.krb_replies.specs.Keys.{BringsKey, HandsOnKey}
 use Rattle.krb_as.specs.declared.done.InitDone.{InitDone}
 use Rattle.krb_as.specs.declared.as_phase.AsPhase.{AsPhase}
@@ -36,12 +36,14 @@ use Rattle.krb_tgs.specs.declared.tgs.Begun.{Begun}
 use Rattle.krb_as.specs.declared.turn.Turn.TheVariants.{Asks, Ends}
 use Rattle.krb_as.specs.Askers.{asker_suite, client_key, default_salt, sized_key}
 use Rattle.krb_as.specs.Asked.{first_request, second_request}
-use Rattle.krb_as.specs.AsPhases.{sealed_time, BeginsExchange, SealsTime, AsksSecond, TakesAsRep, BeginsWithin, TakesReplyWithin}
-use Rattle.krb_as.specs.Replied.{WantsPreAuth, Grants}
+use Rattle.krb_as.specs.AsPhases.{sealed_time, BeginsExchange, SealsTime, AsksSecond, BringsGrant, TakesAsRep, BeginsWithin, TakesReplyWithin}
+use Rattle.krb_as.specs.Replied.{LeavesSalt, TakesFirst, Grants}
 use Rattle.krb_as.specs.ReplyKeys.{TakesReplyKey}
 use Rattle.krb_as.specs.declared.key.Grant.{Grant}
 use Rattle.krb_tgs.specs.TgsAsked.{is_same_realm, tgs_request, AsksTgs, Follows}
 use Rattle.krb_tgs.specs.Taken.{TakesTgsRep}
+use Rattle.krb_context.specs.Interoperability.{allows, one_way_is_settled}
+use Rattle.krb_ap.specs.Initiators.{is_one_way}
 use Rattle.krb_ap.specs.Shown.{message, shown as shown_to, ShowsTicket}
 use Rattle.krb_initiator.specs.declared.seeker.Seeker.{Seeker}
 use Rattle.krb_initiator.specs.declared.seeker.TgsLeg.{TgsLeg}
@@ -54,7 +56,7 @@ use Rattle.krb_ends.specs.Fetches.{Leads, Fetches, AsksMutual, EndsWithOffer}
 use Rattle.krb_ends.specs.HonestKdc.{Brings, AnswersError, GrantsFirst, Known, GrantsNext, HasKdc, Refers, Serves, Step, Answers, AreHonest, AreHonestKdcs}
 use Rattle.krb_ends.specs.Offers.{Offer, octets_of, offered_token}
 use Rattle.krb_ends.proofs.GrantLemmas.{IsGranted, granted_in, offer_of, honest}
-use Rattle.krb_ends.proofs.HonestLemmas.{opens_carried}
+use Rattle.krb_ends.proofs.HonestLemmas.{opens_carried, opens_first}
 
 -- ---- replies
 
@@ -65,13 +67,15 @@ grants layout protocol reply value brings =
 
 module _ (seeker : Seeker) (suite : CipherSuite) where
   -- the error
-  wants : (protocol : NetworkProtocol) (reply salt : List ℕ) → AnswersError seeker.asker protocol reply salt
-      → WantsPreAuth protocol (default_salt seeker.asker.credentials) (Ok reply) (Ok salt)
-  unfolding WantsPreAuth Replies
-  wants protocol reply salt error =
-      follows _ _ (Refusal error.error) _ (follows _ _ error.brings.message _ error.brings.unwraps (record { is = error.brings.read }))
-      (follows _ _ error.error _ (record { is = refl })
-      (follows _ _ error.named _ error.names (record { is = ap Ok error.salt_is })))
+  errs : (protocol : NetworkProtocol) (reply salt : List ℕ) (error : AnswersError seeker.asker protocol reply salt)
+      → Replies protocol as_rep_layout (Ok reply) (Ok (Refusal error.error))
+  unfolding Replies
+  errs protocol reply salt error = follows _ _ error.brings.message _ error.brings.unwraps (record { is = error.brings.read })
+
+  leaves : (protocol : NetworkProtocol) (reply salt : List ℕ) (error : AnswersError seeker.asker protocol reply salt)
+      → LeavesSalt (default_salt seeker.asker.credentials) error.error (Ok salt)
+  unfolding LeavesSalt
+  leaves protocol reply salt error = follows _ _ error.named _ error.names (record { is = ap Ok error.salt_is })
 
   -- what a reply of the AS exchange leads to
   abbrev pub Taken : AsPhase → Step → Turn InitPhase InitDone → Type 0
@@ -79,15 +83,16 @@ module _ (seeker : Seeker) (suite : CipherSuite) where
 
   pub asks_second : (kdc : Kdc) (body : KdcReqBody) (step : Step) (salt key : List ℕ) → AnswersError seeker.asker kdc.protocol step.reply salt → sized_key seeker.asker salt ≡ Some key
       → Taken (AwaitsError kdc body) step (Asks (second_request (asker_suite seeker.asker) key step.draw kdc body) (InAsExchange (AwaitsAsRep (sealed_time seeker.asker kdc salt key))))
-  unfolding TakesReplyWithin AsksSecond SealsTime
+  unfolding TakesReplyWithin TakesFirst AsksSecond SealsTime
   asks_second kdc body step salt key error has =
       let request : NetworkRequest = second_request (asker_suite seeker.asker) key step.draw kdc body in
       let sealed : SealedTime = sealed_time seeker.asker kdc salt key in
       follows _ _ (Asks request (AwaitsAsRep sealed)) _
+      (follows _ _ (Refusal error.error) _ (errs kdc.protocol step.reply salt error)
       (follows _ _ (request, sealed) _
-      (follows _ _ salt _ (wants kdc.protocol step.reply salt error)
+      (follows _ _ salt _ (leaves kdc.protocol step.reply salt error)
       (follows _ _ key _ (takes_some KeyLength (sized_key seeker.asker salt) key has) (gives _)))
-      (gives _))
+      (gives _)))
       (gives _)
 
   -- the AS-REP
@@ -99,19 +104,19 @@ module _ (seeker : Seeker) (suite : CipherSuite) where
       go Aes256CtsHmacSha196 = refl
 
   brings_key : (protocol : NetworkProtocol) (used reply : List ℕ) (rep : AsRep) (key : List ℕ) (first : GrantsFirst seeker.asker suite protocol used reply rep key)
-      → BringsKey suite (client_key suite first.salt seeker.asker.credentials) rep (Ok key)
+      → BringsKey seeker.asker.interoperability suite (client_key suite first.salt seeker.asker.credentials) rep (Ok key)
   unfolding BringsKey
   brings_key protocol used reply rep key first =
       follows _ _ first.part _
-      (opens_carried enc_as_rep_part_layout own_key suite (client_key suite first.salt seeker.asker.credentials) 3 rep.0.enc_part.cipher first.part first.key_fits first.carries)
+      (opens_first seeker.asker.interoperability suite (client_key suite first.salt seeker.asker.credentials) rep.0.enc_part.cipher first.part first.key_fits first.carries)
       (record { is = ap Ok (sym first.key_is) })
 
   takes_key : (protocol : NetworkProtocol) (used reply : List ℕ) (rep : AsRep) (key : List ℕ) → GrantsFirst seeker.asker suite protocol used reply rep key
-      → TakesReplyKey seeker.asker.credentials used rep (Ok (record { suite = suite; key = key }))
+      → TakesReplyKey seeker.asker.interoperability seeker.asker.credentials used rep (Ok (record { suite = suite; key = key }))
   unfolding TakesReplyKey
   takes_key protocol used reply rep key first =
-      let brought : BringsKey (suite_of_etype (suite_number suite)) (client_key (suite_of_etype (suite_number suite)) first.salt seeker.asker.credentials) rep (Ok key) =
-      subst (λ (s : CipherSuite). BringsKey s (client_key s first.salt seeker.asker.credentials) rep (Ok key)) (sym numbered) (brings_key protocol used reply rep key first) in
+      let brought : BringsKey seeker.asker.interoperability (suite_of_etype (suite_number suite)) (client_key (suite_of_etype (suite_number suite)) first.salt seeker.asker.credentials) rep (Ok key) =
+      subst (λ (s : CipherSuite). BringsKey seeker.asker.interoperability s (client_key s first.salt seeker.asker.credentials) rep (Ok key)) (sym numbered) (brings_key protocol used reply rep key first) in
       follows _ _ (suite_number suite, first.salt) _ first.tells
       (follows _ _ key _ brought (record { is = ap (λ (s : CipherSuite). Ok (record { suite = s; key = key })) (sym numbered) }))
 
@@ -123,8 +128,8 @@ module _ (seeker : Seeker) (suite : CipherSuite) where
   leg known home hops = record { kdc = known.kdc; suite = suite; key = known.key; home = home; hops = hops }
 
   takes_as_rep : (protocol : NetworkProtocol) (used reply : List ℕ) (rep : AsRep) (key : List ℕ) → GrantsFirst seeker.asker suite protocol used reply rep key
-      → TakesAsRep seeker.asker.credentials protocol used (Ok reply) (Ok (Ends (shown key rep.0)))
-  unfolding TakesAsRep
+      → TakesAsRep seeker.asker protocol used (Ok reply) (Ok (Ends (shown key rep.0)))
+  unfolding TakesAsRep BringsGrant
   takes_as_rep protocol used reply rep key first =
       follows _ _ rep _ (grants as_rep_layout protocol reply rep first.brings)
       (follows _ _ (record { suite = suite; key = key }) _ (takes_key protocol used reply rep key first) (gives _))
@@ -247,6 +252,14 @@ module _ (seeker : Seeker) (suite : CipherSuite) where
           let brings = (served kdcs.as_rep.0.crealm service_key kdcs.known answers.referrals answers.last rep part kdcs.honest).1.grants.brings in
           granted_in rep brings.message brings.read brings.octets brings.short
 
+      -- mutual authentication is asked for, so the answer is awaited
+      and_false : (b : Bool) → (b && false) ≡ false
+      and_false true = refl
+      and_false false = refl
+
+      awaited : is_one_way seeker.errand.initiator ≡ false
+      awaited = rw asks.asked (and_false (allows seeker.errand.initiator.interoperability one_way_is_settled))
+
       abbrev offer : Offer
       offer = offer_of seeker.errand suite rep.0 answers.last.draw granted is part
 
@@ -257,7 +270,7 @@ module _ (seeker : Seeker) (suite : CipherSuite) where
       offered : (context : Kerberos) → context.server ≡ None → Offered (settled context done.change) offer
       unfolding shown_to
       offered context role =
-          record { role = ap (λ (s : Option ServerProperties). option_map (with_key None) s) role; state = refl; suite = refl; key = refl }
+          record { role = ap (λ (s : Option ServerProperties). option_map (with_key None) s) role; state = rw awaited refl; suite = refl; key = refl }
 
       pub ends_with_offer : (context : Kerberos) → context.server ≡ None → EndsWithOffer context seeker service_key suite draw answers rep part
       unfolding shown_to
@@ -265,7 +278,7 @@ module _ (seeker : Seeker) (suite : CipherSuite) where
           let serves = (served kdcs.as_rep.0.crealm service_key kdcs.known answers.referrals answers.last rep part kdcs.honest).1 in record {
             done = done;
             fetches = fetches;
-            status = refl;
+            status = rw awaited refl;
             offer = offer;
             token = token_is;
             suite_is = refl;
@@ -273,7 +286,7 @@ module _ (seeker : Seeker) (suite : CipherSuite) where
             part_is = refl;
             style = refl;
             filler_stays = refl;
-            number_stays = refl;
+            number_stays = rw awaited refl;
             honest =
                 honest seeker.errand suite rep.0 answers.last.draw granted is part service_key serves.ticket serves.same_realm serves.same_name asks.asked asks.named asks.short;
             offered = offered context role;

@@ -1,8 +1,11 @@
 -- What honest KDCs answer an initiator (RFC 4120, sections 3.1.3, 3.1.5, 3.3.3 and 3.3.4; RFC 6806, section 8), by what their replies
 -- are sealed under and what they bring. Who asks knows the key that a reply has to be sealed under, and the KDC that it asked.
-use Rattle.std.specs.Prelude.{◌≡◌, ℕ, ◌^◌, ◌≤◌, false, List, [], ◌∷◌, length, Option, Some, None, Ok, unwrap_or}
+use Rattle.std.specs.Prelude.{◌≡◌, ◌&&◌, ℕ, ◌^◌, ◌≤◌, false, List, [], ◌∷◌, length, Option, Some, None, Ok, unwrap_or}
 use Rattle.krb_aes.specs.Octets.{IsOctets}
 use Rattle.krb_der.specs.Layout.{Layout}
+use Rattle.krb_context.specs.declared.interoperability.Interoperability.{Interoperability}
+use Rattle.krb_context.specs.Interoperability.{allows, as_rep_tagged_26}
+use Rattle.krb_crypto.specs.Sealed.{IsSealed}
 use Rattle.krb_crypto.specs.Suite.{key_size, suite_number}
 use Rattle.krb_crypto.specs.declared.suite.CipherSuite.{CipherSuite}
 use Rattle.krb_conf.specs.Names.{target_parts}
@@ -12,13 +15,14 @@ use Rattle.krb_exchange.specs.declared.kdc_rep.TgsRep.{TgsRep}
 use Rattle.krb_exchange.specs.declared.enc_kdc_rep_part.EncAsRepPart.{EncAsRepPart}
 use Rattle.krb_exchange.specs.declared.enc_kdc_rep_part.EncTgsRepPart.{EncTgsRepPart}
 use Rattle.krb_exchange.specs.declared.krb_error.KrbError.{KrbError}
-use Rattle.krb_exchange.specs.Layouts.{as_rep_layout, tgs_rep_layout, enc_as_rep_part_layout, enc_tgs_rep_part_layout, krb_error_layout}
+use Rattle.krb_exchange.specs.Layouts.{as_rep_layout, tgs_rep_layout, enc_tgs_rep_part_layout, krb_error_layout}
 use Rattle.sspi_core.specs.declared.draw.Draw.{Draw}
 use Rattle.sspi_core.specs.declared.protocol.NetworkProtocol.{NetworkProtocol}
 use Rattle.krb_as.specs.declared.kdc.Kdc.{Kdc}
 use Rattle.krb_as.specs.Kdcs.{FindsKdc}
 use Rattle.krb_as.specs.Replies.{Unwraps}
 use Rattle.krb_replies.specs.Unseals.{IsRead}
+use Rattle.krb_replies.specs.Keys.{is_tagged_26, IsFirstPart}
 use Rattle.krb_replies.specs.Salts.{NamesSalt, TellsEtype}
 use Rattle.krb_replies.specs.Realms.{referral_realm}
 use Rattle.krb_as.specs.declared.asker.Asker.{Asker}
@@ -43,6 +47,12 @@ pub record AnswersError (asker : Asker) (protocol : NetworkProtocol) (reply salt
   pub names : NamesSalt error (Ok named)
   pub salt_is : salt ≡ unwrap_or named (default_salt asker.credentials)
 
+-- the part of an AS-REP that is sealed in a text, with usage 3: tagged 26 only where the asker allows that (RFC 4120, section 5.4.2)
+pub record CarriesFirst (options : Interoperability) (suite : CipherSuite) (key text : List ℕ) (part : EncAsRepPart) : Type 0 where
+  pub plain : List ℕ
+  pub sealed : IsSealed suite key 3 text plain
+  pub read : IsFirstPart (allows options as_rep_tagged_26 && is_tagged_26 plain) plain part
+
 -- the second by an AS-REP: sealed under the client's key, with usage 3, and a key of the suite is in it; used is the request's salt
 pub record GrantsFirst (asker : Asker) (suite : CipherSuite) (protocol : NetworkProtocol) (used reply : List ℕ) (rep : AsRep) (key : List ℕ) : Type 0 where
   pub brings : Brings as_rep_layout protocol reply rep
@@ -50,7 +60,7 @@ pub record GrantsFirst (asker : Asker) (suite : CipherSuite) (protocol : Network
   pub tells : TellsEtype used rep (Ok (suite_number suite, salt))
   pub key_fits : length (client_key suite salt asker.credentials) ≡ key_size suite
   pub part : EncAsRepPart
-  pub carries : Carries enc_as_rep_part_layout suite (client_key suite salt asker.credentials) 3 rep.0.enc_part.cipher part
+  pub carries : CarriesFirst asker.interoperability suite (client_key suite salt asker.credentials) rep.0.enc_part.cipher part
   pub key_is : part.0.key.key_value ≡ key
   pub fits : length key ≡ key_size suite
 

@@ -8,11 +8,12 @@ use Rattle.krb_exchange.specs.declared.kdc_rep.TgsRep.{TgsRep}
 use Rattle.krb_exchange.specs.Layouts.{as_rep_layout, tgs_rep_layout}
 use Rattle.sspi_core.specs.declared.protocol.NetworkProtocol.{NetworkProtocol}
 use Rattle.sspi_generator.specs.declared.network.NetFault.{NetFault}
+use Rattle.krb_context.specs.Interoperability.{allows, no_preauthentication}
 use Rattle.krb_replies.specs.Realms.{referral_realm}
 use Rattle.krb_as.specs.declared.as_phase.AsPhase.TheVariants.{AwaitsError, AwaitsAsRep}
 use Rattle.krb_as.specs.declared.done.InitDone.{InitDone}
 use Rattle.krb_as.specs.Askers.{default_salt}
-use Rattle.krb_as.specs.Replied.{WantsPreAuth, Grants}
+use Rattle.krb_as.specs.Replied.{LeavesFirst, Grants}
 use Rattle.krb_tgs.specs.Chain.{IsChain}
 use Rattle.krb_initiator.specs.declared.seeker.Seeker.{Seeker}
 use Rattle.krb_initiator.specs.declared.seeker.TgsLeg.{TgsLeg}
@@ -36,26 +37,33 @@ is_referral rep = is_some (referral_realm rep.0.ticket.sname)
 -- the first reply, an error, names this salt, or leaves the one that the credentials have
 pub record NamesFirst (seeker : Seeker) (reply : Result (List ℕ) NetFault) (salt : List ℕ) : Type 0 where
   pub protocol : NetworkProtocol
-  pub named : WantsPreAuth protocol (default_salt seeker.asker.credentials) reply (Ok salt)
+  pub named : LeavesFirst protocol (default_salt seeker.asker.credentials) reply salt
 
--- the second one is an AS-REP
+-- what came before the AS-REP leaves this salt: an error does. Where it is allowed that there is no pre-authentication, nothing came, and
+-- it is the salt that the credentials have (RFC 4120, section 3.1.3)
+abbrev pub LeaveSalt : Seeker → List (Result (List ℕ) NetFault) → List ℕ → Type 0
+LeaveSalt seeker [] salt = (allows seeker.asker.interoperability no_preauthentication ≡ true) × (salt ≡ default_salt seeker.asker.credentials)
+LeaveSalt seeker (error ∷ []) salt = NamesFirst seeker error salt
+LeaveSalt seeker (error ∷ (more ∷ rest)) salt = ⊥
+
+-- the reply behind it is an AS-REP
 pub record GrantsFirst (reply : Result (List ℕ) NetFault) (rep : AsRep) : Type 0 where
   pub protocol : NetworkProtocol
   pub granted : Grants protocol as_rep_layout reply (Ok rep)
 
--- an error, an AS-REP, and these TGS-REPs, each sealed under the key before it, the first under that of the credentials; the last one
+-- mostly an error, an AS-REP, and these TGS-REPs, each sealed under the key before it, the first under that of the credentials; the last one
 -- brought this key
 pub record HasChain (seeker : Seeker) (replies : List (Result (List ℕ) NetFault)) (suite : CipherSuite) (reps : List TgsRep) (key : List ℕ) : Type 0 where
-  pub error : Result (List ℕ) NetFault
+  pub before : List (Result (List ℕ) NetFault)
   pub first : Result (List ℕ) NetFault
   pub rest : List (Result (List ℕ) NetFault)
-  pub are : replies ≡ error ∷ first ∷ rest
+  pub are : replies ≡ before ++ first ∷ rest
   pub salt : List ℕ
-  pub names : NamesFirst seeker error salt
+  pub leave : LeaveSalt seeker before salt
   pub as_rep : AsRep
   pub grants : GrantsFirst first as_rep
   pub granted : AreGranted rest reps
-  pub chain : IsChain seeker.asker.credentials salt as_rep suite reps key
+  pub chain : IsChain seeker.asker.interoperability seeker.asker.credentials salt as_rep suite reps key
 
 -- the error alone
 pub record CameWithSalt (seeker : Seeker) (replies : List (Result (List ℕ) NetFault)) (salt : List ℕ) : Type 0 where

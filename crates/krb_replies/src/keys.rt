@@ -1,14 +1,17 @@
 //! The keys that replies of a KDC bring.
 
-ghost use Rattle.sspi_core.specs.Checks.{Answers};
+ghost use Rattle.std.specs.Prelude.{◌≡◌, ◌&&◌, true};
+ghost use Rattle.sspi_core.specs.declared.cause.Cause.TheVariants as causes;
+ghost use Rattle.sspi_core.specs.Checks.{Answers, Finds};
 ghost use Rattle.krb_crypto.specs.Password.{password_key};
+ghost use Rattle.krb_context.specs.Interoperability.{allows, as_rep_tagged_26, no_options};
 ghost use Rattle.krb_context.specs.Params.{suite_of};
 ghost use Rattle.krb_replies.specs.Told.{Tells};
-ghost use Rattle.krb_replies.specs.Keys.{BringsKey, HandsOnKey};
+ghost use Rattle.krb_replies.specs.Keys.{is_tagged_26, IsFirstPart, OpensFirst, BringsKey, HandsOnKey};
 
 use crate::told::tell;
-use crate::unseal::{OWN_KEY, SESSION_KEY, open};
-use krb_context::EncryptionParams;
+use crate::unseal::{OWN_KEY, SESSION_KEY, open, read_inner, unseal};
+use krb_context::{EncryptionParams, Interoperability};
 use krb_crypto::{CipherSuite, generate_key_from_password};
 use krb_der::Octets;
 use krb_exchange::{AsRep, EncAsRepPart, EncTgsRepPart, TgsRep};
@@ -16,17 +19,70 @@ use krb_messages::constants::{AS_REP_USAGE, TGS_REP_USAGE};
 use sspi_core::{Cause, Error, Secret};
 use std::alloc::Global;
 
-/// The key that an AS-REP brings, as a chain of checks.
+/// The application tag of an EncTGSRepPart, 26 (RFC 4120, section 5.4.2).
+const TAG_26: u8 = 0x7a;
+
+fn is_tagged_26(plain: &[u8]) -> bool
+    ensures { result ≡ is_tagged_26 plain.now }
+{
+    match plain {
+        [] => false,
+        [tag, ..] => *tag == TAG_26,
+    }
+}
+
+/// The fields of an EncTGSRepPart as those of an EncASRepPart.
+fn read_tagged_26(alloc: Global, plain: &Octets) -> Result<EncAsRepPart, Cause>
+    ensures { Answers (Finds causes.Inner (IsFirstPart true plain.now)) result }
+{
+    let EncTgsRepPart(part) = read_inner::<EncTgsRepPart>(alloc, plain)?;
+    Ok(EncAsRepPart(part))
+}
+
+/// What an AS-REP seals, by its tag.
+fn first_part(
+    alloc: Global,
+    options: Interoperability,
+    plain: &Octets,
+) -> Result<EncAsRepPart, Cause>
+    ensures { let tagged = allows options as_rep_tagged_26 && is_tagged_26 plain.now in
+        Answers (Finds causes.Inner (IsFirstPart tagged plain.now)) result }
+{
+    let tagged = options.allows(Interoperability::AS_REP_TAGGED_26)
+        && is_tagged_26(plain.as_slice());
+    if tagged {
+        read_tagged_26(alloc, plain)
+    } else {
+        read_inner(alloc, plain)
+    }
+}
+
+#[tactic(auto, unfolding(crate::specs::Keys::OpensFirst))]
+fn open_first(
+    alloc: Global,
+    options: Interoperability,
+    suite: CipherSuite,
+    key: &[u8],
+    text: &[u8],
+) -> Result<EncAsRepPart, Cause>
+    ensures { Answers (OpensFirst options suite key.now text.now) result }
+{
+    let plain = unseal(alloc, OWN_KEY, suite, key, AS_REP_USAGE, text)?;
+    first_part(alloc, options, &plain)
+}
+
+/// The key that an AS-REP brings, as a chain of checks. What it seals may have application tag 26 where that is allowed.
 pub fn session_key_in_as_rep(
     alloc: Global,
+    options: Interoperability,
     suite: CipherSuite,
     key: &[u8],
     as_rep: &AsRep,
 ) -> Result<Secret<Octets>, Cause>
-    ensures { Answers (BringsKey suite key.now as_rep.now) result }
+    ensures { Answers (BringsKey options suite key.now as_rep.now) result }
 {
     let text = as_rep.0.enc_part.cipher.as_slice();
-    let part = open::<EncAsRepPart>(alloc, OWN_KEY, suite, key, AS_REP_USAGE, text)?;
+    let part = open_first(alloc, options, suite, key, text)?;
     let EncAsRepPart(part) = part;
     Ok(Secret::new(part.key.key_value))
 }
@@ -60,11 +116,12 @@ pub fn extract_session_key_from_as_rep(
     enc_params: &EncryptionParams,
 ) -> Result<Secret<Octets>, Error>
     ensures { let suite = suite_of enc_params.now in
-        Tells (BringsKey suite (password_key suite password.now salt.now) as_rep.now) result }
+        Tells (BringsKey no_options suite (password_key suite password.now salt.now) as_rep.now) result }
 {
     let suite = enc_params.suite();
     let key = generate_key_from_password(suite, password.as_bytes(), salt.as_bytes());
-    tell(session_key_in_as_rep(alloc, suite, key.as_slice(), as_rep))
+    let options = Interoperability::none();
+    tell(session_key_in_as_rep(alloc, options, suite, key.as_slice(), as_rep))
 }
 
 /// The same under a key of the caller's. Refused first as InvalidParameter KeyLength where that key has not the length of
@@ -76,9 +133,11 @@ pub fn extract_session_key_from_as_rep_with_key(
     key: &[u8],
     enc_params: &EncryptionParams,
 ) -> Result<Secret<Octets>, Error>
-    ensures { Tells (BringsKey (suite_of enc_params.now) key.now as_rep.now) result }
+    ensures { Tells (BringsKey no_options (suite_of enc_params.now) key.now as_rep.now) result }
 {
-    tell(session_key_in_as_rep(alloc, enc_params.suite(), key, as_rep))
+    let options = Interoperability::none();
+    let suite = enc_params.suite();
+    tell(session_key_in_as_rep(alloc, options, suite, key, as_rep))
 }
 
 /// The session key of the ticket in a TGS-REP, which is sealed under the session key of the ticket that was shown, in the

@@ -9,6 +9,7 @@
 mod answered;
 mod hints;
 mod keys;
+pub mod laws;
 mod realms;
 mod salts;
 mod ticket;

@@ -1,5 +1,6 @@
 //! AS exchanges over recorded replies, from a client's credentials to the session key of its ticket.
 
+mod early;
 mod exchanges;
 mod proxies;
 mod refusals;
@@ -19,7 +20,7 @@ use krb_as::{
     short_name,
 };
 use krb_conf::{Env, KerberosConfig};
-use krb_context::Kerberos;
+use krb_context::{Interoperability, Kerberos};
 use krb_crypto::CipherSuite;
 use krb_der::{Octets, OutOfMemory, Text, TryCopy, boxed};
 use krb_exchange::KdcReqBody;
@@ -310,6 +311,7 @@ fn asker(alloc: Global, who: &Who) -> Result<Asker, Cause> {
         realm,
         suite: CipherSuite::Aes256CtsHmacSha196,
         credentials,
+        interoperability: Interoperability::none(),
     })
 }
 

@@ -8,6 +8,7 @@ use Rattle.sspi_core.specs.declared.cause.Cause.{Cause}
 use Rattle.sspi_core.specs.Checks.{Gives}
 use Rattle.sspi_generator.specs.declared.network.NetFault.{NetFault}
 use Rattle.sspi_core.specs.declared.identity.CredentialsBuffers.{CredentialsBuffers}
+use Rattle.krb_context.specs.declared.interoperability.Interoperability.{Interoperability}
 use Rattle.krb_replies.specs.Keys.{HandsOnKey}
 use Rattle.sspi_core.proofs.Chain.{passed, gave}
 use Rattle.krb_exchange.specs.Layouts.{tgs_rep_layout}
@@ -23,15 +24,15 @@ module _ (suite : CipherSuite) (reply : TgsRep) (middle last : List ℕ) (opened
   one_more key (first ∷ replies) h = (h.0, h.1, one_more h.0 replies h.2)
 
 -- the key of an AS-REP is a chain without TGS-REPs
-pub chain_begins : (credentials : CredentialsBuffers) (used : List ℕ) (as_rep : AsRep) (suite : CipherSuite) (key : List ℕ)
-    → TakesReplyKey credentials used as_rep (Ok (record { suite = suite; key = key })) → IsChain credentials used as_rep suite [] key
-chain_begins credentials used as_rep suite key h = record { start = key; begins = h; hands_on = refl }
+pub chain_begins : (options : Interoperability) (credentials : CredentialsBuffers) (used : List ℕ) (as_rep : AsRep) (suite : CipherSuite) (key : List ℕ)
+    → TakesReplyKey options credentials used as_rep (Ok (record { suite = suite; key = key })) → IsChain options credentials used as_rep suite [] key
+chain_begins options credentials used as_rep suite key h = record { start = key; begins = h; hands_on = refl }
 
 -- and goes on with each TGS-REP that is opened under its last key
-pub chain_goes_on : (credentials : CredentialsBuffers) (used : List ℕ) (as_rep : AsRep) (suite : CipherSuite) (replies : List TgsRep) (reply : TgsRep) (middle last : List ℕ)
-    → IsChain credentials used as_rep suite replies middle → HandsOnKey suite middle reply (Ok last)
-    → IsChain credentials used as_rep suite (replies ++ (reply ∷ [])) last
-chain_goes_on credentials used as_rep suite replies reply middle last chain opened =
+pub chain_goes_on : (options : Interoperability) (credentials : CredentialsBuffers) (used : List ℕ) (as_rep : AsRep) (suite : CipherSuite) (replies : List TgsRep) (reply : TgsRep) (middle last : List ℕ)
+    → IsChain options credentials used as_rep suite replies middle → HandsOnKey suite middle reply (Ok last)
+    → IsChain options credentials used as_rep suite (replies ++ (reply ∷ [])) last
+chain_goes_on options credentials used as_rep suite replies reply middle last chain opened =
     record { start = chain.start; begins = chain.begins; hands_on = one_more suite reply middle last opened chain.start replies chain.hands_on }
 
 -- what was taken from a TGS-REP: the key that it hands on

@@ -4,6 +4,7 @@ use Rattle.krb_crypto.specs.declared.suite.CipherSuite.{CipherSuite}
 use Rattle.krb_exchange.specs.declared.kdc_rep.AsRep.{AsRep}
 use Rattle.krb_exchange.specs.declared.kdc_rep.TgsRep.{TgsRep}
 use Rattle.sspi_core.specs.declared.identity.CredentialsBuffers.{CredentialsBuffers}
+use Rattle.krb_context.specs.declared.interoperability.Interoperability.{Interoperability}
 use Rattle.krb_replies.specs.Keys.{HandsOnKey}
 use Rattle.krb_as.specs.ReplyKeys.{TakesReplyKey}
 
@@ -12,9 +13,10 @@ abbrev pub HandsOn : CipherSuite → List ℕ → List TgsRep → List ℕ → T
 HandsOn suite key [] last = key ≡ last
 HandsOn suite key (reply ∷ replies) last = (next : List ℕ) × HandsOnKey suite key reply (Ok next) × HandsOn suite next replies last
 
--- a key that began with the credentials: the AS-REP is sealed under theirs, and the TGS-REPs lead from its key to this one
-pub record IsChain (credentials : CredentialsBuffers) (used : List ℕ) (as_rep : AsRep) (suite : CipherSuite) (replies : List TgsRep)
+-- a key that began with the credentials: the AS-REP is sealed under theirs, and the TGS-REPs lead from its key to this one. The options
+-- are those of the context that asked
+pub record IsChain (options : Interoperability) (credentials : CredentialsBuffers) (used : List ℕ) (as_rep : AsRep) (suite : CipherSuite) (replies : List TgsRep)
     (last : List ℕ) : Type 0 where
   pub start : List ℕ
-  pub begins : TakesReplyKey credentials used as_rep (Ok (record { suite = suite; key = start }))
+  pub begins : TakesReplyKey options credentials used as_rep (Ok (record { suite = suite; key = start }))
   pub hands_on : HandsOn suite start replies last
