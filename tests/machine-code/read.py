@@ -21,7 +21,8 @@ import subprocess
 import sys
 
 # What is read, by the names of its functions, each with what is inlined in it. Each of these must be there. In `krb_bench` both
-# directions of a schedule are made inside `SealingKey::new`, and a checksum inside `open`: they are read where they stand alone too.
+# directions of a schedule are made inside `SealingKey::new`, a schedule for decryption alone inside `decrypt`, and a comparison
+# inside `opened_under`: they are read where they stand alone too.
 READ = [
     r"^krb_aes::encryption::encrypted$",
     r"^krb_aes::encryption::encrypted_two$",
@@ -30,27 +31,50 @@ READ = [
     r"^krb_aes::decryption::decrypted_eight$",
     r"^krb_aes::schedule::EncryptionSchedule::new$",
     r"^krb_crypto::cbc::",
+    r"^krb_crypto::hmac::HmacKey::",
+    r"^krb_crypto::suite::sealing_keys$",
     r"^krb_crypto::sealing_key::SealingKey::new$",
-    r"^krb_crypto::sealing_key::SealingKey::open$",
+    r"^krb_crypto::one_way::sealed_under$",
+    r"^krb_crypto::one_way::opened_under$",
+    r"^krb_crypto::sealing::encrypt$",
+    r"^krb_crypto::sealing::decrypt$",
     r"^sha1::compress::compress$",
     r"^sha1::Sha1::update$",
 ]
-READ_WHERE_ALONE = [r"^krb_aes::schedule::KeySchedule::new$", r"^krb_crypto::sealing_key::SealingKey::checksum$"]
+READ_WHERE_ALONE = [
+    r"^krb_aes::schedule::KeySchedule::new$",
+    r"^krb_aes::schedule::DecryptionSchedule::new$",
+    r"^krb_crypto::sealing_key::SealingKey::checksum$",
+    r"^krb_der::equal::is_equal$",
+]
 
 # Loads that are no secrets, by the name of the function and the address. And calls whose results are none.
 PUBLIC_LOADS = [
     # how many octets were digested
     (r"^sha1::Sha1::update$", r"(rdi|r15)\+0x58"),
 ]
-# What a call writes that is no secret: how far behind the place on the stack that it is given to write to.
+# What a call writes that is no secret: how far behind the place on the stack that it is given to write to, and how wide it is.
+GROWS = r"<std_alloc::vec::Vec::grow_amortized"
 PUBLIC_FIELDS = [
     # the number of rounds, which a schedule for encryption has behind the 240 octets of its round keys
-    (r"<krb_aes::schedule::EncryptionSchedule::new>", 240),
+    (r"<krb_aes::schedule::EncryptionSchedule::new>", 240, "QWORD"),
+    # whether the two keys of a usage have 16 octets or 32: the front of each, of which the second lies 33 octets behind the first
+    (r"<krb_crypto::suite::sealing_keys>", 0, "BYTE"),
+    (r"<krb_crypto::suite::sealing_keys>", 33, "BYTE"),
+    # where a vector's octets lie, how many they are and how many fit
+    (GROWS, 0, "QWORD"),
+    (GROWS, 8, "QWORD"),
+    (GROWS, 16, "QWORD"),
+    # whether memory was found for a sealed text
+    (r"<krb_crypto::one_way::sealed_under>", 0, "BYTE"),
+    # whether a text was opened, or why not
+    (r"<krb_crypto::one_way::opened_under>", 0, "BYTE"),
+    (r"<krb_crypto::one_way::opened_under>", 1, "BYTE"),
 ]
-PUBLIC_CALLS = [r"<rattle_alloc>", r"<memcpy@plt>", r"<memmove@plt>"]
+PUBLIC_CALLS = [r"<rattle_alloc>", r"<memcpy@plt>", r"<memmove@plt>", GROWS]
 
 # How many branches by a secret a function may have: an opening answers whether the checksum is the one.
-ANSWERS = {r"^krb_crypto::sealing_key::SealingKey::open$": 1}
+ANSWERS = {r"^krb_crypto::one_way::opened_under$": 1}
 
 # Functions that are given secrets in general registers.
 GIVEN = {}
@@ -91,6 +115,20 @@ def functions(program):
         yield name, body
 
 
+STACK = r"rsp([+-]0x[0-9a-f]+)?"
+
+
+def place_at(behind, width):
+    """The name of a place on the stack: how far behind `rsp`, and how wide."""
+    return f"{width} rsp{behind:+#x}"
+
+
+def place_of(operand):
+    """The same of an operand: None where it is no octet and no word of 8 octets on the stack, at a fixed place."""
+    place = re.search(rf"\b(BYTE|QWORD) PTR \[{STACK}\]", operand)
+    return place_at(int(place[2] or "0", 16), place[1]) if place else None
+
+
 def registers(text):
     return {WIDTHS[word] for word in WORD.findall(text) if word in WIDTHS}
 
@@ -111,7 +149,7 @@ class Reading:
 
     def is_secret(self, name, operand):
         place = PLACE.search(operand)
-        if place and place[1] in self.places:
+        if place_of(operand) in self.places:
             return False
         if place:
             return not any(re.search(f, name) and re.fullmatch(p, place[1]) for f, p in PUBLIC_LOADS)
@@ -120,9 +158,11 @@ class Reading:
     def put(self, operand, secret):
         place = PLACE.search(operand)
         if place:
-            if re.match(r"r[sb]p\b", place[1]):
-                wide = "QWORD" in operand and not VECTOR.search(operand)
-                (self.places.discard if secret or not wide else self.places.add)(place[1])
+            at = re.fullmatch(STACK, place[1])
+            if at:
+                self.places -= {place_at(int(at[1] or "0", 16), width) for width in ("BYTE", "QWORD")}
+            if place_of(operand) and not secret:
+                self.places.add(place_of(operand))
             return
         for register in registers(operand):
             (self.secrets.add if secret else self.secrets.discard)(register)
@@ -158,9 +198,9 @@ def step(name, now, mnemonic, operands):
         after.secrets |= CLOBBERED | {"flags"}
         if is_public:
             after.secrets -= {"rax", "rdx"}
-        for pattern, behind in PUBLIC_FIELDS:
+        for pattern, behind, width in PUBLIC_FIELDS:
             if "rdi" in now.pointers and re.search(pattern, " ".join(operands)):
-                after.places.add(f"rsp+{now.pointers['rdi'] + behind:#x}")
+                after.places.add(place_at(now.pointers["rdi"] + behind, width))
         for register in CLOBBERED:
             after.pointers.pop(register, None)
     elif mnemonic in ("push", "pop") or first == "rsp":
@@ -206,7 +246,7 @@ def step(name, now, mnemonic, operands):
         if mnemonic.startswith(("pextr", "vpextr", "vmov", "bsf", "bsr", "tzcnt", "lzcnt", "popcnt", "rorx", "shlx", "shrx", "sarx", "andn", "imul")):
             result = any(now.is_secret(name, operand) for operand in operands[1:])
         after.put(first, result)
-        if mnemonic not in ("not", "bswap", "rorx", "shlx", "shrx", "sarx"):
+        if mnemonic not in ("not", "bswap", "rorx", "shlx", "shrx", "sarx") and not mnemonic.startswith(("v", "pextr")):
             (after.secrets.add if result else after.secrets.discard)("flags")
         if mnemonic == "xchg":
             after.put(operands[1], secret)

@@ -7,11 +7,12 @@ use Rattle.std.proofs.lemmas.Simd.{Each1-weaker, Each1-zip2, Each2-splat, below_
 use Rattle.std.proofs.lemmas.List.{get_or-map, length-map, ext_get_or, get_or-take, get_or-drop, take-map, drop-map}
 use Rattle.std.proofs.Math.Facts.{ltb_yes}
 use Rattle.krb_aes.proofs.RoundLemmas.{read_all}
-use Rattle.krb_aes.specs.Tower.{entry, unshifted}
+use Rattle.krb_aes.specs.Tower.{entry, doubled_back, turned, unshifted}
 use Rattle.krb_aes.specs.Octets.{block_at}
 use Rattle.krb_aes.proofs.EachOctet.{every_below, mapped_octets}
 use Rattle.krb_aes.proofs.LookUps.{divided, is_place, masked_is, lane_fits}
-use Rattle.krb_aes.proofs.InverseRounds.{back_lanes, open_lanes}
+use Rattle.krb_aes.proofs.InverseRounds.{open_lanes}
+use Rattle.krb_aes.proofs.MixedBack.{mixed_lanes}
 
 abbrev pub AreFour : List ℕ → Type 0
 AreFour v = (length v ≡ 64) × Each1 (Fits w8) v
@@ -87,15 +88,11 @@ high_is v fits = zip2_splat divided v 64 4 fits.0
 abbrev pub four_turned : List ℕ → List ℕ
 four_turned v = pick_l 0 (v ++ v) (1 ∷ 2 ∷ 3 ∷ 0 ∷ 5 ∷ 6 ∷ 7 ∷ 4 ∷ 9 ∷ 10 ∷ 11 ∷ 8 ∷ 13 ∷ 14 ∷ 15 ∷ 12 ∷ 17 ∷ 18 ∷ 19 ∷ 16 ∷ 21 ∷ 22 ∷ 23 ∷ 20 ∷ 25 ∷ 26 ∷ 27 ∷ 24 ∷ 29 ∷ 30 ∷ 31 ∷ 28 ∷ 33 ∷ 34 ∷ 35 ∷ 32 ∷ 37 ∷ 38 ∷ 39 ∷ 36 ∷ 41 ∷ 42 ∷ 43 ∷ 40 ∷ 45 ∷ 46 ∷ 47 ∷ 44 ∷ 49 ∷ 50 ∷ 51 ∷ 48 ∷ 53 ∷ 54 ∷ 55 ∷ 52 ∷ 57 ∷ 58 ∷ 59 ∷ 56 ∷ 61 ∷ 62 ∷ 63 ∷ 60 ∷ [])
 
+abbrev pub four_turned_twice : List ℕ → List ℕ
+four_turned_twice v = pick_l 0 (v ++ v) (2 ∷ 3 ∷ 0 ∷ 1 ∷ 6 ∷ 7 ∷ 4 ∷ 5 ∷ 10 ∷ 11 ∷ 8 ∷ 9 ∷ 14 ∷ 15 ∷ 12 ∷ 13 ∷ 18 ∷ 19 ∷ 16 ∷ 17 ∷ 22 ∷ 23 ∷ 20 ∷ 21 ∷ 26 ∷ 27 ∷ 24 ∷ 25 ∷ 30 ∷ 31 ∷ 28 ∷ 29 ∷ 34 ∷ 35 ∷ 32 ∷ 33 ∷ 38 ∷ 39 ∷ 36 ∷ 37 ∷ 42 ∷ 43 ∷ 40 ∷ 41 ∷ 46 ∷ 47 ∷ 44 ∷ 45 ∷ 50 ∷ 51 ∷ 48 ∷ 49 ∷ 54 ∷ 55 ∷ 52 ∷ 53 ∷ 58 ∷ 59 ∷ 56 ∷ 57 ∷ 62 ∷ 63 ∷ 60 ∷ 61 ∷ [])
+
 abbrev pub four_unshifted : List ℕ → List ℕ
 four_unshifted v = pick_l 0 (v ++ v) (0 ∷ 13 ∷ 10 ∷ 7 ∷ 4 ∷ 1 ∷ 14 ∷ 11 ∷ 8 ∷ 5 ∷ 2 ∷ 15 ∷ 12 ∷ 9 ∷ 6 ∷ 3 ∷ 16 ∷ 29 ∷ 26 ∷ 23 ∷ 20 ∷ 17 ∷ 30 ∷ 27 ∷ 24 ∷ 21 ∷ 18 ∷ 31 ∷ 28 ∷ 25 ∷ 22 ∷ 19 ∷ 32 ∷ 45 ∷ 42 ∷ 39 ∷ 36 ∷ 33 ∷ 46 ∷ 43 ∷ 40 ∷ 37 ∷ 34 ∷ 47 ∷ 44 ∷ 41 ∷ 38 ∷ 35 ∷ 48 ∷ 61 ∷ 58 ∷ 55 ∷ 52 ∷ 49 ∷ 62 ∷ 59 ∷ 56 ∷ 53 ∷ 50 ∷ 63 ∷ 60 ∷ 57 ∷ 54 ∷ 51 ∷ [])
-
-abbrev pub four_back : List ℕ → List ℕ → List ℕ → List ℕ → List ℕ → List ℕ
-four_back nine thirteen eleven fourteen key =
-    let a : List ℕ = zip2 bit_xor nine key in
-    let b : List ℕ = zip2 bit_xor (four_turned a) thirteen in
-    let c : List ℕ = zip2 bit_xor (four_turned b) eleven in
-    zip2 bit_xor (four_turned c) fourteen
 
 unshifted_read : (v : List ℕ) (b : ℕ) → b < 4 → block_at b (four_unshifted (read_in 64 v)) ≡ unshifted (block_at b (read_in 64 v))
 unshifted_read v zero h = refl
@@ -109,26 +106,32 @@ unshifted_at v b h long =
     ap (λ (x : List ℕ). block_at b (four_unshifted x)) (sym (read_all v 64 long)) ∙ unshifted_read v b h
     ∙ ap (λ (x : List ℕ). unshifted (block_at b x)) (read_all v 64 long)
 
+turned_read : (v : List ℕ) (b : ℕ) → b < 4 → block_at b (four_turned (read_in 64 v)) ≡ turned (block_at b (read_in 64 v))
+turned_read v zero h = refl
+turned_read v (suc zero) h = refl
+turned_read v (suc (suc zero)) h = refl
+turned_read v (suc (suc (suc zero))) h = refl
+turned_read v (suc (suc (suc (suc b)))) h = absurd (omega arith)
+
+pub turned_at : (v : List ℕ) (b : ℕ) → b < 4 → length v ≡ 64 → block_at b (four_turned v) ≡ turned (block_at b v)
+turned_at v b h long =
+    ap (λ (x : List ℕ). block_at b (four_turned x)) (sym (read_all v 64 long)) ∙ turned_read v b h
+    ∙ ap (λ (x : List ℕ). turned (block_at b x)) (read_all v 64 long)
+
+turned_twice_read : (v : List ℕ) (b : ℕ) → b < 4 → block_at b (four_turned_twice (read_in 64 v)) ≡ turned (turned (block_at b (read_in 64 v)))
+turned_twice_read v zero h = refl
+turned_twice_read v (suc zero) h = refl
+turned_twice_read v (suc (suc zero)) h = refl
+turned_twice_read v (suc (suc (suc zero))) h = refl
+turned_twice_read v (suc (suc (suc (suc b)))) h = absurd (omega arith)
+
+pub turned_twice_at : (v : List ℕ) (b : ℕ) → b < 4 → length v ≡ 64 → block_at b (four_turned_twice v) ≡ turned (turned (block_at b v))
+turned_twice_at v b h long =
+    ap (λ (x : List ℕ). block_at b (four_turned_twice x)) (sym (read_all v 64 long)) ∙ turned_twice_read v b h
+    ∙ ap (λ (x : List ℕ). turned (turned (block_at b x))) (read_all v 64 long)
+
 abbrev pub four_open : List ℕ → List ℕ → List ℕ
 four_open plain key = zip2 bit_xor (pick_l 0 (plain ++ plain) (0 ∷ 13 ∷ 10 ∷ 7 ∷ 4 ∷ 1 ∷ 14 ∷ 11 ∷ 8 ∷ 5 ∷ 2 ∷ 15 ∷ 12 ∷ 9 ∷ 6 ∷ 3 ∷ 16 ∷ 29 ∷ 26 ∷ 23 ∷ 20 ∷ 17 ∷ 30 ∷ 27 ∷ 24 ∷ 21 ∷ 18 ∷ 31 ∷ 28 ∷ 25 ∷ 22 ∷ 19 ∷ 32 ∷ 45 ∷ 42 ∷ 39 ∷ 36 ∷ 33 ∷ 46 ∷ 43 ∷ 40 ∷ 37 ∷ 34 ∷ 47 ∷ 44 ∷ 41 ∷ 38 ∷ 35 ∷ 48 ∷ 61 ∷ 58 ∷ 55 ∷ 52 ∷ 49 ∷ 62 ∷ 59 ∷ 56 ∷ 53 ∷ 50 ∷ 63 ∷ 60 ∷ 57 ∷ 54 ∷ 51 ∷ [])) key
-
-back_read : (n t e f k : List ℕ) (b : ℕ) → b < 4
-    → block_at b (four_back (read_in 64 n) (read_in 64 t) (read_in 64 e) (read_in 64 f) (read_in 64 k))
-    ≡ back_lanes (block_at b (read_in 64 n)) (block_at b (read_in 64 t)) (block_at b (read_in 64 e)) (block_at b (read_in 64 f)) (block_at b (read_in 64 k))
-back_read n t e f k zero h = refl
-back_read n t e f k (suc zero) h = refl
-back_read n t e f k (suc (suc zero)) h = refl
-back_read n t e f k (suc (suc (suc zero))) h = refl
-back_read n t e f k (suc (suc (suc (suc b)))) h = absurd (omega arith)
-
-pub back_at : (n t e f k : List ℕ) (b : ℕ) → b < 4 → length n ≡ 64 → length t ≡ 64 → length e ≡ 64 → length f ≡ 64 → length k ≡ 64
-    → block_at b (four_back n t e f k) ≡ back_lanes (block_at b n) (block_at b t) (block_at b e) (block_at b f) (block_at b k)
-back_at n t e f k b h ln lt le lf lk =
-    let five = λ (n n' t t' e e' f f' k k' : List ℕ) (g : List ℕ → List ℕ → List ℕ → List ℕ → List ℕ → List ℕ) (pn : n ≡ n') (pt : t ≡ t') (pe : e ≡ e') (pf : f ≡ f') (pk : k ≡ k').
-    ap₂ (λ (x y : List ℕ). g x y e f k) pn pt ∙ ap₂ (λ (x y : List ℕ). g n' t' x y k) pe pf ∙ ap (λ (x : List ℕ). g n' t' e' f' x) pk in
-    five _ _ _ _ _ _ _ _ _ _ (λ x y z u w. block_at b (four_back x y z u w)) (sym (read_all n 64 ln)) (sym (read_all t 64 lt)) (sym (read_all e 64 le)) (sym (read_all f 64 lf)) (sym (read_all k 64 lk))
-    ∙ back_read n t e f k b h
-    ∙ five _ _ _ _ _ _ _ _ _ _ (λ x y z u w. back_lanes (block_at b x) (block_at b y) (block_at b z) (block_at b u) (block_at b w)) (read_all n 64 ln) (read_all t 64 lt) (read_all e 64 le) (read_all f 64 lf) (read_all k 64 lk)
 
 open_read : (n k : List ℕ) (b : ℕ) → b < 4
     → block_at b (four_open (read_in 64 n) (read_in 64 k)) ≡ open_lanes (block_at b (read_in 64 n)) (block_at b (read_in 64 k))
@@ -170,3 +173,23 @@ block-xor b xs ys = ap (take 16) (drop-zip2 (16 * b) xs ys) ∙ take-zip2 16 (dr
 
 pub block_fits : (v : List ℕ) (b : ℕ) → b < 4 → AreFour v → (length (block_at b v) ≡ 16) × Each1 (Fits w8) (block_at b v)
 block_fits v b h fits = (length-chunk (16 * b) 16 v (omega (arith, fits.0)), Each1-chunk (Fits w8) (16 * b) 16 v fits.1)
+
+-- a block of a round back: the turns were of each block
+pub mixed_at : (b : ℕ) (one four far near across doubles key : List ℕ)
+    → let z : List ℕ = zip2 bit_xor (zip2 bit_xor one four) far in
+    let u : List ℕ = zip2 bit_xor z near in
+    block_at b far ≡ turned (turned (block_at b four)) → block_at b near ≡ turned (block_at b z) → block_at b across ≡ turned (turned (block_at b u)) → doubles ≡ map doubled_back u
+    → block_at b (zip2 bit_xor (zip2 bit_xor (zip2 bit_xor doubles z) (zip2 bit_xor u across)) key) ≡ mixed_lanes (block_at b one) (block_at b four) (block_at b key)
+mixed_at b one four far near across doubles key ef en ea ed =
+    let z : List ℕ = zip2 bit_xor (zip2 bit_xor one four) far in
+    let u : List ℕ = zip2 bit_xor z near in
+    let z' : List ℕ = zip2 bit_xor (zip2 bit_xor (block_at b one) (block_at b four)) (turned (turned (block_at b four))) in
+    let u' : List ℕ = zip2 bit_xor z' (turned z') in
+    let ez : block_at b z ≡ z' = block-xor b (zip2 bit_xor one four) far ∙ ap₂ (zip2 bit_xor) (block-xor b one four) ef in
+    let eu : block_at b u ≡ u' = block-xor b z near ∙ ap₂ (zip2 bit_xor) ez (en ∙ ap turned ez) in
+    let doubled : block_at b doubles ≡ map doubled_back u' = block-map doubled_back u doubles b ed ∙ ap (map doubled_back) eu in
+    let turns : block_at b across ≡ turned (turned u') = ea ∙ ap (λ (l : List ℕ). turned (turned l)) eu in
+    block-xor b (zip2 bit_xor (zip2 bit_xor doubles z) (zip2 bit_xor u across)) key
+    ∙ ap (λ (l : List ℕ). zip2 bit_xor l (block_at b key))
+    (block-xor b (zip2 bit_xor doubles z) (zip2 bit_xor u across)
+    ∙ ap₂ (zip2 bit_xor) (block-xor b doubles z ∙ ap₂ (zip2 bit_xor) doubled ez) (block-xor b u across ∙ ap₂ (zip2 bit_xor) eu turns))

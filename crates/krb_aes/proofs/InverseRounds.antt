@@ -21,7 +21,7 @@ pub unmixed_octet : (p q r t : ℕ) → p < 256 → q < 256 → r < 256 → t < 
 unmixed_octet p q r t hp hq hr ht =
     xor_of_8 _ _ (xor_of_8 _ _ (xor_of_8 _ _ (nine_octet t ht) (thirteen_octet r hr)) (eleven_octet q hq)) (fourteen_octet p hp)
 
-lane_back' : (p q r t k : ℕ) → p < 256 → q < 256 → r < 256 → t < 256 → k < 256
+pub lane_back' : (p q r t k : ℕ) → p < 256 → q < 256 → r < 256 → t < 256 → k < 256
     → bit_xor (bit_xor (bit_xor (bit_xor (linear_back (product 9 t)) (linear_back (product 13 r))) (linear_back (product 11 q))) (linear_back (product 14 p))) (affine_back k)
     ≡ affine_back (bit_xor (unmixed p q r t) k)
 unfolding affine_back
@@ -61,7 +61,7 @@ open_lanes plain key = zip2 bit_xor (pick_l 0 (plain ++ plain) (0 ∷ 13 ∷ 10 
 abbrev pub read : List ℕ → List ℕ
 read s = map (slice_index s) (range_with_len 0 16)
 
-abbrev moved_list : List ℕ → List ℕ
+abbrev pub moved_list : List ℕ → List ℕ
 moved_list v = get_or v 0 0 ∷ get_or v 13 0 ∷ get_or v 10 0 ∷ get_or v 7 0 ∷ get_or v 4 0 ∷ get_or v 1 0 ∷ get_or v 14 0 ∷ get_or v 11 0 ∷ get_or v 8 0 ∷ get_or v 5 0 ∷ get_or v 2 0 ∷ get_or v 15 0 ∷ get_or v 12 0 ∷ get_or v 9 0 ∷ get_or v 6 0 ∷ get_or v 3 0 ∷ []
 
 -- the octets in front of SubBytes and ShiftRows
@@ -69,7 +69,7 @@ abbrev pub before : List ℕ → List ℕ
 before v = inverted (get_or v 0 0) ∷ inverted (get_or v 13 0) ∷ inverted (get_or v 10 0) ∷ inverted (get_or v 7 0) ∷ inverted (get_or v 4 0) ∷ inverted (get_or v 1 0) ∷ inverted (get_or v 14 0) ∷ inverted (get_or v 11 0) ∷ inverted (get_or v 8 0) ∷ inverted (get_or v 5 0) ∷ inverted (get_or v 2 0) ∷ inverted (get_or v 15 0) ∷ inverted (get_or v 12 0) ∷ inverted (get_or v 9 0) ∷ inverted (get_or v 6 0) ∷ inverted (get_or v 3 0) ∷ []
 
 -- those in front of MixColumns and the round key
-abbrev returned : List ℕ → List ℕ → List ℕ
+abbrev pub returned : List ℕ → List ℕ → List ℕ
 returned v k =
     bit_xor (unmixed (inverted (get_or v 0 0)) (inverted (get_or v 13 0)) (inverted (get_or v 10 0)) (inverted (get_or v 7 0))) (get_or k 0 0) ∷
     bit_xor (unmixed (inverted (get_or v 13 0)) (inverted (get_or v 10 0)) (inverted (get_or v 7 0)) (inverted (get_or v 0 0))) (get_or k 1 0) ∷
@@ -111,12 +111,12 @@ lanes_back v k f h =
     (cons_same (lane_back _ _ _ _ _ (z 3) (z 12) (z 9) (z 6) (h 15))
     (refl))))))))))))))))
 
-below_at : (env : List ℕ) → Each1 (λ x. x < 256) env → (i : ℕ) → get_or env i 0 < 256
+pub below_at : (env : List ℕ) → Each1 (λ x. x < 256) env → (i : ℕ) → get_or env i 0 < 256
 below_at [] h i = omega arith
 below_at (x ∷ xs) h zero = h.0
 below_at (x ∷ xs) h (suc i) = below_at xs h.1 i
 
-moved_below : (v : List ℕ) → ((i : ℕ) → get_or v i 0 < 256) → Each1 (λ x. x < 256) (moved_list v)
+pub moved_below : (v : List ℕ) → ((i : ℕ) → get_or v i 0 < 256) → Each1 (λ x. x < 256) (moved_list v)
 moved_below v f = (f 0, (f 13, (f 10, (f 7, (f 4, (f 1, (f 14, (f 11, (f 8, (f 5, (f 2, (f 15, (f 12, (f 9, (f 6, (f 3, tt))))))))))))))))
 
 returned_below : (v k : List ℕ) → ((i : ℕ) → get_or v i 0 < 256) → ((i : ℕ) → get_or k i 0 < 256) → Each1 (λ x. x < 256) (returned v k)
@@ -161,12 +161,30 @@ shifted_before v f =
     (cons_same (affine_back-sub-inverted (get_or v 15 0) (f 15))
     (refl))))))))))))))))
 
+-- where they are in front of MixColumns, the round is undone
+pub round_undone : (v s k : List ℕ) → IsVector v → IsBlock s → IsBlock k → map affine_back (shifted s) ≡ map affine_back (returned v k)
+    → map affine_back (shifted (full_round s (mix_columns k))) ≡ v
+unfolding full_round shifted
+round_undone v s k fits bs bk held =
+    let f = λ (i : ℕ). lane_fits v i fits.1 in
+    let h = λ (i : ℕ). bk.octets.below i in
+    let ev : read v ≡ v = read_all v 16 fits.0 in
+    let ec : read k ≡ k = read_all k 16 bk.size in
+    let block = IsBlock-shift_rows (map sub s) (IsBlock-map_sub s bs) in
+    let same : shifted s ≡ returned v k =
+    affine_back_injective_list (shifted s) (returned v k) (λ i. block.octets.below i) (below_at (returned v k) (returned_below v k f h)) held (block.size ∙ refl) in
+    let mixed : mix_columns k ≡ mix_columns (read k) = ap mix_columns (sym ec) in
+    let undone : full_round s (mix_columns k) ≡ before v =
+    ap₂ (λ (a b : List ℕ). xor_octets (mix_columns a) b) same mixed
+    ∙ ap (λ (l : List ℕ). xor_octets l (mix_columns (read k))) (mix-returned v k f h)
+    ∙ xor_octets_twice (before v) (mix_columns (read k)) refl in
+    ap (λ (l : List ℕ). map affine_back (shifted l)) undone ∙ shifted_before v f ∙ ev
+
 pub back_round : (v moved nine thirteen eleven fourteen key s k : List ℕ) → IsVector v → IsBlock s → IsBlock k → moved ≡ unshifted v
     → nine ≡ map (pair_sum NINE_U NINE_T) moved → thirteen ≡ map (pair_sum THIRTEEN_U THIRTEEN_T) moved
     → eleven ≡ map (pair_sum ELEVEN_U ELEVEN_T) moved → fourteen ≡ map (pair_sum FOURTEEN_U FOURTEEN_T) moved
     → key ≡ turned (map affine_back k) → map affine_back (shifted s) ≡ back_lanes nine thirteen eleven fourteen key
     → map affine_back (shifted (full_round s (mix_columns k))) ≡ v
-unfolding full_round shifted
 back_round v moved nine thirteen eleven fourteen key s k fits bs bk em e9 e13 e11 e14 ek held =
     let f = λ (i : ℕ). lane_fits v i fits.1 in
     let h = λ (i : ℕ). bk.octets.below i in
@@ -180,15 +198,7 @@ back_round v moved nine thirteen eleven fourteen key s k fits bs bk em e9 e13 e1
     ∙ ap (λ (l : List ℕ). back_lanes (map (λ x. linear_back (product 9 (inverted x))) (moved_list v)) (map (λ x. linear_back (product 13 (inverted x))) (moved_list v)) (map (λ x. linear_back (product 11 (inverted x))) (moved_list v)) l key) (table _ _ fourteen_is fourteen e14)
     ∙ ap (λ (l : List ℕ). back_lanes (map (λ x. linear_back (product 9 (inverted x))) (moved_list v)) (map (λ x. linear_back (product 13 (inverted x))) (moved_list v)) (map (λ x. linear_back (product 11 (inverted x))) (moved_list v)) (map (λ x. linear_back (product 14 (inverted x))) (moved_list v)) l) (ek ∙ ap (λ (l : List ℕ). turned (map affine_back l)) (sym ec))
     ∙ lanes_back v k f h in
-    let block = IsBlock-shift_rows (map sub s) (IsBlock-map_sub s bs) in
-    let same : shifted s ≡ returned v k =
-    affine_back_injective_list (shifted s) (returned v k) (λ i. block.octets.below i) (below_at (returned v k) (returned_below v k f h)) (held ∙ lanes) (block.size ∙ refl) in
-    let mixed : mix_columns k ≡ mix_columns (read k) = ap mix_columns (sym ec) in
-    let undone : full_round s (mix_columns k) ≡ before v =
-    ap₂ (λ (a b : List ℕ). xor_octets (mix_columns a) b) same mixed
-    ∙ ap (λ (l : List ℕ). xor_octets l (mix_columns (read k))) (mix-returned v k f h)
-    ∙ xor_octets_twice (before v) (mix_columns (read k)) refl in
-    ap (λ (l : List ℕ). map affine_back (shifted l)) undone ∙ shifted_before v f ∙ ev
+    round_undone v s k fits bs bk (held ∙ lanes)
 
 pub open_round : (v plain key s k : List ℕ) → IsVector v → IsBlock k → plain ≡ map (pair_sum INVERTED_U INVERTED_T) v
     → key ≡ k → s ≡ xor_octets (open_lanes plain key) k → map affine_back (shifted s) ≡ v

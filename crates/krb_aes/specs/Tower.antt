@@ -62,6 +62,10 @@ plain_key x = bit_xor x 0x63
 unfoldable pub linear_back : ℕ → ℕ
 linear_back x = tower (bit_xor (bit_xor (rotate_left w8 x 1) (rotate_left w8 x 3)) (rotate_left w8 x 6))
 
+-- an octet of the field times 2 (section 4.2), where both stand as linear_back has them: the octets for 1, 2, 4 and so on
+unfoldable pub doubled_back : ℕ → ℕ
+doubled_back y = sum_of_bits (0x37 ∷ 0x9a ∷ 0xb3 ∷ 0x36 ∷ 0x16 ∷ 0xd8 ∷ 0x19 ∷ 0xdd ∷ []) y
+
 -- the inverse of the affine form, into the tower
 unfoldable pub affine_back : ℕ → ℕ
 affine_back x = linear_back (bit_xor x 0x63)

@@ -6,8 +6,8 @@ ghost use Rattle.krb_aes.specs.Octets.{block_at};
 ghost use Rattle.krb_aes.specs.RoundKeys.{AreDecryptionKeys};
 
 use crate::four_blocks;
-use crate::lanes::{inverse_round, last_inverse_round, linear_back};
-use crate::schedule::KeySchedule;
+use crate::lanes::{inverse_round, last_inverse_round, linear_back, turned_back};
+use crate::schedule::{DecryptionSchedule, KeySchedule};
 use std::simd::prelude::*;
 
 /// The block that the cipher takes to this one.
@@ -33,7 +33,8 @@ fn decrypted_four(keys: &[[u8; 16]; 15], rounds: usize, blocks: u8x64) -> u8x64
 {
     let mut v = four_blocks::linear_back(blocks) ^ four_blocks::four_copies(keys[rounds]);
     for round in 1..rounds {
-        v = four_blocks::inverse_round(v, four_blocks::four_copies(keys[rounds - round]));
+        let key = turned_back(keys[rounds - round]);
+        v = four_blocks::inverse_round(v, four_blocks::four_copies(key));
     }
     four_blocks::last_inverse_round(v, four_blocks::four_copies(keys[0]))
 }
@@ -55,7 +56,7 @@ fn decrypted_eight(
     let mut v = four_blocks::linear_back(blocks) ^ start;
     let mut w = four_blocks::linear_back(others) ^ start;
     for round in 1..rounds {
-        let key = four_blocks::four_copies(keys[rounds - round]);
+        let key = four_blocks::four_copies(turned_back(keys[rounds - round]));
         let v_moved = four_blocks::unshifted(v);
         let w_moved = four_blocks::unshifted(w);
         let v_at = four_blocks::quotients(v_moved);
@@ -77,14 +78,14 @@ impl KeySchedule {
     pub fn decrypt_vector(&self, block: u8x16) -> u8x16
         ensures { block_cipher self.now result ≡ block }
     {
-        decrypted(&self.inverse_keys, self.forward.rounds, block)
+        decrypted(&self.back.keys, self.forward.rounds, block)
     }
 
     /// The same of four blocks, side by side in one vector.
     pub fn decrypt_four(&self, blocks: u8x64) -> u8x64
         ensures { (b : ℕ) → b < 4 → block_cipher self.now (block_at b result) ≡ block_at b blocks }
     {
-        decrypted_four(&self.inverse_keys, self.forward.rounds, blocks)
+        decrypted_four(&self.back.keys, self.forward.rounds, blocks)
     }
 
     /// The same of eight blocks, in two vectors.
@@ -92,7 +93,7 @@ impl KeySchedule {
         ensures front { (b : ℕ) → b < 4 → block_cipher self.now (block_at b result.0) ≡ block_at b blocks }
         ensures back { (b : ℕ) → b < 4 → block_cipher self.now (block_at b result.1) ≡ block_at b others }
     {
-        decrypted_eight(&self.inverse_keys, self.forward.rounds, blocks, others)
+        decrypted_eight(&self.back.keys, self.forward.rounds, blocks, others)
     }
 
     /// The block that `encrypt_block` takes to this one.
@@ -103,10 +104,36 @@ impl KeySchedule {
     }
 }
 
+impl DecryptionSchedule {
+    ghost use Rattle.krb_aes.specs.Aes.{Undoes};
+
+    /// The block that the cipher takes to this one.
+    pub fn decrypt_block(&self, block: [u8; 16]) -> [u8; 16]
+        ensures { (E : List ℕ → List ℕ) → Undoes E self.now → E result ≡ block }
+    {
+        decrypted(&self.keys, self.rounds, u8x16::from_array(block)).to_array()
+    }
+
+    /// The same of four blocks, side by side in one vector.
+    pub fn decrypt_four(&self, blocks: u8x64) -> u8x64
+        ensures { (E : List ℕ → List ℕ) → Undoes E self.now → (b : ℕ) → b < 4 → E (block_at b result) ≡ block_at b blocks }
+    {
+        decrypted_four(&self.keys, self.rounds, blocks)
+    }
+
+    /// The same of eight blocks, in two vectors.
+    pub fn decrypt_eight(&self, blocks: u8x64, others: u8x64) -> (u8x64, u8x64)
+        ensures front { (E : List ℕ → List ℕ) → Undoes E self.now → (b : ℕ) → b < 4 → E (block_at b result.0) ≡ block_at b blocks }
+        ensures back { (E : List ℕ → List ℕ) → Undoes E self.now → (b : ℕ) → b < 4 → E (block_at b result.1) ≡ block_at b others }
+    {
+        decrypted_eight(&self.keys, self.rounds, blocks, others)
+    }
+}
+
 /// The block that `encrypt_block` takes to this one, under a key of 16 or 32 octets.
 pub fn decrypt_block(key: &[u8], block: [u8; 16]) -> [u8; 16]
     requires { IsKey key.now }
     ensures { aes key.now result ≡ block }
 {
-    KeySchedule::new(key).decrypt_block(block)
+    DecryptionSchedule::new(key).decrypt_block(block)
 }

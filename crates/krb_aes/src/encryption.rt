@@ -61,7 +61,14 @@ impl KeySchedule {
 }
 
 impl EncryptionSchedule {
-    ghost use Rattle.krb_aes.specs.Aes.{aes, AreWordsOf};
+    ghost use Rattle.krb_aes.specs.Aes.{aes, AreWordsOf, forward_cipher};
+
+    /// Encrypts one block that stands in a vector.
+    pub fn encrypt_vector(&self, block: u8x16) -> u8x16
+        ensures { result ≡ forward_cipher self.now block }
+    {
+        encrypted(&self.keys, self.rounds, block)
+    }
 
     /// Encrypts one block.
     pub fn encrypt_block(&self, block: [u8; 16]) -> [u8; 16]

@@ -139,6 +139,16 @@ pub fn turned(key: u8x16) -> u8x16
     key.swizzle([1, 2, 3, 0, 5, 6, 7, 4, 9, 10, 11, 8, 13, 14, 15, 12])
 }
 
+/// The octets of each column one row down.
+#[inline(always)]
+pub fn turned_back(key: [u8; 16]) -> [u8; 16]
+    ensures { turned result ≡ key }
+{
+    u8x16::from_array(key)
+        .swizzle([3, 0, 1, 2, 7, 4, 5, 6, 11, 8, 9, 10, 15, 12, 13, 14])
+        .to_array()
+}
+
 /// The rows moved back (section 5.3.1).
 #[inline(always)]
 fn unshifted(v: u8x16) -> u8x16

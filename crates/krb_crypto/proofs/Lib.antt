@@ -5,6 +5,7 @@ pub mod FoldLemmas
 pub mod HmacLemmas
 pub mod OpenLemmas
 pub mod SealedLemmas
+pub mod OneWayLemmas
 pub mod SuiteLemmas
 pub mod ListLemmas
 pub mod PasswordLemmas

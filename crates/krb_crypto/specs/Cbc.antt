@@ -1,5 +1,7 @@
 -- How far the blocks of a CBC are decrypted in place.
 use Rattle.std.specs.Prelude.{◌≡◌, ℕ, ◌*◌, List, length, take, drop}
+use Rattle.krb_aes.specs.Aes.{Undoes}
+use Rattle.krb_aes.specs.declared.schedule.DecryptionSchedule.{DecryptionSchedule}
 use Rattle.krb_crypto.specs.Cts.{cipher_block, cbc}
 
 -- what a text that begins as this one becomes
@@ -13,3 +15,7 @@ pub record IsDecryptedTo (E : List ℕ → List ℕ) (t text previous : List ℕ
   pub width : length previous ≡ 16
   pub back : drop (16 * i) text ≡ drop (16 * i) t
   pub begins : (q : List ℕ) → take (16 * i) q ≡ take (16 * i) text → BeginsAs E t previous q i
+
+-- the same under each cipher that a schedule undoes
+pub record AreOpened (s : DecryptionSchedule) (t text previous : List ℕ) (i : ℕ) : Type 0 where
+  pub under : (E : List ℕ → List ℕ) → Undoes E s → IsDecryptedTo E t text previous i

@@ -4,6 +4,7 @@ pub mod Suite
 pub mod Cts
 pub mod Cbc
 pub mod SealingPair
+pub mod OneWay
 pub mod Sealed
 pub mod Keyed
 pub mod Password

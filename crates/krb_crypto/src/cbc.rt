@@ -1,12 +1,11 @@
 //! The blocks of a CBC (RFC 3962, section 5), decrypted in place eight, four and one at a time: none waits for another.
 
 ghost use Rattle.std.specs.Prelude.{◌≡◌, ◌+◌, ◌*◌, ◌≤◌, ◌++◌, ℕ, List, length, take, drop};
-ghost use Rattle.krb_aes.specs.Aes.{block_cipher};
 ghost use Rattle.krb_aes.specs.Round.{xor_octets};
-ghost use Rattle.krb_crypto.specs.Cbc.{IsDecryptedTo};
+ghost use Rattle.krb_crypto.specs.Cbc.{AreOpened};
 
 use crate::octets::xor_octets;
-use krb_aes::KeySchedule;
+use krb_aes::DecryptionSchedule;
 use std::simd::prelude::*;
 
 pub(crate) const BLOCK_LEN: usize = 16;
@@ -54,9 +53,9 @@ fn unchained(opened: &[u8; 64], previous: &[u8; 16], blocks: &[u8; 64]) -> [u8; 
 }
 
 /// Decrypts block `i`, behind the cipher block `previous`, and gives it as it was.
-fn open_one(key: &KeySchedule, text: &mut [u8], i: usize, previous: [u8; 16]) -> [u8; 16]
+fn open_one(key: &DecryptionSchedule, text: &mut [u8], i: usize, previous: [u8; 16]) -> [u8; 16]
     requires { 16 * i + 16 ≤ length text.old }
-    ensures { (t : List ℕ) → IsDecryptedTo (block_cipher key.now) t text.old previous i → IsDecryptedTo (block_cipher key.now) t text.new result (i + 1) }
+    ensures { (t : List ℕ) → AreOpened key.now t text.old previous i → AreOpened key.now t text.new result (i + 1) }
 {
     let at = BLOCK_LEN * i;
     let block = block_at(text, at);
@@ -66,9 +65,9 @@ fn open_one(key: &KeySchedule, text: &mut [u8], i: usize, previous: [u8; 16]) ->
 }
 
 /// Decrypts four blocks from block `i` on, and gives the last as it was.
-fn open_four(key: &KeySchedule, text: &mut [u8], i: usize, previous: [u8; 16]) -> [u8; 16]
+fn open_four(key: &DecryptionSchedule, text: &mut [u8], i: usize, previous: [u8; 16]) -> [u8; 16]
     requires { 16 * i + 64 ≤ length text.old }
-    ensures { (t : List ℕ) → IsDecryptedTo (block_cipher key.now) t text.old previous i → IsDecryptedTo (block_cipher key.now) t text.new result (i + 4) }
+    ensures { (t : List ℕ) → AreOpened key.now t text.old previous i → AreOpened key.now t text.new result (i + 4) }
 {
     let at = BLOCK_LEN * i;
     let blocks = four_at(text, at);
@@ -79,9 +78,9 @@ fn open_four(key: &KeySchedule, text: &mut [u8], i: usize, previous: [u8; 16]) -
 }
 
 /// Decrypts eight blocks from block `i` on, and gives the last as it was.
-fn open_eight(key: &KeySchedule, text: &mut [u8], i: usize, previous: [u8; 16]) -> [u8; 16]
+fn open_eight(key: &DecryptionSchedule, text: &mut [u8], i: usize, previous: [u8; 16]) -> [u8; 16]
     requires { 16 * i + 128 ≤ length text.old }
-    ensures { (t : List ℕ) → IsDecryptedTo (block_cipher key.now) t text.old previous i → IsDecryptedTo (block_cipher key.now) t text.new result (i + 8) }
+    ensures { (t : List ℕ) → AreOpened key.now t text.old previous i → AreOpened key.now t text.new result (i + 8) }
 {
     let at = BLOCK_LEN * i;
     let blocks = four_at(text, at);
@@ -96,9 +95,9 @@ fn open_eight(key: &KeySchedule, text: &mut [u8], i: usize, previous: [u8; 16]) 
 }
 
 /// Decrypts the first `count` blocks, and gives the last of them as it was: zeros where there is none.
-pub(crate) fn cbc_decrypt(key: &KeySchedule, text: &mut [u8], count: usize) -> [u8; 16]
+pub(crate) fn cbc_decrypt(key: &DecryptionSchedule, text: &mut [u8], count: usize) -> [u8; 16]
     requires { 16 * count ≤ length text.old }
-    ensures { IsDecryptedTo (block_cipher key.now) text.old text.new result count }
+    ensures { AreOpened key.now text.old text.new result count }
 {
     let mut previous = [0; 16];
     let mut i = 0;

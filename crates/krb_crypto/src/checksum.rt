@@ -27,7 +27,7 @@ pub fn start_checksum(suite: CipherSuite, key: &[u8], usage: u32) -> HmacState
 }
 
 /// Ok where the key is as long as the suite's keys are.
-fn check_key_length(suite: CipherSuite, key: &[u8]) -> Result<(), CryptoError>
+pub(crate) fn check_key_length(suite: CipherSuite, key: &[u8]) -> Result<(), CryptoError>
     ensures { MatchResult result
         (λ _. length key.now ≡ key_size suite)
         (λ e. (e ≡ CryptoError.KeyLength) × ¬ (length key.now ≡ key_size suite)) }

@@ -1,12 +1,12 @@
 // CBC with ciphertext stealing (RFC 3962, section 5).
 
-ghost use Rattle.std.specs.Prelude.{◌≡◌, ◌+◌, ◌-◌, ◌≤◌, length, take, drop, replicate, ◌++◌};
-ghost use Rattle.krb_aes.specs.Aes.{block_cipher};
+ghost use Rattle.std.specs.Prelude.{◌≡◌, ◌+◌, ◌-◌, ◌≤◌, ℕ, List, length, take, drop, replicate, ◌++◌};
+ghost use Rattle.krb_aes.specs.Aes.{block_cipher, forward_cipher, Undoes};
 ghost use Rattle.krb_crypto.specs.Cts.{cts};
 
 use crate::cbc::{BLOCK_LEN, block_at, cbc_decrypt};
 use crate::octets::xor_octets;
-use krb_aes::KeySchedule;
+use krb_aes::{DecryptionSchedule, EncryptionSchedule, KeySchedule};
 use std::simd::prelude::*;
 
 /// The octets from `at` on, filled up with zeros.
@@ -20,14 +20,29 @@ fn last_block(text: &[u8], at: usize) -> [u8; 16]
     block
 }
 
+/// A block, encrypted.
+fn encrypted(key: &EncryptionSchedule, block: [u8; 16]) -> [u8; 16]
+    ensures { result ≡ forward_cipher key.now block }
+{
+    key.encrypt_vector(u8x16::from_array(block)).to_array()
+}
+
 /// Encrypts a text of at least 16 octets in place.
 pub fn cts_encrypt(key: &KeySchedule, text: &mut [u8])
     requires { 16 ≤ length text.old }
     ensures { text.new ≡ cts (block_cipher key.now) text.old }
 {
+    encrypt_under(key.forward(), text);
+}
+
+/// The same under a schedule for encryption alone.
+pub(crate) fn encrypt_under(key: &EncryptionSchedule, text: &mut [u8])
+    requires { 16 ≤ length text.old }
+    ensures { text.new ≡ cts (forward_cipher key.now) text.old }
+{
     let count = (text.len() + 15) / BLOCK_LEN;
     if count == 1 {
-        let block = key.encrypt_block(block_at(text, 0));
+        let block = encrypted(key, block_at(text, 0));
         text.copy_from_slice(&block);
         return;
     }
@@ -42,8 +57,8 @@ pub fn cts_encrypt(key: &KeySchedule, text: &mut [u8])
         previous = next;
     }
     let at = BLOCK_LEN * (count - 2);
-    let stolen = key.encrypt_block(xor_octets(&previous, &block_at(text, at)));
-    let last = key.encrypt_block(xor_octets(&stolen, &last_block(text, at + BLOCK_LEN)));
+    let stolen = encrypted(key, xor_octets(&previous, &block_at(text, at)));
+    let last = encrypted(key, xor_octets(&stolen, &last_block(text, at + BLOCK_LEN)));
     text[at..at + BLOCK_LEN].copy_from_slice(&last);
     let rest = text.len() - (at + BLOCK_LEN);
     text[at + BLOCK_LEN..].copy_from_slice(&stolen[..rest]);
@@ -53,6 +68,14 @@ pub fn cts_encrypt(key: &KeySchedule, text: &mut [u8])
 pub fn cts_decrypt(key: &KeySchedule, text: &mut [u8])
     requires { 16 ≤ length text.old }
     ensures { cts (block_cipher key.now) text.new ≡ text.old }
+{
+    decrypt_under(key.back(), text);
+}
+
+/// The same under a schedule for decryption alone.
+pub(crate) fn decrypt_under(key: &DecryptionSchedule, text: &mut [u8])
+    requires { 16 ≤ length text.old }
+    ensures { (E : List ℕ → List ℕ) → Undoes E key.now → cts E text.new ≡ text.old }
 {
     let count = (text.len() + 15) / BLOCK_LEN;
     if count == 1 {

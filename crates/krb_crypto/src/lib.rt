@@ -8,9 +8,9 @@
 //! let same = decrypt(alloc, suite, key, usage, text.as_slice())?;
 //! ```
 //!
-//! Each such call derives the keys of the usage anew. Whoever seals or opens many texts keeps a `SealingKey`, which holds
-//! them derived and expanded. No load and no branch of AES depends on a key or a text, and comparisons of
-//! checksums do not end early.
+//! Each such call derives the keys of the usage anew, and makes them ready for its own direction alone. Whoever seals or opens
+//! many texts keeps a `SealingKey`, which holds them derived and expanded. No load and no branch of AES depends on a key or a
+//! text, and comparisons of checksums do not end early.
 #![tactic(auto)]
 
 mod cbc;
@@ -22,6 +22,7 @@ mod folded;
 mod hmac;
 pub mod laws;
 mod octets;
+mod one_way;
 mod password;
 mod sealing;
 mod sealing_key;

@@ -13,9 +13,10 @@ use crate::cbc::block_at;
 use crate::cts::{cts_decrypt, cts_encrypt};
 use crate::error::CryptoError;
 use crate::hmac::{HmacKey, HmacState};
+use crate::one_way::{cut, joined, opened_under, reveal_under, seal_under, sealed_under};
 use crate::suite::{CipherSuite, DerivedKey, sealing_keys};
 use krb_aes::KeySchedule;
-use krb_der::{Octets, is_equal};
+use krb_der::Octets;
 use std::alloc::{AllocError, Global};
 use std::marker::Model;
 
@@ -65,41 +66,6 @@ fn code_behind(text: &[u8]) -> [u8; 12]
     let mut code = [0; 12];
     code.copy_from_slice(&text[text.len() - CHECKSUM_LEN..]);
     code
-}
-
-/// The confounder, the plain text and `more` zeros.
-fn joined(
-    alloc: Global,
-    confounder: &[u8; 16],
-    plain: &[u8],
-    more: &[u8],
-) -> Result<Vec<u8>, AllocError>
-    ensures { IfOk result (λ text. text.items ≡ confounder.now ++ plain.now ++ more.now) }
-{
-    let mut text = Vec::with_capacity(alloc, plain.len() + SEALED_EXTRA_LEN)?;
-    text.extend_from_slice(confounder)?;
-    text.extend_from_slice(plain)?;
-    text.extend_from_slice(more)?;
-    Ok(text)
-}
-
-/// The octets from `start` to `end`, moved to the front of their vector.
-fn cut(mut text: Vec<u8>, start: usize, end: usize) -> Octets
-    requires order { start ≤ end }
-    requires within { end ≤ vec_len text }
-    ensures { result ≡ drop start (take end text.items) }
-{
-    text.truncate(end);
-    text.copy_within(start.., 0);
-    text.truncate(end - start);
-    Octets::new(text)
-}
-
-/// Whether the octets are this code.
-fn is_code(octets: &[u8], code: &[u8; 12]) -> bool
-    ensures { IsTrue result ↔ (code.now ≡ octets.now) }
-{
-    is_equal(code, octets)
 }
 
 impl SealingKey {
@@ -155,10 +121,7 @@ impl SealingKey {
         requires { 28 ≤ length text.old }
         ensures { text.new ≡ sealed_text self.now (take (length text.old - 12) text.old) }
     {
-        let end = text.len() - CHECKSUM_LEN;
-        let code = self.checksum(&text[..end], &[]);
-        self.encrypt_text(&mut text[..end]);
-        text[end..].copy_from_slice(&code);
+        seal_under(self.schedule.forward(), &self.hmac, text);
     }
 
     /// Decrypts what stands before the checksum, and says whether the checksum is of that.
@@ -169,10 +132,7 @@ impl SealingKey {
         ensures octets { (k : ℕ) → slice_index text.new k < 256 }
         ensures code { IsTrue result ↔ (hmac12 self.now.integrity (take (length text.old - 12) text.new) ≡ drop (length text.old - 12) text.old) }
     {
-        let end = text.len() - CHECKSUM_LEN;
-        self.decrypt_text(&mut text[..end]);
-        let expected = self.checksum(&text[..end], &[]);
-        is_code(&text[end..], &expected)
+        reveal_under(self.schedule.back(), &self.hmac, text)
     }
 
     /// Opens in place: the plain text then stands between the 16 octets of the confounder and the 12 of the checksum.
@@ -206,9 +166,13 @@ impl SealingKey {
         ensures sealed { IfOk result (λ text. text ≡ sealed_text self.now (confounder ++ plain.now)) }
         ensures longer { IfOk result (λ text. length text ≡ length plain.now + 28) }
     {
-        let mut text = joined(alloc, &confounder, plain, &[0; 12])?;
-        self.seal_in_place(text.as_mut_slice());
-        Ok(Octets::new(text))
+        sealed_under(
+            alloc,
+            self.schedule.forward(),
+            &self.hmac,
+            confounder,
+            plain,
+        )
     }
 
     /// The plain text that is sealed to this text.
@@ -220,14 +184,7 @@ impl SealingKey {
         ensures memory { result ≡ Err CryptoError.OutOfMemory → 28 ≤ length text.now }
         ensures errors { IfErr result (λ e. (e ≡ CryptoError.TooShort) ⊎ (e ≡ CryptoError.Altered) ⊎ (e ≡ CryptoError.OutOfMemory)) }
     {
-        if text.len() < SEALED_EXTRA_LEN {
-            return Err(CryptoError::TooShort);
-        }
-        let mut opened = Vec::from_slice(alloc, text)?;
-        if !self.reveal(opened.as_mut_slice()) {
-            return Err(CryptoError::Altered);
-        }
-        Ok(cut(opened, CONFOUNDER_LEN, text.len() - CHECKSUM_LEN))
+        opened_under(alloc, self.schedule.back(), &self.hmac, text)
     }
 
     /// The confounder and the plain text, encrypted, with no checksum behind them.

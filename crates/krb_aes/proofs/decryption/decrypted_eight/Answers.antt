@@ -1,7 +1,8 @@
-use Rattle.std.proofs.Common.{ℕ, ◌-◌, ap₂, ◌∙◌, arith}
+use Rattle.std.proofs.Common.{ℕ, ◌-◌, ap, ap₂, ◌∙◌, arith}
 use lib.Lanes.{zip2}
 use lib.Bits.{bit_xor}
 use Rattle.krb_aes.specs.Round.{round_key}
+use Rattle.krb_aes.specs.Tower.{turned}
 use Rattle.krb_aes.proofs.InjectiveLemmas.{IsBlock-column_octets}
 use Rattle.krb_aes.specs.Octets.{block_at}
 use Rattle.krb_aes.proofs.ForwardChain.{IsBlock-vector}
@@ -32,11 +33,11 @@ loop-round-preserved c = (
   λ i few words are b hb held.
       let r : ℕ = c.args.rounds - c.loop-round.round in
       c.loop-round.invariant.0 i few words are b hb
-      (inverse_step words b _ _ _ r _ (omega arith) hb (decryption_key_as _ _ _ (c.four_copies-key.ensures.copies i few) (are.middle r (omega arith) (omega arith))) (c.mixed_back-v.ensures i few) held),
+      (inverse_step words b _ _ _ r _ (omega arith) hb (decryption_key_as _ _ _ (ap turned (c.four_copies-key.ensures.copies i few) ∙ c.turned_back.ensures) (are.middle r (omega arith) (omega arith))) (c.mixed_back-v.ensures i few) held),
   λ i few words are b hb held.
       let r : ℕ = c.args.rounds - c.loop-round.round in
       c.loop-round.invariant.1 i few words are b hb
-      (inverse_step words b _ _ _ r _ (omega arith) hb (decryption_key_as _ _ _ (c.four_copies-key.ensures.copies i few) (are.middle r (omega arith) (omega arith))) (c.mixed_back-w.ensures i few) held),
+      (inverse_step words b _ _ _ r _ (omega arith) hb (decryption_key_as _ _ _ (ap turned (c.four_copies-key.ensures.copies i few) ∙ c.turned_back.ensures) (are.middle r (omega arith) (omega arith))) (c.mixed_back-w.ensures i few) held),
 )
 
 pub returns-clause-front : goal.returns-clause-front

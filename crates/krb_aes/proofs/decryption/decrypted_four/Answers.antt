@@ -1,7 +1,8 @@
-use Rattle.std.proofs.Common.{ℕ, ◌-◌, ap₂, ◌∙◌, arith}
+use Rattle.std.proofs.Common.{ℕ, ◌-◌, ap, ap₂, ◌∙◌, arith}
 use lib.Lanes.{zip2}
 use lib.Bits.{bit_xor}
 use Rattle.krb_aes.specs.Round.{round_key}
+use Rattle.krb_aes.specs.Tower.{turned}
 use Rattle.krb_aes.proofs.InjectiveLemmas.{IsBlock-column_octets}
 use Rattle.krb_aes.specs.Octets.{block_at}
 use Rattle.krb_aes.proofs.ForwardChain.{IsBlock-vector}
@@ -22,7 +23,7 @@ pub loop-round-preserved : goal.loop-round-preserved
 loop-round-preserved c = λ i few words are b hb held.
     let r : ℕ = c.args.rounds - c.loop-round.round in
     c.loop-round.invariant i few words are b hb
-    (inverse_step words b _ _ _ r _ (omega arith) hb (decryption_key_as _ _ _ (c.four_copies-in-loop-round.ensures.copies i few) (are.middle r (omega arith) (omega arith))) (c.inverse_round-v.ensures i few) held)
+    (inverse_step words b _ _ _ r _ (omega arith) hb (decryption_key_as _ _ _ (ap turned (c.four_copies-in-loop-round.ensures.copies i few) ∙ c.turned_back-key.ensures) (are.middle r (omega arith) (omega arith))) (c.inverse_round-v.ensures i few) held)
 
 pub returns : goal.returns
 returns c = λ i few words are.

@@ -1,19 +1,17 @@
-use Rattle.std.proofs.Common.{◌∙◌, ap, length}
-use Rattle.std.proofs.lemmas.List.{length-map}
+use Rattle.std.proofs.Common.{◌∙◌}
 use Rattle.krb_aes.specs.Tower.{pair_sum}
 use Rattle.krb_aes.specs.Octets.{block_at}
-use Rattle.krb_aes.specs.declared.tables.TheConstants.{NINE_U, NINE_T, ELEVEN_U, ELEVEN_T, THIRTEEN_U, THIRTEEN_T, FOURTEEN_U, FOURTEEN_T}
-use Rattle.krb_aes.proofs.InverseRounds.{back_round}
-use Rattle.krb_aes.proofs.FourBlockLemmas.{back_at, block-map, block_fits}
+use Rattle.krb_aes.specs.declared.tables.TheConstants.{BACK_U, BACK_T, BACK_FOUR_U, BACK_FOUR_T}
+use Rattle.krb_aes.proofs.MixedBack.{mixed_round}
+use Rattle.krb_aes.proofs.FourBlockLemmas.{mixed_at, block-map, block_fits}
 use Rattle.krb_aes.proofs.four_blocks.mixed_back.Goals as goal
 
 pub returns : goal.returns
 returns c b few s k bs bk ek held =
     let v = c.args.v in
     let moved = c.args.moved in
-    back_round (block_at b v) (block_at b moved) _ _ _ _ (block_at b c.args.key) s k (block_fits v b few c.fits-v) bs bk (c.requires.blocks b few)
-    (block-map (pair_sum NINE_U NINE_T) moved _ b c.pair_sums.ensures) (block-map (pair_sum THIRTEEN_U THIRTEEN_T) moved _ b c.pair_sums-2.ensures)
-    (block-map (pair_sum ELEVEN_U ELEVEN_T) moved _ b c.pair_sums-3.ensures) (block-map (pair_sum FOURTEEN_U FOURTEEN_T) moved _ b c.pair_sums-4.ensures)
+    mixed_round (block_at b v) (block_at b moved) _ _ (block_at b c.args.key) s k (block_fits v b few c.fits-v) (block_fits c.args.key b few c.fits-key).0 bs bk (c.requires.blocks b few)
+    (block-map (pair_sum BACK_U BACK_T) moved _ b c.pair_sums.ensures) (block-map (pair_sum BACK_FOUR_U BACK_FOUR_T) moved _ b c.pair_sums-fours.ensures)
     ek
-    (held ∙ back_at _ _ _ _ c.args.key b few (ap length c.pair_sums.ensures ∙ length-map moved _ ∙ c.fits-moved.0) (ap length c.pair_sums-2.ensures ∙ length-map moved _ ∙ c.fits-moved.0)
-    (ap length c.pair_sums-3.ensures ∙ length-map moved _ ∙ c.fits-moved.0) (ap length c.pair_sums-4.ensures ∙ length-map moved _ ∙ c.fits-moved.0) c.fits-key.0)
+    (held ∙ mixed_at b c.pair_sums.result c.pair_sums-fours.result c.turned_twice.result c.turned.result c.turned_twice-2.result c.doubled_back.result c.args.key
+    (c.turned_twice.ensures b few) (c.turned.ensures b few) (c.turned_twice-2.ensures b few) c.doubled_back.ensures)

@@ -1,8 +1,7 @@
+use Rattle.std.proofs.Common.{rules}
 use Rattle.krb_crypto.proofs.sealing.decrypt.Goals as goal
 
 pub returns-clause-altered : goal.returns-clause-altered
-returns-clause-altered c = λ e. (
-  c.in_ok-kept.ensures.1,
-  (c.open.ensures.altered e).0,
-  rw (c.in_ok-kept.ensures.0) at (c.open.ensures.altered e).1,
-)
+returns-clause-altered c = λ e.
+    let altered = c.opened_once.ensures.altered e in
+    (search rules, altered.0, altered.1)
