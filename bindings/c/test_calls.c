@@ -1,0 +1,225 @@
+/* test_calls CONVERSATION ROUNDS: every call of menolavuri.h, over a conversation with a client of MIT's that was recorded: what is
+ * done, bad input, and so many rounds of both. Prints 'N passed, M failed' and how long a call took. */
+#include "menolavuri.h"
+
+#include <stdio.h>
+#include <stdlib.h>
+#include <string.h>
+#include <time.h>
+
+static unsigned long passed, failed;
+
+#define CHECK(test) check((test) != 0, #test, __LINE__)
+
+static void check(int test, const char *text, int line) {
+    if (test) {
+        passed++;
+    } else if (failed++ < 20) {
+        printf("line %d: not so: %s\n", line, text);
+    }
+}
+
+typedef struct {
+    uint8_t at[4096];
+    size_t length;
+} octets;
+
+typedef struct {
+    char name[256];
+    octets key;
+    mk_moment moment;
+    octets token;
+    octets messages[4];
+    size_t count;
+} conversation;
+
+static octets from_hex(const char *hex) {
+    octets o = {{0}, 0};
+    unsigned octet;
+    while (o.length < sizeof o.at && sscanf(hex, "%2x", &octet) == 1) {
+        o.at[o.length++] = (uint8_t)octet;
+        hex += 2;
+    }
+    return o;
+}
+
+static int read_conversation(const char *path, conversation *c) {
+    static char line[8192], first[8192], second[8192], third[8192];
+    int clients = 0;
+    FILE *file = fopen(path, "r");
+    if (file == NULL) {
+        return 0;
+    }
+    while (fgets(line, sizeof line, file) != NULL) {
+        if (sscanf(line, "service %255s %8191s", c->name, first) == 2) {
+            c->key = from_hex(first);
+        } else if (clients == 0 && sscanf(line, "client %8191s %8191s %8191s", first, second, third) == 3) {
+            clients = 1;
+            c->moment.moment = strtoull(first, NULL, 10);
+            memcpy(c->moment.random, from_hex(second).at, 64);
+            c->token = from_hex(third);
+        } else if (c->count < 4 && sscanf(line, "message %8191s", first) == 1) {
+            c->messages[c->count++] = from_hex(first);
+        }
+    }
+    fclose(file);
+    return clients == 1 && c->count >= 3;
+}
+
+static mk_reply make(const conversation *c, mk_acceptor *to) {
+    return mk_acceptor_new(to, (const uint8_t *)c->name, strlen(c->name), c->key.at, c->key.length, 300);
+}
+
+static int is_refused(mk_reply reply, uint32_t cause) { return reply.status == MK_REFUSED && reply.cause == cause; }
+
+/* A client is admitted once, and each message of its is opened once. */
+static void good(const conversation *c) {
+    mk_acceptor acceptor = MK_EMPTY;
+    mk_session session = MK_EMPTY, again = MK_EMPTY;
+    uint8_t out[4096], mic[28];
+    CHECK(make(c, &acceptor).status == MK_OK);
+    CHECK(mk_acceptor_reserve(&acceptor, 4).status == MK_OK);
+    CHECK(mk_acceptor_key(&acceptor, (const uint8_t *)"HTTP/other.example.com", 22, c->key.at, 16).status == MK_OK);
+    mk_reply reply = mk_accept(&acceptor, &session, c->token.at, c->token.length, &c->moment);
+    CHECK(reply.status == MK_OK && reply.length == 0);
+    CHECK(mk_acceptor_kept(&acceptor) == 1);
+    CHECK(is_refused(mk_accept(&acceptor, &again, c->token.at, c->token.length, &c->moment), MK_CAUSE_REPLAYED));
+    CHECK(again.count == 0 && again.at == NULL);
+    reply = mk_session_answer(&session, out, sizeof out);
+    CHECK(reply.status == MK_OK && reply.length == 0);
+    reply = mk_session_peer(&session, out, sizeof out);
+    CHECK(reply.status == MK_OK && reply.length == 17 && memcmp(out, "alice@example.com", 17) == 0);
+    reply = mk_unwrap(&session, c->messages[1].at, c->messages[1].length, out, c->messages[1].length);
+    CHECK(reply.status == MK_OK && reply.length == 1 && out[0] == 0x22 && mk_is_sealed(c->messages[1].at));
+    CHECK(is_refused(mk_unwrap(&session, c->messages[1].at, c->messages[1].length, out, sizeof out), MK_CAUSE_REPEATED));
+    reply = mk_wrap(&session, (const uint8_t *)"text", 4, c->moment.random, 16, out, sizeof out);
+    CHECK(reply.status == MK_OK && reply.length == 64 && mk_is_sealed(out));
+    CHECK(is_refused(mk_unwrap(&session, out, reply.length, out + 2048, 2048), MK_CAUSE_DIRECTION));
+    reply = mk_wrap_in_clear(&session, (const uint8_t *)"text", 4, out, sizeof out);
+    CHECK(reply.status == MK_OK && reply.length == 32 && !mk_is_sealed(out) && memcmp(out + 16, "text", 4) == 0);
+    reply = mk_mic(&session, (const uint8_t *)"text", 4, mic, sizeof mic);
+    CHECK(reply.status == MK_OK && reply.length == 28);
+    CHECK(is_refused(mk_verify(&session, mic, sizeof mic, (const uint8_t *)"text", 4), MK_CAUSE_DIRECTION));
+    mk_session_free(&session);
+    CHECK(session.count == 0);
+    mk_session_free(&session);
+    mk_acceptor_free(&acceptor);
+    CHECK(acceptor.count == 0);
+}
+
+/* Whatever is not done leaves all as it was. */
+static void bad(const conversation *c) {
+    mk_acceptor acceptor = MK_EMPTY, none = MK_EMPTY;
+    mk_session session = MK_EMPTY, empty = MK_EMPTY;
+    uint8_t out[4096], spoilt[4096];
+    mk_moment late = c->moment;
+    CHECK(mk_acceptor_new(&acceptor, (const uint8_t *)c->name, strlen(c->name), c->key.at, 24, 300).status == MK_ARGUMENT);
+    CHECK(mk_acceptor_new(&acceptor, (const uint8_t *)"\xff", 1, c->key.at, 32, 300).status == MK_ARGUMENT);
+    CHECK(is_refused(mk_acceptor_new(&acceptor, (const uint8_t *)"\xc3\xa4", 2, c->key.at, 32, 300), MK_CAUSE_NOT_ASCII));
+    CHECK(acceptor.count == 0);
+    CHECK(mk_acceptor_key(&none, (const uint8_t *)"a", 1, c->key.at, 32).status == MK_HANDLE);
+    CHECK(mk_acceptor_reserve(&none, 1).status == MK_HANDLE);
+    CHECK(mk_acceptor_kept(&none) == 0);
+    CHECK(mk_accept(&none, &session, c->token.at, c->token.length, &c->moment).status == MK_HANDLE);
+    CHECK(mk_session_answer(&empty, out, sizeof out).status == MK_HANDLE);
+    CHECK(mk_session_peer(&empty, out, sizeof out).status == MK_HANDLE);
+    CHECK(mk_wrap(&empty, out, 1, out, 16, spoilt, sizeof spoilt).status == MK_HANDLE);
+    CHECK(mk_wrap_in_clear(&empty, out, 1, spoilt, sizeof spoilt).status == MK_HANDLE);
+    CHECK(mk_unwrap(&empty, out, 1, spoilt, sizeof spoilt).status == MK_HANDLE);
+    CHECK(mk_mic(&empty, out, 1, spoilt, sizeof spoilt).status == MK_HANDLE);
+    CHECK(mk_verify(&empty, out, 1, spoilt, 1).status == MK_HANDLE);
+    CHECK(make(c, &acceptor).status == MK_OK);
+    CHECK(make(c, &acceptor).status == MK_HANDLE);
+    CHECK(is_refused(mk_accept(&acceptor, &session, c->token.at, 0, &c->moment), MK_CAUSE_SHAPE));
+    memcpy(spoilt, c->token.at, c->token.length);
+    spoilt[c->token.length - 1] ^= 1;
+    CHECK(is_refused(mk_accept(&acceptor, &session, spoilt, c->token.length, &c->moment), MK_CAUSE_ALTERED));
+    late.moment = UINT64_MAX;
+    CHECK(mk_accept(&acceptor, &session, c->token.at, c->token.length, &late).status == MK_ARGUMENT);
+    late.moment = c->moment.moment + 301000000;
+    CHECK(mk_acceptor_kept(&acceptor) == 0);
+    CHECK(mk_accept(&acceptor, &session, c->token.at, c->token.length, &c->moment).status == MK_OK);
+    CHECK(mk_accept(&acceptor, &session, c->token.at, c->token.length, &c->moment).status == MK_HANDLE);
+    CHECK(is_refused(mk_accept(&acceptor, &empty, c->token.at, c->token.length, &late), MK_CAUSE_SKEW));
+    mk_reply reply = mk_session_peer(&session, out, 16);
+    CHECK(reply.status == MK_ROOM && reply.length == 17);
+    reply = mk_unwrap(&session, c->messages[1].at, c->messages[1].length, out, 0);
+    CHECK(reply.status == MK_ROOM && reply.length == 1);
+    CHECK(mk_unwrap(&session, c->messages[1].at, c->messages[1].length, out, 1).status == MK_OK);
+    CHECK(is_refused(mk_unwrap(&session, out, 0, out + 1, 64), MK_CAUSE_HEADER));
+    CHECK(mk_wrap(&session, out, 1, out, 15, spoilt, sizeof spoilt).status == MK_ARGUMENT);
+    reply = mk_wrap(&session, c->token.at, 4, c->moment.random, 16, out, 63);
+    CHECK(reply.status == MK_ROOM && reply.length == 64);
+    CHECK(mk_wrap(&session, c->token.at, 4, c->moment.random, 16, out, 64).status == MK_OK);
+    CHECK(mk_wrap(&session, c->token.at, 4, c->moment.random, 16, spoilt, 64).status == MK_OK);
+    CHECK(out[15] + 1 == spoilt[15]); /* a call that had no room took no number */
+    CHECK(mk_mic(&session, out, 0, spoilt, 27).status == MK_ROOM);
+    CHECK(is_refused(mk_verify(&session, spoilt, 0, out, 0), MK_CAUSE_HEADER));
+    mk_session_free(&session);
+    CHECK(mk_session_peer(&session, out, sizeof out).status == MK_HANDLE);
+    mk_acceptor_free(&acceptor);
+    mk_acceptor_free(&acceptor);
+}
+
+/* The names, and a token longer than 16 MiB. */
+static void once(const conversation *c) {
+    mk_acceptor acceptor = MK_EMPTY;
+    mk_session session = MK_EMPTY;
+    uint8_t out[64];
+    size_t length = (size_t)17 << 20;
+    uint8_t *large = calloc(length, 1);
+    mk_reply reply = mk_cause_name(MK_CAUSE_REPLAYED, out, sizeof out);
+    CHECK(reply.status == MK_OK && reply.length == 8 && memcmp(out, "Replayed", 8) == 0);
+    reply = mk_kind_name(MK_KIND_TIME_SKEW, out, sizeof out);
+    CHECK(reply.status == MK_OK && reply.length == 8 && memcmp(out, "TimeSkew", 8) == 0);
+    CHECK(mk_kind_name(0, out, sizeof out).status == MK_ARGUMENT);
+    CHECK(mk_cause_name(1000, out, sizeof out).status == MK_ARGUMENT);
+    CHECK(mk_kind_name(1, out, 3).status == MK_ROOM);
+    reply = mk_version(out, sizeof out);
+    CHECK(reply.status == MK_OK && reply.length == 5 && memcmp(out, "0.1.0", 5) == 0);
+    CHECK(make(c, &acceptor).status == MK_OK);
+    if (large != NULL) {
+        memcpy(large, c->token.at, c->token.length);
+        CHECK(mk_accept(&acceptor, &session, large, length, &c->moment).status == MK_REFUSED);
+        CHECK(mk_accept(&acceptor, &session, c->token.at, c->token.length, &c->moment).status == MK_OK);
+        CHECK(mk_unwrap(&session, large, length, large, 0).status == MK_REFUSED);
+    }
+    free(large);
+    mk_session_free(&session);
+    mk_acceptor_free(&acceptor);
+}
+
+static double seconds_of(const conversation *c, int rounds) {
+    uint8_t out[256];
+    mk_acceptor acceptor = MK_EMPTY;
+    clock_t start;
+    double seconds;
+    CHECK(make(c, &acceptor).status == MK_OK);
+    mk_session session = MK_EMPTY;
+    CHECK(mk_accept(&acceptor, &session, c->token.at, c->token.length, &c->moment).status == MK_OK);
+    start = clock();
+    for (int i = 0; i < rounds; i++) {
+        CHECK(mk_wrap(&session, c->token.at, 64, c->moment.random, 16, out, sizeof out).status == MK_OK);
+    }
+    seconds = (double)(clock() - start) / CLOCKS_PER_SEC;
+    mk_session_free(&session);
+    mk_acceptor_free(&acceptor);
+    return seconds;
+}
+
+int main(int count, char **words) {
+    static conversation c;
+    int rounds = count > 2 ? atoi(words[2]) : 1;
+    if (count < 2 || !read_conversation(words[1], &c)) {
+        fprintf(stderr, "usage: test_calls CONVERSATION [ROUNDS]\n");
+        return 2;
+    }
+    once(&c);
+    for (int i = 0; i < rounds; i++) {
+        good(&c);
+        bad(&c);
+    }
+    printf("%d rounds; %.2f microseconds for a wrap of 64 octets\n", rounds, seconds_of(&c, 10000) * 100);
+    printf("%lu passed, %lu failed\n", passed, failed);
+    return failed != 0;
+}

@@ -1,0 +1,139 @@
+//! Why a call was not done.
+
+use crate::sys;
+use std::{fmt, io};
+
+/// Why a call was not done.
+#[derive(Debug)]
+pub enum Error {
+    /// The library refuses it. Write it to a log, and tell a client only that it was refused.
+    Refused(Refusal),
+    /// Memory ran out. Nothing is changed, so the call can be made again.
+    Memory,
+    /// An argument has a value that it may not have: a key of another length than 16 and 32 octets, or a moment that is past
+    /// the year 9999 or before 1970.
+    Argument,
+    /// The system gave no random octets.
+    Random(io::Error),
+}
+
+/// A refusal: what failed first. It is printed as `InvalidToken Replayed`.
+#[derive(Clone, Copy, Debug, PartialEq, Eq, Hash)]
+pub struct Refusal {
+    /// The kind.
+    pub kind: Kind,
+    /// What failed.
+    pub cause: Cause,
+    /// The code that some causes have, and else 0.
+    pub number: u32,
+}
+
+/// The kind of a refusal, one of `mk_kind` in `menolavuri.h`. It is printed by its name.
+#[derive(Clone, Copy, Debug, PartialEq, Eq, Hash)]
+pub struct Kind(pub u32);
+
+/// What exactly failed, one of `mk_cause` in `menolavuri.h`. It is printed by its name.
+#[derive(Clone, Copy, Debug, PartialEq, Eq, Hash)]
+pub struct Cause(pub u32);
+
+impl Cause {
+    /// There is no key for the service that the ticket names.
+    pub const NO_SERVICE_KEY: Cause = Cause(7);
+    /// The authenticator is too far from the clock.
+    pub const SKEW: Cause = Cause(14);
+    /// The ticket has expired.
+    pub const EXPIRED: Cause = Cause(16);
+    /// This authenticator was admitted before.
+    pub const REPLAYED: Cause = Cause(17);
+    /// A message was opened before.
+    pub const REPEATED: Cause = Cause(52);
+    /// A message is too old to tell whether it was opened before.
+    pub const OLD: Cause = Cause(51);
+    /// A checksum does not fit, or no plain text is sealed to these octets.
+    pub const ALTERED: Cause = Cause(11);
+}
+
+type NameCall = unsafe extern "C" fn(u32, *mut u8, usize) -> sys::Reply;
+
+fn write_name(f: &mut fmt::Formatter<'_>, call: NameCall, number: u32) -> fmt::Result {
+    let mut room = [0; 64];
+    // SAFETY: the pointer and the length are those of one array, which is borrowed for the call.
+    let reply = unsafe { call(number, room.as_mut_ptr(), room.len()) };
+    match std::str::from_utf8(&room[..reply.length.min(room.len())]) {
+        Ok(name) if reply.status == sys::OK => f.write_str(name),
+        _ => write!(f, "{number}"),
+    }
+}
+
+impl fmt::Display for Kind {
+    fn fmt(&self, f: &mut fmt::Formatter<'_>) -> fmt::Result {
+        write_name(f, sys::mk_kind_name, self.0)
+    }
+}
+
+impl fmt::Display for Cause {
+    fn fmt(&self, f: &mut fmt::Formatter<'_>) -> fmt::Result {
+        write_name(f, sys::mk_cause_name, self.0)
+    }
+}
+
+impl fmt::Display for Refusal {
+    fn fmt(&self, f: &mut fmt::Formatter<'_>) -> fmt::Result {
+        write!(f, "{} {}", self.kind, self.cause)?;
+        if self.number != 0 {
+            write!(f, " {}", self.number)
+        } else {
+            Ok(())
+        }
+    }
+}
+
+impl fmt::Display for Error {
+    fn fmt(&self, f: &mut fmt::Formatter<'_>) -> fmt::Result {
+        match self {
+            Error::Refused(refusal) => write!(f, "refused: {refusal}"),
+            Error::Memory => f.write_str("memory ran out"),
+            Error::Argument => f.write_str("an argument has a value that it may not have"),
+            Error::Random(error) => write!(f, "no random octets: {error}"),
+        }
+    }
+}
+
+impl std::error::Error for Error {
+    fn source(&self) -> Option<&(dyn std::error::Error + 'static)> {
+        match self {
+            Error::Random(error) => Some(error),
+            _ => None,
+        }
+    }
+}
+
+impl From<io::Error> for Error {
+    fn from(error: io::Error) -> Error {
+        Error::Random(error)
+    }
+}
+
+impl Error {
+    /// The cause of a refusal.
+    pub fn cause(&self) -> Option<Cause> {
+        match self {
+            Error::Refused(refusal) => Some(refusal.cause),
+            _ => None,
+        }
+    }
+}
+
+/// The length of a reply, where the call was done.
+pub(crate) fn done(reply: sys::Reply) -> Result<usize, Error> {
+    match reply.status {
+        sys::OK => Ok(reply.length),
+        sys::REFUSED => Err(Error::Refused(Refusal {
+            kind: Kind(reply.kind),
+            cause: Cause(reply.cause),
+            number: reply.number,
+        })),
+        sys::MEMORY => Err(Error::Memory),
+        _ => Err(Error::Argument),
+    }
+}

@@ -1,0 +1,111 @@
+//! The declarations of `menolavuri.h`. Nothing compares the two.
+
+use std::marker::{PhantomData, PhantomPinned};
+
+/// An address that only the library reads, and whether something is there.
+#[repr(C)]
+pub struct Handle {
+    count: u64,
+    at: *mut u8,
+    _here: PhantomData<PhantomPinned>,
+}
+
+impl Handle {
+    pub const EMPTY: Handle = Handle {
+        count: 0,
+        at: std::ptr::null_mut(),
+        _here: PhantomData,
+    };
+}
+
+pub const OK: u32 = 0;
+pub const REFUSED: u32 = 1;
+pub const MEMORY: u32 = 2;
+pub const ROOM: u32 = 3;
+
+#[repr(C)]
+#[derive(Clone, Copy, Debug)]
+pub struct Reply {
+    pub status: u32,
+    pub kind: u32,
+    pub cause: u32,
+    pub number: u32,
+    pub length: usize,
+}
+
+#[repr(C)]
+pub struct Moment {
+    pub moment: u64,
+    pub random: [u8; 64],
+}
+
+unsafe extern "C" {
+    pub fn mk_version(out: *mut u8, room: usize) -> Reply;
+    pub fn mk_kind_name(kind: u32, out: *mut u8, room: usize) -> Reply;
+    pub fn mk_cause_name(cause: u32, out: *mut u8, room: usize) -> Reply;
+    pub fn mk_acceptor_new(
+        to: *mut Handle,
+        name: *const u8,
+        name_length: usize,
+        key: *const u8,
+        key_length: usize,
+        skew: u32,
+    ) -> Reply;
+    pub fn mk_acceptor_key(
+        acceptor: *mut Handle,
+        name: *const u8,
+        name_length: usize,
+        key: *const u8,
+        key_length: usize,
+    ) -> Reply;
+    pub fn mk_acceptor_reserve(acceptor: *mut Handle, records: usize) -> Reply;
+    pub fn mk_acceptor_kept(acceptor: *mut Handle) -> u64;
+    pub fn mk_acceptor_free(acceptor: *mut Handle);
+    pub fn mk_accept(
+        acceptor: *mut Handle,
+        to: *mut Handle,
+        token: *const u8,
+        token_length: usize,
+        moment: *const Moment,
+    ) -> Reply;
+    pub fn mk_session_answer(session: *mut Handle, out: *mut u8, room: usize) -> Reply;
+    pub fn mk_session_peer(session: *mut Handle, out: *mut u8, room: usize) -> Reply;
+    pub fn mk_session_free(session: *mut Handle);
+    pub fn mk_wrap(
+        session: *mut Handle,
+        text: *const u8,
+        text_length: usize,
+        confounder: *const u8,
+        confounder_length: usize,
+        out: *mut u8,
+        room: usize,
+    ) -> Reply;
+    pub fn mk_wrap_in_clear(
+        session: *mut Handle,
+        text: *const u8,
+        text_length: usize,
+        out: *mut u8,
+        room: usize,
+    ) -> Reply;
+    pub fn mk_unwrap(
+        session: *mut Handle,
+        token: *const u8,
+        token_length: usize,
+        out: *mut u8,
+        room: usize,
+    ) -> Reply;
+    pub fn mk_mic(
+        session: *mut Handle,
+        payload: *const u8,
+        payload_length: usize,
+        out: *mut u8,
+        room: usize,
+    ) -> Reply;
+    pub fn mk_verify(
+        session: *mut Handle,
+        mic: *const u8,
+        mic_length: usize,
+        payload: *const u8,
+        payload_length: usize,
+    ) -> Reply;
+}

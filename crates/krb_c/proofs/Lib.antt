@@ -1,0 +1,4 @@
+mod AcceptorBox
+mod Places
+mod Served
+mod SessionBox

@@ -1,0 +1,172 @@
+-- What the calls do to the handles that they take, by what they answer.
+use Rattle.std.specs.Prelude.{◌≡◌, ℕ, ◌≤◌, List, [], ◌∷◌, ◌++◌, length, Option, Some, None, Result, Ok, IfOk, IfErr, OnOk, OnErr}
+use Rattle.krb_c.specs.declared.reply.Failure.{Failure}
+use Rattle.krb_c.specs.declared.reply.Failure.TheVariants.{Refused, Room, Argument, Handle}
+use Rattle.krb_c.specs.Codes.{kind_code, cause_code}
+use Rattle.krb_c.specs.declared.accept.Moment.{Moment}
+use Rattle.krb_context.specs.Mics.{ChecksMic}
+use Rattle.krb_context.specs.Refusals.{Refuses}
+use Rattle.krb_context.specs.ServiceKeys.{new_properties, service_named, IsNotAscii}
+use Rattle.krb_replay.specs.Book.{StandsFor, IsUnchanged}
+use Rattle.krb_replay.specs.History.{no_history}
+use Rattle.krb_entrance.specs.declared.service.Service.{Service}
+use Rattle.krb_sessions.specs.declared.session.Session.{Session}
+use Rattle.krb_entrance.specs.Admits.{Waits, LetsIn, Admits, Rejects}
+use Rattle.krb_sessions.specs.Gives.{Delivers, IsShort, RefusesMic, after_making, after_opening}
+use Rattle.krb_entrance.specs.Services.{components}
+use Rattle.sspi_core.specs.declared.cause.Cause.{Cause}
+use Rattle.sspi_core.specs.declared.cause.Cause.TheVariants.{Memory}
+use Rattle.sspi_core.specs.declared.draw.Draw.{Draw}
+use Rattle.sspi_core.specs.declared.error.Error.{Error}
+use Rattle.sspi_core.specs.declared.kind.ErrorKind.{ErrorKind}
+use Rattle.sspi_core.specs.Printed.{kind_text, cause_name}
+use Rattle.sspi_core.specs.declared.error.Place.{Place}
+use Rattle.sspi_core.specs.declared.error.Place.TheVariants.{Elsewhere}
+use Rattle.sspi_core.specs.Kinds.{error_of}
+
+-- a refusal of the library's is one of these
+abbrev pub RefusedAs : (Error → Type 0) → Failure → Type 0
+RefusedAs refuses (Refused error) = refuses error
+RefusedAs refuses _ = Unit {0}
+
+-- a service of this name and key, whose book was asked nothing
+pub record IsNew (name key : List ℕ) (skew : ℕ) (service : Service) : Type 0 where
+  pub properties : service.properties ≡ new_properties (components name) None skew (Some key)
+  pub skew_is : service.book.skew ≡ skew
+  pub book : StandsFor service.book no_history
+
+-- the acceptor that is made, where the handle was empty
+pub record Makes (name key : List ℕ) (skew : ℕ) (old : Option Service) (count : ℕ) (new : Option Service) : Type 0 where
+  pub service : Service
+  pub was_empty : old ≡ None
+  pub now : new ≡ Some service
+  pub is_new : IsNew name key skew service
+  pub none_written : count ≡ 0
+
+-- a further name with its key
+pub record Adds (name key : List ℕ) (old : Option Service) (count : ℕ) (new : Option Service) : Type 0 where
+  pub before : Service
+  pub was : old ≡ Some before
+  pub now : new ≡ Some (record before {
+    properties = record before.properties {
+      additional_service_keys = before.properties.additional_service_keys ++ (service_named (components name), key) ∷ [];
+    };
+  })
+  pub none_written : count ≡ 0
+
+-- room for records of admitted clients
+pub record Reserves (records : ℕ) (old : Option Service) (count : ℕ) (new : Option Service) : Type 0 where
+  pub before : Service
+  pub after : Service
+  pub was : old ≡ Some before
+  pub now : new ≡ Some after
+  pub room : records ≤ after.book.spare
+  pub book : IsUnchanged before.book after.book
+  pub properties : after.properties ≡ before.properties
+  pub none_written : count ≡ 0
+
+-- the client is admitted: its token passes all checks of the acceptor's, in their order, and the one book among them
+pub record AdmitsTo (token : List ℕ) (draw : Draw) (old : Option Service) (to : Option Session) (count : ℕ) (new : Option Service)
+    (session : Option Session) : Type 0 where
+  pub before : Service
+  pub after : Service
+  pub guest : Session
+  pub was : old ≡ Some before
+  pub now : new ≡ Some after
+  pub was_empty : to ≡ None
+  pub session_is : session ≡ Some guest
+  pub admits : Admits before.properties before.book token draw guest.answer guest.connection after.book
+  pub properties : after.properties ≡ before.properties
+  pub counted : count ≡ length guest.answer
+
+-- it is refused by the first check that fails, and the book is as that check leaves it
+pub record RefusesToken (token : List ℕ) (draw : Draw) (old new : Option Service) (error : Error) : Type 0 where
+  pub before : Service
+  pub after : Service
+  pub was : old ≡ Some before
+  pub now : new ≡ Some after
+  pub refuses : Refuses Elsewhere (Rejects before.properties before.book token draw after.book) error
+  pub memory : error ≡ error_of Memory → IsUnchanged before.book after.book
+  pub properties : after.properties ≡ before.properties
+
+-- what an admission that is not done leaves of the acceptor
+abbrev pub Turns : List ℕ → Draw → Option Service → Option Service → Failure → Type 0
+Turns token draw old new (Refused error) = RefusesToken token draw old new error
+Turns token draw old new _ = new ≡ old
+
+-- octets of the session's go into the room
+pub record Serves (gives : Session → List ℕ → Type 0) (after : Session → Session) (old : Option Session) (room : List ℕ) (count : ℕ)
+    (new : Option Session) (out : List ℕ) : Type 0 where
+  pub session : Session
+  pub was : old ≡ Some session
+  pub now : new ≡ Some (after session)
+  pub delivers : Delivers (gives session) room count out
+
+-- the session refuses
+pub record SessionRefuses {A : Type 0} (place : Place) (checks : Session → Result A Cause → Type 0) (old : Option Session) (error : Error) : Type 0 where
+  pub session : Session
+  pub was : old ≡ Some session
+  pub refuses : Refuses place (checks session) error
+
+-- the room is too short for what the session gives
+pub record SessionIsShort (gives : Session → List ℕ → Type 0) (old : Option Session) (room count : ℕ) : Type 0 where
+  pub session : Session
+  pub was : old ≡ Some session
+  pub is_short : IsShort (gives session) room count
+
+-- why the octets are not handed out
+abbrev pub ServesNot : {A : Type 0} → Place → (Session → Result A Cause → Type 0) → (Session → List ℕ → Type 0) → Option Session → ℕ → Failure → Type 0
+ServesNot place checks gives old room (Refused error) = SessionRefuses place checks old error
+ServesNot place checks gives old room (Room count) = SessionIsShort gives old room count
+ServesNot place checks gives old room Argument = Unit {0}
+ServesNot place checks gives old room Handle = old ≡ None
+
+-- how many records an acceptor keeps
+abbrev pub kept_of : Option Service → ℕ
+kept_of None = 0
+kept_of (Some service) = length service.book.kept
+
+-- a moment of C's as the library has it
+abbrev pub draw_of : Moment → Draw
+draw_of moment = record { moment = moment.moment; random = moment.random }
+
+-- the session behind a call that changes nothing of it, behind one that makes a token, and behind one that opens a token
+abbrev pub same : Session → Session
+same session = session
+
+abbrev pub made : Session → Session
+made session = record session { connection = after_making session.connection }
+
+abbrev pub opened : List ℕ → Session → Session
+opened token session = record session { connection = after_opening token session.connection }
+
+-- the token is the client's, over this payload
+pub record Verifies (token payload : List ℕ) (old : Option Session) (count : ℕ) : Type 0 where
+  pub session : Session
+  pub was : old ≡ Some session
+  pub checks : ChecksMic session.connection token payload (Ok tt)
+  pub none_written : count ≡ 0
+
+-- the token is none, by the first check that fails
+pub record MicIsRefused (token payload : List ℕ) (old : Option Session) (error : Error) : Type 0 where
+  pub session : Session
+  pub was : old ≡ Some session
+  pub refuses : RefusesMic session.connection token payload error
+
+abbrev pub VerifiesNot : List ℕ → List ℕ → Option Session → Failure → Type 0
+VerifiesNot token payload old (Refused error) = MicIsRefused token payload old error
+VerifiesNot token payload old Handle = old ≡ None
+VerifiesNot token payload old _ = Unit {0}
+
+-- the name of the kind, or of a cause, with this number
+abbrev pub IsKindName : ℕ → List ℕ → Type 0
+IsKindName code text = (kind : ErrorKind) × (kind_code kind ≡ code) × (text ≡ kind_text kind)
+
+abbrev pub IsCauseName : ℕ → List ℕ → Type 0
+IsCauseName code text = (cause : Cause) × (cause_code cause ≡ code) × (text ≡ cause_name cause)
+
+-- a text is not handed out only where the room is too short, or where there is none
+abbrev pub NamesNot : (List ℕ → Type 0) → ℕ → Failure → Type 0
+NamesNot gives room (Room count) = IsShort gives room count
+NamesNot gives room Argument = Unit {0}
+NamesNot gives room _ = ⊥

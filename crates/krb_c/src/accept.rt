@@ -1,0 +1,122 @@
+//! The admission of a client.
+
+ghost use Rattle.std.specs.Prelude.{◌≡◌, ◌≤◌, ℕ, length, Result, Ok, IfOk, IfErr, OnOk, OnErr};
+ghost use Rattle.sspi_core.specs.Kinds.{error_of};
+ghost use Rattle.sspi_core.specs.declared.cause.Cause.TheVariants as causes;
+ghost use Rattle.sspi_core.specs.declared.error.Place.TheVariants as places;
+ghost use Rattle.krb_context.specs.Refusals.{Refuses};
+ghost use Rattle.krb_replay.specs.Book.{IsUnchanged};
+ghost use Rattle.krb_entrance.specs.Admits.{Waits, Admits, Rejects};
+ghost use Rattle.krb_c.specs.declared.reply.Failure.{Failure};
+ghost use Rattle.krb_c.specs.Replies.{reply_of};
+ghost use Rattle.krb_c.specs.Calls.{AdmitsTo, Turns, draw_of};
+
+use crate::handles::{Acceptor, Connection};
+use crate::reply::{Failure, Reply, reply_of};
+use krb_der::boxed;
+use krb_entrance::{Draw, Error, MAX_MOMENT, Service, Session};
+use std::alloc::Global;
+
+/// What one admission may use: microseconds since 1970-01-01T00:00:00Z, and 64 fresh random octets.
+#[repr(C)]
+#[derive(Clone, Copy)]
+pub struct Moment {
+    pub moment: u64,
+    pub random: [u8; 64],
+}
+
+fn waiting(alloc: Global, service: &Service, draw: &Draw) -> Result<Box<Session>, Error>
+    ensures waits { IfOk result (λ session. Waits service.now.properties session.value.connection) }
+    ensures errors { IfErr result (λ error. error ≡ error_of causes.Memory) }
+{
+    let session = service.session(alloc, draw)?;
+    Ok(boxed(alloc, session)?)
+}
+
+/// The session of the client that sent this token, in a box that is there before the token is looked at.
+fn admit(
+    alloc: Global,
+    service: &mut Service,
+    token: &[u8],
+    draw: &Draw,
+) -> Result<Box<Session>, Error>
+    ensures admits { IfOk result (λ session. Admits service.old.properties service.old.book token.now draw.now
+        session.value.answer session.value.connection service.new.book) }
+    ensures refused { IfErr result (Refuses places.Elsewhere (Rejects service.old.properties service.old.book token.now draw.now service.new.book)) }
+    ensures memory { IfErr result (λ error. error ≡ error_of causes.Memory → IsUnchanged service.old.book service.new.book) }
+    ensures properties { service.new.properties ≡ service.old.properties }
+{
+    let mut session = waiting(alloc, service, draw)?;
+    service.accept(alloc, &mut session, token, draw)?;
+    Ok(session)
+}
+
+fn accept_at(
+    alloc: Global,
+    acceptor: &mut Acceptor,
+    to: &mut Connection,
+    token: &[u8],
+    draw: &Draw,
+) -> Result<usize, Failure>
+    ensures admits { IfOk result (λ count. AdmitsTo token.now draw.now acceptor.old.place.value to.old.place.value count
+        acceptor.new.place.value to.new.place.value) }
+    ensures turns { IfErr result (Turns token.now draw.now acceptor.old.place.value acceptor.new.place.value) }
+    ensures stays { OnErr result (to.new.place.value ≡ to.old.place.value) }
+{
+    if !to.is_empty() {
+        return Err(Failure::Handle);
+    }
+    let Some(mut service) = acceptor.take(alloc) else {
+        return Err(Failure::Handle);
+    };
+    let admitted = admit(alloc, &mut service, token, draw);
+    acceptor.put(service);
+    let session = admitted?;
+    let count = session.answer.as_slice().len();
+    to.put(session);
+    Ok(count)
+}
+
+fn accept(
+    alloc: Global,
+    acceptor: &mut Acceptor,
+    to: &mut Connection,
+    token: &[u8],
+    moment: &Moment,
+) -> Result<usize, Failure>
+    ensures admits { IfOk result (λ count. AdmitsTo token.now (draw_of moment.now) acceptor.old.place.value to.old.place.value count
+        acceptor.new.place.value to.new.place.value) }
+    ensures turns { IfErr result (Turns token.now (draw_of moment.now) acceptor.old.place.value acceptor.new.place.value) }
+    ensures stays { OnErr result (to.new.place.value ≡ to.old.place.value) }
+{
+    if MAX_MOMENT < moment.moment {
+        return Err(Failure::Argument);
+    }
+    let draw = Draw {
+        moment: moment.moment,
+        random: moment.random,
+    };
+    accept_at(alloc, acceptor, to, token, &draw)
+}
+
+/// Admits the client that sent this token, and makes its session in the empty handle `to`. The length is that of what goes back
+/// to the client, which `mk_session_answer` gives: 0 where the client asked for nothing.
+///
+/// REFUSED says which check failed first. ARGUMENT where the moment is past the end of 9999-12-28; HANDLE where the acceptor
+/// is empty, or `to` is not. Then `to` stays empty. Where memory runs out no record is made, so the token may come again.
+#[unsafe(no_mangle)]
+pub extern "C" fn mk_accept(
+    alloc: Global,
+    acceptor: &mut Acceptor,
+    to: &mut Connection,
+    token: &[u8],
+    moment: &Moment,
+) -> Reply
+    ensures { (answer : Result ℕ Failure) × (result ≡ reply_of answer)
+        × IfOk answer (λ count. AdmitsTo token.now (draw_of moment.now) acceptor.old.place.value to.old.place.value count
+        acceptor.new.place.value to.new.place.value)
+        × IfErr answer (Turns token.now (draw_of moment.now) acceptor.old.place.value acceptor.new.place.value)
+        × OnErr answer (to.new.place.value ≡ to.old.place.value) }
+{
+    reply_of(accept(alloc, acceptor, to, token, moment))
+}

@@ -1,0 +1,18 @@
+//! The acceptor for programs in C and in Rust: the exports of a static library.
+//!
+//! A program keeps handles, each of 16 octets that are 0 at first, and hands them to one call at a time. Nothing is required of
+//! a call beyond what its types say: each tests what it is given. What crosses is written in `menolavuri.h`.
+#![tactic(auto)]
+
+mod accept;
+mod acceptor;
+mod codes;
+mod handles;
+mod messages;
+mod names;
+mod reply;
+mod texts;
+
+pub use accept::Moment;
+pub use handles::{Acceptor, Connection};
+pub use reply::{Failure, Reply};

@@ -1,0 +1,113 @@
+//! What a call answers.
+
+ghost use Rattle.std.specs.Prelude.{◌≡◌};
+ghost use Rattle.krb_c.specs.Replies.{reply_of, reply_to, plain_reply};
+
+use crate::codes::{cause_code, kind_code, number_of};
+use krb_entrance::{Cause, Error, Fault};
+
+/// What a call answers: a status, of a refusal its kind and cause, and the length of what was written or is wanted.
+#[repr(C)]
+#[derive(Clone, Copy, Debug, PartialEq, Eq)]
+pub struct Reply {
+    pub status: u32,
+    pub kind: u32,
+    pub cause: u32,
+    pub number: u32,
+    pub length: usize,
+}
+
+/// Why a call was not done.
+#[derive(Clone, Copy, Debug, PartialEq, Eq)]
+pub enum Failure {
+    /// The library refuses it.
+    Refused(Error),
+    /// The octets are so many, and the room is shorter.
+    Room(usize),
+    /// An argument has a value that it may not have.
+    Argument,
+    /// The handle is empty where the call wants one of its kind, or holds something where the call wants an empty one.
+    Handle,
+}
+
+impl From<Error> for Failure {
+    ghost use Rattle.krb_c.specs.declared.reply.Failure.TheVariants as failures;
+
+    ghost from_gives = { λ error failure. failure ≡ failures.Refused error };
+
+    fn from(error: Error) -> Failure {
+        Failure::Refused(error)
+    }
+}
+
+impl From<Fault> for Failure {
+    ghost use Rattle.krb_c.specs.Replies.{failure_of};
+
+    ghost from_gives = { λ fault failure. failure ≡ failure_of fault };
+
+    fn from(fault: Fault) -> Failure {
+        match fault {
+            Fault::Refused(error) => Failure::Refused(error),
+            Fault::Room(count) => Failure::Room(count),
+        }
+    }
+}
+
+/// The call was done.
+const DONE: u32 = 0;
+
+/// It is refused.
+const REFUSED: u32 = 1;
+
+/// Memory ran out.
+const MEMORY: u32 = 2;
+
+/// The room is too short.
+const ROOM: u32 = 3;
+
+/// An argument has a value that it may not have.
+const ARGUMENT: u32 = 4;
+
+/// The handle is not as the call wants it.
+const HANDLE: u32 = 5;
+
+fn plain_reply(status: u32, length: usize) -> Reply
+    ensures { result ≡ plain_reply status length }
+{
+    Reply {
+        status,
+        kind: 0,
+        cause: 0,
+        number: 0,
+        length,
+    }
+}
+
+fn reply_to(error: Error) -> Reply
+    ensures { result ≡ reply_to error }
+{
+    let status = match error.cause {
+        Cause::Memory => MEMORY,
+        _ => REFUSED,
+    };
+    Reply {
+        status,
+        kind: kind_code(error.error_type),
+        cause: cause_code(error.cause),
+        number: number_of(error.cause),
+        length: 0,
+    }
+}
+
+/// The answer as C has it.
+pub(crate) fn reply_of(answer: Result<usize, Failure>) -> Reply
+    ensures { result ≡ reply_of answer }
+{
+    match answer {
+        Ok(length) => plain_reply(DONE, length),
+        Err(Failure::Refused(error)) => reply_to(error),
+        Err(Failure::Room(length)) => plain_reply(ROOM, length),
+        Err(Failure::Argument) => plain_reply(ARGUMENT, 0),
+        Err(Failure::Handle) => plain_reply(HANDLE, 0),
+    }
+}

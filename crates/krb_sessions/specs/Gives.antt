@@ -1,0 +1,82 @@
+-- What a session hands out, and how it goes into a caller's room.
+use Rattle.std.specs.Prelude.{◌≡◌, ℕ, ◌+◌, ◌<◌, List, [], ◌∷◌, ◌++◌, length, drop, Some, None, Result, Ok, Err}
+use Rattle.krb_context.specs.declared.context.Kerberos.{Kerberos}
+use Rattle.krb_context.specs.Contexts.{next_number}
+use Rattle.krb_context.specs.Mics.{ChecksMic}
+use Rattle.krb_context.specs.Queries.{name_of}
+use Rattle.krb_context.specs.Refusals.{Refuses}
+use Rattle.krb_context.specs.Spelled.{part_octets}
+use Rattle.krb_context.specs.Unwraps.{message_number}
+use Rattle.krb_context.specs.Window.{noted}
+use Rattle.krb_context.specs.Wraps.{Wraps}
+use Rattle.krb_sessions.specs.declared.fault.Fault.{Fault}
+use Rattle.krb_sessions.specs.declared.fault.Fault.TheVariants.{Refused, Room}
+use Rattle.sspi_core.specs.declared.buffer.BufferType.TheVariants.{Token as TokenType, Data, Stream}
+use Rattle.sspi_core.specs.declared.buffer.Part.TheVariants.{Token, Plain}
+use Rattle.sspi_core.specs.declared.cause.Cause.{Cause}
+use Rattle.sspi_core.specs.declared.error.Error.{Error}
+use Rattle.sspi_core.specs.declared.error.Place.{Place}
+use Rattle.sspi_core.specs.Kinds.{error_of}
+use Rattle.sspi_core.specs.Buffer.{Buffer, no_flags}
+use Rattle.sspi_core.specs.Usernames.{UserName, UserPrincipal, DownLevel, backslash, upn_text}
+
+-- octets of this kind stand at the front of the room, and so many they are
+pub record Delivers (gives : List ℕ → Type 0) (old : List ℕ) (count : ℕ) (new : List ℕ) : Type 0 where
+  pub octets : List ℕ
+  pub given : gives octets
+  pub counted : count ≡ length octets
+  pub put : new ≡ octets ++ drop (length octets) old
+
+-- octets of this kind are so many, and the room is shorter
+pub record IsShort (gives : List ℕ → Type 0) (room count : ℕ) : Type 0 where
+  pub octets : List ℕ
+  pub given : gives octets
+  pub counted : count ≡ length octets
+  pub short : room < count
+
+-- the checks refuse, or the room is too short for what is given
+abbrev pub Faults : {A : Type 0} → Place → (Result A Cause → Type 0) → (List ℕ → Type 0) → ℕ → Fault → Type 0
+Faults place checks gives room (Refused error) = Refuses place checks error
+Faults place checks gives room (Room count) = IsShort gives room count
+
+-- a name as text
+abbrev pub name_text : UserName → List ℕ
+name_text (UserPrincipal account suffix) = upn_text account suffix
+name_text (DownLevel account None) = account
+name_text (DownLevel account (Some domain)) = domain ++ backslash ∷ account
+
+-- the text of the client's name
+pub record IsNamed (context : Kerberos) (text : List ℕ) : Type 0 where
+  pub name : UserName
+  pub known : name_of context ≡ Ok name
+  pub written : text ≡ name_text name
+
+-- a message that came whole, and an empty buffer for its text
+abbrev pub whole_message : List ℕ → List Buffer
+whole_message sealed =
+    record { kind = Stream; flags = no_flags; octets = sealed; limit = length sealed } ∷
+    record { kind = Data; flags = no_flags; octets = []; limit = 0 } ∷ []
+
+-- a buffer for a token, with room for all that is sealed beside the text, and the text
+abbrev pub text_message : ℕ → List ℕ → List Buffer
+text_message filler text =
+    record { kind = TokenType; flags = no_flags; octets = []; limit = 60 + filler } ∷
+    record { kind = Data; flags = no_flags; octets = text; limit = length text } ∷ []
+
+-- a message that the context seals, as it goes out
+pub record IsWrapped (context : Kerberos) (confounder text octets : List ℕ) : Type 0 where
+  pub made : List Buffer
+  pub wraps : Wraps context confounder (text_message context.encryption_params.ec text) (Ok made)
+  pub joined : octets ≡ part_octets Token made ++ part_octets Plain made
+
+-- the context behind a message or a MIC token that it made
+abbrev pub after_making : Kerberos → Kerberos
+after_making context = record context { seq_number = next_number context.seq_number }
+
+-- the context behind a message that it opened
+abbrev pub after_opening : List ℕ → Kerberos → Kerberos
+after_opening sealed context = record context { window = noted context.window (message_number (whole_message sealed)) }
+
+-- the token is no MIC of the client's over this payload, by the first check that fails
+abbrev pub RefusesMic : Kerberos → List ℕ → List ℕ → Error → Type 0
+RefusesMic context mic payload error = (cause : Cause) × (error ≡ error_of cause) × ChecksMic context mic payload (Err cause)

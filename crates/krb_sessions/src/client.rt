@@ -1,0 +1,115 @@
+//! Who was admitted, as the ticket says it.
+
+ghost use Rattle.std.specs.Prelude.{◌≡◌, ◌++◌, ◌∷◌, IfOk, OnOk};
+ghost use Rattle.std.specs.List.{flat_map};
+ghost use Rattle.krb_sessions.specs.Principals.{quote, quoted, part_text, further_text, components_text, principal_text};
+
+use krb_der::{Bits, Name, Octets, OutOfMemory, Time};
+use krb_messages::{AuthorizationData, PrincipalName};
+use std::alloc::Global;
+
+/// What the ticket says of its client. A KDC sealed it under the service's key.
+#[derive(Drop)]
+pub struct Client {
+    /// The name, whole: its type and all its components.
+    pub name: PrincipalName,
+    pub realm: Name,
+    /// The ticket's flags (RFC 4120, section 2).
+    pub flags: Bits,
+    /// When the client was first authenticated.
+    pub authtime: Time,
+    /// From when the ticket is valid, where that is not `authtime`.
+    pub starttime: Option<Time>,
+    /// Until when it is valid.
+    pub endtime: Time,
+    /// Until when it may be renewed.
+    pub renew_till: Option<Time>,
+    /// What the KDC, or the client's own restrictions, say of the ticket (RFC 4120, section 5.2.6). No check here reads it.
+    pub authorization_data: Option<AuthorizationData>,
+}
+
+/// What stands behind the `\` for an octet that is quoted.
+fn quote(octet: u8) -> Option<u8>
+    ensures { result ≡ quote octet }
+{
+    if octet == b'/' || octet == b'@' || octet == b'\\' {
+        Some(octet)
+    } else if octet == b'\n' {
+        Some(b'n')
+    } else if octet == b'\t' {
+        Some(b't')
+    } else if octet == 8 {
+        Some(b'b')
+    } else if octet == 0 {
+        Some(b'0')
+    } else {
+        None
+    }
+}
+
+fn push_quoted(text: &mut Vec<u8>, octet: u8) -> Result<(), OutOfMemory>
+    ensures { OnOk result (text.new.items ≡ text.old.items ++ quoted octet) }
+{
+    match quote(octet) {
+        Some(letter) => {
+            text.push(b'\\')?;
+            text.push(letter)?;
+            Ok(())
+        }
+        None => {
+            text.push(octet)?;
+            Ok(())
+        }
+    }
+}
+
+fn push_part(text: &mut Vec<u8>, part: &[u8]) -> Result<(), OutOfMemory>
+    ensures { OnOk result (text.new.items ≡ text.old.items ++ part_text part.now) }
+{
+    for octet in part {
+        push_quoted(text, *octet)?;
+    }
+    Ok(())
+}
+
+/// A mark, and a component or a realm behind it.
+fn push_behind(text: &mut Vec<u8>, mark: u8, part: &[u8]) -> Result<(), OutOfMemory>
+    ensures { OnOk result (text.new.items ≡ text.old.items ++ mark ∷ part_text part.now) }
+{
+    text.push(mark)?;
+    push_part(text, part)
+}
+
+fn push_all_further(text: &mut Vec<u8>, parts: &[Name]) -> Result<(), OutOfMemory>
+    ensures { OnOk result (text.new.items ≡ text.old.items ++ flat_map further_text parts.now) }
+{
+    for part in parts {
+        push_behind(text, b'/', part.as_slice())?;
+    }
+    Ok(())
+}
+
+fn push_components(text: &mut Vec<u8>, parts: &[Name]) -> Result<(), OutOfMemory>
+    ensures { OnOk result (text.new.items ≡ text.old.items ++ components_text parts.now) }
+{
+    match parts {
+        [] => Ok(()),
+        [first, further @ ..] => {
+            push_part(text, first.as_slice())?;
+            push_all_further(text, further)
+        }
+    }
+}
+
+impl Client {
+    /// The whole name as text, as `alice/admin@EXAMPLE.COM`: a `/` between two components and a `@` before the realm, with a `\`
+    /// before those of these marks that stand in a component or the realm (RFC 1964, section 2.1.1).
+    pub fn principal(&self, alloc: Global) -> Result<Octets, OutOfMemory>
+        ensures { IfOk result (λ text. text ≡ principal_text self.now.name.name_string self.now.realm) }
+    {
+        let mut text = Vec::new(alloc);
+        push_components(&mut text, self.name.name_string.as_slice())?;
+        push_behind(&mut text, b'@', self.realm.as_slice())?;
+        Ok(Octets::new(text))
+    }
+}

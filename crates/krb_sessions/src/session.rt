@@ -1,0 +1,158 @@
+//! A client that was admitted, and its messages.
+
+ghost use Rattle.std.specs.Prelude.{◌≡◌, length, Ok, IfOk, IfErr, OnOk, OnErr};
+ghost use Rattle.sspi_core.specs.declared.error.Place.TheVariants as places;
+ghost use Rattle.krb_context.specs.ClearWraps.{WrapsClear};
+ghost use Rattle.krb_context.specs.Mics.{MakesMic, ChecksMic};
+ghost use Rattle.krb_context.specs.Queries.{name_of};
+ghost use Rattle.krb_context.specs.Wraps.{Wraps};
+ghost use Rattle.krb_context.specs.Unwraps.{Unwraps};
+ghost use Rattle.krb_sessions.specs.Gives.{Delivers, Faults, RefusesMic, IsNamed, IsWrapped, text_message, whole_message, after_making, after_opening};
+
+use crate::client::Client;
+use crate::fault::Fault;
+use crate::message::{unwrap, wrap_sealed};
+use crate::name::name_text;
+use crate::room::put;
+use krb_context::Kerberos;
+use krb_der::Octets;
+use sspi_core::Error;
+use std::alloc::Global;
+
+/// A client's connection, from its first token on.
+#[derive(Drop)]
+pub struct Session {
+    /// What goes back to the client; no octets where it asked for nothing.
+    pub answer: Octets,
+    pub connection: Kerberos,
+    /// What the ticket says of the client, where it was kept.
+    pub client: Option<Box<Client>>,
+}
+
+impl Session {
+    /// What goes back to the client: an AP-REP where it asked for mutual authentication, and else no octets.
+    pub fn answer(&self, out: &mut [u8]) -> Result<usize, Fault>
+        ensures gives { IfOk result (λ count. Delivers (λ octets. octets ≡ self.now.answer) out.old count out.new) }
+        ensures short { IfErr result (Faults places.Elsewhere (λ answer. answer ≡ Ok self.now.answer) (λ octets. octets ≡ self.now.answer) (length out.old)) }
+        ensures stays { OnErr result (out.new ≡ out.old) }
+    {
+        match put(out, self.answer.as_slice()) {
+            Ok(count) => Ok(count),
+            Err(fault) => Err(fault),
+        }
+    }
+
+    /// Who it is, in UTF-8: `alice@example.com`, or `DOMAIN\alice`.
+    pub fn name(&self, alloc: Global, out: &mut [u8]) -> Result<usize, Fault>
+        ensures gives { IfOk result (λ count. Delivers (IsNamed self.now.connection) out.old count out.new) }
+        ensures refused { IfErr result (Faults places.Query (λ answer. answer ≡ name_of self.now.connection) (IsNamed self.now.connection) (length out.old)) }
+        ensures stays { OnErr result (out.new ≡ out.old) }
+    {
+        let names = self.connection.query_context_names(alloc)?;
+        let text = name_text(alloc, &names.username)?;
+        match put(out, text.as_slice()) {
+            Ok(count) => Ok(count),
+            Err(fault) => Err(fault),
+        }
+    }
+
+    /// Seals a text into a message for the client. The confounder is 16 random octets.
+    pub fn wrap(
+        &mut self,
+        alloc: Global,
+        text: &[u8],
+        confounder: [u8; 16],
+        out: &mut [u8],
+    ) -> Result<usize, Fault>
+        ensures gives { IfOk result (λ count. Delivers (IsWrapped self.old.connection confounder text.now) out.old count out.new) }
+        ensures after { OnOk result (self.new ≡ record self.old { connection = after_making self.old.connection }) }
+        ensures refused { IfErr result (Faults places.Elsewhere
+            (Wraps self.old.connection confounder (text_message self.old.connection.encryption_params.ec text.now))
+            (IsWrapped self.old.connection confounder text.now) (length out.old)) }
+        ensures stays { OnErr result (self.new ≡ self.old) }
+        ensures room { OnErr result (out.new ≡ out.old) }
+    {
+        let number = self.connection.seq_number;
+        let token = wrap_sealed(alloc, &mut self.connection, text, confounder)?;
+        match put(out, token.as_slice()) {
+            Ok(count) => Ok(count),
+            Err(fault) => {
+                self.connection.seq_number = number;
+                Err(fault)
+            }
+        }
+    }
+
+    /// A message for the client with a text in the clear and its checksum.
+    pub fn wrap_in_clear(
+        &mut self,
+        alloc: Global,
+        text: &[u8],
+        out: &mut [u8],
+    ) -> Result<usize, Fault>
+        ensures gives { IfOk result (λ count. Delivers (λ token. WrapsClear self.old.connection text.now (Ok token)) out.old count out.new) }
+        ensures after { OnOk result (self.new ≡ record self.old { connection = after_making self.old.connection }) }
+        ensures refused { IfErr result (Faults places.Elsewhere (WrapsClear self.old.connection text.now)
+            (λ token. WrapsClear self.old.connection text.now (Ok token)) (length out.old)) }
+        ensures stays { OnErr result (self.new ≡ self.old) }
+        ensures room { OnErr result (out.new ≡ out.old) }
+    {
+        let number = self.connection.seq_number;
+        let token = self.connection.wrap_in_clear(alloc, text)?;
+        match put(out, token.as_slice()) {
+            Ok(count) => Ok(count),
+            Err(fault) => {
+                self.connection.seq_number = number;
+                Err(fault)
+            }
+        }
+    }
+
+    /// Opens a message of the client. Each message is opened once.
+    pub fn unwrap(&mut self, alloc: Global, sealed: &[u8], out: &mut [u8]) -> Result<usize, Fault>
+        ensures gives { IfOk result (λ count. Delivers (λ text. Unwraps self.old.connection (whole_message sealed.now) (Ok text)) out.old count out.new) }
+        ensures after { OnOk result (self.new ≡ record self.old { connection = after_opening sealed.now self.old.connection }) }
+        ensures refused { IfErr result (Faults places.Elsewhere (Unwraps self.old.connection (whole_message sealed.now))
+            (λ text. Unwraps self.old.connection (whole_message sealed.now) (Ok text)) (length out.old)) }
+        ensures stays { OnErr result (self.new ≡ self.old) }
+        ensures room { OnErr result (out.new ≡ out.old) }
+    {
+        let window = self.connection.window;
+        let text = unwrap(alloc, &mut self.connection, sealed)?;
+        match put(out, text.as_slice()) {
+            Ok(count) => Ok(count),
+            Err(fault) => {
+                self.connection.window = window;
+                Err(fault)
+            }
+        }
+    }
+
+    /// A MIC token of 28 octets over a payload.
+    pub fn mic(&mut self, alloc: Global, payload: &[u8], out: &mut [u8]) -> Result<usize, Fault>
+        ensures gives { IfOk result (λ count. Delivers (λ token. MakesMic self.old.connection payload.now (Ok token)) out.old count out.new) }
+        ensures after { OnOk result (self.new ≡ record self.old { connection = after_making self.old.connection }) }
+        ensures refused { IfErr result (Faults places.MakeMic (MakesMic self.old.connection payload.now)
+            (λ token. MakesMic self.old.connection payload.now (Ok token)) (length out.old)) }
+        ensures stays { OnErr result (self.new ≡ self.old) }
+        ensures room { OnErr result (out.new ≡ out.old) }
+    {
+        let number = self.connection.seq_number;
+        let token = self.connection.generate_mic_token(alloc, payload)?;
+        match put(out, token.as_slice()) {
+            Ok(count) => Ok(count),
+            Err(fault) => {
+                self.connection.seq_number = number;
+                Err(fault)
+            }
+        }
+    }
+
+    /// Ok exactly where the token is a MIC token of the client over this payload.
+    pub fn verify(&self, mic: &[u8], payload: &[u8]) -> Result<(), Error>
+        ensures verified { OnOk result (ChecksMic self.now.connection mic.now payload.now (Ok tt)) }
+        ensures refused { IfErr result (RefusesMic self.now.connection mic.now payload.now) }
+    {
+        self.connection.verify_mic_token(mic, payload)
+    }
+}
