@@ -1,0 +1,34 @@
+//! A server that `gss-client` speaks to, the sample client of MIT krb5 (package krb5-gss-samples), with a thread for each connection:
+//!
+//!     cargo run --offline --example gss_server 127.0.0.1:4444 host/server.example.com key 300 300
+//!     gss-client -port 4444 127.0.0.1 host@server.example.com hello
+//!
+//! `key` is a file with the service's key in hex, as `klist -k -K` prints it behind 0x. Clocks may be wrong by 300 seconds. The second
+//! 300 is for how long the server waits before it lets anybody in, as long as the first: a token that an earlier process admitted is
+//! too old by then. It may be 0 where no earlier process had this key.
+
+#[path = "parts/connections.rs"]
+mod connections;
+#[path = "parts/frames.rs"]
+mod frames;
+#[path = "parts/samples.rs"]
+mod samples;
+
+use menolavuri::Acceptor;
+use std::{env, error::Error, thread, time::Duration};
+
+type Answer<T> = Result<T, Box<dyn Error + Send + Sync>>;
+
+fn main() -> Answer<()> {
+    let arguments: Vec<String> = env::args().skip(1).collect();
+    let [address, service, key, skew, wait] = arguments.as_slice() else {
+        return Err("usage: gss_server ADDRESS SERVICE KEY_FILE SKEW WAIT".into());
+    };
+    let skew = Duration::from_secs(skew.parse()?);
+    // One acceptor, and so one replay book, serves all connections.
+    let acceptor = Acceptor::new(service, &connections::key(key)?, skew)?;
+    thread::sleep(Duration::from_secs(wait.parse()?));
+    connections::serve_all(address, |stream| {
+        samples::serve(stream, |token| Ok(acceptor.accept(token)?))
+    })
+}

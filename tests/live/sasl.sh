@@ -1,0 +1,77 @@
+# Java's and Cyrus' clients of SASL at the example sasl_server.
+
+# Starts sasl_server with these layers: start_sasl LAYERS KEY HOST, and leaves its port in sasl_port.
+start_sasl() {
+    sasl_port=$(free_port)
+    (umask 077 && echo "$2" > "$room/$sasl_port.key")
+    start "sasl-$sasl_port" "$examples/sasl_server" "127.0.0.1:$sasl_port" "pop/${3:-server.example.com}" "$room/$sasl_port.key" 300 0 "$1"
+}
+
+java_pop() {
+    timeout 20 java -cp "$room" -Djava.security.krb5.conf="$mit/krb5.conf" -XX:TieredStopAtLevel=1 Pop "$@"
+}
+
+# Whether Java's client is let in and answered in this layer: java_in LAYER AUTHORIZATION_ID LONGEST COUNT
+java_in() {
+    java_pop "$sasl_port" "$@" > "$room/said" || { cat "$room/said"; return 1; }
+    grep -x "+OK true $1" "$room/said" && [ "$(grep -c '^+OK 0 0$' "$room/said")" -eq "$4" ]
+}
+
+# Whether Cyrus' client is, in a layer of a strength between these: cyrus_in LEAST MOST AUTHORIZATION_ID LONGEST COUNT
+cyrus_in() {
+    timeout 20 "$python" "$live/pop.py" "$sasl_port" "$@" > "$room/said" || { cat "$room/said"; return 1; }
+    cat "$room/said"
+    [ "$(grep -c '^+OK 0 0$' "$room/said")" -eq "$5" ]
+}
+
+refused_java() { ! java_pop "$sasl_port" "$@"; }
+refused_cyrus() { ! timeout 20 "$python" "$live/pop.py" "$sasl_port" "$@"; }
+
+try_java() {
+    command -v java javac > /dev/null || { echo "not tried: Java's client, which wants Debian's package openjdk-17-jdk-headless"; return; }
+    javac -d "$room" "$live/Pop.java" || return
+    for layer in auth auth-int auth-conf; do check "Java's client, $layer" java_in "$layer" - 65536 5; done
+    check "Java's client, auth-conf, acts for itself, 100 messages" java_in auth-conf alice@example.com 65536 100
+    check "Java's client is refused where it acts for another" refused_java auth-conf bob 65536 1
+}
+
+try_cyrus() {
+    local plugins=(/usr/lib/*/sasl2/libgssapiv2.so)
+    [ -e "${plugins[0]}" ] || { echo "not tried: Cyrus' client, which wants Debian's package libsasl2-modules-gssapi-mit"; return; }
+    check "Cyrus' client, no layer" cyrus_in 0 0 - 65536 5
+    check "Cyrus' client, integrity" cyrus_in 1 1 - 65536 5
+    check "Cyrus' client, confidentiality" cyrus_in 2 256 - 65536 5
+    check "Cyrus' client, confidentiality, acts for itself, 100 messages" cyrus_in 2 256 alice@example.com 65536 100
+    check "Cyrus' client, confidentiality, messages of 200 octets at most" cyrus_in 2 256 - 200 5
+    check "Cyrus' client is refused where it acts for another" refused_cyrus 2 256 bob 65536 1
+}
+
+# Whether Cyrus' imtest, which speaks POP3 too, is let in and answered: imtest_in LEAST MOST
+imtest_in() {
+    printf 'STAT\r\nNOOP\r\nQUIT\r\n' | LD_LIBRARY_PATH=$(echo "$live"/out/cyrus/usr/lib/*-linux-gnu) timeout 20 "$imtest" -P pop3 -m GSSAPI \
+        -k "$1" -l "$2" -p "$sasl_port" localhost > "$room/said" || { cat "$room/said"; return 1; }
+    cat "$room/said"
+    grep -q '^Authenticated' "$room/said" && grep -q '^+OK 0 0' "$room/said"
+}
+
+try_imtest() {
+    [ -x "$imtest" ] || { echo "not tried: imtest, of Debian's package cyrus-clients, which tests/live/unpack unpacks"; return; }
+    check "imtest, no layer" imtest_in 0 0
+    check "imtest, integrity" imtest_in 1 1
+    check "imtest, confidentiality" imtest_in 2 256
+}
+
+try_sasl() {
+    local imtest=$live/out/cyrus/usr/lib/cyrus/bin/imtest all_port localhost_port
+    [ -x "$imtest" ] || imtest=/usr/lib/cyrus/bin/imtest
+    start_sasl 7 "$(service_key pop)" && all_port=$sasl_port
+    start_sasl 7 "$(service_key pop localhost)" localhost && localhost_port=$sasl_port
+    start_sasl 4 "$(service_key pop)" && await_port "$sasl_port"
+    check "Cyrus' client is refused where it wants no layer and confidentiality is offered" refused_cyrus 0 0 - 65536 1
+    check "Cyrus' client, where confidentiality alone is offered" cyrus_in 0 256 - 65536 1
+    sasl_port=$all_port
+    try_java
+    try_cyrus
+    sasl_port=$localhost_port
+    try_imtest
+}
