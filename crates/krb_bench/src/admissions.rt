@@ -24,7 +24,7 @@ const MOMENT: u64 = 1_700_000_000_000_000;
 const OPTIONS: usize = 40;
 
 /// No option.
-const ONE_WAY: u8 = 0;
+pub const ONE_WAY: u8 = 0;
 
 /// The option by which the client asks for an answer (RFC 4120, section 5.5.1).
 const MUTUAL_REQUIRED: u8 = 0x20;
@@ -48,16 +48,16 @@ fn token(alloc: Global, client: &DemoClient, options: u8, microseconds: u32) -> 
     Some(octets)
 }
 
-/// The tokens with the microseconds from `first` up to `end`, and no more than a batch.
-fn tokens(
+/// The tokens with the microseconds from `first` up to `end`.
+pub fn tokens(
     alloc: Global,
     client: &DemoClient,
     options: u8,
     first: u32,
     end: u32,
 ) -> Option<Vec<Vec<u8>>> {
-    let mut tokens = Vec::with_capacity(alloc, BATCH as usize).ok()?;
-    for microseconds in first..end.min(first.saturating_add(BATCH)) {
+    let mut tokens = Vec::with_capacity(alloc, end.saturating_sub(first) as usize).ok()?;
+    for microseconds in first..end {
         tokens
             .push(token(alloc, client, options, microseconds)?)
             .ok()?;
@@ -87,7 +87,7 @@ fn service(alloc: Global) -> Result<Box<ServerProperties>, Error> {
 }
 
 /// An acceptor of the service.
-fn acceptor(alloc: Global) -> Result<Box<Kerberos>, Error> {
+pub fn acceptor(alloc: Global) -> Result<Box<Kerberos>, Error> {
     let service = service(alloc)?;
     let config = config(alloc)?;
     let acceptor = Kerberos::new_server_from_config(
@@ -129,12 +129,17 @@ fn is_admitted(alloc: Global, door: &mut Door, token: &[u8], draw: &Draw) -> boo
     .is_ok()
 }
 
-/// How many of the tokens are admitted.
-fn admitted(alloc: Global, door: &mut Door, tokens: &[Vec<u8>]) -> u32 {
-    let draw = Draw {
+/// The moment of all tokens, and no random octets.
+pub fn draw() -> Draw {
+    Draw {
         moment: MOMENT,
         random: [0; 64],
-    };
+    }
+}
+
+/// How many of the tokens are admitted.
+fn admitted(alloc: Global, door: &mut Door, tokens: &[Vec<u8>]) -> u32 {
+    let draw = draw();
     let mut admitted = 0u32;
     for token in tokens {
         if is_admitted(alloc, door, token.as_slice(), &draw) {
@@ -157,7 +162,8 @@ fn admit_all(
     let mut spent = Duration::ZERO;
     for batch in 0..count.div_ceil(BATCH) {
         let first = batch.saturating_mul(BATCH);
-        let tokens = tokens(alloc, client, options, first, count).context("out of memory")?;
+        let end = count.min(first.saturating_add(BATCH));
+        let tokens = tokens(alloc, client, options, first, end).context("out of memory")?;
         let start = Instant::now(rt)?;
         let some = admitted(alloc, door, tokens.as_slice());
         spent = spent.saturating_add(start.elapsed(rt)?);

@@ -172,19 +172,29 @@ fn report(rt: &(impl Print + Eprint), book: &str, answered: u32, spent: Duration
     Ok(())
 }
 
+/// Both streams of so many batches.
+fn both_streams(alloc: Global, batches: u32) -> Option<(Stream, Stream)> {
+    let first = stream(alloc, 0, batches)?;
+    Some((first, stream(alloc, APART, batches)?))
+}
+
+fn measure_both<R: Print + Eprint + Clock + AllocGlobal + Threads + Wait + Sync>(
+    rt: &R,
+    streams: &(Stream, Stream),
+) -> Result<()> {
+    let locked = measure_locked::<Brand, R>(rt, rt.alloc(), Blank::new(2), streams);
+    let (answered, spent) = locked.context("out of memory")?;
+    report(rt, "a book under a lock", answered, spent)?;
+    let (answered, spent) = measure_table(rt, rt.alloc(), streams).context("out of memory")?;
+    report(rt, "a book on a table", answered, spent)
+}
+
 /// Measures both books over the same asks: with `full` 100,000 of them, and else 2,000.
 pub fn run<R: Print + Eprint + Clock + AllocGlobal + Threads + Wait + Sync>(
     rt: &R,
     full: bool,
 ) -> Result<()> {
     let batches = if full { FULL_BATCHES } else { 1 };
-    let alloc = rt.alloc();
-    let first = stream(alloc, 0, batches).context("out of memory")?;
-    let second = stream(alloc, APART, batches).context("out of memory")?;
-    let streams = (first, second);
-    let locked = measure_locked::<Brand, R>(rt, alloc, Blank::new(2), &streams);
-    let (answered, spent) = locked.context("out of memory")?;
-    report(rt, "a book under a lock", answered, spent)?;
-    let (answered, spent) = measure_table(rt, alloc, &streams).context("out of memory")?;
-    report(rt, "a book on a table", answered, spent)
+    let streams = both_streams(rt.alloc(), batches).context("out of memory")?;
+    measure_both(rt, &streams)
 }

@@ -7,6 +7,7 @@
 
 mod admissions;
 mod books;
+mod halves;
 mod messages;
 mod replay;
 mod suites;
@@ -32,5 +33,6 @@ fn main(rt: HostRuntime) -> Result<()> {
     messages::run(&rt, full)?;
     replay::run(&rt, full)?;
     books::run(&rt, full)?;
-    admissions::run(&rt, full)
+    admissions::run(&rt, full)?;
+    halves::run(&rt, full)
 }

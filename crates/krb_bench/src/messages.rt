@@ -79,11 +79,11 @@ fn acceptor(alloc: Global) -> Result<Box<Kerberos>, Error> {
 
 /// A token without octets, and a text.
 fn plain_message(alloc: Global, text: &[u8]) -> Result<Message, Error> {
-    let token = Octets::new(Vec::new(alloc));
     let octets = Octets::from_slice(alloc, text)?;
-    let mut buffers = Vec::new(alloc);
-    buffers.push(SecurityBufferRef::token_buf(token, 60))?;
-    buffers.push(SecurityBufferRef::data_buf(octets, text.len()))?;
+    let buffers = vec![in alloc;
+        SecurityBufferRef::token_buf(Octets::new(Vec::new(alloc)), 60),
+        SecurityBufferRef::data_buf(octets, text.len()),
+    ]?;
     Message::new(Items::new(buffers))
 }
 

@@ -2,7 +2,7 @@
 //! of time, replays, asks that come late, and one after which no other record stays.
 
 use anyhow::{Context, Result};
-use krb_der::{IntegerAsn1, Items, Name, Octets, Time};
+use krb_der::{IntegerAsn1, Items, Name, Octets, Time, boxed};
 use krb_messages::PrincipalName;
 use krb_replay::{Ask, Record, ReplayBook, ReplayGate, Verdict};
 use std::alloc::Global;
@@ -66,10 +66,12 @@ fn principal(alloc: Global, component: &[u8]) -> Option<PrincipalName> {
 
 /// What is remembered of ask number `k`. Its octets of cusec are of no other ask.
 fn record(alloc: Global, k: u32, ctime: Time) -> Option<Record> {
+    let cusec = Vec::from_slice(alloc, &k.to_be_bytes()).ok()?;
+    let realm = name(alloc, b"EXAMPLE.COM")?;
     Some(Record {
         ctime,
-        cusec: Octets::new(Vec::from_slice(alloc, &k.to_be_bytes()).ok()?),
-        realm: name(alloc, b"EXAMPLE.COM")?,
+        cusec: Octets::new(cusec),
+        realm,
         name: principal(alloc, b"alice")?,
     })
 }
@@ -94,11 +96,11 @@ fn ask_at(alloc: Global, stretch: &Stretch, index: u32) -> Option<Ask> {
     let moment = moment(stretch.window, k);
     let seconds = i64::try_from(moment / 1_000_000).ok()?;
     let ctime = seconds.saturating_sub(i64::from(lateness(k, stretch.late)));
-    let sname = principal(alloc, b"http")?;
     let entry = record(alloc, k, Time::new(ctime.clamp(0, 253_402_300_799)))?;
+    let entry = boxed(alloc, entry).ok()?;
     Some(Ask {
-        entry,
-        sname,
+        sname: principal(alloc, b"http")?,
+        entry: Box::into_inner(entry),
         start: Time::new(1_600_000_000),
         end: Time::new(100_000_000_000),
         moment,
@@ -230,9 +232,7 @@ fn measure_window(
     count: u32,
     late_count: u32,
 ) -> Result<()> {
-    let mut book = ReplayBook::new(rt.alloc(), SKEW)
-        .ok()
-        .context("out of memory")?;
+    let mut book = boxed(rt.alloc(), ReplayBook::new(rt.alloc(), SKEW)?)?;
     measure_stretches(rt, &mut book, window, count, late_count)
 }
 

@@ -8,6 +8,7 @@ use anyhow::Result;
 use krb_crypto::{
     CipherSuite, CryptoError, SealingKey, decrypt, encrypt, generate_key_from_password, hmac_sha1,
 };
+use krb_der::boxed;
 use std::rt::Clock;
 
 const USAGE: u32 = 24;
@@ -44,6 +45,36 @@ fn measured<'a>(
     }
 }
 
+fn measure_sealing(
+    rt: &(impl Print + Eprint + Clock + AllocGlobal),
+    name: &str,
+    kept: &SealingKey,
+    plain: &[u8],
+    repetitions: usize,
+) -> Result<()> {
+    let alloc = rt.alloc();
+    measured(name, "seal with the keys kept", plain, repetitions).run(rt, || {
+        let text = kept.seal(alloc, CONFOUNDER, plain)?;
+        Ok(last_octets(text.as_slice()))
+    })
+}
+
+fn measure_opening(
+    rt: &(impl Print + Eprint + Clock + AllocGlobal),
+    name: &str,
+    kept: &SealingKey,
+    plain: &[u8],
+    repetitions: usize,
+) -> Result<()> {
+    let alloc = rt.alloc();
+    let sealed = kept.seal(alloc, CONFOUNDER, plain)?;
+    let sealed = sealed.as_slice();
+    measured(name, "open with the keys kept", plain, repetitions).run(rt, || {
+        let text = kept.open(alloc, sealed)?;
+        Ok(last_octets(text.as_slice()))
+    })
+}
+
 /// One suite and one text, sealed and opened with the keys kept.
 fn measure_kept(
     rt: &(impl Print + Eprint + Clock + AllocGlobal),
@@ -53,18 +84,10 @@ fn measure_kept(
 ) -> Result<()>
     requires { length subject.now.key.now ≡ key_size subject.now.suite }
 {
-    let alloc = rt.alloc();
     let kept = SealingKey::new(subject.suite, subject.key, USAGE);
-    let sealed = kept.seal(alloc, CONFOUNDER, plain)?;
-    let sealed = sealed.as_slice();
-    measured(subject.name, "seal with the keys kept", plain, repetitions).run(rt, || {
-        let text = kept.seal(alloc, CONFOUNDER, plain)?;
-        Ok(last_octets(text.as_slice()))
-    })?;
-    measured(subject.name, "open with the keys kept", plain, repetitions).run(rt, || {
-        let text = kept.open(alloc, sealed)?;
-        Ok(last_octets(text.as_slice()))
-    })
+    let kept = boxed(rt.alloc(), kept)?;
+    measure_sealing(rt, subject.name, &kept, plain, repetitions)?;
+    measure_opening(rt, subject.name, &kept, plain, repetitions)
 }
 
 /// One suite and one text, sealed and opened with keys derived at each call.
@@ -77,12 +100,12 @@ fn measure_derived(
     let alloc = rt.alloc();
     let suite = subject.suite;
     let key = subject.key;
-    let sealed = encrypt(alloc, suite, key, USAGE, CONFOUNDER, plain)?;
-    let sealed = sealed.as_slice();
     measured(subject.name, "seal with keys derived", plain, repetitions).run(rt, || {
         let text = encrypt(alloc, suite, key, USAGE, CONFOUNDER, plain)?;
         Ok(last_octets(text.as_slice()))
     })?;
+    let sealed = encrypt(alloc, suite, key, USAGE, CONFOUNDER, plain)?;
+    let sealed = sealed.as_slice();
     measured(subject.name, "open with keys derived", plain, repetitions).run(rt, || {
         let text = decrypt(alloc, suite, key, USAGE, sealed)?;
         Ok(last_octets(text.as_slice()))

@@ -4,7 +4,7 @@ use crate::octets::octets;
 use crate::script::Script;
 use krb_conf::{Env, KerberosConfig};
 use krb_context::Kerberos;
-use krb_der::{Items, Name, Octets, OutOfMemory, Text};
+use krb_der::{Items, Name, OutOfMemory, Text, boxed};
 use sspi_core::{AuthIdentityBuffers, CredentialsBuffers, KeytabIdentity, Secret, Username};
 use std::alloc::Global;
 use std::test::Fail;
@@ -41,8 +41,10 @@ impl Initiator {
         let mut words = self.itself.split(' ');
         let number: u32 = words.next().unwrap_or("").parse().unwrap_or(0);
         let config = config(alloc, self.kdc, words.next().unwrap_or(""))?;
-        let client = Kerberos::new_client_from_config(config, number.to_be_bytes());
-        Ok(Box::new(alloc, client)?)
+        boxed(
+            alloc,
+            Kerberos::new_client_from_config(config, number.to_be_bytes()),
+        )
     }
 
     /// What it seeks, if anything.
@@ -103,20 +105,16 @@ fn with_password(alloc: Global, user: &str) -> Result<CredentialsBuffers, OutOfM
 }
 
 /// With a key of AES-128, whose number is 17, or else of AES-256.
-fn keytab(principal: Username, key: Octets, number: &str) -> CredentialsBuffers {
-    CredentialsBuffers::Keytab(KeytabIdentity {
-        principal,
-        key: Secret::new(key),
-        key_enctype: if number == "17" { 17 } else { 18 },
-    })
-}
-
 fn with_key(alloc: Global, entry: &'static str) -> Result<CredentialsBuffers, Fail> {
     let mut words = entry.split(' ');
-    let principal = Username::parse(alloc, words.next().unwrap_or(""))?;
+    let user = words.next().unwrap_or("");
     let number = words.next().unwrap_or("");
     let key = octets(alloc, words.next().unwrap_or(""))?;
-    Ok(keytab(principal, key, number))
+    Ok(CredentialsBuffers::Keytab(KeytabIdentity {
+        principal: Username::parse(alloc, user)?,
+        key: Secret::new(key),
+        key_enctype: if number == "17" { 17 } else { 18 },
+    }))
 }
 
 fn variable(alloc: Global, line: &str) -> Result<(Text, Text), OutOfMemory> {

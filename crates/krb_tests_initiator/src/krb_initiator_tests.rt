@@ -20,10 +20,9 @@ use crate::kdc::Kdc;
 use crate::octets::{are_octets, octets};
 use crate::script::Script;
 use bitflags::Flags;
-use krb_as::InitDone;
 use krb_conf::Env;
 use krb_context::Kerberos;
-use krb_der::Octets;
+use krb_der::{Octets, boxed};
 use krb_initiator::{GeneratorInitSecurityContext, InitOptions, initialize_security_context};
 use sspi_core::{Cause, ClientRequestFlags, Draw, Error, MAX_MOMENT, SecurityStatus};
 use sspi_generator::{Generator, MemClient, NetFault, NetworkClient};
@@ -127,9 +126,9 @@ fn options_of(
     alloc: Global,
     initiator: &Initiator,
     call: &'static str,
-) -> Result<InitOptions, Fail> {
+) -> Result<Box<InitOptions>, Fail> {
     let (flags, token) = call.split_once(' ').unwrap_or((call, "-"));
-    let mut options = options_with(alloc, flags_of(flags));
+    let mut options = boxed(alloc, options_with(alloc, flags_of(flags)))?;
     fill(alloc, &mut options, initiator, token)?;
     Ok(options)
 }
@@ -138,43 +137,50 @@ fn options_of(
 fn run_of(
     alloc: Global,
     client: &Kerberos,
-    options: InitOptions,
+    options: Box<InitOptions>,
 ) -> Result<Box<GeneratorInitSecurityContext>, Error>
     ensures new { IfOk result (λ run. IsNew run.value) }
     ensures turns { IfOk result (λ run. turns_left run.value.phase ≡ 12) }
 {
-    match initialize_security_context(alloc, client, options) {
-        Ok(run) => Ok(Box::new(alloc, Generator::new(run))?),
+    match initialize_security_context(alloc, client, Box::into_inner(options)) {
+        Ok(run) => Ok(boxed(alloc, Generator::new(run))?),
         Err(error) => Err(error),
     }
 }
 
-/// What a run ends with over a network.
+/// What a run ends with over a network, and settles the initiator by: the status and the token.
 fn end_over(
     run: Box<GeneratorInitSecurityContext>,
+    client: &mut Kerberos,
     network: &mut dyn NetworkClient,
     draws: &[Draw; 13],
-) -> Result<InitDone, Error>
+) -> Result<(SecurityStatus, Octets), Error>
     requires new { IsNew run.value }
     requires turns { turns_left run.value.phase ≡ 12 }
     requires moments { AreInRange draws.now }
 {
     let mut run = run;
-    run.resolve_with_client(network, draws)
+    match run.resolve_with_client(network, draws) {
+        Ok(done) => {
+            client.settle(done.change);
+            Ok((done.status, done.token))
+        }
+        Err(error) => Err(error),
+    }
 }
 
 /// What a call ends with over a network.
 fn end_of(
     alloc: Global,
-    client: &Kerberos,
-    options: InitOptions,
+    client: &mut Kerberos,
+    options: Box<InitOptions>,
     network: &mut dyn NetworkClient,
     draws: &[Draw; 13],
-) -> Result<InitDone, Error>
+) -> Result<(SecurityStatus, Octets), Error>
     requires { AreInRange draws.now }
 {
     match run_of(alloc, client, options) {
-        Ok(run) => end_over(run, network, draws),
+        Ok(run) => end_over(run, client, network, draws),
         Err(error) => Err(error),
     }
 }
@@ -215,15 +221,19 @@ fn is_as(alloc: Global, client: &Kerberos, script: &mut Script) -> bool {
     }
 }
 
-/// Whether that is handed out, a line `ok` or `continue` with the token, and the context is so once it is settled.
-fn settles_so(alloc: Global, client: &mut Kerberos, done: InitDone, script: &mut Script) -> bool {
-    let word = match done.status {
+/// Whether that is handed out, a line `ok` or `continue` with the token, and the context is so now.
+fn settles_so(
+    alloc: Global,
+    client: &Kerberos,
+    (status, token): &(SecurityStatus, Octets),
+    script: &mut Script,
+) -> bool {
+    let word = match status {
         SecurityStatus::Ok => "ok",
         SecurityStatus::ContinueNeeded => "continue",
     };
-    let token = script.take(word).unwrap_or("");
-    let is_token = !token.is_empty() && are_octets(alloc, done.token.as_slice(), token);
-    client.settle(done.change);
+    let wanted = script.take(word).unwrap_or("");
+    let is_token = !wanted.is_empty() && are_octets(alloc, token.as_slice(), wanted);
     is_token && is_as(alloc, client, script)
 }
 
@@ -238,13 +248,13 @@ pub fn is_refused(alloc: Global, error: &Error, script: &mut Script) -> bool {
 
 fn ends_so(
     alloc: Global,
-    client: &mut Kerberos,
-    end: Result<InitDone, Error>,
+    client: &Kerberos,
+    end: &Result<(SecurityStatus, Octets), Error>,
     script: &mut Script,
 ) -> bool {
     match end {
         Ok(done) => settles_so(alloc, client, done, script),
-        Err(error) => is_refused(alloc, &error, script),
+        Err(error) => is_refused(alloc, error, script),
     }
 }
 
@@ -252,7 +262,7 @@ fn ends_so(
 fn goes_with(
     alloc: Global,
     client: &mut Kerberos,
-    options: InitOptions,
+    options: Box<InitOptions>,
     draws: &[Draw; 13],
     script: &mut Script,
 ) -> bool
@@ -261,7 +271,7 @@ fn goes_with(
     let mut kdc = Kdc::new(alloc, *script);
     let end = end_of(alloc, client, options, &mut kdc, draws);
     *script = kdc.script();
-    ends_so(alloc, client, end, script) && kdc.is_asked_so()
+    ends_so(alloc, client, &end, script) && kdc.is_asked_so()
 }
 
 /// Whether the next call does.
@@ -274,10 +284,8 @@ fn goes_so(
     let _note = script.take("note");
     let call = script.take("call").unwrap_or("");
     let draws = draws_of(script);
-    match options_of(alloc, initiator, call) {
-        Ok(options) => Ok(goes_with(alloc, client, options, &draws, script)),
-        Err(fail) => Err(fail),
-    }
+    let options = options_of(alloc, initiator, call)?;
+    Ok(goes_with(alloc, client, options, &draws, script))
 }
 
 /// What is left of the script where a call goes otherwise: nothing where all go so.
@@ -371,24 +379,20 @@ fn alice() -> Initiator {
     Initiator::next(&mut Script::new(ALICE))
 }
 
-/// What a run ends with that sends nothing.
-fn end_unsent(run: Box<GeneratorInitSecurityContext>) -> Result<InitDone, Error>
+/// Whether a run that sends nothing ends as Suspended.
+fn is_suspended_run(run: Box<GeneratorInitSecurityContext>) -> bool
     requires { IsNew run.value }
 {
     let mut run = run;
-    run.resolve_to_result(&draw_of(CHANCE))
-}
-
-fn is_error(end: &Result<InitDone, Error>, cause: Cause) -> bool {
-    match end {
+    match run.resolve_to_result(&draw_of(CHANCE)) {
         Ok(_) => false,
-        Err(error) => *error == Error::from(cause),
+        Err(error) => error == Error::from(Cause::Suspended),
     }
 }
 
-fn is_suspended_with(alloc: Global, client: &Kerberos, options: InitOptions) -> bool {
+fn is_suspended_with(alloc: Global, client: &Kerberos, options: Box<InitOptions>) -> bool {
     match run_of(alloc, client, options) {
-        Ok(run) => is_error(&end_unsent(run), Cause::Suspended),
+        Ok(run) => is_suspended_run(run),
         Err(_) => false,
     }
 }
@@ -396,10 +400,8 @@ fn is_suspended_with(alloc: Global, client: &Kerberos, options: InitOptions) -> 
 /// Whether a call of which nothing is sent ends as Suspended.
 fn is_suspended(alloc: Global) -> Result<bool, Fail> {
     let client = alice().client(alloc)?;
-    match options_of(alloc, &alice(), "M -") {
-        Ok(options) => Ok(is_suspended_with(alloc, &client, options)),
-        Err(fail) => Err(fail),
-    }
+    let options = options_of(alloc, &alice(), "M -")?;
+    Ok(is_suspended_with(alloc, &client, options))
 }
 
 #[test]
@@ -410,21 +412,21 @@ fn an_initialization_sends_nothing_itself(rt: HostRuntime) -> Result<(), Fail> {
 
 fn fails_with(
     alloc: Global,
-    client: &Kerberos,
-    options: InitOptions,
+    client: &mut Kerberos,
+    options: Box<InitOptions>,
     network: &mut MemClient,
 ) -> bool {
     let draws = draws_of(&mut Script::new(""));
-    let end = end_of(alloc, client, options, network, &draws);
-    is_error(&end, Cause::Network(5))
+    match end_of(alloc, client, options, network, &draws) {
+        Ok(_) => false,
+        Err(error) => error == Error::from(Cause::Network(5)),
+    }
 }
 
 fn fails_over(alloc: Global, network: &mut MemClient) -> Result<bool, Fail> {
-    let client = alice().client(alloc)?;
-    match options_of(alloc, &alice(), "M -") {
-        Ok(options) => Ok(fails_with(alloc, &client, options, network)),
-        Err(fail) => Err(fail),
-    }
+    let mut client = alice().client(alloc)?;
+    let options = options_of(alloc, &alice(), "M -")?;
+    Ok(fails_with(alloc, &mut client, options, network))
 }
 
 /// Whether a call over a network that fails with the code 5 ends with it.

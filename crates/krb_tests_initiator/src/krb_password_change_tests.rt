@@ -11,8 +11,8 @@ use crate::kdc::Kdc;
 use crate::krb_initiator_tests::is_refused;
 use crate::script::Script;
 use krb_conf::Env;
-use krb_context::{ContextChange, Kerberos};
-use krb_der::{OutOfMemory, Text};
+use krb_context::Kerberos;
+use krb_der::{OutOfMemory, Text, boxed};
 use krb_password_change::{ChangePassword, GeneratorChangePassword, change_password};
 use sspi_core::{Draw, Error, Secret};
 use sspi_generator::Generator;
@@ -44,57 +44,63 @@ fn draws() -> [Draw; 4]
 }
 
 /// From `secret` to `newpass`.
-fn change_of(alloc: Global, account: &str) -> Result<ChangePassword, OutOfMemory>
-    ensures { IfOk result (λ change. length change.new_password ≤ 2 ^ 24) }
+fn change_of(alloc: Global, account: &str) -> Result<Box<ChangePassword>, OutOfMemory>
+    ensures { IfOk result (λ change. length change.value.new_password ≤ 2 ^ 24) }
 {
-    Ok(ChangePassword {
+    let change = ChangePassword {
         account_name: Text::from_str(alloc, account)?,
         domain_name: Text::from_str(alloc, "EXAMPLE.COM")?,
         old_password: Secret::new(Text::from_str(alloc, "secret")?),
         new_password: Secret::new(Text::from_str(alloc, "newpass")?),
-    })
+    };
+    boxed(alloc, change)
 }
 
 fn client_of(alloc: Global, url: &str) -> Result<Box<Kerberos>, OutOfMemory> {
     let url = if url == "-" { None } else { Some(url) };
     let config = config(alloc, url, "pc")?;
-    let client = Kerberos::new_client_from_config(config, [0, 0, 0, 7]);
-    Ok(Box::new(alloc, client)?)
+    boxed(
+        alloc,
+        Kerberos::new_client_from_config(config, [0, 0, 0, 7]),
+    )
 }
 
 /// What a change begins with.
 fn run_of(
     alloc: Global,
     client: &Kerberos,
-    change: ChangePassword,
+    change: Box<ChangePassword>,
 ) -> Result<Box<GeneratorChangePassword>, Error>
-    requires { length change.new_password ≤ 2 ^ 24 }
+    requires { length change.value.new_password ≤ 2 ^ 24 }
     ensures new { IfOk result (λ run. IsNew run.value) }
     ensures turns { IfOk result (λ run. turns_left run.value.phase ≡ 3) }
 {
-    match change_password(alloc, client, change, Env::new(alloc)) {
-        Ok(run) => Ok(Box::new(alloc, Generator::new(run))?),
+    match change_password(alloc, client, Box::into_inner(change), Env::new(alloc)) {
+        Ok(run) => Ok(boxed(alloc, Generator::new(run))?),
         Err(error) => Err(error),
     }
 }
 
-/// What a run ends with.
-fn end_over(run: Box<GeneratorChangePassword>, kdc: &mut Kdc) -> Result<ContextChange, Error>
+/// What a run ends with: the number of the context.
+fn end_over(run: Box<GeneratorChangePassword>, kdc: &mut Kdc) -> Result<u32, Error>
     requires new { IsNew run.value }
     requires turns { turns_left run.value.phase ≡ 3 }
 {
     let mut run = run;
-    run.resolve_with(kdc, &draws())
+    match run.resolve_with(kdc, &draws()) {
+        Ok(change) => Ok(change.seq_number),
+        Err(error) => Err(error),
+    }
 }
 
 /// What a change ends with.
 fn end_of(
     alloc: Global,
     client: &Kerberos,
-    change: ChangePassword,
+    change: Box<ChangePassword>,
     kdc: &mut Kdc,
-) -> Result<ContextChange, Error>
-    requires { length change.new_password ≤ 2 ^ 24 }
+) -> Result<u32, Error>
+    requires { length change.value.new_password ≤ 2 ^ 24 }
 {
     match run_of(alloc, client, change) {
         Ok(run) => end_over(run, kdc),
@@ -103,24 +109,26 @@ fn end_of(
 }
 
 /// Whether the context has the number of a line `number` afterwards, or a line `refused` prints the refusal.
-fn ends_so(alloc: Global, end: &Result<ContextChange, Error>, script: &mut Script) -> bool {
+fn ends_so(alloc: Global, end: Result<u32, Error>, script: &mut Script) -> bool {
     match end {
-        Ok(change) => {
-            let number = script.take("number").unwrap_or("").parse().unwrap_or(0);
-            change.seq_number == number
-        }
-        Err(error) => is_refused(alloc, error, script),
+        Ok(number) => number == script.take("number").unwrap_or("").parse().unwrap_or(0),
+        Err(error) => is_refused(alloc, &error, script),
     }
 }
 
 /// Whether a change asks for what the script says, and ends so.
-fn goes_with(alloc: Global, client: &Kerberos, change: ChangePassword, script: &mut Script) -> bool
-    requires { length change.new_password ≤ 2 ^ 24 }
+fn goes_with(
+    alloc: Global,
+    client: &Kerberos,
+    change: Box<ChangePassword>,
+    script: &mut Script,
+) -> bool
+    requires { length change.value.new_password ≤ 2 ^ 24 }
 {
     let mut kdc = Kdc::new(alloc, *script);
     let end = end_of(alloc, client, change, &mut kdc);
     *script = kdc.script();
-    ends_so(alloc, &end, script) && kdc.is_asked_so()
+    ends_so(alloc, end, script) && kdc.is_asked_so()
 }
 
 /// Whether the change of this account does.
@@ -130,10 +138,8 @@ fn goes_for(
     account: &str,
     script: &mut Script,
 ) -> Result<bool, OutOfMemory> {
-    match change_of(alloc, account) {
-        Ok(change) => Ok(goes_with(alloc, client, change, script)),
-        Err(OutOfMemory) => Err(OutOfMemory),
-    }
+    let change = change_of(alloc, account)?;
+    Ok(goes_with(alloc, client, change, script))
 }
 
 /// The same with a new context: a line `change` has the user, and the URL of its KDC or `-`.

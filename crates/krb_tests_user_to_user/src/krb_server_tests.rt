@@ -107,7 +107,7 @@ fn first_other_at(
     server: &mut Kerberos,
     steps: &[Step],
 ) -> Result<Option<usize>, Fail> {
-    let mut book = ReplayBook::new(alloc, 300)?;
+    let mut book = boxed(alloc, ReplayBook::new(alloc, 300)?)?;
     first_other(alloc, server, &mut book, steps)
 }
 

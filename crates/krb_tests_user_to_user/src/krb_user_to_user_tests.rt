@@ -75,7 +75,7 @@ fn tgt_req_of(alloc: Global, digits: &str) -> Result<Box<TgtReq>, Fail> {
     Ok(boxed(alloc, TgtReq::read(alloc, &octets)?)?)
 }
 
-fn user_of(alloc: Global, row: &Request) -> Result<CredentialsBuffers, Fail> {
+fn user_of(alloc: Global, row: &Request) -> Result<Box<CredentialsBuffers>, Fail> {
     if row.has_key {
         user_with_key(alloc, "00")
     } else {

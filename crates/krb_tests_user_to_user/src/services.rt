@@ -41,36 +41,33 @@ pub fn user_with_password(
     user: &str,
     realm: &str,
     password: &str,
-) -> Result<CredentialsBuffers, Fail> {
-    Ok(CredentialsBuffers::AuthIdentity(AuthIdentityBuffers {
+) -> Result<Box<CredentialsBuffers>, Fail> {
+    let identity = AuthIdentityBuffers {
         user: Text::from_str(alloc, user)?,
         domain: Text::from_str(alloc, realm)?,
         password: Secret::new(Text::from_str(alloc, password)?),
-    }))
+    };
+    Ok(boxed(alloc, CredentialsBuffers::AuthIdentity(identity))?)
 }
 
 /// The user `service` with a key of AES-256, in hex.
-pub fn user_with_key(alloc: Global, digits: &str) -> Result<CredentialsBuffers, Fail> {
-    let principal = Username::parse(alloc, "service@EXAMPLE.COM")?;
+pub fn user_with_key(alloc: Global, digits: &str) -> Result<Box<CredentialsBuffers>, Fail> {
     let key = key_of(alloc, digits)?;
-    Ok(CredentialsBuffers::Keytab(KeytabIdentity {
-        principal,
+    let identity = KeytabIdentity {
+        principal: Username::parse(alloc, "service@EXAMPLE.COM")?,
         key,
         key_enctype: 18,
-    }))
+    };
+    Ok(boxed(alloc, CredentialsBuffers::Keytab(identity))?)
 }
 
-fn user_of(alloc: Global, user: &User) -> Result<Option<CredentialsBuffers>, Fail> {
+fn user_of(alloc: Global, user: &User) -> Result<Option<Box<CredentialsBuffers>>, Fail> {
     match user {
         User::Nobody => Ok(None),
         User::WithPassword(realm, password) => {
-            let user = user_with_password(alloc, "service", realm, password)?;
-            Ok(Some(user))
+            Ok(Some(user_with_password(alloc, "service", realm, password)?))
         }
-        User::WithKey(key) => {
-            let user = user_with_key(alloc, key)?;
-            Ok(Some(user))
-        }
+        User::WithKey(key) => Ok(Some(user_with_key(alloc, key)?)),
     }
 }
 
@@ -83,10 +80,14 @@ fn key_if_any(alloc: Global, digits: &str) -> Result<Option<Secret<Octets>>, Fai
 
 fn named(
     alloc: Global,
-    user: Option<CredentialsBuffers>,
+    user: Option<Box<CredentialsBuffers>>,
     key: Option<Secret<Octets>>,
 ) -> Result<Box<ServerProperties>, Error> {
     let name = ["host", "server.example.com"];
+    let user = match user {
+        Some(user) => Some(Box::into_inner(user)),
+        None => None,
+    };
     Ok(boxed(alloc, ServerProperties::new(alloc, &name, user, 300, key)?)?)
 }
 
@@ -115,8 +116,11 @@ pub fn acceptor_with(
     properties: Box<ServerProperties>,
 ) -> Result<Box<Kerberos>, Fail> {
     let config = config(alloc, kdc)?;
-    let properties = Box::into_inner(properties);
-    let acceptor = Kerberos::new_server_from_config(config, properties, [0, 0, 0, 100])?;
+    let acceptor = Kerberos::new_server_from_config(
+        config,
+        Box::into_inner(properties),
+        [0, 0, 0, 100],
+    )?;
     Ok(boxed(alloc, acceptor)?)
 }
 
@@ -124,7 +128,7 @@ pub fn acceptor_with(
 pub fn acceptor_for(
     alloc: Global,
     kdc: &str,
-    user: Option<CredentialsBuffers>,
+    user: Option<Box<CredentialsBuffers>>,
 ) -> Result<Box<Kerberos>, Fail> {
     let properties = named(alloc, user, None)?;
     acceptor_with(alloc, kdc, properties)

@@ -5,7 +5,7 @@ use krb_conf::{
     get_client_principal_name, get_client_principal_name_type, get_client_principal_realm,
     parse_kdc_url, parse_target_name,
 };
-use krb_der::{Items, OutOfMemory, Text, TryCopy};
+use krb_der::{Items, OutOfMemory, Text, TryCopy, boxed};
 use sspi_core::Username;
 use std::alloc::Global;
 use std::test::Fail;
@@ -129,19 +129,27 @@ fn has_value(alloc: Global, conf: &Krb5Conf, path: &[&str], expected: &str) -> R
     Ok(shown(&value) == expected)
 }
 
+fn text_has_value(alloc: Global, text: &str, path: &[&str], expected: &str) -> Result<bool, Fail> {
+    let conf = boxed(alloc, Krb5Conf::new_from_data(alloc, text)?)?;
+    has_value(alloc, &conf, path, expected)
+}
+
 #[test]
 fn values_are_those_of_the_rules(rt: HostRuntime) -> Result<(), Fail> {
     for (text, path, expected) in values() {
-        let conf = Krb5Conf::new_from_data(rt.alloc(), text)?;
-        assert!(rt; has_value(rt.alloc(), &conf, path, expected)?, "{expected}");
+        assert!(rt;
+            text_has_value(rt.alloc(), text, path, expected)?,
+            "{expected}"
+        );
     }
     Ok(())
 }
 
 /// A file, dropped behind its copy.
-fn copied_file(alloc: Global, text: &str) -> Result<ConfigFile, OutOfMemory> {
-    let file = ConfigFile::new(alloc, Text::from_str(alloc, text)?)?;
-    file.copy(alloc)
+fn copied_file(alloc: Global, text: &str) -> Result<Box<ConfigFile>, OutOfMemory> {
+    let text = Text::from_str(alloc, text)?;
+    let file = boxed(alloc, ConfigFile::new(alloc, text)?)?;
+    boxed(alloc, file.copy(alloc)?)
 }
 
 #[test]
@@ -183,43 +191,48 @@ fn a_section_gives_its_values_in_their_order(rt: HostRuntime) -> Result<(), Fail
     Ok(())
 }
 
+fn pair(alloc: Global, name: &str, value: &str) -> Result<(Text, Text), OutOfMemory> {
+    let name = Text::from_str(alloc, name)?;
+    Ok((name, Text::from_str(alloc, value)?))
+}
+
 fn pairs(alloc: Global, pairs: &[(&str, &str)]) -> Result<Items<(Text, Text)>, OutOfMemory> {
     let mut items = Vec::new(alloc);
     for (name, value) in pairs {
-        items.push((Text::from_str(alloc, name)?, Text::from_str(alloc, value)?))?;
+        items.push(pair(alloc, name, value)?)?;
     }
     Ok(Items::new(items))
+}
+
+fn file(alloc: Global, path: &str, text: &str) -> Result<(Text, ConfigFile), OutOfMemory> {
+    let (path, text) = pair(alloc, path, text)?;
+    Ok((path, ConfigFile::new(alloc, text)?))
 }
 
 fn files(alloc: Global, files: &[(&str, &str)]) -> Result<Items<(Text, ConfigFile)>, OutOfMemory> {
     let mut items = Vec::new(alloc);
     for (path, text) in files {
-        let path = Text::from_str(alloc, path)?;
-        let text = Text::from_str(alloc, text)?;
-        items.push((path, ConfigFile::new(alloc, text)?))?;
+        items.push(file(alloc, path, text)?)?;
     }
     Ok(Items::new(items))
 }
 
 /// Two files, of which the usual path has the first only.
-fn env(alloc: Global, vars: &[(&str, &str)]) -> Result<Env, OutOfMemory> {
+fn env(alloc: Global, vars: &[(&str, &str)]) -> Result<Box<Env>, OutOfMemory> {
     let mapped = "[domain_realm]\n\
         .dev.tbt.com = TEST.TBT.COM\n\
         .dev.tbt.com = LATER\n\
         host.org = HOST.ORG\n\
         .org = ORG";
-    Ok(Env {
-        vars: pairs(alloc, vars)?,
-        files: files(
-            alloc,
-            &[
-                ("/etc/krb5.conf", AD),
-                ("/b", MIT),
-                ("/b", ""),
-                ("/c", mapped),
-            ],
-        )?,
-    })
+    let all = [
+        ("/etc/krb5.conf", AD),
+        ("/b", MIT),
+        ("/b", ""),
+        ("/c", mapped),
+    ];
+    let vars = pairs(alloc, vars)?;
+    let files = files(alloc, &all)?;
+    boxed(alloc, Env { vars, files })
 }
 
 /// A user, a domain that is given, and the realm.
@@ -315,12 +328,22 @@ fn has_url(alloc: Global, env: &Env, domain: &str, expected: &str) -> Result<boo
     Ok(shown_url(&found) == expected)
 }
 
+/// Whether this host and this URL are found where these variables are set.
+fn is_found(
+    alloc: Global,
+    vars: &[(&str, &str)],
+    domain: &str,
+    host: &str,
+    url: &str,
+) -> Result<bool, Fail> {
+    let env = env(alloc, vars)?;
+    Ok(has_host(alloc, &env, domain, host)? && has_url(alloc, &env, domain, url)?)
+}
+
 #[test]
 fn a_kdc_is_the_first_that_is_named(rt: HostRuntime) -> Result<(), Fail> {
     for (vars, domain, host, url) in kdcs() {
-        let env = env(rt.alloc(), vars)?;
-        assert!(rt; has_host(rt.alloc(), &env, domain, host)?, "{domain}");
-        assert!(rt; has_url(rt.alloc(), &env, domain, url)?, "{domain}");
+        assert!(rt; is_found(rt.alloc(), vars, domain, host, url)?, "{domain}");
     }
     Ok(())
 }
@@ -358,17 +381,17 @@ fn is_url(alloc: Global, address: &str, expected: &str) -> Result<bool, Fail> {
 }
 
 /// A copy of a configuration with this address.
-fn configured(alloc: Global, address: &str) -> Result<KerberosConfig, Fail> {
+fn configured(alloc: Global, address: &str) -> Result<Box<KerberosConfig>, OutOfMemory> {
     let name = Text::from_str(alloc, "host")?;
-    let config = KerberosConfig::new(alloc, address, name)?;
-    let copy = config.copy(alloc)?;
-    Ok(copy)
+    let config = boxed(alloc, KerberosConfig::new(alloc, address, name)?)?;
+    boxed(alloc, config.copy(alloc)?)
 }
 
-/// Whether a client of this configuration uses the URL.
-fn is_used(alloc: Global, config: KerberosConfig, env: &Env, expected: &str) -> Result<bool, Fail> {
+/// Whether a client with this address uses the URL.
+fn is_used(alloc: Global, address: &str, env: &Env, expected: &str) -> Result<bool, Fail> {
+    let config = configured(alloc, address)?;
     let named = config.client_computer_name.as_str() == "host";
-    let url = config.get_kdc_url(alloc, env, "EXAMPLE.COM")?;
+    let url = Box::into_inner(config).get_kdc_url(alloc, env, "EXAMPLE.COM")?;
     Ok(named && shown_url(&url) == expected)
 }
 
@@ -377,8 +400,7 @@ fn a_configured_kdc_counts_first(rt: HostRuntime) -> Result<(), Fail> {
     let env = env(rt.alloc(), &[("SSPI_KDC_URL", "udp://all")])?;
     for (address, own, used) in addresses() {
         assert!(rt; is_url(rt.alloc(), address, own)?, "{address}");
-        let config = configured(rt.alloc(), address)?;
-        assert!(rt; is_used(rt.alloc(), config, &env, used)?, "{address}");
+        assert!(rt; is_used(rt.alloc(), address, &env, used)?, "{address}");
     }
     Ok(())
 }
@@ -395,16 +417,25 @@ fn names() -> &'static [(&'static str, &'static str, &'static str, u8)] {
     &NAMES
 }
 
+fn has_parts(
+    alloc: Global,
+    whole: &str,
+    name: &str,
+    domain: &str,
+    name_type: u8,
+) -> Result<bool, Fail> {
+    let username = Username::parse(alloc, whole)?;
+    let client = get_client_principal_name(&username);
+    Ok(client.name == name && client.realm_domain == domain && client.name_type == name_type)
+}
+
 #[test]
 fn names_have_their_parts(rt: HostRuntime) -> Result<(), Fail> {
     for (whole, name, domain, name_type) in names() {
-        let username = Username::parse(rt.alloc(), whole)?;
-        let client = get_client_principal_name(&username);
         assert!(rt;
-            client.name == *name && client.realm_domain == *domain,
+            has_parts(rt.alloc(), whole, name, domain, *name_type)?,
             "{whole}"
         );
-        assert!(rt; client.name_type == *name_type, "{whole}");
         assert!(rt;
             get_client_principal_name_type(whole, domain) == *name_type,
             "{whole}"

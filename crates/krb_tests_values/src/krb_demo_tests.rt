@@ -2,7 +2,8 @@
 
 use krb_crypto::hmac_sha1;
 use krb_demo::{DemoClient, demonstration};
-use krb_der::Time;
+use krb_der::{Octets, Time, boxed};
+use std::alloc::Global;
 use std::test::Fail;
 
 /// The AP-REQ of the ticket's own second and microsecond 7, behind a confounder of sixteen octets 01.
@@ -31,10 +32,15 @@ fn hundred() -> [u8; 20] {
     HUNDRED
 }
 
+fn token(alloc: Global) -> Result<Octets, Fail> {
+    let client = boxed(alloc, DemoClient::new(alloc)?)?;
+    let token = client.token(alloc, Time::new(1_700_000_000), [0, 0, 0, 7], [1; 16])?;
+    Ok(token)
+}
+
 #[test]
 fn a_token_is_as_written_elsewhere(rt: HostRuntime) -> Result<(), Fail> {
-    let client = DemoClient::new(rt.alloc())?;
-    let token = client.token(rt.alloc(), Time::new(1_700_000_000), [0, 0, 0, 7], [1; 16])?;
+    let token = token(rt.alloc())?;
     let digits = hex::encode(rt.alloc(), token.as_slice())?;
     assert!(rt; digits.as_str() == token_digits());
     Ok(())

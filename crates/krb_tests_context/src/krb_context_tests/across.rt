@@ -2,20 +2,20 @@
 
 use super::CONFOUNDER;
 use super::ends::{ACCEPTOR, End, INITIATOR, SHORT_ACCEPTOR, context_of};
-use krb_der::{Items, Octets};
+use krb_der::{Items, Octets, boxed};
 use sspi_core::{Message, Part, SecurityBufferRef};
 use std::alloc::Global;
 use std::test::Fail;
 
 /// A token without octets, and as many octets of text.
-fn plain_message(alloc: Global, len: usize) -> Result<Message, Fail> {
+fn plain_message(alloc: Global, len: usize) -> Result<Box<Message>, Fail> {
     let text = Octets::new(vec![in alloc; 0x61; len]?);
     let limit = text.as_slice().len();
     let buffers = vec![in alloc;
         SecurityBufferRef::token_buf(Octets::new(Vec::new(alloc)), 76),
         SecurityBufferRef::data_buf(text, limit),
     ]?;
-    Ok(Message::new(Items::new(buffers))?)
+    Ok(boxed(alloc, Message::new(Items::new(buffers))?)?)
 }
 
 /// The octets of the message's part.

@@ -1,14 +1,13 @@
 //! Calls that change a context, that no context has, and that tell of the package.
 
 use super::cause_of;
-use super::ends::boxed;
 use super::queries::{new_client, password_identity};
 use bitflags::Flags;
 use krb_conf::{Env, KerberosConfig};
 use krb_context::{
     ApOptions, ContextChange, EncryptionParams, GssFlags, Kerberos, KerberosState, package_info,
 };
-use krb_der::{Items, Text};
+use krb_der::{Items, Text, boxed};
 use sspi_core::{Cause, ClientRequestFlags, CredentialUse, Credentials, CredentialsBuffers};
 use std::alloc::Global;
 use std::test::Fail;
@@ -66,35 +65,35 @@ fn takes(
     credentials: &Credentials,
     wanted: &Option<CredentialsBuffers>,
 ) -> Result<bool, Fail> {
-    let given = client.acquire_credentials_handle(
+    let given = boxed(
         alloc,
-        CredentialUse::Outbound,
-        Some(credentials),
+        client.acquire_credentials_handle(alloc, CredentialUse::Outbound, Some(credentials))?,
     )?;
-    Ok(given == *wanted && client.auth_identity == *wanted)
+    Ok(*given == *wanted && client.auth_identity == *wanted)
 }
 
 fn takes_credentials(alloc: Global, client: &mut Kerberos) -> Result<bool, Fail> {
     let credentials = password_identity(alloc)?;
-    let wanted = Some(CredentialsBuffers::from_credentials(alloc, &credentials)?);
+    let wanted = CredentialsBuffers::from_credentials(alloc, &credentials)?;
+    let wanted = boxed(alloc, Some(wanted))?;
     takes(alloc, client, &credentials, &wanted)
 }
 
 /// What an exchange makes of a context.
-fn change(alloc: Global) -> Result<ContextChange, Fail> {
-    Ok(ContextChange {
+fn change(realm: Text) -> ContextChange {
+    ContextChange {
         state: KerberosState::Final,
-        realm: Some(Text::new(String::from_str(alloc, "EXAMPLE.COM")?)),
+        realm: Some(realm),
         encryption_params: EncryptionParams::default_for_client(),
         seq_number: 7,
         krb5_user_to_user: false,
         ticket_decryption_key: None,
-    })
+    }
 }
 
 /// Whether the next number is the one after the exchange's, and nothing is left to complete.
 fn counts_on(alloc: Global, client: &mut Kerberos) -> Result<bool, Fail> {
-    client.settle(change(alloc)?);
+    client.settle(change(Text::from_str(alloc, "EXAMPLE.COM")?));
     Ok(
         client.next_seq_number() == 8
             && client.complete_auth_token().is_ok()
@@ -119,19 +118,19 @@ fn a_client_speaks_for_its_credentials_and_counts_on(rt: HostRuntime) -> Result<
 
 /// Whether it tells its realm, and this KDC of it.
 fn tells_kdc(alloc: Global, client: &Kerberos, env: &Env, kdc_url: &str) -> Result<bool, Fail> {
-    match client.get_kdc(alloc, env)? {
-        Some((realm, url)) => Ok(realm.as_str() == "EXAMPLE.COM" && url.as_str() == kdc_url),
-        None => Ok(false),
-    }
+    let kdc = boxed(alloc, client.get_kdc(alloc, env)?)?;
+    Ok(match &*kdc {
+        Some((realm, url)) => realm.as_str() == "EXAMPLE.COM" && url.as_str() == kdc_url,
+        None => false,
+    })
 }
 
 /// A client of EXAMPLE.COM.
 fn client_with_kdc(alloc: Global, kdc_url: &str) -> Result<Box<Kerberos>, Fail> {
-    let name = Text::new(String::from_str(alloc, "hostname")?);
-    let realm = Text::new(String::from_str(alloc, "EXAMPLE.COM")?);
+    let name = Text::from_str(alloc, "hostname")?;
     let config = KerberosConfig::new(alloc, kdc_url, name)?;
     let mut client = boxed(alloc, Kerberos::new_client_from_config(config, [0; 4]))?;
-    client.realm = Some(realm);
+    client.realm = Some(Text::from_str(alloc, "EXAMPLE.COM")?);
     Ok(client)
 }
 

@@ -3,7 +3,7 @@
 use krb_conf::KerberosConfig;
 use krb_context::{Kerberos, KerberosState, ServerProperties};
 use krb_crypto::CipherSuite;
-use krb_der::{Octets, Text};
+use krb_der::{Octets, Text, boxed};
 use sspi_core::Secret;
 use std::alloc::Global;
 use std::test::Fail;
@@ -50,32 +50,26 @@ pub fn octets(alloc: Global, text: &str) -> Result<Octets, Fail> {
 pub fn config(alloc: Global) -> Result<KerberosConfig, Fail> {
     Ok(KerberosConfig {
         kdc_url: None,
-        client_computer_name: Text::new(String::from_str(alloc, "hostname")?),
+        client_computer_name: Text::from_str(alloc, "hostname")?,
     })
 }
 
-pub fn properties(alloc: Global) -> Result<ServerProperties, Fail> {
-    Ok(ServerProperties::new(alloc, &["host", "server.example.com"], None, 300, None)?)
-}
-
-/// A context in a box: whoever owns it then owns one value in the place of each of its parts, which costs a check far less.
-pub fn boxed(alloc: Global, context: Kerberos) -> Result<Box<Kerberos>, Fail> {
-    Ok(Box::new(alloc, context)?)
+pub fn properties(alloc: Global) -> Result<Box<ServerProperties>, Fail> {
+    let name = ["host", "server.example.com"];
+    let properties = ServerProperties::new(alloc, &name, None, 300, None)?;
+    Ok(boxed(alloc, properties)?)
 }
 
 fn new_acceptor(alloc: Global, random: [u8; 4]) -> Result<Box<Kerberos>, Fail> {
     let properties = properties(alloc)?;
-    boxed(
-        alloc,
-        Kerberos::new_server_from_config(config(alloc)?, properties, random)?,
-    )
+    let config = config(alloc)?;
+    let acceptor = Kerberos::new_server_from_config(config, Box::into_inner(properties), random)?;
+    Ok(boxed(alloc, acceptor)?)
 }
 
 fn new_initiator(alloc: Global, random: [u8; 4]) -> Result<Box<Kerberos>, Fail> {
-    boxed(
-        alloc,
-        Kerberos::new_client_from_config(config(alloc)?, random),
-    )
+    let config = config(alloc)?;
+    Ok(boxed(alloc, Kerberos::new_client_from_config(config, random))?)
 }
 
 /// The context once the exchange is over.
@@ -87,13 +81,12 @@ fn establish(context: &mut Kerberos, end: &End, key: Octets) {
 }
 
 pub fn context_of(alloc: Global, end: &End) -> Result<Box<Kerberos>, Fail> {
-    let key = octets(alloc, end.key)?;
     let random = end.number.to_be_bytes();
     let mut context = if end.acceptor {
         new_acceptor(alloc, random)?
     } else {
         new_initiator(alloc, random)?
     };
-    establish(&mut context, end, key);
+    establish(&mut context, end, octets(alloc, end.key)?);
     Ok(context)
 }

@@ -1,9 +1,9 @@
 //! What contexts tell of themselves.
 
-use super::ends::{INITIATOR, SHORT_ACCEPTOR, boxed, config, context_of, octets, properties};
+use super::ends::{INITIATOR, SHORT_ACCEPTOR, config, context_of, octets, properties};
 use krb_context::{Kerberos, KerberosServerConfig, ProtocolConfig};
 use krb_crypto::{AesSize, CipherSuite};
-use krb_der::{Text, TryCopy};
+use krb_der::{Text, TryCopy, boxed};
 use sspi_core::{AuthIdentity, Cause, Credentials, Secret, Username};
 use std::alloc::Global;
 use std::test::Fail;
@@ -100,25 +100,28 @@ fn instance(
     config: &ProtocolConfig,
     random: [u8; 4],
 ) -> Result<Box<Kerberos>, Fail> {
-    boxed(alloc, config.new_instance(alloc, random)?)
+    Ok(boxed(alloc, config.new_instance(alloc, random)?)?)
 }
 
 pub fn new_client(alloc: Global) -> Result<Box<Kerberos>, Fail> {
-    let config = ProtocolConfig::Client(config(alloc)?);
+    let config = config(alloc)?;
+    let config = boxed(alloc, ProtocolConfig::Client(config))?;
     instance(alloc, &config, [0, 0, 0, 1])
 }
 
-fn server_config(alloc: Global) -> Result<KerberosServerConfig, Fail> {
-    let kerberos_config = config(alloc)?;
-    Ok(KerberosServerConfig {
-        kerberos_config,
-        server_properties: properties(alloc)?,
-    })
+fn server_config(alloc: Global) -> Result<Box<KerberosServerConfig>, Fail> {
+    let server_properties = properties(alloc)?;
+    let config = KerberosServerConfig {
+        kerberos_config: config(alloc)?,
+        server_properties: Box::into_inner(server_properties),
+    };
+    Ok(boxed(alloc, config)?)
 }
 
-fn copied_config(alloc: Global) -> Result<ProtocolConfig, Fail> {
+fn copied_config(alloc: Global) -> Result<Box<ProtocolConfig>, Fail> {
     let config = server_config(alloc)?;
-    Ok(ProtocolConfig::Server(config.copy(alloc)?))
+    let copied = config.copy(alloc)?;
+    Ok(boxed(alloc, ProtocolConfig::Server(copied))?)
 }
 
 /// The acceptor that a copy of its configuration makes.
@@ -128,13 +131,13 @@ fn new_server(alloc: Global) -> Result<Box<Kerberos>, Fail> {
 }
 
 /// user@example.com and its password.
-pub fn password_identity(alloc: Global) -> Result<Credentials, Fail> {
-    let password = Text::new(String::from_str(alloc, "secret")?);
-    let username = Username::parse(alloc, "user@example.com")?;
-    Ok(Credentials::AuthIdentity(AuthIdentity {
-        username,
+pub fn password_identity(alloc: Global) -> Result<Box<Credentials>, Fail> {
+    let password = Text::from_str(alloc, "secret")?;
+    let identity = AuthIdentity {
+        username: Username::parse(alloc, "user@example.com")?,
         password: Secret::new(password),
-    }))
+    };
+    Ok(boxed(alloc, Credentials::AuthIdentity(identity))?)
 }
 
 fn speak(alloc: Global, client: &mut Kerberos) -> Result<(), Fail> {

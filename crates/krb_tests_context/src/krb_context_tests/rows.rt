@@ -1,7 +1,7 @@
 //! Messages as they are written down.
 
 use super::ends::{End, octets};
-use krb_der::Items;
+use krb_der::{Items, boxed};
 use sspi_core::{Cause, Message, SecurityBufferFlags, SecurityBufferRef};
 use std::alloc::Global;
 use std::test::Fail;
@@ -35,12 +35,12 @@ fn buffer_of(alloc: Global, text: &str) -> Result<SecurityBufferRef, Fail> {
     }
 }
 
-pub fn message_of(alloc: Global, text: &str) -> Result<Message, Fail> {
+pub fn message_of(alloc: Global, text: &str) -> Result<Box<Message>, Fail> {
     let mut buffers = Vec::new(alloc);
     for buffer in text.split(' ') {
         buffers.push(buffer_of(alloc, buffer)?)?;
     }
-    Ok(Message::new(Items::new(buffers))?)
+    Ok(boxed(alloc, Message::new(Items::new(buffers))?)?)
 }
 
 /// Whether the message's buffers hold what those of the text do.

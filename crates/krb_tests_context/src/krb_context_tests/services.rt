@@ -3,7 +3,7 @@
 use super::cause_of;
 use super::ends::{SHORT_ACCEPTOR, octets, properties};
 use krb_context::{AdditionalServiceKeys, ServerProperties};
-use krb_der::{Octets, TryCopy};
+use krb_der::{Octets, TryCopy, boxed};
 use krb_messages::PrincipalName;
 use sspi_core::{Cause, Secret};
 use std::alloc::Global;
@@ -26,7 +26,10 @@ fn has_key(server: &ServerProperties, name: &PrincipalName) -> bool {
 
 /// Whether the service of these components has a key.
 fn have_key(alloc: Global, server: &ServerProperties, components: &[&str]) -> Result<bool, Fail> {
-    let named = ServerProperties::new(alloc, components, None, 0, None)?;
+    let named = boxed(
+        alloc,
+        ServerProperties::new(alloc, components, None, 0, None)?,
+    )?;
     Ok(has_key(server, &named.service_name))
 }
 
@@ -41,7 +44,7 @@ fn are_known(alloc: Global, server: &ServerProperties) -> Result<bool, Fail> {
 }
 
 fn are_known_to_a_copy(alloc: Global, server: &ServerProperties) -> Result<bool, Fail> {
-    let copied = server.copy(alloc)?;
+    let copied = boxed(alloc, server.copy(alloc)?)?;
     are_known(alloc, &copied)
 }
 
@@ -82,32 +85,49 @@ fn services_have_keys_by_their_components(rt: HostRuntime) -> Result<(), Fail> {
     Ok(())
 }
 
+fn named(alloc: Global, instance: &str) -> Result<PrincipalName, Fail> {
+    let named = boxed(
+        alloc,
+        ServerProperties::new(alloc, &["host", instance], None, 0, None)?,
+    )?;
+    Ok(named.service_name.copy(alloc)?)
+}
+
 fn numbered_service(alloc: Global, number: u16) -> Result<PrincipalName, Fail> {
     let instance = format!(in alloc; "{number}")?;
-    let named = ServerProperties::new(alloc, &["host", instance.as_str()], None, 0, None)?;
-    Ok(named.service_name)
+    named(alloc, instance.as_str())
 }
 
 fn numbered_key(alloc: Global, number: u16) -> Result<Secret<Octets>, Fail> {
     Ok(Secret::new(Octets::from_slice(alloc, &number.to_be_bytes())?))
 }
 
-/// 300 services with the keys of their numbers, and the first once more with another key.
-fn many_keys(alloc: Global) -> Result<AdditionalServiceKeys, Fail> {
+/// One service more, with the key of its number.
+fn add_numbered(
+    alloc: Global,
+    services: &mut Vec<(PrincipalName, Secret<Octets>)>,
+    number: u16,
+) -> Result<(), Fail> {
+    let key = numbered_key(alloc, number)?;
+    services.push((numbered_service(alloc, number)?, key))?;
+    Ok(())
+}
+
+/// 300 services with the keys of their numbers.
+fn many_keys(alloc: Global) -> Result<Box<AdditionalServiceKeys>, Fail> {
     let mut services = Vec::new(alloc);
     for number in 0..300 {
-        services.push((
-            numbered_service(alloc, number)?,
-            numbered_key(alloc, number)?,
-        ))?;
+        add_numbered(alloc, &mut services, number)?;
     }
-    let mut keys = AdditionalServiceKeys::new(alloc, services)?;
-    keys.push(
-        alloc,
-        numbered_service(alloc, 0)?,
-        numbered_key(alloc, 999)?,
-    )?;
-    Ok(keys)
+    Ok(boxed(alloc, AdditionalServiceKeys::new(alloc, services)?)?)
+}
+
+/// The first once more, with another key.
+fn add_again(alloc: Global, keys: &mut AdditionalServiceKeys) -> Result<(), Fail> {
+    let key = numbered_key(alloc, 999)?;
+    let service = numbered_service(alloc, 0)?;
+    keys.push(alloc, service, key)?;
+    Ok(())
 }
 
 /// Whether the service with this number has the key of its number, or none.
@@ -126,7 +146,8 @@ fn has_its_key(
 
 #[test]
 fn the_first_key_of_a_name_is_found_among_many(rt: HostRuntime) -> Result<(), Fail> {
-    let keys = many_keys(rt.alloc())?;
+    let mut keys = many_keys(rt.alloc())?;
+    add_again(rt.alloc(), &mut keys)?;
     assert_eq!(rt; keys.as_slice().len(), 301);
     for (number, wanted) in [(0, true), (299, true), (300, false)] {
         assert!(rt; has_its_key(rt.alloc(), &keys, number, wanted)?, "{number}");

@@ -88,11 +88,14 @@ fn as_replies() -> &'static [AsReply] {
     &AS_REPLIES
 }
 
-fn credentials_of(alloc: Global, credentials: &Credentials) -> Result<CredentialsBuffers, Fail> {
+fn credentials_of(
+    alloc: Global,
+    credentials: &Credentials,
+) -> Result<Box<CredentialsBuffers>, Fail> {
     match credentials {
         Credentials::Password(password) => {
             user_with_password(alloc, "alice", "EXAMPLE.COM", password)
-        },
+        }
         Credentials::Key(key) => user_with_key(alloc, key),
     }
 }
@@ -103,14 +106,17 @@ fn realm(alloc: Global) -> Result<Name, Fail> {
 }
 
 /// Who asks with these credentials. Nothing else of it counts.
-fn asker_of(alloc: Global, row: &AsReply) -> Result<Asker, Fail> {
-    Ok(Asker {
+fn asker_of(alloc: Global, row: &AsReply) -> Result<Box<Asker>, Fail> {
+    let credentials = credentials_of(alloc, &row.credentials)?;
+    let realm = realm(alloc)?;
+    let asker = Asker {
         kdc_url: None,
         env: Env::new(alloc),
-        realm: realm(alloc)?,
+        realm,
         suite: CipherSuite::Aes256CtsHmacSha196,
-        credentials: credentials_of(alloc, &row.credentials)?,
-    })
+        credentials: Box::into_inner(credentials),
+    };
+    Ok(boxed(alloc, asker)?)
 }
 
 fn as_rep_of(alloc: Global, digits: &str) -> Result<Box<AsRep>, Fail> {

@@ -8,11 +8,10 @@ use super::{Answer, Step, first_other_at};
 use crate::kdc::{Kdc, Reply, Turn};
 use crate::rows::is_hex;
 use crate::services::{acceptor_for, draw, flags_of, user_with_password};
-use krb_as::InitDone;
 use krb_conf::Env;
 use krb_context::{Kerberos, KerberosState};
 use krb_crypto::CipherSuite;
-use krb_der::boxed;
+use krb_der::{Octets, boxed};
 use krb_replay::ReplayBook;
 use krb_server::{Accepted, accept_security_context};
 use krb_user_to_user::{AcceptRun, GeneratorAcceptSecurityContext};
@@ -237,24 +236,40 @@ fn fetches() -> &'static [Fetch] {
     &FETCHES
 }
 
-/// What a run that is not started ends with over the KDC.
+/// What a run that is not started ends with over the KDC, and settles the acceptor by: the status and the token.
 #[tactic(auto, using(crate::proofs::Asks::asks_twice))]
-fn end_over(alloc: Global, run: AcceptRun, kdc: &mut Kdc) -> Result<InitDone, Error>
-    requires { IsNew run }
+fn end_over(
+    alloc: Global,
+    run: Box<AcceptRun>,
+    server: &mut Kerberos,
+    kdc: &mut Kdc,
+) -> Result<(SecurityStatus, Octets), Error>
+    requires { IsNew run.value }
 {
-    let mut run = boxed(alloc, GeneratorAcceptSecurityContext::new(run))?;
-    run.resolve_with(kdc, &[draw(), draw(), draw()])
+    let run = GeneratorAcceptSecurityContext::new(Box::into_inner(run));
+    let mut run = boxed(alloc, run)?;
+    match run.resolve_with(kdc, &[draw(), draw(), draw()]) {
+        Ok(done) => {
+            server.settle(done.change);
+            Ok((done.status, done.token))
+        }
+        Err(error) => Err(error),
+    }
 }
 
 /// The run that a TGT-REQ begins.
-fn begun(alloc: Global, server: &mut Kerberos, dce: bool) -> Result<Result<AcceptRun, Error>, Fail>
-    ensures { IfOk result (λ answer. IfOk answer (λ run. IsNew run)) }
+fn begun(
+    alloc: Global,
+    server: &mut Kerberos,
+    book: &mut ReplayBook,
+    env: &Env,
+    token: &[u8],
+    dce: bool,
+) -> Result<Result<Box<AcceptRun>, Error>, Fail>
+    ensures { IfOk result (λ answer. IfOk answer (λ run. IsNew run.value)) }
 {
-    let mut book = ReplayBook::new(alloc, 300)?;
-    let token = hex::decode(alloc, if dce { BARE } else { FRAMED })?;
-    let (flags, env) = (flags_of(dce), Env::new(alloc));
-    match accept_security_context(alloc, server, &mut book, &token, flags, &env, &draw()) {
-        Ok(Accepted::Run(run)) => Ok(Ok(run)),
+    match accept_security_context(alloc, server, book, token, flags_of(dce), env, &draw()) {
+        Ok(Accepted::Run(run)) => Ok(Ok(boxed(alloc, run)?)),
         Ok(Accepted::Done { .. }) => Err(Fail::from("no run")),
         Err(error) => Ok(Err(error)),
     }
@@ -266,9 +281,12 @@ fn end_of(
     server: &mut Kerberos,
     kdc: &mut Kdc,
     dce: bool,
-) -> Result<Result<InitDone, Error>, Fail> {
-    match begun(alloc, server, dce)? {
-        Ok(run) => Ok(end_over(alloc, run, kdc)),
+) -> Result<Result<(SecurityStatus, Octets), Error>, Fail> {
+    let mut book = boxed(alloc, ReplayBook::new(alloc, 300)?)?;
+    let env = boxed(alloc, Env::new(alloc))?;
+    let token = hex::decode(alloc, if dce { BARE } else { FRAMED })?;
+    match begun(alloc, server, &mut book, &env, &token, dce)? {
+        Ok(run) => Ok(end_over(alloc, run, server, kdc)),
         Err(error) => Ok(Err(error)),
     }
 }
@@ -300,17 +318,18 @@ fn awaits(alloc: Global, server: &Kerberos, suite: CipherSuite, key: &str) -> bo
         && has_key(alloc, server, key)
 }
 
-fn is_token(alloc: Global, done: &InitDone, wanted: &str) -> bool {
-    done.status == SecurityStatus::ContinueNeeded && is_hex(alloc, done.token.as_slice(), wanted)
-}
-
-/// Whether the token is for the client, and the context awaits an AP-REQ, once it is settled.
-fn settles_so(alloc: Global, server: &mut Kerberos, done: InitDone, wanted: &End) -> bool {
+/// Whether that is the token for the client, and the context awaits an AP-REQ.
+fn settles_so(
+    alloc: Global,
+    server: &Kerberos,
+    (status, token): &(SecurityStatus, Octets),
+    wanted: &End,
+) -> bool {
     match wanted {
-        End::Ticket(token, suite, key, _) => {
-            let is_token = is_token(alloc, &done, token);
-            server.settle(done.change);
-            is_token && awaits(alloc, server, *suite, key)
+        End::Ticket(digits, suite, key, _) => {
+            *status == SecurityStatus::ContinueNeeded
+                && is_hex(alloc, token.as_slice(), digits)
+                && awaits(alloc, server, *suite, key)
         }
         End::Refused(_) => false,
     }
@@ -325,13 +344,13 @@ fn is_refused(error: &Error, wanted: &End) -> bool {
 
 fn ends_so(
     alloc: Global,
-    server: &mut Kerberos,
-    end: Result<InitDone, Error>,
+    server: &Kerberos,
+    end: &Result<(SecurityStatus, Octets), Error>,
     wanted: &End,
 ) -> bool {
     match end {
         Ok(done) => settles_so(alloc, server, done, wanted),
-        Err(error) => is_refused(&error, wanted),
+        Err(error) => is_refused(error, wanted),
     }
 }
 
@@ -347,7 +366,7 @@ fn went_so(
     alloc: Global,
     server: &mut Kerberos,
     kdc: &Kdc,
-    end: Result<InitDone, Error>,
+    end: &Result<(SecurityStatus, Octets), Error>,
     fetch: &Fetch,
 ) -> Result<bool, Fail> {
     let ends_so = ends_so(alloc, server, end, &fetch.end);
@@ -358,7 +377,7 @@ fn went_so(
 fn goes_so_at(alloc: Global, server: &mut Kerberos, fetch: &Fetch) -> Result<bool, Fail> {
     let mut kdc = Kdc::new(alloc, fetch.turns);
     let end = end_of(alloc, server, &mut kdc, fetch.dce)?;
-    went_so(alloc, server, &kdc, end, fetch)
+    went_so(alloc, server, &kdc, &end, fetch)
 }
 
 fn goes_so(alloc: Global, fetch: &Fetch) -> Result<bool, Fail> {

@@ -1,7 +1,7 @@
 //! Messages and their parts.
 
 use bitflags::Flags;
-use krb_der::{Items, Octets};
+use krb_der::{Items, Octets, boxed};
 use sspi_core::{BufferType, Cause, Error, Message, Part, SecurityBufferFlags, SecurityBufferRef};
 use std::alloc::Global;
 use std::test::Fail;
@@ -93,12 +93,19 @@ fn put(message: &mut Message, part: Part, octets: Octets) -> bool {
     true
 }
 
+/// Writes a part as far as its room goes, and another past it.
+fn write_parts(alloc: Global, message: &mut Message) -> Result<bool, Fail> {
+    let short = Octets::from_slice(alloc, b"ab")?;
+    let is_put = put(message, Part::Token, short);
+    message.write_whole(Part::Stream, Octets::from_slice(alloc, b"abcd")?);
+    Ok(is_put)
+}
+
 #[test]
 fn a_part_is_found_and_written(rt: HostRuntime) -> Result<(), Fail> {
-    let alloc = rt.alloc();
-    let mut message = Message::new(buffers(alloc, &[TOKEN, STREAM])?)?;
-    assert!(rt; put(&mut message, Part::Token, Octets::from_slice(alloc, b"ab")?));
-    message.write_whole(Part::Stream, Octets::from_slice(alloc, b"abcd")?);
+    let buffers = buffers(rt.alloc(), &[TOKEN, STREAM])?;
+    let mut message = boxed(rt.alloc(), Message::new(buffers)?)?;
+    assert!(rt; write_parts(rt.alloc(), &mut message)?);
     assert!(rt; has(&message, Part::Token, b"ab", 3));
     assert!(rt; has(&message, Part::Stream, b"abcd", 4));
     assert!(rt; message.find(Part::Plain).is_none());

@@ -1,6 +1,6 @@
 //! Names and identities, and their parts.
 
-use krb_der::{Octets, Text, TryCopy};
+use krb_der::{Octets, Text, TryCopy, boxed};
 use sspi_core::{
     AuthIdentity, AuthIdentityBuffers, Credentials, CredentialsBuffers, DownLevelLogonName,
     KeytabIdentity, Secret, UserPrincipalName, Username, UsernameParts,
@@ -59,11 +59,16 @@ fn written(alloc: Global, name: &Username) -> Result<String, Fail> {
     }
 }
 
+fn has_parts_of(alloc: Global, name: &Username, want: &str) -> Result<bool, Fail> {
+    let parts = written(alloc, name)?;
+    Ok(parts.as_str() == want)
+}
+
+/// Whether a copy is the name, and its parts are written so.
 fn is_cut(alloc: Global, text: &str, want: &str) -> Result<bool, Fail> {
-    let name = Username::parse(alloc, text)?;
-    let copy = name.copy(alloc)?;
-    let parts = written(alloc, &copy)?;
-    Ok(copy == name && parts.as_str() == want)
+    let name = boxed(alloc, Username::parse(alloc, text)?)?;
+    let copy = boxed(alloc, name.copy(alloc)?)?;
+    Ok(*copy == *name && has_parts_of(alloc, &copy, want)?)
 }
 
 #[test]
@@ -74,13 +79,13 @@ fn a_name_is_cut_at_its_sign(rt: HostRuntime) -> Result<(), Fail> {
     Ok(())
 }
 
-fn identity(alloc: Global, name: &str) -> Result<AuthIdentity, Fail> {
-    let username = Username::parse(alloc, name)?;
+fn identity(alloc: Global, name: &str) -> Result<Box<AuthIdentity>, Fail> {
     let password = Text::from_str(alloc, "password")?;
-    Ok(AuthIdentity {
-        username,
+    let identity = AuthIdentity {
+        username: Username::parse(alloc, name)?,
         password: Secret::new(password),
-    })
+    };
+    Ok(boxed(alloc, identity)?)
 }
 
 fn has_parts(buffers: &AuthIdentityBuffers, user: &str, domain: &str) -> bool {
@@ -92,9 +97,9 @@ fn has_parts(buffers: &AuthIdentityBuffers, user: &str, domain: &str) -> bool {
 /// Whether the identity of this name has these parts, and is that of its parts.
 fn returns(alloc: Global, name: &str, user: &str, domain: &str) -> Result<bool, Fail> {
     let whole = identity(alloc, name)?;
-    let buffers = AuthIdentityBuffers::from_identity(alloc, &whole)?;
-    let again = AuthIdentity::from_buffers(alloc, &buffers)?;
-    Ok(has_parts(&buffers, user, domain) && again == whole)
+    let buffers = boxed(alloc, AuthIdentityBuffers::from_identity(alloc, &whole)?)?;
+    let again = boxed(alloc, AuthIdentity::from_buffers(alloc, &buffers)?)?;
+    Ok(has_parts(&buffers, user, domain) && *again == *whole)
 }
 
 #[test]
@@ -106,44 +111,55 @@ fn an_identity_returns_from_its_parts(rt: HostRuntime) -> Result<(), Fail> {
     Ok(())
 }
 
-fn keytab(alloc: Global) -> Result<KeytabIdentity, Fail> {
-    let principal = Username::parse(alloc, "host")?;
+fn keytab(alloc: Global) -> Result<Box<KeytabIdentity>, Fail> {
     let key = Octets::from_slice(alloc, &[7; 16])?;
-    Ok(KeytabIdentity {
-        principal,
+    let identity = KeytabIdentity {
+        principal: Username::parse(alloc, "host")?,
         key: Secret::new(key),
         key_enctype: 17,
-    })
+    };
+    Ok(boxed(alloc, identity)?)
 }
 
 /// What is kept of credentials, copied.
-fn kept(alloc: Global, credentials: &Credentials) -> Result<CredentialsBuffers, Fail> {
-    let kept = CredentialsBuffers::from_credentials(alloc, credentials)?;
-    let copy = kept.copy(alloc)?;
-    if copy == kept {
+fn kept(alloc: Global, credentials: &Credentials) -> Result<Box<CredentialsBuffers>, Fail> {
+    let kept = boxed(
+        alloc,
+        CredentialsBuffers::from_credentials(alloc, credentials)?,
+    )?;
+    let copy = boxed(alloc, kept.copy(alloc)?)?;
+    if *copy == *kept {
         Ok(copy)
     } else {
         Err(Fail::from("another copy"))
     }
 }
 
+fn of_user(alloc: Global) -> Result<Box<Credentials>, Fail> {
+    let identity = identity(alloc, "EXAMPLE\\user")?;
+    Ok(boxed(alloc, Credentials::AuthIdentity(Box::into_inner(identity)))?)
+}
+
 #[test]
 fn a_password_is_kept_with_its_user(rt: HostRuntime) -> Result<(), Fail> {
-    let alloc = rt.alloc();
-    let credentials = Credentials::AuthIdentity(identity(alloc, "EXAMPLE\\user")?);
-    let kept = kept(alloc, &credentials)?;
+    let credentials = of_user(rt.alloc())?;
+    let kept = kept(rt.alloc(), &credentials)?;
     assert!(rt;
-        matches!(&kept, CredentialsBuffers::AuthIdentity(parts) if has_parts(parts, "user", "EXAMPLE"))
+        matches!(&*kept, CredentialsBuffers::AuthIdentity(parts) if has_parts(parts, "user", "EXAMPLE"))
     );
     Ok(())
 }
 
+fn of_host(alloc: Global) -> Result<Box<Credentials>, Fail> {
+    let identity = keytab(alloc)?;
+    Ok(boxed(alloc, Credentials::Keytab(Box::into_inner(identity)))?)
+}
+
 #[test]
 fn a_key_is_kept_with_its_type(rt: HostRuntime) -> Result<(), Fail> {
-    let alloc = rt.alloc();
-    let credentials = Credentials::Keytab(keytab(alloc)?);
-    let kept = kept(alloc, &credentials)?;
-    let wanted = keytab(alloc)?;
-    assert!(rt; matches!(&kept, CredentialsBuffers::Keytab(identity) if *identity == wanted));
+    let credentials = of_host(rt.alloc())?;
+    let kept = kept(rt.alloc(), &credentials)?;
+    let wanted = keytab(rt.alloc())?;
+    assert!(rt; matches!(&*kept, CredentialsBuffers::Keytab(identity) if *identity == *wanted));
     Ok(())
 }

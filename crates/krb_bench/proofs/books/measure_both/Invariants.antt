@@ -1,4 +1,4 @@
-use Rattle.krb_bench.proofs.books.run.Given as goal
+use Rattle.krb_bench.proofs.books.measure_both.Given as goal
 
 abbrev pub ghosts-measure_locked-L-Calls : goal.ghosts-measure_locked-L-Calls
 ghosts-measure_locked-L-Calls g a = record { skew = 300 }
