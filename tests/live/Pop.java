@@ -1,5 +1,6 @@
-// A client of POP3 that logs in by Java's own mechanism GSSAPI of SASL: java Pop PORT QOP AUTHORIZATION_ID|- LONGEST COUNT
-// It says STAT so many times and QUIT, and prints what is answered. A ticket is taken from the cache.
+// A client of POP3 that logs in by Java's own mechanism GSSAPI of SASL: java Pop PORT CASE .., a case being QOP/AUTHORIZATION_ID/COUNT,
+// without an authorization id where that is empty. For each case it logs in, says STAT so many times and QUIT, and prints the case,
+// the end of the log-in with the layer that Java tells, and how many times STAT was answered. A ticket is taken from the cache.
 import java.io.*;
 import java.net.Socket;
 import java.nio.charset.StandardCharsets;
@@ -46,7 +47,8 @@ public class Pop {
         return line;
     }
 
-    static void logIn() throws IOException {
+    /** The last line of the server, and what Java tells of the layer. */
+    static String logIn() throws IOException {
         say("AUTH GSSAPI");
         String line = line();
         while (line.startsWith("+") && !line.startsWith("+OK")) {
@@ -58,30 +60,41 @@ public class Pop {
             for (int octet = from.read(); octet >= 0 && octet != '\n'; octet = from.read()) text.append((char) octet);
             line = text.toString().trim();
         }
-        System.out.println(line + " " + client.isComplete() + " " + client.getNegotiatedProperty(Sasl.QOP));
-        if (!line.startsWith("+OK")) System.exit(1);
+        return line.startsWith("+OK") ? line + " " + client.getNegotiatedProperty(Sasl.QOP) : line;
     }
 
-    static Void run(String[] words) throws Exception {
+    static int statistics(int count) throws IOException {
+        int answered = 0;
+        for (int i = 0; i < count; i++) {
+            say("STAT");
+            if (line().equals("+OK 0 0")) answered++;
+        }
+        say("QUIT");
+        line();
+        return answered;
+    }
+
+    static void run(int port, String words) throws IOException {
+        String[] parts = words.split("/");
         Map<String, String> properties = new HashMap<>();
-        properties.put(Sasl.QOP, words[1]);
+        properties.put(Sasl.QOP, parts[0]);
         properties.put(Sasl.SERVER_AUTH, "true");
-        properties.put(Sasl.MAX_BUFFER, words[3]);
-        String user = words[2].equals("-") ? null : words[2];
-        try (Socket socket = new Socket("127.0.0.1", Integer.parseInt(words[0]))) {
+        String user = parts[1].isEmpty() ? null : parts[1];
+        try (Socket socket = new Socket("127.0.0.1", port)) {
             socket.setSoTimeout(10000);
             from = new DataInputStream(new BufferedInputStream(socket.getInputStream()));
             to = socket.getOutputStream();
-            System.out.println(line());
+            opened.setLength(0);
+            client = null;
+            line();
             client = Sasl.createSaslClient(new String[] {"GSSAPI"}, user, "pop", "server.example.com", properties, null);
-            logIn();
-            for (int i = 0; i < Integer.parseInt(words[4]); i++) {
-                say("STAT");
-                System.out.println(line());
-            }
-            say("QUIT");
-            System.out.println(line());
+            String end = logIn();
+            System.out.println(words + ": " + end + (end.startsWith("+OK") ? " " + statistics(Integer.parseInt(parts[2])) : ""));
         }
+    }
+
+    static Void runAll(String[] words) throws IOException {
+        for (int i = 1; i < words.length; i++) run(Integer.parseInt(words[0]), words[i]);
         return null;
     }
 
@@ -97,6 +110,6 @@ public class Pop {
     public static void main(String[] words) throws Exception {
         LoginContext login = new LoginContext("client", new Subject(), null, new Cached());
         login.login();
-        Subject.doAs(login.getSubject(), (PrivilegedExceptionAction<Void>) () -> run(words));
+        Subject.doAs(login.getSubject(), (PrivilegedExceptionAction<Void>) () -> runAll(words));
     }
 }

@@ -7,33 +7,27 @@ start_sasl() {
     start "sasl-$sasl_port" "$examples/sasl_server" "127.0.0.1:$sasl_port" "pop/${3:-server.example.com}" "$room/$sasl_port.key" 300 0 "$1"
 }
 
-java_pop() {
-    timeout 20 java -cp "$room" -Djava.security.krb5.conf="$mit/krb5.conf" -XX:TieredStopAtLevel=1 Pop "$@"
+# Whether Java's client said this of a case: java_said WORDS
+java_said() { cat "$room/java.said"; grep -qxF -- "$1" "$room/java.said"; }
+
+try_java() {
+    command -v java javac > /dev/null || { echo "not tried: Java's client, which wants Debian's package openjdk-17-jdk-headless"; return; }
+    javac -d "$room" "$live/Pop.java" || return
+    timeout 60 java -cp "$room" -Djava.security.krb5.conf="$mit/krb5.conf" -XX:TieredStopAtLevel=1 Pop "$sasl_port" \
+        auth//5 auth-int//5 auth-conf//5 auth-conf/alice@example.com/100 auth-conf/bob/1 > "$room/java.said" 2>&1
+    for layer in auth auth-int auth-conf; do check "Java's client, $layer" java_said "$layer//5: +OK $layer 5"; done
+    check "Java's client, auth-conf, acts for itself, 100 messages" java_said "auth-conf/alice@example.com/100: +OK auth-conf 100"
+    check "Java's client is refused where it acts for another" java_said "auth-conf/bob/1: -ERR"
 }
 
-# Whether Java's client is let in and answered in this layer: java_in LAYER AUTHORIZATION_ID LONGEST COUNT
-java_in() {
-    java_pop "$sasl_port" "$@" > "$room/said" || { cat "$room/said"; return 1; }
-    grep -x "+OK true $1" "$room/said" && [ "$(grep -c '^+OK 0 0$' "$room/said")" -eq "$4" ]
-}
-
-# Whether Cyrus' client is, in a layer of a strength between these: cyrus_in LEAST MOST AUTHORIZATION_ID LONGEST COUNT
+# Whether Cyrus' client is let in and answered, in a layer of a strength between these: cyrus_in LEAST MOST AUTHORIZATION_ID LONGEST COUNT
 cyrus_in() {
     timeout 20 "$python" "$live/pop.py" "$sasl_port" "$@" > "$room/said" || { cat "$room/said"; return 1; }
     cat "$room/said"
     [ "$(grep -c '^+OK 0 0$' "$room/said")" -eq "$5" ]
 }
 
-refused_java() { ! java_pop "$sasl_port" "$@"; }
 refused_cyrus() { ! timeout 20 "$python" "$live/pop.py" "$sasl_port" "$@"; }
-
-try_java() {
-    command -v java javac > /dev/null || { echo "not tried: Java's client, which wants Debian's package openjdk-17-jdk-headless"; return; }
-    javac -d "$room" "$live/Pop.java" || return
-    for layer in auth auth-int auth-conf; do check "Java's client, $layer" java_in "$layer" - 65536 5; done
-    check "Java's client, auth-conf, acts for itself, 100 messages" java_in auth-conf alice@example.com 65536 100
-    check "Java's client is refused where it acts for another" refused_java auth-conf bob 65536 1
-}
 
 try_cyrus() {
     local plugins=(/usr/lib/*/sasl2/libgssapiv2.so)
