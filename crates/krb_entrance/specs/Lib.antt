@@ -1,3 +1,4 @@
 pub mod Admits
 pub mod Candidates
 pub mod Services
+pub mod Turns

@@ -9,10 +9,12 @@
 #![tactic(auto)]
 
 mod candidate;
+mod in_turn;
 pub mod laws;
 mod service;
 
 pub use candidate::{Candidate, admit, judge};
+pub use in_turn::judge_in_turn;
 pub use service::Service;
 
 // What a caller names beside.
