@@ -107,6 +107,46 @@ static void good(const conversation *c) {
     CHECK(acceptor.count == 0);
 }
 
+/* The two halves: a copy of the acceptor judges, and the one book admits once. */
+static void halves(const conversation *c) {
+    mk_acceptor book = MK_EMPTY, keys = MK_EMPTY;
+    mk_judged judged = MK_EMPTY, again = MK_EMPTY;
+    mk_session session = MK_EMPTY;
+    uint8_t out[64];
+    mk_times times;
+    mk_reply reply;
+    CHECK(mk_session_times(&session, &times).status == MK_HANDLE);
+    CHECK(mk_session_client(&session, out, sizeof out).status == MK_HANDLE);
+    CHECK(mk_acceptor_copy(&book, &keys).status == MK_HANDLE);
+    CHECK(make(c, &book).status == MK_OK);
+    CHECK(mk_acceptor_copy(&book, &keys).status == MK_OK);
+    CHECK(mk_acceptor_copy(&book, &keys).status == MK_HANDLE);
+    CHECK(mk_admit(&book, &judged, &session).status == MK_HANDLE);
+    CHECK(is_refused(mk_judge(&keys, &judged, c->key.at, c->key.length, &c->moment), MK_CAUSE_SHAPE));
+    CHECK(mk_judge(&keys, &judged, c->token.at, c->token.length, &c->moment).status == MK_OK);
+    CHECK(mk_judge(&keys, &judged, c->token.at, c->token.length, &c->moment).status == MK_HANDLE);
+    CHECK(mk_judge(&keys, &again, c->token.at, c->token.length, &c->moment).status == MK_OK);
+    CHECK(mk_acceptor_kept(&book) == 0 && mk_acceptor_kept(&keys) == 0);
+    reply = mk_admit(&book, &judged, &session);
+    CHECK(reply.status == MK_OK && reply.length == 0 && judged.count == 0);
+    CHECK(mk_acceptor_kept(&book) == 1);
+    CHECK(mk_admit(&book, &again, &session).status == MK_HANDLE && again.count == 1);
+    reply = mk_session_peer(&session, out, sizeof out);
+    CHECK(reply.status == MK_OK && reply.length == 17 && memcmp(out, "alice@example.com", 17) == 0);
+    reply = mk_session_client(&session, out, sizeof out);
+    CHECK(reply.status == MK_OK && reply.length == 17 && memcmp(out, "alice@EXAMPLE.COM", 17) == 0);
+    reply = mk_session_client(&session, out, 3);
+    CHECK(reply.status == MK_ROOM && reply.length == 17);
+    CHECK(mk_session_times(&session, &times).status == MK_OK && times.authtime <= times.starttime && times.starttime < times.endtime);
+    mk_session_free(&session);
+    CHECK(is_refused(mk_admit(&book, &again, &session), MK_CAUSE_REPLAYED) && again.count == 0);
+    CHECK(mk_judge(&keys, &judged, c->token.at, c->token.length, &c->moment).status == MK_OK);
+    mk_judged_free(&judged);
+    mk_judged_free(&judged);
+    mk_acceptor_free(&keys);
+    mk_acceptor_free(&book);
+}
+
 /* Whatever is not done leaves all as it was. */
 static void bad(const conversation *c) {
     mk_acceptor acceptor = MK_EMPTY, none = MK_EMPTY;
@@ -217,6 +257,7 @@ int main(int count, char **words) {
     once(&c);
     for (int i = 0; i < rounds; i++) {
         good(&c);
+        halves(&c);
         bad(&c);
     }
     printf("%d rounds; %.2f microseconds for a wrap of 64 octets\n", rounds, seconds_of(&c, 10000) * 100);

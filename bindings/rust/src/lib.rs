@@ -39,21 +39,61 @@ use std::fs::File;
 use std::io::Read;
 use std::sync::{Mutex, MutexGuard, PoisonError};
 use std::time::{Duration, SystemTime, UNIX_EPOCH};
-use sys::{Handle, Moment, Reply};
+use sys::{Handle, Moment, Reply, Times};
 
-/// The services of a process, their keys, and the one replay book of all their clients. Threads share it by reference.
-pub struct Acceptor(Mutex<Handle>);
+/// The services of a process, their keys, and the one replay book of all their clients. Threads share it by reference: the ciphers
+/// of an admission run outside of the book's lock.
+pub struct Acceptor {
+    /// The services and the book.
+    book: Mutex<Handle>,
+    copies: Mutex<Copies>,
+}
 
-// SAFETY: the library's handle of an acceptor may go to another thread (`Send` is proved of it), and the lock gives it to one call
-// at a time.
+/// Copies of the services that judge tokens, each for one thread at a time.
+struct Copies {
+    idle: Vec<Handle>,
+    /// How many services were added: a copy that was made before is not kept.
+    added: usize,
+}
+
+// SAFETY: the library's handle of an acceptor may go to another thread (`Send` is proved of it), and the locks give each to one
+// call at a time.
 unsafe impl Send for Acceptor {}
 // SAFETY: as above.
 unsafe impl Sync for Acceptor {}
+
+/// A client whose token passed every check but the replay book's. It is not admitted yet.
+pub struct Judged(Handle);
+
+// SAFETY: the library's handle of a judged token may go to another thread (`Send` is proved of it), and each call uses it up.
+unsafe impl Send for Judged {}
+
+impl Drop for Judged {
+    fn drop(&mut self) {
+        // SAFETY: the handle is ours.
+        unsafe { sys::mk_judged_free(&mut self.0) }
+    }
+}
+
+fn lock<T>(mutex: &Mutex<T>) -> MutexGuard<'_, T> {
+    // No call unwinds, so what is behind a poisoned lock is whole.
+    mutex.lock().unwrap_or_else(PoisonError::into_inner)
+}
+
+fn moment_of(time: SystemTime, random: [u8; 64]) -> Result<Moment, Error> {
+    let since = time
+        .duration_since(UNIX_EPOCH)
+        .map_err(|_| Error::Argument)?;
+    let moment = u64::try_from(since.as_micros()).map_err(|_| Error::Argument)?;
+    Ok(Moment { moment, random })
+}
 
 /// A client that was admitted.
 pub struct Session {
     handle: Handle,
     peer: String,
+    client: String,
+    ends: SystemTime,
     answer: Vec<u8>,
 }
 
@@ -107,12 +147,38 @@ impl Acceptor {
                 skew,
             )
         })?;
-        Ok(Acceptor(Mutex::new(handle)))
+        Ok(Acceptor {
+            book: Mutex::new(handle),
+            copies: Mutex::new(Copies {
+                idle: Vec::new(),
+                added: 0,
+            }),
+        })
     }
 
-    fn lock(&self) -> MutexGuard<'_, Handle> {
-        // No call unwinds, so the handle of a poisoned lock is whole.
-        self.0.lock().unwrap_or_else(PoisonError::into_inner)
+    /// A copy of the services for this thread, with how many had been added before it was made.
+    fn copy(&self) -> Result<(usize, Handle), Error> {
+        let added = {
+            let mut copies = lock(&self.copies);
+            if let Some(copy) = copies.idle.pop() {
+                return Ok((copies.added, copy));
+            }
+            copies.added
+        };
+        let mut copy = Handle::EMPTY;
+        // SAFETY: the handle is the lock's, and the other one is empty.
+        done(unsafe { sys::mk_acceptor_copy(&mut *lock(&self.book), &mut copy) })?;
+        Ok((added, copy))
+    }
+
+    fn put_back(&self, added: usize, mut copy: Handle) {
+        let mut copies = lock(&self.copies);
+        if copies.added == added {
+            copies.idle.push(copy);
+        } else {
+            // SAFETY: the handle is ours.
+            unsafe { sys::mk_acceptor_free(&mut copy) }
+        }
     }
 
     /// A further service with its key.
@@ -120,32 +186,35 @@ impl Acceptor {
         // SAFETY: the handle is the lock's, and each pointer and length are those of one slice.
         done(unsafe {
             sys::mk_acceptor_key(
-                &mut *self.lock(),
+                &mut *lock(&self.book),
                 name.as_ptr(),
                 name.len(),
                 key.as_ptr(),
                 key.len(),
             )
         })?;
+        let mut copies = lock(&self.copies);
+        copies.added += 1;
+        copies.free();
         Ok(())
     }
 
     /// Makes room for so many records of admitted clients beside those that are kept.
     pub fn reserve(&self, records: usize) -> Result<(), Error> {
         // SAFETY: the handle is the lock's.
-        done(unsafe { sys::mk_acceptor_reserve(&mut *self.lock(), records) })?;
+        done(unsafe { sys::mk_acceptor_reserve(&mut *lock(&self.book), records) })?;
         Ok(())
     }
 
     /// How many records of admitted clients are kept.
     pub fn kept(&self) -> u64 {
         // SAFETY: the handle is the lock's.
-        unsafe { sys::mk_acceptor_kept(&mut *self.lock()) }
+        unsafe { sys::mk_acceptor_kept(&mut *lock(&self.book)) }
     }
 
     /// Admits the client that sent this token, by the system's clock.
     pub fn accept(&self, token: &[u8]) -> Result<Session, Error> {
-        self.accept_at(token, SystemTime::now(), random()?)
+        self.admit(self.judge(token)?)
     }
 
     /// Admits the client that sent this token at this moment, with 64 octets that are random and fresh.
@@ -155,37 +224,71 @@ impl Acceptor {
         moment: SystemTime,
         random: [u8; 64],
     ) -> Result<Session, Error> {
-        let since = moment
-            .duration_since(UNIX_EPOCH)
-            .map_err(|_| Error::Argument)?;
-        let moment = Moment {
-            moment: u64::try_from(since.as_micros()).map_err(|_| Error::Argument)?,
-            random,
-        };
-        let mut session = Session {
-            handle: Handle::EMPTY,
-            peer: String::new(),
-            answer: Vec::new(),
-        };
-        // SAFETY: the acceptor's handle is the lock's, the session's is empty, and the pointer and the length are those of one slice.
-        let length = done(unsafe {
-            sys::mk_accept(
-                &mut *self.lock(),
-                &mut session.handle,
+        self.admit(self.judge_at(token, moment, random)?)
+    }
+
+    /// The checks of a token before the replay book's, by the system's clock. Nobody is admitted yet.
+    pub fn judge(&self, token: &[u8]) -> Result<Judged, Error> {
+        self.judge_at(token, SystemTime::now(), random()?)
+    }
+
+    /// The checks of a token before the replay book's, at this moment, with 64 octets that are random and fresh.
+    pub fn judge_at(
+        &self,
+        token: &[u8],
+        moment: SystemTime,
+        random: [u8; 64],
+    ) -> Result<Judged, Error> {
+        let moment = moment_of(moment, random)?;
+        let (added, mut copy) = self.copy()?;
+        let mut judged = Judged(Handle::EMPTY);
+        // SAFETY: the copy is ours, the other handle is empty, and the pointer and the length are those of one slice.
+        let reply = unsafe {
+            sys::mk_judge(
+                &mut copy,
+                &mut judged.0,
                 token.as_ptr(),
                 token.len(),
                 &moment,
             )
+        };
+        self.put_back(added, copy);
+        done(reply)?;
+        Ok(judged)
+    }
+
+    /// Asks the replay book, and admits the client. The book's lock is held for this alone.
+    pub fn admit(&self, mut judged: Judged) -> Result<Session, Error> {
+        let mut session = Session {
+            handle: Handle::EMPTY,
+            peer: String::new(),
+            client: String::new(),
+            ends: UNIX_EPOCH,
+            answer: Vec::new(),
+        };
+        // SAFETY: the acceptor's handle is the lock's, the session's is empty, and the judged token's is ours.
+        let length = done(unsafe {
+            sys::mk_admit(&mut *lock(&self.book), &mut judged.0, &mut session.handle)
         })?;
         session.learn(length)?;
         Ok(session)
     }
 }
 
+impl Copies {
+    fn free(&mut self) {
+        for mut copy in self.idle.drain(..) {
+            // SAFETY: nobody else has the handle.
+            unsafe { sys::mk_acceptor_free(&mut copy) }
+        }
+    }
+}
+
 impl Drop for Acceptor {
     fn drop(&mut self) {
+        lock(&self.copies).free();
         // SAFETY: nobody else has the handle.
-        unsafe { sys::mk_acceptor_free(&mut *self.lock()) }
+        unsafe { sys::mk_acceptor_free(&mut *lock(&self.book)) }
     }
 }
 
@@ -201,6 +304,16 @@ impl Session {
             sys::mk_session_peer(handle, out, room)
         })?;
         self.peer = String::from_utf8_lossy(&peer).into_owned();
+        // SAFETY: as above.
+        let client = filled(64, |out, room| unsafe {
+            sys::mk_session_client(handle, out, room)
+        })?;
+        self.client = String::from_utf8_lossy(&client).into_owned();
+        let mut times = Times::default();
+        // SAFETY: both are ours.
+        done(unsafe { sys::mk_session_times(handle, &mut times) })?;
+        let ends = u64::try_from(times.endtime).unwrap_or(0);
+        self.ends = UNIX_EPOCH + Duration::from_secs(ends);
         Ok(())
     }
 
@@ -208,6 +321,16 @@ impl Session {
     /// `alice/admin` has the same name as `alice`.
     pub fn peer(&self) -> &str {
         &self.peer
+    }
+
+    /// Who the client is, whole: all components of its name and the realm, as `alice/admin@EXAMPLE.COM`.
+    pub fn client(&self) -> &str {
+        &self.client
+    }
+
+    /// Until when the client's ticket is valid.
+    pub fn ends(&self) -> SystemTime {
+        self.ends
     }
 
     /// What goes back to the client; empty where it asked for nothing.

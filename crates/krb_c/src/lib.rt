@@ -7,12 +7,16 @@
 mod accept;
 mod acceptor;
 mod codes;
+mod copies;
 mod handles;
+mod judge;
 mod messages;
 mod names;
 mod reply;
+mod tells;
 mod texts;
 
 pub use accept::Moment;
-pub use handles::{Acceptor, Connection};
+pub use handles::{Acceptor, Connection, Judgement};
 pub use reply::{Failure, Reply};
+pub use tells::Times;
