@@ -188,8 +188,8 @@ module _ (server : Kerberos) (draw : Draw) (client : UserName) (offer : Offer) (
 
     -- what the initiator makes of the answer
     abbrev pub done_in : Bool → InitDone
-    done_in true = replied caller offer.part.key.key_value (drawn_key offer.suite draw) (next_number_octets server.seq_number) own
-    done_in false = confirmed caller (drawn_key offer.suite draw)
+    done_in true = replied caller offer.part.key.key_value true (drawn_key offer.suite draw) (next_number_octets server.seq_number) own
+    done_in false = confirmed caller true (drawn_key offer.suite draw)
 
     ends_so : (dce : Bool) → FinishesInitiation dce caller offer.part.key.key_value part own (Ok (done_in dce))
     unfolding Confirms Replies

@@ -71,7 +71,8 @@ module _ (seeker : Seeker) (draw : Draw) (request : NetworkRequest) (phase : Ini
   unfolding TakesNext
   next_down New reply h = absurd h
   next_down (InAsExchange (AwaitsError kdc body)) reply h =
-      second_down InitDone InAsExchange turns_left 11 seeker.asker (λ grant. AsksFirstTgs seeker grant draw) reply draw request phase kdc body (λ sealed. lit< tt) h
+      second_down InitDone InAsExchange turns_left 11 seeker.asker (λ grant. AsksFirstTgs seeker grant draw) reply draw request phase kdc body (λ sealed. lit< tt)
+      (λ grant asks. omega (arith, tgs_down grant asks)) h
   next_down (InAsExchange (AwaitsAsRep sealed)) reply h =
       grant_down InitDone InAsExchange turns_left 10 seeker.asker (λ grant. AsksFirstTgs seeker grant draw) reply draw request phase sealed tgs_down h
   next_down (AwaitsTgsRep leg) reply h = let shown = passed _ _ _ h in goes_down (referral_realm shown.found.rep.ticket.sname) leg shown.found shown.rest_held
