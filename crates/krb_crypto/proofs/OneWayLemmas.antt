@@ -12,7 +12,7 @@ use Rattle.krb_crypto.specs.declared.suite.DerivedKey.{DerivedKey}
 use Rattle.krb_crypto.specs.declared.hmac.HmacKey.{HmacKey}
 use Rattle.krb_crypto.specs.SealingPair.{SealingPair, sealing_pair}
 use Rattle.krb_crypto.specs.SealingKeys.{pair_of, IsKept}
-use Rattle.krb_crypto.specs.OneWay.{Seals, Opens}
+use Rattle.krb_crypto.specs.OneWay.{CanSeal, CanOpen}
 use Rattle.krb_crypto.specs.declared.sealing_key.SealingKey.TheInside.{Inside}
 
 -- the cipher under a schedule of a key, as a function
@@ -21,15 +21,15 @@ cts-forward key text s of = ap (λ (E : List ℕ → List ℕ). cts E text) (λ 
 
 -- the halves of a schedule that is kept
 pub seals-kept : (inside : Inside) (keys : SealingPair) (s : EncryptionSchedule) → IsKept inside → pair_of inside ≡ keys
-    → s ≡ forward_of inside.schedule → Seals keys s inside.hmac
+    → s ≡ forward_of inside.schedule → CanSeal keys s inside.hmac
 seals-kept inside keys s kept view is =
-    subst (λ (pair : SealingPair). Seals pair s inside.hmac) view
+    subst (λ (pair : SealingPair). CanSeal pair s inside.hmac) view
     (record { schedule = subst (AreWordsOf (key_octets inside.encryption)) (sym is) kept.schedule; hmac = kept.hmac })
 
 pub opens-kept : (inside : Inside) (keys : SealingPair) (s : DecryptionSchedule) → IsKept inside → pair_of inside ≡ keys
-    → Undoes (block_cipher inside.schedule) s → Opens keys s inside.hmac
+    → Undoes (block_cipher inside.schedule) s → CanOpen keys s inside.hmac
 opens-kept inside keys s kept view undoes =
-    subst (λ (pair : SealingPair). Opens pair s inside.hmac) view
+    subst (λ (pair : SealingPair). CanOpen pair s inside.hmac) view
     (record {
       schedule = record {
         words = undoes.words;
@@ -42,7 +42,7 @@ opens-kept inside keys s kept view undoes =
 -- schedules and digests of keys that were derived
 pub seals-derived : (suite : CipherSuite) (key : List ℕ) (usage : ℕ) (e i : DerivedKey) (es is : List ℕ) (s : EncryptionSchedule) (h : HmacKey)
     → key_octets e ≡ ke suite key usage → key_octets i ≡ ki suite key usage → es ≡ key_octets e → is ≡ key_octets i
-    → AreWordsOf es s → IsHmacKeyOf is h → Seals (sealing_pair suite key usage) s h
+    → AreWordsOf es s → IsHmacKeyOf is h → CanSeal (sealing_pair suite key usage) s h
 seals-derived suite key usage e i es is s h ee ei e1 i1 of hmac = record {
   schedule = subst (λ (k : List ℕ). AreWordsOf k s) (e1 ∙ ee) of;
   hmac = subst (λ (k : List ℕ). IsHmacKeyOf k h) (i1 ∙ ei) hmac;
@@ -50,7 +50,7 @@ seals-derived suite key usage e i es is s h ee ei e1 i1 of hmac = record {
 
 pub opens-derived : (suite : CipherSuite) (key : List ℕ) (usage : ℕ) (e i : DerivedKey) (es is : List ℕ) (s : DecryptionSchedule) (h : HmacKey)
     → key_octets e ≡ ke suite key usage → key_octets i ≡ ki suite key usage → es ≡ key_octets e → is ≡ key_octets i
-    → Undoes (aes es) s → IsHmacKeyOf is h → Opens (sealing_pair suite key usage) s h
+    → Undoes (aes es) s → IsHmacKeyOf is h → CanOpen (sealing_pair suite key usage) s h
 opens-derived suite key usage e i es is s h ee ei e1 i1 undoes hmac = record {
   schedule = subst (λ (k : List ℕ). Undoes (aes k) s) (e1 ∙ ee) undoes;
   hmac = subst (λ (k : List ℕ). IsHmacKeyOf k h) (i1 ∙ ei) hmac;

@@ -7,11 +7,11 @@ use Rattle.krb_crypto.specs.SealingPair.{SealingPair}
 use Rattle.krb_crypto.specs.declared.hmac.HmacKey.{HmacKey}
 
 -- those that seal are of these keys
-pub record Seals (keys : SealingPair) (forward : EncryptionSchedule) (digests : HmacKey) : Type 0 where
+pub record CanSeal (keys : SealingPair) (forward : EncryptionSchedule) (digests : HmacKey) : Type 0 where
   pub schedule : AreWordsOf keys.encryption forward
   pub hmac : IsHmacKeyOf keys.integrity digests
 
 -- those that open are of these keys
-pub record Opens (keys : SealingPair) (back : DecryptionSchedule) (digests : HmacKey) : Type 0 where
+pub record CanOpen (keys : SealingPair) (back : DecryptionSchedule) (digests : HmacKey) : Type 0 where
   pub schedule : Undoes (aes keys.encryption) back
   pub hmac : IsHmacKeyOf keys.integrity digests

@@ -5,7 +5,7 @@ ghost use Rattle.krb_aes.specs.Aes.{Undoes};
 ghost use Rattle.krb_crypto.specs.Cts.{cts};
 ghost use Rattle.krb_crypto.specs.Hmac.{hmac12};
 ghost use Rattle.krb_crypto.specs.Keyed.{IsHmacKeyOf};
-ghost use Rattle.krb_crypto.specs.OneWay.{Seals, Opens};
+ghost use Rattle.krb_crypto.specs.OneWay.{CanSeal, CanOpen};
 ghost use Rattle.krb_crypto.specs.SealingPair.{SealingPair};
 ghost use Rattle.krb_crypto.specs.Sealed.{sealed_text, IsSealedUnder};
 
@@ -55,7 +55,7 @@ fn is_code(octets: &[u8], code: &[u8; 12]) -> bool
 /// Seals in place: a confounder of 16 octets, the plain text, and 12 octets of room for the checksum.
 pub(crate) fn seal_under(schedule: &EncryptionSchedule, hmac: &HmacKey, text: &mut [u8])
     requires { 28 ≤ length text.old }
-    ensures { (keys : SealingPair) → Seals keys schedule.now hmac.now → text.new ≡ sealed_text keys (take (length text.old - 12) text.old) }
+    ensures { (keys : SealingPair) → CanSeal keys schedule.now hmac.now → text.new ≡ sealed_text keys (take (length text.old - 12) text.old) }
 {
     let end = text.len() - CHECKSUM_LEN;
     let code = hmac.short_code(&text[..end], &[]);
@@ -71,7 +71,7 @@ pub(crate) fn sealed_under(
     confounder: [u8; 16],
     plain: &[u8],
 ) -> Result<Octets, AllocError>
-    ensures sealed { (keys : SealingPair) → Seals keys schedule.now hmac.now → IfOk result (λ text. text ≡ sealed_text keys (confounder ++ plain.now)) }
+    ensures sealed { (keys : SealingPair) → CanSeal keys schedule.now hmac.now → IfOk result (λ text. text ≡ sealed_text keys (confounder ++ plain.now)) }
     ensures longer { IfOk result (λ text. length text ≡ length plain.now + 28) }
 {
     let mut text = joined(alloc, &confounder, plain, &[0; 12])?;
@@ -101,10 +101,10 @@ pub(crate) fn opened_under(
     hmac: &HmacKey,
     text: &[u8],
 ) -> Result<Octets, CryptoError>
-    ensures opened { (keys : SealingPair) → Opens keys schedule.now hmac.now → IfOk result (λ plain. IsSealedUnder keys text.now plain) }
+    ensures opened { (keys : SealingPair) → CanOpen keys schedule.now hmac.now → IfOk result (λ plain. IsSealedUnder keys text.now plain) }
     ensures long { OnOk result (28 ≤ length text.now) }
     ensures too_short { (result ≡ Err CryptoError.TooShort) ↔ (length text.now < 28) }
-    ensures altered { (keys : SealingPair) → Opens keys schedule.now hmac.now → result ≡ Err CryptoError.Altered → (plain : List ℕ) → ¬ (IsSealedUnder keys text.now plain) }
+    ensures altered { (keys : SealingPair) → CanOpen keys schedule.now hmac.now → result ≡ Err CryptoError.Altered → (plain : List ℕ) → ¬ (IsSealedUnder keys text.now plain) }
     ensures altered_long { result ≡ Err CryptoError.Altered → 28 ≤ length text.now }
     ensures memory { result ≡ Err CryptoError.OutOfMemory → 28 ≤ length text.now }
     ensures errors { IfErr result (λ e. (e ≡ CryptoError.TooShort) ⊎ (e ≡ CryptoError.Altered) ⊎ (e ≡ CryptoError.OutOfMemory)) }
