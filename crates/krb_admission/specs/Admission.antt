@@ -1,5 +1,5 @@
 -- What an admission makes (RFC 4120, sections 3.2.4 and 3.2.5).
-use Rattle.std.specs.Prelude.{◌≡◌, ℕ, ◌+◌, ◌-◌, ◌%◌, ◌^◌, ◌<◌, ◌≤◌, ℤ, length, Bool, true, List, [], ◌∷◌}
+use Rattle.std.specs.Prelude.{◌≡◌, ℕ, ◌+◌, ◌-◌, ◌%◌, ◌^◌, ◌<◌, ◌≤◌, ℤ, length, Bool, true, false, List, [], ◌∷◌}
 use Rattle.std.specs.Prelude.{◌++◌, take, drop, Option, Some, None, option_map, unwrap_or, if◌then◌else◌}
 use Rattle.std.specs.Int.{w32, to_be_bytes}
 use Rattle.krb_der.specs.Der.{tlv}
@@ -94,6 +94,7 @@ mutual_admission dce user_to_user number draw request client = record {
   suite = request.suite;
   session_key = request.part.key.key_value;
   sub_session_key = Some (drawn_key request.suite draw);
+  acceptor_subkey = true;
   seq_number = number;
   state = state_behind dce;
   token = token_with dce user_to_user (reply_message number draw request);
@@ -116,6 +117,7 @@ one_way_admission number request client = record {
   suite = subkey_suite request.suite request.authenticator.subkey;
   session_key = request.part.key.key_value;
   sub_session_key = option_map (λ (key : EncryptionKey). key.key_value) request.authenticator.subkey;
+  acceptor_subkey = false;
   seq_number = number_before number request.authenticator.seq_number;
   state = Final;
   token = [];
@@ -154,6 +156,7 @@ settled server admission = record server {
     encryption_type = Some admission.suite;
     session_key = Some admission.session_key;
     sub_session_key = or_else admission.sub_session_key server.encryption_params.sub_session_key;
+    acceptor_subkey = admission.acceptor_subkey;
   };
   seq_number = admission.seq_number;
   server = with_client server.server admission.client;

@@ -52,6 +52,8 @@ pub struct Admission {
     pub suite: CipherSuite,
     pub session_key: Octets,
     pub sub_session_key: Option<Octets>,
+    /// Whether that key is in the AP-REP.
+    pub acceptor_subkey: bool,
     pub seq_number: u32,
     pub state: KerberosState,
     pub token: Octets,
@@ -174,6 +176,7 @@ fn mutual_admission(
         suite: request.suite,
         session_key,
         sub_session_key: Some(sub_session_key),
+        acceptor_subkey: true,
         seq_number: acceptor.number,
         state: state_behind(acceptor.dce),
         token,
@@ -239,6 +242,7 @@ fn one_way_admission(
         suite: subkey_suite(request.suite, &request.authenticator.subkey),
         session_key,
         sub_session_key,
+        acceptor_subkey: false,
         seq_number: number_before(number, &request.authenticator.seq_number),
         state: KerberosState::Final,
         token: Octets::new(Vec::new(alloc)),
@@ -302,6 +306,7 @@ pub(crate) fn settle(server: &mut Kerberos, admission: Admission) -> Answer
         suite,
         session_key,
         sub_session_key,
+        acceptor_subkey,
         seq_number,
         state,
         token,
@@ -312,6 +317,7 @@ pub(crate) fn settle(server: &mut Kerberos, admission: Admission) -> Answer
     server.encryption_params.sub_session_key = secret(sub_session_key).or(
         server.encryption_params.sub_session_key.take(),
     );
+    server.encryption_params.acceptor_subkey = acceptor_subkey;
     server.seq_number = seq_number;
     put_client(&mut server.server, client);
     Answer {

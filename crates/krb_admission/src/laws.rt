@@ -1,6 +1,10 @@
 //! Laws of admission, for all values.
 
-ghost use Rattle.std.specs.Prelude.{◌≡◌, ◌↔◌, ℕ, Bool, false, List, Result, Ok};
+ghost use Rattle.std.specs.Prelude.{◌≡◌, ◌↔◌, ℕ, Bool, false, List, Result, Ok, ◌==◌};
+ghost use Rattle.std.specs.Cmp.Lexicographic.{pointwise};
+ghost use Rattle.krb_context.specs.Interoperability.{no_options};
+ghost use Rattle.krb_admission.specs.Admission.{next_number_octets};
+ghost use Rattle.krb_admission.specs.ThirdLeg.{repeats};
 ghost use Rattle.sspi_core.specs.declared.cause.Cause.{Cause};
 ghost use Rattle.sspi_core.specs.declared.draw.Draw.{Draw};
 ghost use Rattle.krb_replay.specs.declared.ask.Verdict.{Verdict};
@@ -40,4 +44,9 @@ pub fn admission_has_two_halves<G: ReplayGate>()
 pub fn one_last_word()
     ensures { (server : Kerberos) (token : List ℕ) (r s : Result Answer Cause) (a b : Kerberos)
         → Concludes server token r a → Concludes server token s b → (r ≡ s) × (a ≡ b) }
+{}
+
+/// Where nothing is allowed beyond the rules, the number of a last word is compared by its octets.
+pub fn without_options_last_words_are_compared_by_octets()
+    ensures { (own : ℕ) (number : List ℕ) → repeats no_options own number ≡ pointwise ◌==◌ number (next_number_octets own) }
 {}

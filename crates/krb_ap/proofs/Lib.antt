@@ -3,3 +3,4 @@ pub mod ApRepTokens
 pub mod Numbers
 pub mod ShownLengths
 pub mod Once
+mod OptionLemmas

@@ -1,23 +1,18 @@
 -- The AP-REQ to a service: what its authenticator is made of, and how long it and its token can be.
 use Rattle.std.proofs.Common.{◌≡◌, ℕ, ◌+◌, ◌<◌, ◌≤◌, ◌^◌, List, [], ◌∷◌, ◌++◌, length, Option, Some, Result, Ok, Err, IfOk, arith, lit≤, refl, sym, ◌∙◌, subst}
-use Rattle.std.proofs.lemmas.List.{length-take}
 use Rattle.krb_der.specs.Der.{tlv}
 use Rattle.krb_der.specs.Schema.{Spells}
 use Rattle.krb_der.specs.declared.memory.OutOfMemory.{OutOfMemory}
 use Rattle.krb_der.proofs.Lengths.{tlv_le, append_le}
-use Rattle.krb_crypto.specs.Suite.{key_size}
 use Rattle.krb_crypto.specs.declared.suite.CipherSuite.{CipherSuite}
-use Rattle.krb_crypto.specs.declared.suite.CipherSuite.TheVariants.{Aes128CtsHmacSha196, Aes256CtsHmacSha196}
 use Rattle.krb_messages.specs.Layouts.{ap_req_layout}
 use Rattle.krb_messages.specs.declared.ap_req.ApReq.{ApReq}
 use Rattle.krb_messages.specs.declared.authenticator.Authenticator.{Authenticator}
 use Rattle.krb_exchange.specs.declared.kdc_rep.KdcRep.{KdcRep}
 use Rattle.sspi_core.specs.declared.bindings.ChannelBindings.{ChannelBindings}
-use Rattle.sspi_core.specs.declared.draw.Draw.{Draw}
 use Rattle.krb_requests.specs.Pieces.{Fits}
 use Rattle.krb_authenticators.specs.declared.options.ChecksumOptions.{ChecksumOptions}
 use Rattle.krb_authenticators.specs.Authenticators.{authenticator}
-use Rattle.krb_context.specs.Drawn.{drawn_key}
 
 -- what is framed, behind the mechanism's name
 pub framed_short : (mechanism oid message : List ℕ) → oid ≡ mechanism → length mechanism ≤ 2 ^ 24 → length message ≤ 2 ^ 28 → length (tlv 0x06 oid ++ ((1 ∷ 0 ∷ []) ++ message)) < 2 ^ 31

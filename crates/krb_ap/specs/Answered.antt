@@ -1,6 +1,6 @@
 -- The answer of the service: an AP-REP (RFC 4120, section 3.2.5; RFC 4121, section 4.1), which DCE style answers in turn
 -- (MS-KILE, section 3.4.5.1).
-use Rattle.std.specs.Prelude.{ℕ, ◌+◌, ◌%◌, ◌^◌, nat_le, Bool, true, false, List, [], ◌∷◌, length, take, Option, Some, None, option_map, Result}
+use Rattle.std.specs.Prelude.{ℕ, nat_le, Bool, true, false, is_some, List, [], ◌∷◌, length, take, Option, Some, None, option_map, Result, if◌then◌else◌}
 use Rattle.krb_der.specs.Layout.{spelling}
 use Rattle.krb_crypto.specs.declared.suite.CipherSuite.{CipherSuite}
 use Rattle.krb_messages.specs.Frame.{IsFrame}
@@ -8,7 +8,8 @@ use Rattle.krb_messages.specs.Layouts.{ap_rep_layout}
 use Rattle.krb_messages.specs.declared.ap_rep.ApRep.{ApRep}
 use Rattle.krb_messages.specs.declared.ap_rep.EncApRepPart.{EncApRepPart}
 use Rattle.krb_messages.specs.declared.encryption.EncryptionKey.{EncryptionKey}
-use Rattle.krb_context.specs.Params.{suite_of}
+use Rattle.krb_context.specs.Interoperability.{allows, ap_rep_without_subkey}
+use Rattle.krb_context.specs.Params.{suite_of, or_else}
 use Rattle.krb_context.specs.declared.context.ContextChange.{ContextChange}
 use Rattle.krb_context.specs.declared.state.KerberosState.TheVariants.{Final}
 use Rattle.sspi_core.specs.declared.results.SecurityStatus.TheVariants.{Ok as Complete}
@@ -20,7 +21,7 @@ use Rattle.krb_replies.specs.Unseals.{IsRead}
 use Rattle.krb_replies.specs.Answered.{OpensApRep}
 use Rattle.krb_as.specs.declared.done.InitDone.{InitDone}
 use Rattle.krb_ap.specs.declared.initiator.Initiator.{Initiator}
-use Rattle.krb_ap.specs.Initiators.{is_bare}
+use Rattle.krb_ap.specs.Initiators.{is_bare, settled_number}
 use Rattle.krb_ap.specs.ApReps.{ap_rep_part, ap_rep}
 
 -- the token is a frame of this AP-REP, whatever mechanism it names
@@ -41,23 +42,23 @@ ReadsApRep dce token = do
   Holds Shape (nat_le (length token) 16777216)
   Finds Shape (IsApRep dce token)
 
--- the context is established, with the subkey of the service: all else of it stays
-abbrev pub established : Initiator → List ℕ → ℕ → ℕ → ContextChange
-established initiator subkey ec number = record {
+-- the context is established, with this sub-session key, which is the service's or not: all else of it stays
+abbrev pub established : Initiator → Bool → List ℕ → ℕ → ℕ → ContextChange
+established initiator from_service subkey ec number = record {
   state = Final;
   realm = initiator.realm;
-  encryption_params = record initiator.params { sub_session_key = Some subkey; ec = ec };
+  encryption_params = record initiator.params { sub_session_key = Some subkey; ec = ec; acceptor_subkey = from_service };
   seq_number = number;
   krb5_user_to_user = initiator.user_to_user;
   ticket_decryption_key = None;
 }
 
--- nothing more is said, and the own number rises by one
-abbrev pub confirmed : Initiator → List ℕ → InitDone
-confirmed initiator subkey = record {
+-- nothing more is said
+abbrev pub confirmed : Initiator → Bool → List ℕ → InitDone
+confirmed initiator from_service subkey = record {
   status = Complete;
   token = [];
-  change = established initiator subkey initiator.params.ec ((initiator.number + 1) % 2 ^ 32);
+  change = established initiator from_service subkey initiator.params.ec (settled_number initiator);
 }
 
 -- the last word: an AP-REP with the number of the service's under the session key; the first 16 random octets are the confounder
@@ -65,29 +66,36 @@ unfoldable pub last_word : CipherSuite → List ℕ → List ℕ → Draw → Li
 last_word suite key number draw = spelling ap_rep_layout (ap_rep suite key (take 16 draw.random) (ap_rep_part number draw.moment))
 
 -- that is the token, the own number stays, and sealed messages have 16 octets of filler
-abbrev pub replied : Initiator → List ℕ → List ℕ → List ℕ → Draw → InitDone
-replied initiator key subkey number draw = record {
+abbrev pub replied : Initiator → List ℕ → Bool → List ℕ → List ℕ → Draw → InitDone
+replied initiator key from_service subkey number draw = record {
   status = Complete;
   token = last_word (suite_of initiator.params) key number draw;
-  change = established initiator subkey 16 initiator.number;
+  change = established initiator from_service subkey 16 initiator.number;
 }
 
 -- the subkey that the service chose
 abbrev pub subkey_in : Option EncryptionKey → Option (List ℕ)
 subkey_in subkey = option_map (λ (k : EncryptionKey). k.key_value) subkey
 
+-- where it is allowed that the service chose none, the authenticator's own, which the context keeps (RFC 4121, section 2)
+abbrev pub own_subkey : Initiator → Option (List ℕ)
+own_subkey initiator = if allows initiator.interoperability ap_rep_without_subkey then initiator.params.sub_session_key else None
+
+abbrev pub chosen_subkey : Initiator → Option EncryptionKey → Option (List ℕ)
+chosen_subkey initiator subkey = or_else (subkey_in subkey) (own_subkey initiator)
+
 -- without DCE style the subkey is taken
 unfoldable pub Confirms : Initiator → Option EncryptionKey → Result InitDone Cause → Type 0
 Confirms initiator subkey = do
-  key ← Takes NoSubKey (subkey_in subkey)
-  Gives (confirmed initiator key)
+  key ← Takes NoSubKey (chosen_subkey initiator subkey)
+  Gives (confirmed initiator (is_some subkey) key)
 
 -- in DCE style the number too
 unfoldable pub Replies : Initiator → List ℕ → Option EncryptionKey → Option (List ℕ) → Draw → Result InitDone Cause → Type 0
 Replies initiator key subkey number draw = do
-  subkey ← Takes NoSubKey (subkey_in subkey)
+  chosen ← Takes NoSubKey (chosen_subkey initiator subkey)
   number ← Takes NoNumber number
-  Gives (replied initiator key subkey number draw)
+  Gives (replied initiator key (is_some subkey) chosen number draw)
 
 abbrev pub FinishesInitiation : Bool → Initiator → List ℕ → EncApRepPart → Draw → Result InitDone Cause → Type 0
 FinishesInitiation true initiator key part draw answer = Replies initiator key part.subkey part.seq_number draw answer

@@ -1,6 +1,6 @@
 -- What an initiator shows to a service: an AP-REQ with the ticket that a KDC gave (RFC 4120, sections 3.2.2 and 5.5.1; RFC 4121,
 -- section 4.1).
-use Rattle.std.specs.Prelude.{ℕ, ◌+◌, ◌^◌, ◌<◌, ◌≤◌, ◌==◌, List, [], ◌∷◌, ◌++◌, length, take, drop, Some, None, IfSome, Result, if◌then◌else◌}
+use Rattle.std.specs.Prelude.{ℕ, ◌+◌, ◌^◌, ◌<◌, ◌≤◌, ◌==◌, List, [], ◌∷◌, ◌++◌, length, take, drop, Option, Some, None, IfSome, Result, if◌then◌else◌}
 use Rattle.bitflags.specs.Sets.{without}
 use Rattle.krb_der.specs.Der.{tlv}
 use Rattle.krb_der.specs.Layout.{spelling}
@@ -12,8 +12,10 @@ use Rattle.krb_messages.specs.declared.ap_req.ApReq.{ApReq}
 use Rattle.krb_exchange.specs.declared.kdc_rep.KdcRep.{KdcRep}
 use Rattle.krb_context.specs.Options.{gss_deleg, gss_flags_of, ap_options_of}
 use Rattle.krb_context.specs.declared.context.ContextChange.{ContextChange}
-use Rattle.krb_context.specs.declared.state.KerberosState.TheVariants.{ApExchange}
-use Rattle.sspi_core.specs.declared.results.SecurityStatus.TheVariants.{ContinueNeeded}
+use Rattle.krb_context.specs.declared.state.KerberosState.{KerberosState}
+use Rattle.krb_context.specs.declared.state.KerberosState.TheVariants.{ApExchange, Final}
+use Rattle.sspi_core.specs.declared.results.SecurityStatus.{SecurityStatus}
+use Rattle.sspi_core.specs.declared.results.SecurityStatus.TheVariants.{Ok as Complete, ContinueNeeded}
 use Rattle.sspi_core.specs.declared.draw.Draw.{Draw}
 use Rattle.sspi_core.specs.declared.cause.Cause.{Cause}
 use Rattle.sspi_core.specs.declared.cause.Cause.TheVariants.{KeyLength}
@@ -25,7 +27,7 @@ use Rattle.krb_authenticators.specs.Checksums.{default_value, with_flags}
 use Rattle.krb_authenticators.specs.Authenticators.{authenticator}
 use Rattle.krb_authenticators.specs.ApRequests.{ap_req, service_usage}
 use Rattle.krb_as.specs.declared.done.InitDone.{InitDone}
-use Rattle.krb_ap.specs.Initiators.{is_bare, exchange_flags}
+use Rattle.krb_ap.specs.Initiators.{is_bare, exchange_flags, settled_number, is_one_way, keeps_subkey}
 use Rattle.krb_ap.specs.declared.initiator.Initiator.{Initiator}
 use Rattle.krb_ap.specs.declared.errand.Errand.{Errand}
 use Rattle.krb_context.specs.Drawn.{drawn_key}
@@ -66,23 +68,41 @@ framed_ap_req mechanism octets = tlv 0x60 (tlv 0x06 mechanism ++ (1 ∷ 0 ∷ []
 abbrev pub shown_token : Errand → List ℕ → List ℕ
 shown_token errand octets = if is_bare errand.initiator.flags then octets else framed_ap_req errand.mechanism octets
 
--- the service's answer is awaited; the session key of the ticket is the context's, in the suite of the exchange, and the context's
--- realm is the client's own; all else of it stays
-abbrev pub change_of : Initiator → CipherSuite → List ℕ → List ℕ → ContextChange
-change_of initiator suite key home = record {
-  state = ApExchange;
+-- the sub-session key, where the authenticator's subkey is kept
+abbrev pub kept_subkey : Initiator → CipherSuite → Draw → Option (List ℕ)
+kept_subkey initiator suite draw = if keeps_subkey initiator then Some (drawn_key suite draw) else initiator.params.sub_session_key
+
+-- behind it the service's answer is awaited, or the context is established at once
+abbrev pub shown_state : Initiator → KerberosState
+shown_state initiator = if is_one_way initiator then Final else ApExchange
+
+abbrev pub shown_number : Initiator → ℕ
+shown_number initiator = if is_one_way initiator then settled_number initiator else initiator.number
+
+abbrev pub shown_status : Initiator → SecurityStatus
+shown_status initiator = if is_one_way initiator then Complete else ContinueNeeded
+
+-- the session key of the ticket is the context's, in the suite of the exchange, and the context's realm is the client's own; all else of
+-- it stays
+abbrev pub change_of : Initiator → CipherSuite → List ℕ → List ℕ → Draw → ContextChange
+change_of initiator suite key home draw = record {
+  state = shown_state initiator;
   realm = Some home;
-  encryption_params = record initiator.params { encryption_type = Some suite; session_key = Some key };
-  seq_number = initiator.number;
+  encryption_params = record initiator.params {
+    encryption_type = Some suite;
+    session_key = Some key;
+    sub_session_key = kept_subkey initiator suite draw;
+  };
+  seq_number = shown_number initiator;
   krb5_user_to_user = initiator.user_to_user;
   ticket_decryption_key = None;
 }
 
 unfoldable pub shown : Errand → CipherSuite → List ℕ → KdcRep → List ℕ → Draw → InitDone
 shown errand suite key rep home draw = record {
-  status = ContinueNeeded;
+  status = shown_status errand.initiator;
   token = shown_token errand (message errand suite key rep draw);
-  change = change_of errand.initiator suite key home;
+  change = change_of errand.initiator suite key home draw;
 }
 
 -- the key has its length, and the ticket is shown

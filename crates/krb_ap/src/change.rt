@@ -12,29 +12,32 @@ use std::alloc::Global;
 fn established_params(
     alloc: Global,
     params: &EncryptionParams,
+    from_service: bool,
     subkey: Secret<Octets>,
     ec: u16,
 ) -> Result<EncryptionParams, OutOfMemory>
-    ensures { IfOk result (λ made. made ≡ record params.now { sub_session_key = Some subkey; ec = ec }) }
+    ensures { IfOk result (λ made. made ≡ record params.now { sub_session_key = Some subkey; ec = ec; acceptor_subkey = from_service }) }
 {
     let mut made = params.copy(alloc)?;
     made.sub_session_key = Some(subkey);
     made.ec = ec;
+    made.acceptor_subkey = from_service;
     Ok(made)
 }
 
-/// The context is established, with the subkey of the service, this many octets of filler and this own number.
+/// The context is established, with this sub-session key, which is the service's or not, this many octets of filler and this own number.
 pub(crate) fn established(
     alloc: Global,
     initiator: &Initiator,
+    from_service: bool,
     subkey: Secret<Octets>,
     ec: u16,
     number: u32,
 ) -> Result<ContextChange, OutOfMemory>
-    ensures { IfOk result (λ change. change ≡ established initiator.now subkey ec number) }
+    ensures { IfOk result (λ change. change ≡ established initiator.now from_service subkey ec number) }
 {
     let realm = initiator.realm.copy(alloc)?;
-    let encryption_params = established_params(alloc, &initiator.params, subkey, ec)?;
+    let encryption_params = established_params(alloc, &initiator.params, from_service, subkey, ec)?;
     Ok(ContextChange {
         state: KerberosState::Final,
         realm,

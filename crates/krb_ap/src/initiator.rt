@@ -1,10 +1,10 @@
 //! The context of an initiator.
 
 ghost use Rattle.std.specs.Prelude.{◌≡◌};
-ghost use Rattle.krb_ap.specs.Initiators.{is_bare, exchange_flags};
+ghost use Rattle.krb_ap.specs.Initiators.{is_bare, exchange_flags, settled_number, is_one_way, keeps_subkey};
 
 use bitflags::Flags;
-use krb_context::EncryptionParams;
+use krb_context::{EncryptionParams, Interoperability};
 use krb_der::Text;
 use sspi_core::ClientRequestFlags;
 
@@ -17,6 +17,8 @@ pub struct Initiator {
     pub realm: Option<Text>,
     pub user_to_user: bool,
     pub flags: ClientRequestFlags,
+    /// What the context allows beyond its own rules.
+    pub interoperability: Interoperability,
 }
 
 /// Whether tokens are bare: DCE style.
@@ -35,4 +37,33 @@ pub fn exchange_flags(initiator: &Initiator) -> ClientRequestFlags
     } else {
         initiator.flags
     }
+}
+
+/// The own number behind the exchange.
+pub(crate) fn settled_number(initiator: &Initiator) -> u32
+    ensures { result ≡ settled_number initiator.now }
+{
+    let options = initiator.interoperability;
+    if options.allows(Interoperability::FIRST_NUMBER_AS_SHOWN) {
+        initiator.number
+    } else {
+        initiator.number.wrapping_add(1)
+    }
+}
+
+/// Whether no answer is asked for, and none is awaited.
+pub(crate) fn is_one_way(initiator: &Initiator) -> bool
+    ensures { result ≡ is_one_way initiator.now }
+{
+    let options = initiator.interoperability;
+    options.allows(Interoperability::ONE_WAY_IS_SETTLED)
+        && !exchange_flags(initiator).contains(ClientRequestFlags::MUTUAL_AUTH)
+}
+
+/// Whether the subkey of the authenticator is kept.
+pub(crate) fn keeps_subkey(initiator: &Initiator) -> bool
+    ensures { result ≡ keeps_subkey initiator.now }
+{
+    let options = initiator.interoperability;
+    options.allows(Interoperability::AP_REP_WITHOUT_SUBKEY) || is_one_way(initiator)
 }

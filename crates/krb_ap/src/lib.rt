@@ -10,6 +10,7 @@ mod ap_rep;
 mod change;
 mod errand;
 mod initiator;
+pub mod laws;
 mod service;
 mod show;
 

@@ -1,28 +1,28 @@
 //! The answer of the service: an AP-REP (RFC 4120, section 3.2.5), which DCE style answers in turn (MS-KILE, section 3.4.5.1).
 
-ghost use Rattle.std.specs.Prelude.{◌≡◌, ◌≤◌, ◌^◌, length, true, false, [], option_map, IfOk, IfSome, Result};
+ghost use Rattle.std.specs.Prelude.{◌≡◌, ◌≤◌, ◌^◌, length, true, false, [], IfOk, IfSome, Result};
 ghost use Rattle.std.specs.Result.{result_map_both};
 ghost use Rattle.krb_crypto.specs.Suite.{key_size};
 ghost use Rattle.sspi_core.specs.declared.cause.Cause.TheVariants as causes;
 ghost use Rattle.sspi_core.specs.Moments.{last_moment};
 ghost use Rattle.sspi_core.specs.Checks.{Answers, Finds, Gives, Takes};
-ghost use Rattle.krb_messages.specs.declared.encryption.EncryptionKey.{EncryptionKey};
 ghost use Rattle.krb_context.specs.Params.{suite_of};
 ghost use Rattle.krb_replies.specs.Answered.{OpensApRep};
 ghost use Rattle.krb_ap.specs.Initiators.{is_bare};
 ghost use Rattle.krb_ap.specs.ApReps.{IsSendableNumber};
-ghost use Rattle.krb_ap.specs.Answered.{IsApRep, ReadsApRep, confirmed, replied, last_word, Confirms, Replies, FinishesInitiation, TakesApRep};
+ghost use Rattle.krb_ap.specs.Answered.{IsApRep, ReadsApRep, own_subkey, chosen_subkey, confirmed, replied, last_word, Confirms, Replies, FinishesInitiation, TakesApRep};
 
 use crate::ap_rep::seal_ap_rep;
 use crate::change::established;
-use crate::initiator::{Initiator, is_bare};
+use crate::initiator::{Initiator, is_bare, settled_number};
 use krb_as::InitDone;
+use krb_context::Interoperability;
 use krb_crypto::CipherSuite;
-use krb_der::{Asn1, IntegerAsn1, Octets, OutOfMemory};
+use krb_der::{Asn1, IntegerAsn1, Octets, OutOfMemory, TryCopy};
 use krb_messages::constants::{AP_REP_TOKEN_ID, AP_REP_USAGE};
 use krb_messages::{ApRep, EncApRepPart, EncryptionKey, read_framed};
 use krb_replies::{SESSION_KEY, check_token_length, open, read_or};
-use sspi_core::{Cause, Draw, Secret, SecurityStatus};
+use sspi_core::{Cause, Draw, Secret, SecurityStatus, take};
 use std::alloc::Global;
 
 /// The filler of sealed messages in DCE style, in octets.
@@ -91,12 +91,37 @@ fn open_ap_rep(
     )
 }
 
-fn key_in(subkey: Option<EncryptionKey>) -> Result<Secret<Octets>, Cause>
-    ensures { Takes causes.NoSubKey (option_map (λ (k : EncryptionKey). k.key_value) subkey) result }
+/// The authenticator's own subkey, where it is allowed that the service chose none.
+fn own_subkey(alloc: Global, initiator: &Initiator) -> Result<Option<Secret<Octets>>, OutOfMemory>
+    ensures { IfOk result (λ key. key ≡ own_subkey initiator.now) }
+{
+    let options = initiator.interoperability;
+    if options.allows(Interoperability::AP_REP_WITHOUT_SUBKEY) {
+        initiator.params.sub_session_key.copy(alloc)
+    } else {
+        Ok(None)
+    }
+}
+
+/// That subkey, which is to be there.
+fn kept_key(alloc: Global, initiator: &Initiator) -> Result<Secret<Octets>, Cause>
+    ensures { Answers (Takes causes.NoSubKey (own_subkey initiator.now)) result }
+{
+    let own = own_subkey(alloc, initiator)?;
+    take(own, Cause::NoSubKey)
+}
+
+/// The key of messages: that of the service, or else the own one.
+fn key_in(
+    alloc: Global,
+    initiator: &Initiator,
+    subkey: Option<EncryptionKey>,
+) -> Result<Secret<Octets>, Cause>
+    ensures { Answers (Takes causes.NoSubKey (chosen_subkey initiator.now subkey)) result }
 {
     match subkey {
         Some(subkey) => Ok(Secret::new(subkey.key_value)),
-        None => Err(Cause::NoSubKey),
+        None => kept_key(alloc, initiator),
     }
 }
 
@@ -115,12 +140,14 @@ fn number_in(number: Option<IntegerAsn1>) -> Result<Octets, Cause>
 fn confirmed(
     alloc: Global,
     initiator: &Initiator,
+    from_service: bool,
     subkey: Secret<Octets>,
 ) -> Result<InitDone, Cause>
-    ensures { Answers (Gives (confirmed initiator.now subkey)) result }
+    ensures { Answers (Gives (confirmed initiator.now from_service subkey)) result }
 {
-    let number = initiator.number.wrapping_add(1);
-    let change = established(alloc, initiator, subkey, initiator.params.ec, number)?;
+    let number = settled_number(initiator);
+    let ec = initiator.params.ec;
+    let change = established(alloc, initiator, from_service, subkey, ec, number)?;
     Ok(InitDone {
         status: SecurityStatus::Ok,
         token: Octets::new(Vec::new(alloc)),
@@ -136,8 +163,9 @@ fn confirm(
 ) -> Result<InitDone, Cause>
     ensures { Answers (Confirms initiator.now subkey) result }
 {
-    let subkey = key_in(subkey)?;
-    confirmed(alloc, initiator, subkey)
+    let from_service = subkey.is_some();
+    let subkey = key_in(alloc, initiator, subkey)?;
+    confirmed(alloc, initiator, from_service, subkey)
 }
 
 /// The last word, an AP-REP with this number.
@@ -165,6 +193,7 @@ fn replied(
     alloc: Global,
     initiator: &Initiator,
     key: &Secret<Octets>,
+    from_service: bool,
     subkey: Secret<Octets>,
     number: Octets,
     draw: &Draw,
@@ -172,10 +201,11 @@ fn replied(
     requires key { length key.now ≡ key_size (suite_of initiator.now.params) }
     requires moment { draw.now.moment ≤ last_moment }
     requires number { IsSendableNumber number }
-    ensures { Answers (Gives (replied initiator.now key.now subkey number draw.now)) result }
+    ensures { Answers (Gives (replied initiator.now key.now from_service subkey number draw.now)) result }
 {
     let token = last_word(alloc, initiator.params.suite(), key, number, draw)?;
-    let change = established(alloc, initiator, subkey, EXTRA_COUNT, initiator.number)?;
+    let own = initiator.number;
+    let change = established(alloc, initiator, from_service, subkey, EXTRA_COUNT, own)?;
     Ok(InitDone {
         status: SecurityStatus::Ok,
         token,
@@ -196,9 +226,10 @@ fn reply(
     requires moment { draw.now.moment ≤ last_moment }
     ensures { Answers (Replies initiator.now key.now part.subkey part.seq_number draw.now) result }
 {
-    let subkey = key_in(part.subkey)?;
+    let from_service = part.subkey.is_some();
+    let subkey = key_in(alloc, initiator, part.subkey)?;
     let number = number_in(part.seq_number)?;
-    replied(alloc, initiator, key, subkey, number, draw)
+    replied(alloc, initiator, key, from_service, subkey, number, draw)
 }
 
 /// What follows from what was sealed.
@@ -223,12 +254,14 @@ fn finish(
 }
 
 /// The service's answer at an initiator that awaits it, which is established by it: an AP-REP under the session key, framed, or
-/// bare in DCE style. Its subkey becomes the sub-session key. In DCE style it is answered by an AP-REP with the same number, and
-/// sealed messages have 16 octets of filler; else the own number rises by one and nothing is answered.
+/// bare in DCE style. Its subkey becomes the sub-session key; where it has none and that is allowed, the authenticator's stays. In
+/// DCE style it is answered by an AP-REP with the same number, and sealed messages have 16 octets of filler. Else nothing is
+/// answered, and the own number rises by one; it stays where it is allowed that the first message has the number that the
+/// authenticator showed.
 ///
 /// Refused, in this order, as `Shape` where the token is no AP-REP or has more than 16,777,216 octets; as `Reply` where nothing
-/// is sealed to it under the session key; as `Inner` where what is sealed is no EncAPRepPart; as `NoSubKey` where it has no subkey;
-/// in DCE style as `NoNumber` where it has no number.
+/// is sealed to it under the session key; as `Inner` where what is sealed is no EncAPRepPart; as `NoSubKey` where it has no subkey
+/// and none of the authenticator's stays; in DCE style as `NoNumber` where it has no number.
 #[tactic(auto, unfolding(crate::specs::Answered::TakesApRep))]
 pub fn take_ap_rep(
     alloc: Global,

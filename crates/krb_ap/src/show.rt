@@ -20,6 +20,10 @@ ghost use Rattle.krb_ap.specs.Shown.{
   message,
   framed_ap_req,
   shown_token,
+  kept_subkey,
+  shown_state,
+  shown_number,
+  shown_status,
   change_of,
   shown,
   ShowsTicket,
@@ -27,7 +31,9 @@ ghost use Rattle.krb_ap.specs.Shown.{
 };
 
 use crate::errand::Errand;
-use crate::initiator::{Initiator, exchange_flags, is_bare};
+use crate::initiator::{
+    Initiator, exchange_flags, is_bare, is_one_way, keeps_subkey, settled_number,
+};
 use bitflags::Flags;
 use krb_as::InitDone;
 use krb_authenticators::{
@@ -191,36 +197,92 @@ fn token_of(alloc: Global, errand: &Errand, message: Octets) -> Result<Octets, O
     }
 }
 
+/// The sub-session key: the authenticator's subkey where it is kept, else the one that was there.
+fn kept_subkey(
+    alloc: Global,
+    initiator: &Initiator,
+    suite: CipherSuite,
+    draw: &Draw,
+) -> Result<Option<Secret<Octets>>, OutOfMemory>
+    ensures { IfOk result (λ key. key ≡ kept_subkey initiator.now suite draw.now) }
+{
+    if keeps_subkey(initiator) {
+        let key = drawn_secret(alloc, suite, draw)?;
+        Ok(Some(key))
+    } else {
+        initiator.params.sub_session_key.copy(alloc)
+    }
+}
+
+/// The parameters with these keys.
 fn keyed_params(
     alloc: Global,
-    params: &EncryptionParams,
+    initiator: &Initiator,
     suite: CipherSuite,
     key: Secret<Octets>,
+    draw: &Draw,
 ) -> Result<EncryptionParams, OutOfMemory>
-    ensures { IfOk result (λ made. made ≡ record params.now { encryption_type = Some suite; session_key = Some key }) }
+    ensures { IfOk result (λ made. made ≡ record initiator.now.params {
+      encryption_type = Some suite;
+      session_key = Some key;
+      sub_session_key = kept_subkey initiator.now suite draw.now;
+    }) }
 {
-    let mut made = params.copy_for(alloc, suite)?;
+    let sub_session_key = kept_subkey(alloc, initiator, suite, draw)?;
+    let mut made = initiator.params.copy_for(alloc, suite)?;
     made.session_key = Some(key);
+    made.sub_session_key = sub_session_key;
     Ok(made)
 }
 
-/// What the context becomes: the service's answer is awaited.
+fn shown_state(initiator: &Initiator) -> KerberosState
+    ensures { result ≡ shown_state initiator.now }
+{
+    if is_one_way(initiator) {
+        KerberosState::Final
+    } else {
+        KerberosState::ApExchange
+    }
+}
+
+fn shown_number(initiator: &Initiator) -> u32
+    ensures { result ≡ shown_number initiator.now }
+{
+    if is_one_way(initiator) {
+        settled_number(initiator)
+    } else {
+        initiator.number
+    }
+}
+
+fn shown_status(initiator: &Initiator) -> SecurityStatus
+    ensures { result ≡ shown_status initiator.now }
+{
+    if is_one_way(initiator) {
+        SecurityStatus::Ok
+    } else {
+        SecurityStatus::ContinueNeeded
+    }
+}
+
+/// What the context becomes: the service's answer is awaited, or it is established at once.
 fn change_of(
     alloc: Global,
     initiator: &Initiator,
     suite: CipherSuite,
     key: Secret<Octets>,
     home: &Name,
+    draw: &Draw,
 ) -> Result<ContextChange, OutOfMemory>
-    ensures { IfOk result (λ change. change ≡ change_of initiator.now suite key home.now) }
+    ensures { IfOk result (λ change. change ≡ change_of initiator.now suite key home.now draw.now) }
 {
     let realm = Text::from_str(alloc, home.as_str())?;
-    let encryption_params = keyed_params(alloc, &initiator.params, suite, key)?;
+    let encryption_params = keyed_params(alloc, initiator, suite, key, draw)?;
     Ok(ContextChange {
-        state: KerberosState::ApExchange,
+        state: shown_state(initiator),
         realm: Some(realm),
         encryption_params,
-        seq_number: initiator.number,
+        seq_number: shown_number(initiator),
         krb5_user_to_user: initiator.user_to_user,
         ticket_decryption_key: None,
     })
@@ -244,9 +306,9 @@ fn shown(
 {
     let message = message(alloc, errand, suite, &key, rep, draw)?;
     let token = token_of(alloc, errand, message)?;
-    let change = change_of(alloc, &errand.initiator, suite, key, home)?;
+    let change = change_of(alloc, &errand.initiator, suite, key, home, draw)?;
     Ok(InitDone {
-        status: SecurityStatus::ContinueNeeded,
+        status: shown_status(&errand.initiator),
         token,
         change,
     })
@@ -276,8 +338,8 @@ fn all_shown(
     Ok(shown(alloc, errand, suite, key, rep, home, draw)?)
 }
 
-/// The end of the exchange with the KDCs: the ticket of this reply is shown to the service, whose answer is awaited. The key is the
-/// ticket's session key, `home` the client's own realm.
+/// The end of the exchange with the KDCs: the ticket of this reply is shown to the service, whose answer is awaited. Where it is allowed,
+/// a context that asked for no answer is established at once. The key is the ticket's session key, `home` the client's own realm.
 ///
 /// The AP-REQ has the options that the flags ask for. Its authenticator, under that key, has the number after the context's own,
 /// which stays, a drawn subkey, and a checksum of type 8003 hex with the context's flags and the bindings. It is framed, or bare in

@@ -1,14 +1,13 @@
 -- How often an AS exchange asks, also within a run.
-use Rattle.std.proofs.Common.{◌≡◌, ℕ, ◌+◌, ◌<◌, List, Result, Ok, refl, sym, subst, take, lit<}
+use Rattle.std.proofs.Common.{◌≡◌, inl, inr, ℕ, ◌+◌, ◌<◌, List, Result, Ok, refl, sym, subst, take, lit<}
 use Rattle.krb_exchange.specs.declared.kdc_req.KdcReqBody.{KdcReqBody}
+use Rattle.std.specs.Prelude.{◌⊎◌}
 use Rattle.sspi_core.proofs.Chain.{passed, gave}
 use Rattle.sspi_core.specs.declared.cause.Cause.{Cause}
 use Rattle.sspi_core.specs.declared.draw.Draw.{Draw}
 use Rattle.sspi_core.specs.declared.error.Error.{Error}
 use Rattle.sspi_generator.specs.declared.network.NetFault.{NetFault}
 use Rattle.sspi_generator.specs.declared.network.NetworkRequest.{NetworkRequest}
-use Rattle.sspi_generator.specs.declared.task.GeneratorState.{GeneratorState}
-use Rattle.sspi_generator.specs.Steps.{OnSuspended}
 use Rattle.sspi_generator.specs.Runs.{Resolves}
 use Rattle.sspi_generator.proofs.Few.{resolves_in}
 use Rattle.krb_as.specs.declared.asker.Asker.{Asker}
@@ -23,9 +22,10 @@ use Rattle.krb_as.specs.declared.key.Grant.{Grant}
 use Rattle.krb_as.specs.declared.key.SealedTime.{SealedTime}
 use Rattle.krb_as.specs.declared.turn.Turn.{Turn}
 use Rattle.krb_as.specs.declared.turn.Turn.TheVariants.{Asks}
-use Rattle.krb_as.specs.AsPhases.{BeginsWithin, TakesReplyWithin}
-use Rattle.krb_as.specs.AsExchanges.{EndsWithAsRep, Starts, Next, StartsAt, ResumesAt, turns_left, IsNewPhase, IsNew}
-use Rattle.krb_as.proofs.AsTurns.{asked_first, asked_second, error_taken, as_rep_taken}
+use Rattle.krb_as.specs.Askers.{default_salt}
+use Rattle.krb_as.specs.AsPhases.{AsksSecond, BeginsWithin, TakesReplyWithin}
+use Rattle.krb_as.specs.AsExchanges.{EndsWith, EndsWithAsRep, Starts, Next, StartsAt, ResumesAt, turns_left, IsNewPhase, IsNew}
+use Rattle.krb_as.proofs.AsTurns.{CameError, CameEarly, first_taken, asked_first, AskedSecond, asked_second, WentOnEarly, error_taken, as_rep_taken}
 use Rattle.krb_as.proofs.Tasks.{turns_down}
 
 -- which turn was given
@@ -41,12 +41,15 @@ module _ {P : Type 0} (O : Type 0) (within : AsPhase → P) (left : P → ℕ) (
       subst (λ (p : P). left p < n) (asked {O = O} request first.request _ phase (sym first.is)) (few first.kdc)
 
   module _ (next : Grant → Result (Turn P O) Cause → Type 0) (reply : Result (List ℕ) NetFault) (draw : Draw) (request : NetworkRequest) (phase : P) where
-    -- and the second
+    -- and the second, or what the run goes on with behind a ticket that came at once
     pub second_down : (kdc : Kdc) (body : KdcReqBody) → ((sealed : SealedTime) → left (within (AwaitsAsRep sealed)) < n)
+        → ((grant : Grant) → next grant (Ok (Asks request phase)) → left phase < n)
         → TakesReplyWithin within next asker (AwaitsError kdc body) reply draw (Ok (Asks request phase)) → left phase < n
-    second_down kdc body few h =
-        let second = error_taken within next asker reply draw (Asks request phase) kdc body h in
-        subst (λ (p : P). left p < n) (asked {O = O} request second.request _ phase (sym second.is)) (few second.sealed)
+    second_down kdc body few early h = go (error_taken within next asker reply draw (Asks request phase) kdc body h)
+      where
+        go : AskedSecond {O = O} within asker kdc reply (Asks request phase) ⊎ WentOnEarly next asker kdc reply (Asks request phase) → left phase < n
+        go (inl second) = subst (λ (p : P). left p < n) (asked {O = O} request second.request _ phase (sym second.is)) (few second.sealed)
+        go (inr went) = early went.on.grant went.on.rest
 
     -- what the run goes on with behind the ticket
     pub grant_down : (sealed : SealedTime) → ((grant : Grant) → next grant (Ok (Asks request phase)) → left phase < n)
@@ -63,9 +66,15 @@ next_down : (asker : Asker) (old : ExchangePhase) (reply : Result (List ℕ) Net
     → Next asker old reply draw (Ok (Asks request phase)) → turns_left phase < turns_left old
 unfolding EndsWithAsRep
 next_down asker (New body) reply draw request phase h = absurd h
-next_down asker (InAsExchange (AwaitsError kdc body)) reply draw request phase h =
-    let second = asked_second InAsExchange asker kdc body reply draw (Asks request phase) h in
-    subst (λ (p : ExchangePhase). turns_left p < 1) (asked {O = AsDone} request second.request _ phase (sym second.is)) (lit< tt)
+next_down asker (InAsExchange (AwaitsError kdc body)) reply draw request phase h = go (first_taken _ _ _ _ _ _ h)
+  where
+    go : CameError asker.interoperability kdc.protocol (AsksSecond InAsExchange asker kdc body draw) (EndsWith (default_salt asker.credentials)) reply (Asks request phase)
+        ⊎ CameEarly asker.interoperability kdc.protocol (AsksSecond InAsExchange asker kdc body draw) (EndsWith (default_salt asker.credentials)) reply (Asks request phase)
+        → turns_left phase < 1
+    go (inl first) =
+        let second = asked_second InAsExchange asker kdc body reply draw first.error (Asks request phase) first.replies first.rest in
+        subst (λ (p : ExchangePhase). turns_left p < 1) (asked {O = AsDone} request second.request _ phase (sym second.is)) (lit< tt)
+    go (inr early) = let f = gave _ _ early.rest in absurd cc
 next_down asker (InAsExchange (AwaitsAsRep sealed)) reply draw request phase h = let rep = passed _ _ _ h in let f = gave _ _ rep.rest_held in absurd cc
 next_down asker Over reply draw request phase h = absurd h
 

@@ -1,4 +1,6 @@
 mod Chains
+mod Early
+mod OwnSuite
 mod ProxyLengths
 mod Quiet
 mod Replying

@@ -14,16 +14,20 @@ use Rattle.krb_der.specs.Layout.{Layout}
 use Rattle.krb_exchange.specs.declared.result.KrbResult.{KrbResult}
 use Rattle.krb_exchange.specs.declared.result.KrbResult.TheVariants.{Ok as Reply, Err as Refusal}
 use Rattle.krb_exchange.specs.declared.kdc_req.KdcReqBody.{KdcReqBody}
+use Rattle.krb_exchange.specs.declared.krb_error.KrbError.{KrbError}
+use Rattle.krb_context.specs.declared.interoperability.Interoperability.{Interoperability}
+use Rattle.krb_context.specs.Interoperability.{allows, suite_of_each_key}
 use Rattle.krb_as.specs.declared.kdc.Kdc.{Kdc}
 use Rattle.krb_as.specs.Kdcs.{FindsKdc}
 use Rattle.krb_as.specs.Replies.{Brings, Unproxies, Strips, Skips, Unpacks, Unwraps, Replies}
 use Rattle.krb_replies.specs.Told.{Hands}
 use Rattle.krb_crypto.specs.declared.suite.CipherSuite.{CipherSuite}
+use Rattle.krb_messages.specs.declared.encryption.EncryptionKey.{EncryptionKey}
 use Rattle.krb_exchange.specs.declared.kdc_rep.AsRep.{AsRep}
 use Rattle.krb_exchange.specs.declared.pa_data.EtypeInfo2Entry.{EtypeInfo2Entry}
-use Rattle.krb_replies.specs.Keys.{BringsKey}
-use Rattle.krb_replies.specs.Salts.{NamesSalt, entry_hint, first_hint, TellsEtype}
-use Rattle.krb_replies.specs.Unseals.{Unseals, OpensSealed}
+use Rattle.krb_replies.specs.Keys.{OpensFirst, HasSuite, TakesKey, BringsFirst}
+use Rattle.krb_replies.specs.Salts.{NamesSalt, NamesSuite, entry_hint, first_hint, TellsEtype}
+use Rattle.krb_replies.specs.Unseals.{suite_of_integer, Unseals}
 use Rattle.sspi_core.specs.declared.identity.CredentialsBuffers.{CredentialsBuffers}
 use Rattle.krb_as.specs.declared.asker.Asker.{Asker}
 use Rattle.krb_as.specs.declared.as_phase.AsPhase.{AsPhase}
@@ -33,10 +37,11 @@ use Rattle.krb_as.specs.declared.as_exchange.ExchangePhase.TheVariants.{New, InA
 use Rattle.krb_as.specs.declared.key.Grant.{Grant}
 use Rattle.krb_as.specs.declared.turn.Turn.{Turn}
 use Rattle.krb_as.specs.declared.turn.Turn.TheVariants.{Asks, Ends}
-use Rattle.krb_as.specs.Replied.{reply_in, WantsPreAuth, Grants}
+use Rattle.krb_as.specs.Askers.{asker_suite}
+use Rattle.krb_as.specs.Replied.{reply_in, LeavesSalt, TellsSuite, LeavesSuite, TakesEarly, TakesEither, TakesFirst, Grants}
 use Rattle.krb_as.specs.ReplyKeys.{TakesReplyKey}
 use Rattle.krb_as.specs.Turns.{Within}
-use Rattle.krb_as.specs.AsPhases.{BeginsExchange, SealsTime, AsksSecond, TakesAsRep, TakesReply, BeginsWithin, TakesReplyWithin}
+use Rattle.krb_as.specs.AsPhases.{BeginsExchange, SealsTime, AsksSecond, BringsGrant, TakesAsRep, TakesReply, BeginsWithin, TakesReplyWithin}
 use Rattle.krb_as.specs.AsExchanges.{EndsWithAsRep, Starts, Next}
 
 -- the network failed
@@ -140,17 +145,25 @@ module _ (P : Type 0) where
       then_refuses P _ _ (finds_refuses P Shape _ (λ z. let e = z.1 in absurd cc)) (λ entries. then_refuses P _ _ (record { not = hint_refuses _ used entries })
       (λ hint. then_refuses P _ _ (takes_refuses P Etype _ (λ z. let e = z.1 in absurd cc)) (λ suite. gives_refuses P _)))
 
-  brings_refuse : (suite : CipherSuite) (key : List ℕ) (as_rep : AsRep) → Refuses P (BringsKey suite key as_rep)
-  unfolding BringsKey OpensSealed Unseals
-  brings_refuse suite key as_rep =
+  suite_refuses : (is_own : Bool) (suite : CipherSuite) (key_type : List ℕ) (e : Cause) → HasSuite is_own suite key_type (Err e) → IsNetwork e → P
+  suite_refuses false suite key_type e h z = (gives_refuses P suite).not e h z
+  suite_refuses true suite key_type e h z = (takes_refuses P Etype (suite_of_integer key_type) (λ y. let i = y.1 in absurd cc)).not e h z
+
+  pub takes_key_refuses : (options : Interoperability) (suite : CipherSuite) (key : EncryptionKey) → Refuses P (TakesKey options suite key)
+  unfolding TakesKey
+  takes_key_refuses options suite key = then_refuses P _ _ (record { not = suite_refuses (allows options suite_of_each_key) suite key.key_type }) (λ own. gives_refuses P _)
+
+  brings_refuse : (options : Interoperability) (suite : CipherSuite) (key : List ℕ) (as_rep : AsRep) → Refuses P (BringsFirst options suite key as_rep)
+  unfolding BringsFirst OpensFirst Unseals
+  brings_refuse options suite key as_rep =
       then_refuses P _ _ (then_refuses P _ _ (then_refuses P _ _ (holds_refuses P KeyLength _ (λ z. let e = z.1 in absurd cc))
       (λ _. then_refuses P _ _ (holds_refuses P Short _ (λ z. let e = z.1 in absurd cc)) (λ _. finds_refuses P Altered _ (λ z. let e = z.1 in absurd cc))))
-      (λ plain. finds_refuses P Inner _ (λ z. let e = z.1 in absurd cc))) (λ part. gives_refuses P _)
+      (λ plain. finds_refuses P Inner _ (λ z. let e = z.1 in absurd cc))) (λ part. takes_key_refuses options suite part.0.key)
 
-  pub key_refuses : (credentials : CredentialsBuffers) (used : List ℕ) (as_rep : AsRep) → Refuses P (TakesReplyKey credentials used as_rep)
+  pub key_refuses : (options : Interoperability) (credentials : CredentialsBuffers) (used : List ℕ) (as_rep : AsRep) → Refuses P (TakesReplyKey options credentials used as_rep)
   unfolding TakesReplyKey
-  key_refuses credentials used as_rep =
-      then_refuses P _ _ (tells_refuse used as_rep) (λ hint. then_refuses P _ _ (brings_refuse _ _ as_rep) (λ key. gives_refuses P _))
+  key_refuses options credentials used as_rep =
+      then_refuses P _ _ (tells_refuse used as_rep) (λ hint. brings_refuse _ _ _ as_rep)
 
 brought_refuses : (reply : Result (List ℕ) NetFault) (e : Cause) → Brings reply (Err e) → IsNetwork e → IsFailure reply
 brought_refuses (Ok octets) e h z = let i = h.is in absurd cc
@@ -164,36 +177,69 @@ module _ (reply : Result (List ℕ) NetFault) (protocol : NetworkProtocol) where
       then_refuses _ _ _ (then_refuses _ _ _ (record { not = brought_refuses reply }) (λ octets. unpacks_refuse _ protocol octets))
       (λ message. finds_refuses _ Shape _ (not_shape _))
 
-  pub wants_refuse : (default : List ℕ) → Refuses (IsFailure reply) (WantsPreAuth protocol default reply)
-  unfolding WantsPreAuth NamesSalt
-  wants_refuse default =
-      then_refuses _ _ _ (replies_refuse _) (λ result. then_refuses _ _ _ (takes_refuses _ EarlyAsRep _ (not_early _))
-      (λ error. then_refuses _ _ _ (then_refuses _ _ _ (finds_refuses _ Shape _ (not_shape _)) (λ hints. then_refuses _ _ _ (finds_refuses _ Shape _ (not_shape _)) (λ entries. gives_refuses _ _)))
-      (λ salt. gives_refuses _ _)))
+  -- nor does what follows the first reply, where neither what is behind an error nor what an AS-REP brings does
+  module _ {A : Type 0} (options : Interoperability) (behind : KrbError → Result A Cause → Type 0) (next : AsRep → Result A Cause → Type 0)
+      (behind_refuses : (error : KrbError) → Refuses (IsFailure reply) (behind error)) (next_refuses : (as_rep : AsRep) → Refuses (IsFailure reply) (next as_rep)) where
+    early_refuses : (as_rep : AsRep) → Refuses (IsFailure reply) (TakesEarly options next as_rep)
+    unfolding TakesEarly
+    early_refuses as_rep = then_refuses _ _ _ (holds_refuses _ EarlyAsRep _ (not_early _)) (λ _. next_refuses as_rep)
+
+    either_refuses : (result : KrbResult AsRep) → Refuses (IsFailure reply) (λ r. TakesEither options behind next result r)
+    either_refuses (Refusal error) = record { not = λ e h z. (behind_refuses error).not e h z }
+    either_refuses (Reply as_rep) = record { not = λ e h z. (early_refuses as_rep).not e h z }
+
+    pub first_refuses : Refuses (IsFailure reply) (TakesFirst options protocol behind next reply)
+    unfolding TakesFirst
+    first_refuses = then_refuses _ _ _ (replies_refuse _) either_refuses
 
   pub grants_refuse : {A : Type 0} (layout : Layout A) → Refuses (IsFailure reply) (Grants protocol layout reply)
   unfolding Grants
   grants_refuse layout = then_refuses _ _ _ (replies_refuse layout) (λ result. record { not = reply_refuses _ result })
 
-seals_refuse : (asker : Asker) (kdc : Kdc) (body : KdcReqBody) (reply : Result (List ℕ) NetFault) (draw : Draw) → Refuses (IsFailure reply) (SealsTime asker kdc body reply draw)
-unfolding SealsTime
-seals_refuse asker kdc body reply draw =
-    then_refuses _ _ _ (wants_refuse reply kdc.protocol _) (λ salt. then_refuses _ _ _ (takes_refuses _ KeyLength _ (not_key _)) (λ key. gives_refuses _ _))
+module _ (P : Type 0) where
+  leaves_refuse : (default : List ℕ) (error : KrbError) → Refuses P (LeavesSalt default error)
+  unfolding LeavesSalt NamesSalt
+  leaves_refuse default error =
+      then_refuses P _ _ (then_refuses P _ _ (finds_refuses P Shape _ (not_shape P)) (λ hints. then_refuses P _ _ (finds_refuses P Shape _ (not_shape P)) (λ entries. gives_refuses P _)))
+      (λ salt. gives_refuses P _)
 
-asks_second_refuses : {P O : Type 0} (within : AsPhase → P) (asker : Asker) (kdc : Kdc) (body : KdcReqBody) (reply : Result (List ℕ) NetFault) (draw : Draw)
-    → Refuses (IsFailure reply) (AsksSecond {P = P} {O = O} within asker kdc body reply draw)
-unfolding AsksSecond
-asks_second_refuses within asker kdc body reply draw = then_refuses _ _ _ (seals_refuse asker kdc body reply draw) (λ sent. gives_refuses _ _)
+  tells_suite_refuses : (asker : Asker) (error : KrbError) → Refuses P (TellsSuite asker error)
+  unfolding TellsSuite NamesSuite
+  tells_suite_refuses asker error =
+      then_refuses P _ _ (then_refuses P _ _ (finds_refuses P Shape _ (not_shape P)) (λ hints. then_refuses P _ _ (finds_refuses P Shape _ (not_shape P)) (λ entries. gives_refuses P _)))
+      (λ named. gives_refuses P _)
 
-takes_as_rep_refuses : (credentials : CredentialsBuffers) (protocol : NetworkProtocol) (used : List ℕ) (reply : Result (List ℕ) NetFault)
-    → Refuses (IsFailure reply) (TakesAsRep credentials protocol used reply)
+  leaves_suite_refuses : (is_told : Bool) (asker : Asker) (error : KrbError) (e : Cause) → LeavesSuite is_told asker error (Err e) → IsNetwork e → P
+  leaves_suite_refuses false asker error e h z = (gives_refuses P (asker_suite asker)).not e h z
+  leaves_suite_refuses true asker error e h z = (tells_suite_refuses asker error).not e h z
+
+  seals_refuse : (asker : Asker) (kdc : Kdc) (body : KdcReqBody) (draw : Draw) (error : KrbError) → Refuses P (SealsTime asker kdc body draw error)
+  unfolding SealsTime
+  seals_refuse asker kdc body draw error =
+      then_refuses P _ _ (leaves_refuse _ error) (λ salt. then_refuses P _ _ (record { not = leaves_suite_refuses (allows asker.interoperability suite_of_each_key) asker error })
+      (λ suite. then_refuses P _ _ (takes_refuses P KeyLength _ (not_key P)) (λ key. gives_refuses P _)))
+
+  asks_second_refuses : {Q O : Type 0} (within : AsPhase → Q) (asker : Asker) (kdc : Kdc) (body : KdcReqBody) (draw : Draw) (error : KrbError)
+      → Refuses P (AsksSecond {P = Q} {O = O} within asker kdc body draw error)
+  unfolding AsksSecond
+  asks_second_refuses within asker kdc body draw error = then_refuses P _ _ (seals_refuse asker kdc body draw error) (λ sent. gives_refuses P _)
+
+  brings_grant_refuses : (asker : Asker) (used : List ℕ) (as_rep : AsRep) → Refuses P (BringsGrant asker used as_rep)
+  unfolding BringsGrant
+  brings_grant_refuses asker used as_rep =
+      then_refuses P _ _ (key_refuses P asker.interoperability asker.credentials used as_rep) (λ taken. gives_refuses P _)
+
+takes_as_rep_refuses : (asker : Asker) (protocol : NetworkProtocol) (used : List ℕ) (reply : Result (List ℕ) NetFault)
+    → Refuses (IsFailure reply) (TakesAsRep asker protocol used reply)
 unfolding TakesAsRep
-takes_as_rep_refuses credentials protocol used reply =
-    then_refuses _ _ _ (grants_refuse reply protocol _) (λ as_rep. then_refuses _ _ _ (key_refuses _ credentials used as_rep) (λ taken. gives_refuses _ _))
+takes_as_rep_refuses asker protocol used reply =
+    then_refuses _ _ _ (grants_refuse reply protocol _) (brings_grant_refuses _ asker used)
 
 takes_reply_refuses : (asker : Asker) (phase : AsPhase) (reply : Result (List ℕ) NetFault) (draw : Draw) → Refuses (IsFailure reply) (λ r. TakesReply asker phase reply draw r)
-takes_reply_refuses asker (AwaitsError kdc body) reply draw = record { not = λ e h z. (asks_second_refuses (λ phase. phase) asker kdc body reply draw).not e h z }
-takes_reply_refuses asker (AwaitsAsRep sealed) reply draw = record { not = λ e h z. (takes_as_rep_refuses asker.credentials sealed.kdc.protocol sealed.salt reply).not e h z }
+takes_reply_refuses asker (AwaitsError kdc body) reply draw = record {
+  not = λ e h z. (first_refuses reply kdc.protocol _ _ _ (asks_second_refuses _ (λ phase. phase) asker kdc body draw) (brings_grant_refuses _ asker _)).not e h z;
+}
+takes_reply_refuses asker (AwaitsAsRep sealed) reply draw = record { not = λ e h z. (takes_as_rep_refuses asker sealed.kdc.protocol sealed.salt reply).not e h z }
 
 -- nor does what follows within a run, where none of its own checks does
 module _ {P O : Type 0} (within : AsPhase → P) (next : Grant → Result (Turn P O) Cause → Type 0) (reply : Result (List ℕ) NetFault)
@@ -212,6 +258,7 @@ ends_refuses protocol salt reply = then_refuses _ _ _ (grants_refuse reply proto
 
 pub next_refuses : (asker : Asker) (phase : ExchangePhase) (reply : Result (List ℕ) NetFault) (draw : Draw) (e : Cause) → Next asker phase reply draw (Err e) → IsNetwork e → IsFailure reply
 next_refuses asker (New body) reply draw e h z = absurd h
-next_refuses asker (InAsExchange (AwaitsError kdc body)) reply draw e h z = (asks_second_refuses InAsExchange asker kdc body reply draw).not e h z
+next_refuses asker (InAsExchange (AwaitsError kdc body)) reply draw e h z =
+    (first_refuses reply kdc.protocol _ _ _ (asks_second_refuses _ InAsExchange asker kdc body draw) (λ as_rep. gives_refuses _ _)).not e h z
 next_refuses asker (InAsExchange (AwaitsAsRep sealed)) reply draw e h z = (ends_refuses sealed.kdc.protocol sealed.salt reply).not e h z
 next_refuses asker Over reply draw e h z = absurd h

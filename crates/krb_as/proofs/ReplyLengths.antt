@@ -1,5 +1,5 @@
 -- What a reply of a KDC brings can be written again, and is not longer than the reply.
-use Rattle.std.proofs.Common.{◌≡◌, ℕ, ◌+◌, ◌≤◌, ◌^◌, List, [], ◌++◌, length, map, Result, Ok, Err, ap, subst, arith, length-append}
+use Rattle.std.proofs.Common.{◌≡◌, ℕ, ◌+◌, ◌≤◌, ◌^◌, List, [], ◌++◌, length, map, Result, Ok, Err, refl, ap, subst, arith, length-append}
 use Rattle.std.specs.Prelude.{IfOk, option_map}
 use Rattle.std.specs.Option.{option_map_or}
 use Rattle.std.proofs.lemmas.Bool.{leb-true}
@@ -28,7 +28,7 @@ use Rattle.krb_as.specs.Replies.{is_short, Skips, Unpacks, Unwraps, Replies}
 use Rattle.krb_replies.specs.Told.{Hands}
 use Rattle.krb_requests.specs.Pieces.{Fits}
 use Rattle.krb_as.specs.Replied.{reply_in, Grants}
-use Rattle.krb_as.specs.Granted.{IsSendable}
+use Rattle.krb_as.specs.Granted.{IsSendable, IsSendableReply}
 use Rattle.krb_as.proofs.Complete.{complete_spelled}
 
 handed : {A : Type 0} (result : KrbResult A) (x : A) → Hands (reply_in result) (Ok x) → result ≡ Reply x
@@ -61,6 +61,12 @@ module _ {A : Type 0} (protocol : NetworkProtocol) (layout : Layout A) (reply : 
       let result = passed _ _ _ h in
       let message = passed _ _ _ result.first_held in
       found_fits layout result.found x message.found (handed _ _ result.rest_held) message.rest_held.is (unwrapped protocol reply message.found message.first_held)
+
+  replied_fits : (x : A) → Replies protocol layout reply (Ok (Reply x)) → Fits layout (2 ^ 24) x
+  unfolding Replies
+  replied_fits x h =
+      let message = passed _ _ _ h in
+      found_fits layout (Reply x) x message.found refl message.rest_held.is (unwrapped protocol reply message.found message.first_held)
 
   pub granted_fits : (x : A) → Answers (Grants protocol layout reply) (Ok x) → Fits layout (2 ^ 24) x
   granted_fits x h = grants_fit x (h.so (λ z. absurd cc))
@@ -112,6 +118,13 @@ tgs_rep_sendable rep fits = kdc_rep_sendable 0x6d rep.0 fits.complete fits.short
 pub as_rep_granted : (protocol : NetworkProtocol) (reply : Result (List ℕ) NetFault) (answer : Result AsRep Cause) → Answers (Grants protocol as_rep_layout reply) answer → IfOk answer (λ rep. IsSendable rep.0)
 as_rep_granted protocol reply (Ok rep) h = as_rep_sendable rep (granted_fits protocol as_rep_layout reply rep h)
 as_rep_granted protocol reply (Err e) h = tt
+
+-- so can an AS-REP that came at once
+pub as_rep_replied : (protocol : NetworkProtocol) (reply : Result (List ℕ) NetFault) (answer : Result (KrbResult AsRep) Cause) → Answers (Replies protocol as_rep_layout reply) answer
+    → IfOk answer IsSendableReply
+as_rep_replied protocol reply (Ok (Reply rep)) h = as_rep_sendable rep (replied_fits protocol as_rep_layout reply rep (h.so (λ z. absurd cc)))
+as_rep_replied protocol reply (Ok (Refusal error)) h = tt
+as_rep_replied protocol reply (Err e) h = tt
 
 pub tgs_rep_granted : (protocol : NetworkProtocol) (reply : Result (List ℕ) NetFault) (answer : Result TgsRep Cause) → Answers (Grants protocol tgs_rep_layout reply) answer → IfOk answer (λ rep. IsSendable rep.0)
 tgs_rep_granted protocol reply (Ok rep) h = tgs_rep_sendable rep (granted_fits protocol tgs_rep_layout reply rep h)

@@ -1,5 +1,6 @@
 -- The AS exchange as a task of its own, which ends with the AS-REP.
 use Rattle.std.specs.Prelude.{◌≡◌, ℕ, ◌≤◌, ◌^◌, List, length, Result}
+use Rattle.krb_exchange.specs.declared.kdc_rep.AsRep.{AsRep}
 use Rattle.krb_exchange.specs.Layouts.{as_rep_layout, kdc_req_body_layout}
 use Rattle.sspi_core.specs.declared.protocol.NetworkProtocol.{NetworkProtocol}
 use Rattle.sspi_core.specs.declared.draw.Draw.{Draw}
@@ -19,15 +20,19 @@ use Rattle.krb_as.specs.declared.as_exchange.ExchangePhase.TheVariants.{New, InA
 use Rattle.krb_as.specs.declared.as_exchange.AsDone.{AsDone}
 use Rattle.krb_as.specs.declared.as_exchange.AsExchange.{AsExchange}
 use Rattle.krb_as.specs.Turns.{Turns}
-use Rattle.krb_as.specs.Replied.{Grants}
+use Rattle.krb_as.specs.Askers.{default_salt}
+use Rattle.krb_as.specs.Replied.{TakesFirst, Grants}
 use Rattle.krb_as.specs.AsPhases as as_phases
 use Rattle.krb_as.specs.AsPhases.{BeginsWithin, AsksSecond}
 
 -- the AS-REP ends it, with the salt of the key that the time was sealed under
+abbrev pub EndsWith : List ℕ → AsRep → Result (Turn ExchangePhase AsDone) Cause → Type 0
+EndsWith salt as_rep answer = Gives (Ends (record { as_rep = as_rep; salt = salt })) answer
+
 unfoldable pub EndsWithAsRep : NetworkProtocol → List ℕ → Result (List ℕ) NetFault → Result (Turn ExchangePhase AsDone) Cause → Type 0
 EndsWithAsRep protocol salt reply = do
   as_rep ← Grants protocol as_rep_layout reply
-  Gives (Ends (record { as_rep = as_rep; salt = salt }))
+  EndsWith salt as_rep
 
 -- what the start leads to, and what an answer leads to, in each phase
 abbrev pub Starts : Asker → ExchangePhase → Result (Turn ExchangePhase AsDone) Cause → Type 0
@@ -37,7 +42,8 @@ Starts asker Over answer = ⊥
 
 abbrev pub Next : Asker → ExchangePhase → Result (List ℕ) NetFault → Draw → Result (Turn ExchangePhase AsDone) Cause → Type 0
 Next asker (New body) reply draw answer = ⊥
-Next asker (InAsExchange (AwaitsError kdc body)) reply draw answer = AsksSecond InAsExchange asker kdc body reply draw answer
+Next asker (InAsExchange (AwaitsError kdc body)) reply draw answer =
+    TakesFirst asker.interoperability kdc.protocol (AsksSecond InAsExchange asker kdc body draw) (EndsWith (default_salt asker.credentials)) reply answer
 Next asker (InAsExchange (AwaitsAsRep sealed)) reply draw answer = EndsWithAsRep sealed.kdc.protocol sealed.salt reply answer
 Next asker Over reply draw answer = ⊥
 

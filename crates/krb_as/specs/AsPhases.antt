@@ -1,12 +1,16 @@
 -- The AS exchange (RFC 4120, section 3.1), step by step, as each run contains it: one request without pre-authentication, whose error may
--- name the salt, and one with the time sealed under the client's key, whose reply brings a ticket and its session key.
+-- name the salt, and one with the time sealed under the client's key, whose reply brings a ticket and its session key. Where it is allowed,
+-- the first reply may bring the ticket.
 use Rattle.std.specs.Prelude.{◌≡◌, ℕ, ◌≤◌, ◌^◌, List, length, Result}
+use Rattle.krb_exchange.specs.declared.kdc_rep.AsRep.{AsRep}
 use Rattle.krb_exchange.specs.declared.kdc_req.KdcReqBody.{KdcReqBody}
+use Rattle.krb_exchange.specs.declared.krb_error.KrbError.{KrbError}
 use Rattle.krb_exchange.specs.Layouts.{as_rep_layout, kdc_req_body_layout}
+use Rattle.krb_crypto.specs.declared.suite.CipherSuite.{CipherSuite}
+use Rattle.krb_context.specs.Interoperability.{allows, suite_of_each_key}
 use Rattle.sspi_core.specs.declared.cause.Cause.{Cause}
 use Rattle.sspi_core.specs.declared.cause.Cause.TheVariants.{KeyLength}
 use Rattle.sspi_core.specs.declared.draw.Draw.{Draw}
-use Rattle.sspi_core.specs.declared.identity.CredentialsBuffers.{CredentialsBuffers}
 use Rattle.sspi_core.specs.declared.protocol.NetworkProtocol.{NetworkProtocol}
 use Rattle.sspi_core.specs.Checks.{Takes, Gives, ◌>>=◌}
 use Rattle.sspi_generator.specs.declared.network.NetworkRequest.{NetworkRequest}
@@ -21,10 +25,10 @@ use Rattle.krb_as.specs.declared.key.SealedTime.{SealedTime}
 use Rattle.krb_as.specs.declared.turn.Turn.{Turn}
 use Rattle.krb_as.specs.declared.turn.Turn.TheVariants.{Asks, Ends}
 use Rattle.krb_as.specs.Asked.{first_request, second_request}
-use Rattle.krb_as.specs.Askers.{asker_suite, client_key, default_salt, sized_key}
+use Rattle.krb_as.specs.Askers.{client_key, default_salt, sized_key}
 use Rattle.krb_as.specs.Granted.{IsSendable}
 use Rattle.krb_as.specs.Kdcs.{FindsKdc}
-use Rattle.krb_as.specs.Replied.{WantsPreAuth, Grants}
+use Rattle.krb_as.specs.Replied.{LeavesSalt, LeavesSuite, TakesFirst, Grants}
 use Rattle.krb_as.specs.ReplyKeys.{TakesReplyKey}
 use Rattle.krb_as.specs.Turns.{Within}
 
@@ -35,34 +39,40 @@ BeginsExchange asker body = do
   Gives (first_request kdc body, AwaitsError kdc body)
 
 -- the second request, with this key
-abbrev pub sealed_time : Asker → Kdc → List ℕ → List ℕ → SealedTime
-sealed_time asker kdc salt key = record { kdc = kdc; suite = asker_suite asker; salt = salt; key = key }
+abbrev pub sealed_time : Kdc → CipherSuite → List ℕ → List ℕ → SealedTime
+sealed_time kdc suite salt key = record { kdc = kdc; suite = suite; salt = salt; key = key }
 
 -- the error: the second request goes to the same KDC, with the same body
-unfoldable pub SealsTime : Asker → Kdc → KdcReqBody → Result (List ℕ) NetFault → Draw → Result (NetworkRequest × SealedTime) Cause → Type 0
-SealsTime asker kdc body reply draw = do
-  salt ← WantsPreAuth kdc.protocol (default_salt asker.credentials) reply
-  key ← Takes KeyLength (sized_key asker salt)
-  Gives (second_request (asker_suite asker) key draw kdc body, sealed_time asker kdc salt key)
+unfoldable pub SealsTime : Asker → Kdc → KdcReqBody → Draw → KrbError → Result (NetworkRequest × SealedTime) Cause → Type 0
+SealsTime asker kdc body draw error = do
+  salt ← LeavesSalt (default_salt asker.credentials) error
+  suite ← LeavesSuite (allows asker.interoperability suite_of_each_key) asker error
+  key ← Takes KeyLength (sized_key asker suite salt)
+  Gives (second_request suite key draw kdc body, sealed_time kdc suite salt key)
 
 -- and an AS-REP is awaited, within a run
-unfoldable pub AsksSecond : {P O : Type 0} → (AsPhase → P) → Asker → Kdc → KdcReqBody → Result (List ℕ) NetFault → Draw
+unfoldable pub AsksSecond : {P O : Type 0} → (AsPhase → P) → Asker → Kdc → KdcReqBody → Draw → KrbError
     → Result (Turn P O) Cause → Type 0
-AsksSecond within asker kdc body reply draw = do
-  sent ← SealsTime asker kdc body reply draw
+AsksSecond within asker kdc body draw error = do
+  sent ← SealsTime asker kdc body draw error
   Gives (Asks sent.0 (within (AwaitsAsRep sent.1)))
 
--- the AS-REP brings a ticket, and the key that is sealed in it under that of the credentials; used is the salt of the request
-unfoldable pub TakesAsRep : CredentialsBuffers → NetworkProtocol → List ℕ → Result (List ℕ) NetFault → Result (Turn AsPhase Grant) Cause → Type 0
-TakesAsRep credentials protocol used reply = do
-  as_rep ← Grants protocol as_rep_layout reply
-  taken ← TakesReplyKey credentials used as_rep
+-- an AS-REP brings a ticket, and the key that is sealed in it under that of the credentials; used is the salt of the request
+unfoldable pub BringsGrant : Asker → List ℕ → AsRep → Result (Turn AsPhase Grant) Cause → Type 0
+BringsGrant asker used as_rep = do
+  taken ← TakesReplyKey asker.interoperability asker.credentials used as_rep
   Gives (Ends (record { suite = taken.suite; key = taken.key; rep = as_rep.0 }))
 
--- what a reply leads to
+unfoldable pub TakesAsRep : Asker → NetworkProtocol → List ℕ → Result (List ℕ) NetFault → Result (Turn AsPhase Grant) Cause → Type 0
+TakesAsRep asker protocol used reply = do
+  as_rep ← Grants protocol as_rep_layout reply
+  BringsGrant asker used as_rep
+
+-- what a reply leads to. No salt was used where the first reply is an AS-REP, so that is the one that the credentials have
 abbrev pub TakesReply : Asker → AsPhase → Result (List ℕ) NetFault → Draw → Result (Turn AsPhase Grant) Cause → Type 0
-TakesReply asker (AwaitsError kdc body) reply draw answer = AsksSecond (λ phase. phase) asker kdc body reply draw answer
-TakesReply asker (AwaitsAsRep sealed) reply draw answer = TakesAsRep asker.credentials sealed.kdc.protocol sealed.salt reply answer
+TakesReply asker (AwaitsError kdc body) reply draw answer =
+    TakesFirst asker.interoperability kdc.protocol (AsksSecond (λ phase. phase) asker kdc body draw) (BringsGrant asker (default_salt asker.credentials)) reply answer
+TakesReply asker (AwaitsAsRep sealed) reply draw answer = TakesAsRep asker sealed.kdc.protocol sealed.salt reply answer
 
 -- ---- within a run
 

@@ -3,27 +3,27 @@
 ghost use Rattle.std.specs.Prelude.{◌≡◌, ℕ, ◌≤◌, ◌^◌, true, IfOk, length, Err};
 ghost use Rattle.sspi_core.specs.declared.cause.Cause.TheVariants as causes;
 ghost use Rattle.sspi_core.specs.Moments.{last_moment};
-ghost use Rattle.sspi_core.specs.Checks.{Answers, Gives};
+ghost use Rattle.sspi_core.specs.Checks.{Answers};
 ghost use Rattle.krb_exchange.specs.Layouts.{kdc_req_body_layout};
 ghost use Rattle.krb_requests.specs.Pieces.{Fits};
 ghost use Rattle.krb_as.specs.declared.as_exchange.ExchangePhase.TheVariants as phases;
-ghost use Rattle.krb_as.specs.declared.turn.Turn.TheVariants as turns;
 ghost use Rattle.krb_as.specs.declared.asker.Asker.{Asker};
-ghost use Rattle.krb_as.specs.Askers.{asker_of};
+ghost use Rattle.krb_as.specs.Askers.{asker_of, default_salt};
+ghost use Rattle.krb_as.specs.Replied.{TakesEarly, TakesEither, TakesFirst};
 ghost use Rattle.krb_as.specs.Turns.{is_want, GoesDown};
 ghost use Rattle.krb_as.specs.AsPhases.{BeginsWithin, AsksSecond};
-ghost use Rattle.krb_as.specs.AsExchanges.{EndsWithAsRep, Starts, Next, IsNewPhase, IsAwaiting, turns_left, IsNew, StartsAt, ResumesAt};
+ghost use Rattle.krb_as.specs.AsExchanges.{EndsWith, EndsWithAsRep, Starts, Next, IsNewPhase, IsAwaiting, turns_left, IsNew, StartsAt, ResumesAt};
 
 use crate::as_phase::{AsPhase, begin_exchange, seal_time};
-use crate::asker::Asker;
+use crate::asker::{Asker, default_salt};
 use crate::kdc::Kdc;
 use crate::key::SealedTime;
-use crate::reply::granted_as_rep;
+use crate::reply::{check_early, first_reply, granted_as_rep};
 use crate::turn::{Turn, go_on, is_want};
 use krb_conf::Env;
 use krb_context::Kerberos;
 use krb_der::{Name, Octets, OutOfMemory, Text, TryCopy};
-use krb_exchange::{AsRep, KdcReqBody};
+use krb_exchange::{AsRep, KdcReqBody, KrbError, KrbResult};
 use sspi_core::{Cause, CredentialsBuffers, Draw, Error};
 use sspi_generator::{GeneratorState, NetFault, NetworkRequest, Resumable, Task};
 use std::alloc::Global;
@@ -46,7 +46,8 @@ pub struct AsDone {
     pub salt: Text,
 }
 
-/// The AS exchange: a request without pre-authentication, whose error may name the salt, and one with it.
+/// The AS exchange: a request without pre-authentication, whose error may name the salt, and one with it. Where the options allow that
+/// there is no pre-authentication, the first request's answer may be the AS-REP.
 #[derive(Drop)]
 pub struct AsExchange {
     alloc: Global,
@@ -115,9 +116,87 @@ fn started(
     }
 }
 
-/// What follows the first reply.
+/// What follows an error.
 #[tactic(auto, unfolding(crate::specs::AsPhases::AsksSecond))]
 fn ask_second(
+    alloc: Global,
+    asker: &Asker,
+    kdc: &Kdc,
+    body: &KdcReqBody,
+    error: &KrbError,
+    draw: &Draw,
+) -> Result<Turn<ExchangePhase, AsDone>, Cause>
+    requires moment { draw.now.moment ≤ last_moment }
+    requires body { Fits kdc_req_body_layout (2 ^ 28) body.now }
+    requires realm { length kdc.now.realm ≤ 2 ^ 24 }
+    ensures step { Answers (AsksSecond phases.InAsExchange asker.now kdc.now body.now draw.now error.now) result }
+    ensures down { IfOk result (λ turn. GoesDown (IsAwaiting asker.now) turns_left 1 turn) }
+{
+    let (request, sealed) = seal_time(alloc, asker, kdc, body, error, draw)?;
+    let phase = AsPhase::AwaitsAsRep(sealed);
+    Ok(Turn::Asks(request, ExchangePhase::InAsExchange(phase)))
+}
+
+fn end(alloc: Global, as_rep: AsRep, salt: &Text) -> Result<Turn<ExchangePhase, AsDone>, Cause>
+    ensures step { Answers (EndsWith salt.now as_rep) result }
+    ensures down { (asker : Asker) (turns : ℕ) → IfOk result (λ turn. GoesDown (IsAwaiting asker) turns_left turns turn) }
+{
+    let salt = salt.copy(alloc)?;
+    Ok(Turn::Ends(AsDone { as_rep, salt }))
+}
+
+/// The end with the salt of the credentials, since none was used.
+fn end_unsalted(
+    alloc: Global,
+    asker: &Asker,
+    as_rep: AsRep,
+) -> Result<Turn<ExchangePhase, AsDone>, Cause>
+    ensures step { Answers (EndsWith (default_salt asker.now.credentials) as_rep) result }
+    ensures down { IfOk result (λ turn. GoesDown (IsAwaiting asker.now) turns_left 1 turn) }
+{
+    let salt = default_salt(alloc, &asker.credentials)?;
+    end(alloc, as_rep, &salt)
+}
+
+/// The end with an AS-REP that came at once.
+#[tactic(auto, unfolding(crate::specs::Replied::TakesEarly))]
+fn end_early(
+    alloc: Global,
+    asker: &Asker,
+    as_rep: AsRep,
+) -> Result<Turn<ExchangePhase, AsDone>, Cause>
+    ensures step { Answers (TakesEarly asker.now.interoperability (EndsWith (default_salt asker.now.credentials)) as_rep) result }
+    ensures down { IfOk result (λ turn. GoesDown (IsAwaiting asker.now) turns_left 1 turn) }
+{
+    check_early(asker.interoperability)?;
+    end_unsalted(alloc, asker, as_rep)
+}
+
+/// What follows an error, or an AS-REP in its place.
+fn take_either(
+    alloc: Global,
+    asker: &Asker,
+    kdc: &Kdc,
+    body: &KdcReqBody,
+    first: KrbResult<AsRep>,
+    draw: &Draw,
+) -> Result<Turn<ExchangePhase, AsDone>, Cause>
+    requires moment { draw.now.moment ≤ last_moment }
+    requires body { Fits kdc_req_body_layout (2 ^ 28) body.now }
+    requires realm { length kdc.now.realm ≤ 2 ^ 24 }
+    ensures step { Answers (TakesEither asker.now.interoperability (AsksSecond phases.InAsExchange asker.now kdc.now body.now draw.now)
+        (EndsWith (default_salt asker.now.credentials)) first) result }
+    ensures down { IfOk result (λ turn. GoesDown (IsAwaiting asker.now) turns_left 1 turn) }
+{
+    match first {
+        KrbResult::Err(error) => ask_second(alloc, asker, kdc, body, &error, draw),
+        KrbResult::Ok(as_rep) => end_early(alloc, asker, as_rep),
+    }
+}
+
+/// What follows the first reply.
+#[tactic(auto, unfolding(crate::specs::Replied::TakesFirst))]
+fn take_first(
     alloc: Global,
     asker: &Asker,
     kdc: &Kdc,
@@ -128,20 +207,12 @@ fn ask_second(
     requires moment { draw.now.moment ≤ last_moment }
     requires body { Fits kdc_req_body_layout (2 ^ 28) body.now }
     requires realm { length kdc.now.realm ≤ 2 ^ 24 }
-    ensures step { Answers (AsksSecond phases.InAsExchange asker.now kdc.now body.now reply draw.now) result }
+    ensures step { Answers (TakesFirst asker.now.interoperability kdc.now.protocol (AsksSecond phases.InAsExchange asker.now kdc.now body.now draw.now)
+        (EndsWith (default_salt asker.now.credentials)) reply) result }
     ensures down { IfOk result (λ turn. GoesDown (IsAwaiting asker.now) turns_left 1 turn) }
 {
-    let (request, sealed) = seal_time(alloc, asker, kdc, body, reply, draw)?;
-    let phase = AsPhase::AwaitsAsRep(sealed);
-    Ok(Turn::Asks(request, ExchangePhase::InAsExchange(phase)))
-}
-
-fn end(alloc: Global, as_rep: AsRep, salt: &Text) -> Result<Turn<ExchangePhase, AsDone>, Cause>
-    ensures step { Answers (Gives (turns.Ends (record { as_rep = as_rep; salt = salt.now }))) result }
-    ensures down { (asker : Asker) (turns : ℕ) → IfOk result (λ turn. GoesDown (IsAwaiting asker) turns_left turns turn) }
-{
-    let salt = salt.copy(alloc)?;
-    Ok(Turn::Ends(AsDone { as_rep, salt }))
+    let first = first_reply(alloc, kdc.protocol, reply)?;
+    take_either(alloc, asker, kdc, body, first, draw)
 }
 
 /// What follows the second reply.
@@ -173,7 +244,7 @@ fn in_phase(
 {
     match phase {
         ExchangePhase::InAsExchange(AsPhase::AwaitsError(kdc, body)) => {
-            ask_second(alloc, asker, kdc, body, reply, draw)
+            take_first(alloc, asker, kdc, body, reply, draw)
         }
         ExchangePhase::InAsExchange(AsPhase::AwaitsAsRep(sealed)) => {
             take_as_rep(alloc, sealed, reply)

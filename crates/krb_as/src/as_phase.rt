@@ -8,19 +8,22 @@ ghost use Rattle.krb_exchange.specs.Layouts.{kdc_req_body_layout};
 ghost use Rattle.krb_requests.specs.Pieces.{Fits};
 ghost use Rattle.krb_as.specs.declared.as_phase.AsPhase.TheVariants as phases;
 ghost use Rattle.krb_as.specs.declared.asker.Asker.{Asker};
-ghost use Rattle.krb_as.specs.Askers.{asker_suite, client_key};
+ghost use Rattle.krb_as.specs.Askers.{client_key, default_salt};
 ghost use Rattle.krb_as.specs.Asked.{first_request, second_request};
+ghost use Rattle.krb_as.specs.Granted.{IsSendable, IsSendableReply};
+ghost use Rattle.krb_as.specs.Replied.{TakesEarly, TakesEither, TakesFirst};
 ghost use Rattle.krb_as.specs.Turns.{GoesDown};
-ghost use Rattle.krb_as.specs.AsPhases.{IsSealed, IsAwaiting, turns_left, kdc_of, EndsSendable, sealed_time, BeginsExchange, SealsTime, AsksSecond, TakesAsRep, TakesReply};
+ghost use Rattle.krb_as.specs.AsPhases.{IsSealed, IsAwaiting, turns_left, kdc_of, EndsSendable, sealed_time, BeginsExchange, SealsTime, AsksSecond, BringsGrant, TakesAsRep, TakesReply};
 
-use crate::asker::{Asker, asker_suite, sized_key};
+use crate::asker::{Asker, default_salt, sized_key};
 use crate::kdc::{Kdc, find_kdc};
-use crate::key::{Grant, SealedTime, kept_reply_key};
-use crate::reply::{granted_as_rep, wanted_salt};
+use crate::key::{Grant, SealedTime, kept_reply_key, reply_key};
+use crate::reply::{check_early, first_reply, granted_as_rep, left_salt, left_suite};
 use crate::request::{first_request, second_request};
 use crate::turn::Turn;
+use krb_crypto::CipherSuite;
 use krb_der::{Octets, Text, TryCopy};
-use krb_exchange::KdcReqBody;
+use krb_exchange::{AsRep, KdcReqBody, KrbError, KrbResult};
 use sspi_core::{Cause, Draw, Secret};
 use sspi_generator::{NetFault, NetworkRequest};
 use std::alloc::Global;
@@ -93,19 +96,19 @@ fn sent_second(
     asker: &Asker,
     kdc: &Kdc,
     body: &KdcReqBody,
+    suite: CipherSuite,
     salt: Text,
     key: Octets,
     draw: &Draw,
 ) -> Result<(NetworkRequest, SealedTime), Cause>
-    requires key { key ≡ client_key (asker_suite asker.now) salt asker.now.credentials }
-    requires size { length key ≡ key_size (asker_suite asker.now) }
+    requires key { key ≡ client_key suite salt asker.now.credentials }
+    requires size { length key ≡ key_size suite }
     requires moment { draw.now.moment ≤ last_moment }
     requires body { Fits kdc_req_body_layout (2 ^ 28) body.now }
     requires realm { length kdc.now.realm ≤ 2 ^ 24 }
-    ensures step { Answers (Gives (second_request (asker_suite asker.now) key draw.now kdc.now body.now, sealed_time asker.now kdc.now salt key)) result }
+    ensures step { Answers (Gives (second_request suite key draw.now kdc.now body.now, sealed_time kdc.now suite salt key)) result }
     ensures sealed { IfOk result (λ sent. IsSealed asker.now sent.1) }
 {
-    let suite = asker_suite(asker);
     let request = second_request(alloc, suite, &key, draw, kdc, body)?;
     let kdc = kdc.copy(alloc)?;
     let key = Secret::new(key);
@@ -120,29 +123,30 @@ fn sent_second(
     ))
 }
 
-/// What follows the first reply: a request with the same body to the same KDC, with the time sealed under the client's key. The
-/// confounder is the first 16 random octets of the draw.
+/// What follows an error that answers the first request: a request with the same body to the same KDC, with the time sealed under the
+/// client's key. The confounder is the first 16 random octets of the draw.
 ///
-/// Refused as `wanted_salt` refuses the reply, and then as `KeyLength` where the key is a keytab's and has not the length of its
-/// suite's keys.
+/// Refused as `left_salt` refuses the error, and then as `KeyLength` where the key is a keytab's and has not the length of its suite's
+/// keys. The suite is `left_suite`'s, which refuses nothing that `left_salt` takes.
 #[tactic(auto, unfolding(crate::specs::AsPhases::SealsTime))]
 pub(crate) fn seal_time(
     alloc: Global,
     asker: &Asker,
     kdc: &Kdc,
     body: &KdcReqBody,
-    reply: Result<Octets, NetFault>,
+    error: &KrbError,
     draw: &Draw,
 ) -> Result<(NetworkRequest, SealedTime), Cause>
     requires moment { draw.now.moment ≤ last_moment }
     requires body { Fits kdc_req_body_layout (2 ^ 28) body.now }
     requires realm { length kdc.now.realm ≤ 2 ^ 24 }
-    ensures step { Answers (SealsTime asker.now kdc.now body.now reply draw.now) result }
+    ensures step { Answers (SealsTime asker.now kdc.now body.now draw.now error.now) result }
     ensures sealed { IfOk result (λ sent. IsSealed asker.now sent.1) }
 {
-    let salt = wanted_salt(alloc, kdc.protocol, &asker.credentials, reply)?;
-    let key = sized_key(alloc, asker, &salt)?;
-    sent_second(alloc, asker, kdc, body, salt, key, draw)
+    let salt = left_salt(alloc, &asker.credentials, error)?;
+    let suite = left_suite(alloc, asker, error)?;
+    let key = sized_key(alloc, asker, suite, &salt)?;
+    sent_second(alloc, asker, kdc, body, suite, salt, key, draw)
 }
 
 /// The phase behind the second request.
@@ -152,22 +156,111 @@ fn ask_second(
     asker: &Asker,
     kdc: &Kdc,
     body: &KdcReqBody,
+    error: &KrbError,
+    draw: &Draw,
+) -> Result<Turn<AsPhase, Grant>, Cause>
+    requires moment { draw.now.moment ≤ last_moment }
+    requires body { Fits kdc_req_body_layout (2 ^ 28) body.now }
+    requires realm { length kdc.now.realm ≤ 2 ^ 24 }
+    ensures step { Answers (AsksSecond (λ phase. phase) asker.now kdc.now body.now draw.now error.now) result }
+    ensures down { IfOk result (λ turn. GoesDown (IsAwaiting asker.now) turns_left 1 turn) }
+    ensures sendable { IfOk result (λ turn. EndsSendable turn) }
+{
+    let (request, sealed) = seal_time(alloc, asker, kdc, body, error, draw)?;
+    Ok(Turn::Asks(request, AsPhase::AwaitsAsRep(sealed)))
+}
+
+/// The ticket of an AS-REP that came at once, with this salt where it tells none.
+#[tactic(auto, unfolding(crate::specs::AsPhases::BringsGrant))]
+fn salted_grant(
+    alloc: Global,
+    asker: &Asker,
+    salt: &Text,
+    as_rep: AsRep,
+) -> Result<Turn<AsPhase, Grant>, Cause>
+    requires sendable { IsSendable as_rep.0 }
+    ensures step { Answers (BringsGrant asker.now salt.now as_rep) result }
+    ensures down { IfOk result (λ turn. GoesDown (IsAwaiting asker.now) turns_left 1 turn) }
+    ensures sendable { IfOk result (λ turn. EndsSendable turn) }
+{
+    let taken = reply_key(alloc, asker, salt, &as_rep)?;
+    Ok(Turn::Ends(Grant {
+        suite: taken.suite,
+        key: taken.key,
+        rep: as_rep.0,
+    }))
+}
+
+/// The same with the salt of the credentials, since none was used.
+fn early_grant(alloc: Global, asker: &Asker, as_rep: AsRep) -> Result<Turn<AsPhase, Grant>, Cause>
+    requires sendable { IsSendable as_rep.0 }
+    ensures step { Answers (BringsGrant asker.now (default_salt asker.now.credentials) as_rep) result }
+    ensures down { IfOk result (λ turn. GoesDown (IsAwaiting asker.now) turns_left 1 turn) }
+    ensures sendable { IfOk result (λ turn. EndsSendable turn) }
+{
+    let salt = default_salt(alloc, &asker.credentials)?;
+    salted_grant(alloc, asker, &salt, as_rep)
+}
+
+#[tactic(auto, unfolding(crate::specs::Replied::TakesEarly))]
+fn take_early(alloc: Global, asker: &Asker, as_rep: AsRep) -> Result<Turn<AsPhase, Grant>, Cause>
+    requires sendable { IsSendable as_rep.0 }
+    ensures step { Answers (TakesEarly asker.now.interoperability (BringsGrant asker.now (default_salt asker.now.credentials)) as_rep) result }
+    ensures down { IfOk result (λ turn. GoesDown (IsAwaiting asker.now) turns_left 1 turn) }
+    ensures sendable { IfOk result (λ turn. EndsSendable turn) }
+{
+    check_early(asker.interoperability)?;
+    early_grant(alloc, asker, as_rep)
+}
+
+/// What follows an error, or an AS-REP in its place.
+fn take_either(
+    alloc: Global,
+    asker: &Asker,
+    kdc: &Kdc,
+    body: &KdcReqBody,
+    first: KrbResult<AsRep>,
+    draw: &Draw,
+) -> Result<Turn<AsPhase, Grant>, Cause>
+    requires moment { draw.now.moment ≤ last_moment }
+    requires body { Fits kdc_req_body_layout (2 ^ 28) body.now }
+    requires realm { length kdc.now.realm ≤ 2 ^ 24 }
+    requires sendable { IsSendableReply first }
+    ensures step { Answers (TakesEither asker.now.interoperability (AsksSecond (λ phase. phase) asker.now kdc.now body.now draw.now)
+        (BringsGrant asker.now (default_salt asker.now.credentials)) first) result }
+    ensures down { IfOk result (λ turn. GoesDown (IsAwaiting asker.now) turns_left 1 turn) }
+    ensures sendable { IfOk result (λ turn. EndsSendable turn) }
+{
+    match first {
+        KrbResult::Err(error) => ask_second(alloc, asker, kdc, body, &error, draw),
+        KrbResult::Ok(as_rep) => take_early(alloc, asker, as_rep),
+    }
+}
+
+/// What follows the first reply.
+#[tactic(auto, unfolding(crate::specs::Replied::TakesFirst))]
+fn take_first(
+    alloc: Global,
+    asker: &Asker,
+    kdc: &Kdc,
+    body: &KdcReqBody,
     reply: Result<Octets, NetFault>,
     draw: &Draw,
 ) -> Result<Turn<AsPhase, Grant>, Cause>
     requires moment { draw.now.moment ≤ last_moment }
     requires body { Fits kdc_req_body_layout (2 ^ 28) body.now }
     requires realm { length kdc.now.realm ≤ 2 ^ 24 }
-    ensures step { Answers (AsksSecond (λ phase. phase) asker.now kdc.now body.now reply draw.now) result }
+    ensures step { Answers (TakesFirst asker.now.interoperability kdc.now.protocol (AsksSecond (λ phase. phase) asker.now kdc.now body.now draw.now)
+        (BringsGrant asker.now (default_salt asker.now.credentials)) reply) result }
     ensures down { IfOk result (λ turn. GoesDown (IsAwaiting asker.now) turns_left 1 turn) }
     ensures sendable { IfOk result (λ turn. EndsSendable turn) }
 {
-    let (request, sealed) = seal_time(alloc, asker, kdc, body, reply, draw)?;
-    Ok(Turn::Asks(request, AsPhase::AwaitsAsRep(sealed)))
+    let first = first_reply(alloc, kdc.protocol, reply)?;
+    take_either(alloc, asker, kdc, body, first, draw)
 }
 
 /// What follows the second reply.
-#[tactic(auto, unfolding(crate::specs::AsPhases::TakesAsRep))]
+#[tactic(auto, unfolding(crate::specs::AsPhases::TakesAsRep, crate::specs::AsPhases::BringsGrant))]
 fn take_as_rep(
     alloc: Global,
     asker: &Asker,
@@ -175,7 +268,7 @@ fn take_as_rep(
     reply: Result<Octets, NetFault>,
 ) -> Result<Turn<AsPhase, Grant>, Cause>
     requires sealed { IsSealed asker.now sealed.now }
-    ensures step { Answers (TakesAsRep asker.now.credentials sealed.now.kdc.protocol sealed.now.salt reply) result }
+    ensures step { Answers (TakesAsRep asker.now sealed.now.kdc.protocol sealed.now.salt reply) result }
     ensures down { IfOk result (λ turn. GoesDown (IsAwaiting asker.now) turns_left 0 turn) }
     ensures sendable { IfOk result (λ turn. EndsSendable turn) }
 {
@@ -188,10 +281,12 @@ fn take_as_rep(
     }))
 }
 
-/// What a reply leads to: the second request behind the first reply, and behind the second one the ticket that it brings.
+/// What a reply leads to: the second request behind the first reply, and behind the second one the ticket that it brings. Where the
+/// options allow that there is no pre-authentication, a first reply that is an AS-REP brings the ticket.
 ///
-/// The first reply is refused as `wanted_salt` refuses, and then as `KeyLength` where the key is a keytab's and has not the length
-/// of its suite's keys; the second one as `granted_as_rep` refuses, and then as `reply_key` refuses.
+/// The first reply is refused as `read_reply` refuses. An error is then refused as `left_salt` refuses, and as `KeyLength` where the key
+/// is a keytab's and has not the length of its suite's keys; an AS-REP as `EarlyAsRep` where it is not allowed, and as `reply_key`
+/// refuses. The second reply is refused as `granted_as_rep` refuses, and then as `reply_key` refuses.
 pub fn take_reply(
     alloc: Global,
     asker: &Asker,
@@ -206,7 +301,7 @@ pub fn take_reply(
     ensures sendable { IfOk result (λ turn. EndsSendable turn) }
 {
     match phase {
-        AsPhase::AwaitsError(kdc, body) => ask_second(alloc, asker, kdc, body, reply, draw),
+        AsPhase::AwaitsError(kdc, body) => take_first(alloc, asker, kdc, body, reply, draw),
         AsPhase::AwaitsAsRep(sealed) => take_as_rep(alloc, asker, sealed, reply),
     }
 }

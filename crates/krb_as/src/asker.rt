@@ -5,11 +5,11 @@ ghost use Rattle.krb_crypto.specs.Suite.{key_size};
 ghost use Rattle.krb_crypto.specs.Password.{password_key};
 ghost use Rattle.sspi_core.specs.declared.cause.Cause.TheVariants as causes;
 ghost use Rattle.sspi_core.specs.Checks.{Answers, Takes};
-ghost use Rattle.krb_as.specs.Askers.{suite_for, key_for, client_key, default_salt, asker_suite, sized_key, asker_of};
+ghost use Rattle.krb_as.specs.Askers.{suite_for, key_for, client_key, default_salt, asker_suite, suite_told, sized_key, asker_of};
 
 use crate::client::Client;
 use krb_conf::Env;
-use krb_context::Kerberos;
+use krb_context::{Interoperability, Kerberos};
 use krb_crypto::{CipherSuite, generate_key_from_password};
 use krb_der::{Name, Octets, OutOfMemory, Text, TryCopy};
 use sspi_core::{Cause, CredentialsBuffers};
@@ -28,6 +28,8 @@ pub struct Asker {
     /// The suite of a password's key.
     pub suite: CipherSuite,
     pub credentials: CredentialsBuffers,
+    /// What the client's context allows beyond its own rules.
+    pub interoperability: Interoperability,
 }
 
 /// The URL that the client has.
@@ -56,6 +58,7 @@ impl Asker {
             realm,
             suite: client.encryption_params.suite(),
             credentials,
+            interoperability: client.interoperability,
         })
     }
 }
@@ -138,13 +141,26 @@ pub fn asker_suite(asker: &Asker) -> CipherSuite
     suite_for(asker.suite, &asker.credentials)
 }
 
-/// The client's key with a salt. Refused as `KeyLength` exactly where it is a keytab's and not as long as the keys of its suite.
-pub fn sized_key(alloc: Global, asker: &Asker, salt: &Text) -> Result<Octets, Cause>
-    ensures step { Answers (Takes causes.KeyLength (sized_key asker.now salt.now)) result }
-    ensures size { IfOk result (λ key. length key ≡ key_size (asker_suite asker.now)) }
-    ensures client { IfOk result (λ key. key ≡ client_key (asker_suite asker.now) salt.now asker.now.credentials) }
+/// The suite of the client's key where a KDC named this one, if it is known, for a password's. A keytab's key has its own.
+pub(crate) fn suite_told(asker: &Asker, named: Option<CipherSuite>) -> CipherSuite
+    ensures { result ≡ suite_told asker.now named }
 {
-    key_for(alloc, asker_suite(asker), salt, &asker.credentials)
+    suite_for(named.unwrap_or(asker.suite), &asker.credentials)
+}
+
+/// The client's key in a suite, with a salt. Refused as `KeyLength` exactly where it is a keytab's and not as long as the keys of the
+/// suite.
+pub fn sized_key(
+    alloc: Global,
+    asker: &Asker,
+    suite: CipherSuite,
+    salt: &Text,
+) -> Result<Octets, Cause>
+    ensures step { Answers (Takes causes.KeyLength (sized_key asker.now suite salt.now)) result }
+    ensures size { IfOk result (λ key. length key ≡ key_size suite) }
+    ensures client { IfOk result (λ key. key ≡ client_key suite salt.now asker.now.credentials) }
+{
+    key_for(alloc, suite, salt, &asker.credentials)
 }
 
 /// A context that asks with these credentials, in the realm of their client.

@@ -2,18 +2,19 @@
 
 ghost use Rattle.std.specs.Prelude.{◌≡◌, true};
 ghost use Rattle.krb_crypto.specs.Suite.{suite_of_etype};
-ghost use Rattle.sspi_core.specs.Checks.{Answers, Gives};
+ghost use Rattle.sspi_core.specs.Checks.{Answers};
 ghost use Rattle.krb_replies.specs.Salts.{TellsEtype};
-ghost use Rattle.krb_replies.specs.Keys.{BringsKey};
+ghost use Rattle.krb_replies.specs.Keys.{BringsFirst};
 ghost use Rattle.krb_as.specs.Askers.{client_key};
 ghost use Rattle.krb_as.specs.ReplyKeys.{TakesReplyKey};
 
 use crate::asker::Asker;
 use crate::kdc::Kdc;
+use krb_context::Interoperability;
 use krb_crypto::{CipherSuite, generate_key_from_password};
 use krb_der::{Octets, Text};
 use krb_exchange::{AsRep, KdcRep};
-use krb_replies::{session_key_in_as_rep, told_etype};
+use krb_replies::{ReplyKey, key_in_as_rep, told_etype};
 use sspi_core::{Cause, CredentialsBuffers, Secret};
 use std::alloc::Global;
 
@@ -41,33 +42,26 @@ pub struct Grant {
     pub rep: KdcRep,
 }
 
-/// The key that an AS-REP brings.
-#[derive(Drop)]
-pub struct ReplyKey {
-    /// The suite of the client's key.
-    pub suite: CipherSuite,
-    /// The session key of the ticket.
-    pub key: Secret<Octets>,
-}
-
-/// The session key that is sealed under the key of the credentials.
-fn session_key(
+/// The key that is sealed under the key of the credentials.
+fn brought_key(
     alloc: Global,
+    options: Interoperability,
     credentials: &CredentialsBuffers,
     suite: CipherSuite,
     salt: &Text,
     as_rep: &AsRep,
-) -> Result<Secret<Octets>, Cause>
-    ensures { Answers (BringsKey suite (client_key suite salt.now credentials.now) as_rep.now) result }
+) -> Result<ReplyKey, Cause>
+    ensures { Answers (BringsFirst options suite (client_key suite salt.now credentials.now) as_rep.now) result }
 {
     match credentials {
         CredentialsBuffers::AuthIdentity(identity) => {
             let password = identity.password.as_ref().as_str().as_bytes();
             let key = generate_key_from_password(suite, password, salt.as_str().as_bytes());
-            session_key_in_as_rep(alloc, suite, key.as_slice(), as_rep)
+            key_in_as_rep(alloc, options, suite, key.as_slice(), as_rep)
         }
         CredentialsBuffers::Keytab(identity) => {
-            session_key_in_as_rep(alloc, suite, identity.key.as_ref().as_slice(), as_rep)
+            let key = identity.key.as_ref().as_slice();
+            key_in_as_rep(alloc, options, suite, key, as_rep)
         }
     }
 }
@@ -79,31 +73,23 @@ fn told_hint(alloc: Global, used: &Text, as_rep: &AsRep) -> Result<(u8, Text), C
     told_etype(alloc, as_rep, used.as_str())
 }
 
-/// The session key, in the suite and with the salt that were told.
+/// The key that an AS-REP brings, by the suite and the salt that were told.
 fn told_key(
     alloc: Global,
-    credentials: &CredentialsBuffers,
+    asker: &Asker,
     hint: &(u8, Text),
     as_rep: &AsRep,
-) -> Result<Secret<Octets>, Cause>
-    ensures { Answers (BringsKey (suite_of_etype hint.now.0) (client_key (suite_of_etype hint.now.0) hint.now.1 credentials.now) as_rep.now) result }
+) -> Result<ReplyKey, Cause>
+    ensures { Answers (BringsFirst asker.now.interoperability (suite_of_etype hint.now.0) (client_key (suite_of_etype hint.now.0) hint.now.1 asker.now.credentials) as_rep.now) result }
 {
-    session_key(
+    brought_key(
         alloc,
-        credentials,
+        asker.interoperability,
+        &asker.credentials,
         CipherSuite::of_etype(hint.0),
         &hint.1,
         as_rep,
     )
-}
-
-fn with_suite(etype: u8, key: Secret<Octets>) -> Result<ReplyKey, Cause>
-    ensures { Gives (record { suite = suite_of_etype etype; key = key }) result }
-{
-    Ok(ReplyKey {
-        suite: CipherSuite::of_etype(etype),
-        key,
-    })
 }
 
 /// The key that an AS-REP brings, which is sealed under the key of the credentials with the suite and the salt that it tells,
@@ -111,7 +97,8 @@ fn with_suite(etype: u8, key: Secret<Octets>) -> Result<ReplyKey, Cause>
 ///
 /// Refused as `Shape`, `EtypeEntry`, `Salt` and `Etype` as `told_etype` refuses; as `KeyLength` where the key is a keytab's and
 /// has not the length of the suite's keys; as `Short` where the sealed part has under 28 octets, as `Altered` where nothing is
-/// sealed to it under that key, as `Inner` where what is sealed is no EncASRepPart.
+/// sealed to it under that key, as `Inner` where what is sealed is no EncASRepPart, nor one with tag 26 where that is allowed; as `Etype`
+/// where the key that it brings goes by its own suite, and that is not known.
 #[tactic(auto, unfolding(crate::specs::ReplyKeys::TakesReplyKey))]
 pub fn reply_key(
     alloc: Global,
@@ -119,11 +106,10 @@ pub fn reply_key(
     salt: &Text,
     as_rep: &AsRep,
 ) -> Result<ReplyKey, Cause>
-    ensures { Answers (TakesReplyKey asker.now.credentials salt.now as_rep.now) result }
+    ensures { Answers (TakesReplyKey asker.now.interoperability asker.now.credentials salt.now as_rep.now) result }
 {
     let hint = told_hint(alloc, salt, as_rep)?;
-    let key = told_key(alloc, &asker.credentials, &hint, as_rep)?;
-    with_suite(hint.0, key)
+    told_key(alloc, asker, &hint, as_rep)
 }
 
 /// Whether the key that the time was sealed under is the one that was told.
@@ -134,21 +120,22 @@ fn is_kept(sealed: &SealedTime, hint: &(u8, Text)) -> bool
     sealed.suite == CipherSuite::of_etype(hint.0) && sealed.salt.as_str() == hint.1.as_str()
 }
 
-/// The session key, in the suite and with the salt that were told. A password's key is made again only where these are others.
+/// The key that an AS-REP brings, by the suite and the salt that were told. A password's key is made again only where these are others.
 fn kept_or_told_key(
     alloc: Global,
-    credentials: &CredentialsBuffers,
+    asker: &Asker,
     sealed: &SealedTime,
     hint: &(u8, Text),
     as_rep: &AsRep,
-) -> Result<Secret<Octets>, Cause>
-    requires { sealed.now.key ≡ client_key sealed.now.suite sealed.now.salt credentials.now }
-    ensures { Answers (BringsKey (suite_of_etype hint.now.0) (client_key (suite_of_etype hint.now.0) hint.now.1 credentials.now) as_rep.now) result }
+) -> Result<ReplyKey, Cause>
+    requires { sealed.now.key ≡ client_key sealed.now.suite sealed.now.salt asker.now.credentials }
+    ensures { Answers (BringsFirst asker.now.interoperability (suite_of_etype hint.now.0) (client_key (suite_of_etype hint.now.0) hint.now.1 asker.now.credentials) as_rep.now) result }
 {
     if is_kept(sealed, hint) {
-        session_key_in_as_rep(alloc, sealed.suite, sealed.key.as_ref().as_slice(), as_rep)
+        let key = sealed.key.as_ref().as_slice();
+        key_in_as_rep(alloc, asker.interoperability, sealed.suite, key, as_rep)
     } else {
-        told_key(alloc, credentials, hint, as_rep)
+        told_key(alloc, asker, hint, as_rep)
     }
 }
 
@@ -161,9 +148,8 @@ pub(crate) fn kept_reply_key(
     as_rep: &AsRep,
 ) -> Result<ReplyKey, Cause>
     requires { sealed.now.key ≡ client_key sealed.now.suite sealed.now.salt asker.now.credentials }
-    ensures { Answers (TakesReplyKey asker.now.credentials sealed.now.salt as_rep.now) result }
+    ensures { Answers (TakesReplyKey asker.now.interoperability asker.now.credentials sealed.now.salt as_rep.now) result }
 {
     let hint = told_hint(alloc, &sealed.salt, as_rep)?;
-    let key = kept_or_told_key(alloc, &asker.credentials, sealed, &hint, as_rep)?;
-    with_suite(hint.0, key)
+    kept_or_told_key(alloc, asker, sealed, &hint, as_rep)
 }

@@ -1,6 +1,6 @@
 //! Laws of requests, replies and the AS exchange, for all values.
 
-ghost use Rattle.std.specs.Prelude.{◌≡◌, ◌≢◌, ◌<◌, ◌≤◌, ◌^◌, ℕ, List, Result, length, take, Ok, IsTrue};
+ghost use Rattle.std.specs.Prelude.{◌≡◌, ◌≢◌, ◌<◌, ◌≤◌, ◌^◌, ℕ, List, Result, length, take, Ok, Err, IsTrue, false};
 ghost use Rattle.sspi_core.specs.declared.cause.Cause.{Cause};
 ghost use Rattle.sspi_core.specs.declared.protocol.NetworkProtocol.{NetworkProtocol};
 ghost use Rattle.sspi_core.specs.declared.protocol.NetworkProtocol.TheVariants as protocols;
@@ -8,9 +8,24 @@ ghost use Rattle.sspi_generator.specs.declared.network.NetFault.{NetFault};
 ghost use Rattle.krb_der.specs.Schema.{is_ascii};
 ghost use Rattle.krb_messages.specs.Frame.{with_length};
 ghost use Rattle.krb_as.specs.Requests.{carried};
-ghost use Rattle.krb_as.specs.Replies.{Unwraps};
+ghost use Rattle.krb_as.specs.Replies.{Unwraps, Replies};
 ghost use Rattle.sspi_core.specs.declared.draw.Draw.{Draw};
+ghost use Rattle.krb_as.specs.declared.as_phase.AsPhase.{AsPhase};
+ghost use Rattle.krb_as.specs.declared.as_phase.AsPhase.TheVariants.{AwaitsError};
 ghost use Rattle.krb_as.specs.declared.asker.Asker.{Asker};
+ghost use Rattle.krb_as.specs.declared.kdc.Kdc.{Kdc};
+ghost use Rattle.krb_as.specs.declared.key.Grant.{Grant};
+ghost use Rattle.krb_as.specs.AsPhases.{TakesReply};
+ghost use Rattle.krb_context.specs.Interoperability.{no_options, allows, no_preauthentication, suite_of_each_key};
+ghost use Rattle.krb_crypto.specs.declared.suite.CipherSuite.{CipherSuite};
+ghost use Rattle.krb_exchange.specs.declared.krb_error.KrbError.{KrbError};
+ghost use Rattle.krb_as.specs.Askers.{asker_suite};
+ghost use Rattle.krb_as.specs.Replied.{LeavesSuite};
+ghost use Rattle.krb_exchange.specs.declared.kdc_rep.AsRep.{AsRep};
+ghost use Rattle.krb_exchange.specs.declared.kdc_req.KdcReqBody.{KdcReqBody};
+ghost use Rattle.krb_exchange.specs.declared.result.KrbResult.TheVariants.{Ok as Reply};
+ghost use Rattle.krb_exchange.specs.Layouts.{as_rep_layout};
+ghost use Rattle.sspi_core.specs.declared.cause.Cause.TheVariants.{EarlyAsRep};
 ghost use Rattle.krb_as.specs.declared.as_exchange.AsDone.{AsDone};
 ghost use Rattle.krb_as.specs.declared.as_exchange.ExchangePhase.{ExchangePhase};
 ghost use Rattle.krb_as.specs.declared.turn.Turn.{Turn};
@@ -42,6 +57,20 @@ pub fn one_outcome()
     ensures resumes { (asker : Asker) (phase : ExchangePhase) (reply : Result (List ℕ) NetFault) (draw : Draw)
         (r s : Result (Turn ExchangePhase AsDone) Cause)
         → Next asker phase reply draw r → Next asker phase reply draw s → r ≡ s }
+{}
+
+/// A first reply that is an AS-REP is refused as EarlyAsRep unless the caller allows that there is no pre-authentication.
+pub fn early_as_reps_are_refused()
+    ensures { (asker : Asker) (kdc : Kdc) (body : KdcReqBody) (reply : Result (List ℕ) NetFault) (draw : Draw) (as_rep : AsRep)
+        (answer : Result (Turn AsPhase Grant) Cause) → allows asker.interoperability no_preauthentication ≡ false
+        → Replies kdc.protocol as_rep_layout reply (Ok (Reply as_rep)) → TakesReply asker (AwaitsError kdc body) reply draw answer
+        → answer ≡ Err EarlyAsRep }
+{}
+
+/// Where nothing is allowed beyond the rules, the time is sealed in the suite of the client's own key, whatever suite an error names.
+pub fn without_options_the_time_is_in_the_own_suite()
+    ensures { (asker : Asker) (error : KrbError) (answer : Result CipherSuite Cause) → asker.interoperability ≡ no_options
+        → LeavesSuite (allows asker.interoperability suite_of_each_key) asker error answer → answer ≡ Ok (asker_suite asker) }
 {}
 
 /// A run of an AS exchange asks twice at most, whoever sends: it ends with what it ends with over the first three of its draws.

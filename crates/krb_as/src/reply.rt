@@ -1,31 +1,26 @@
 //! The replies of a KDC (RFC 4120, sections 3.1.3 to 3.1.5).
 
-ghost use Rattle.std.specs.Prelude.{◌≡◌, unwrap_or, IfOk};
+ghost use Rattle.std.specs.Prelude.{unwrap_or, IfOk};
 ghost use Rattle.sspi_core.specs.declared.cause.Cause.TheVariants as causes;
-ghost use Rattle.sspi_core.specs.Checks.{Answers, Takes, Gives};
+ghost use Rattle.sspi_core.specs.Checks.{Answers, Holds, Gives};
+ghost use Rattle.krb_context.specs.Interoperability.{allows, no_preauthentication, suite_of_each_key};
 ghost use Rattle.krb_replies.specs.Told.{Hands};
 ghost use Rattle.krb_exchange.specs.Layouts.{as_rep_layout, tgs_rep_layout};
 ghost use Rattle.krb_as.specs.Askers.{default_salt};
-ghost use Rattle.krb_as.specs.Granted.{IsSendable};
-ghost use Rattle.krb_as.specs.Replied.{error_in, reply_in, WantsPreAuth, Grants};
+ghost use Rattle.krb_as.specs.Granted.{IsSendable, IsSendableReply};
+ghost use Rattle.krb_as.specs.Replied.{reply_in, LeavesSalt, TellsSuite, LeavesSuite, Grants};
+ghost use Rattle.krb_as.specs.Replies.{Replies};
 
-use crate::asker::default_salt;
+use crate::asker::{Asker, asker_suite, default_salt, suite_told};
 use crate::receiving::read_reply;
+use krb_context::Interoperability;
+use krb_crypto::CipherSuite;
 use krb_der::{Asn1, Octets, Text};
 use krb_exchange::{AsRep, KrbError, KrbResult, TgsRep};
-use krb_replies::named_salt;
-use sspi_core::{Cause, CredentialsBuffers, NetworkProtocol};
+use krb_replies::{named_salt, named_suite};
+use sspi_core::{Cause, CredentialsBuffers, NetworkProtocol, hold};
 use sspi_generator::NetFault;
 use std::alloc::Global;
-
-fn error_in<T: Drop>(answer: KrbResult<T>) -> Result<KrbError, Cause>
-    ensures { Takes causes.EarlyAsRep (error_in answer) result }
-{
-    match answer {
-        KrbResult::Ok(_) => Err(Cause::EarlyAsRep),
-        KrbResult::Err(error) => Ok(error),
-    }
-}
 
 fn reply_in<T>(answer: KrbResult<T>) -> Result<T, Cause>
     ensures { Hands (reply_in answer) result }
@@ -50,23 +45,80 @@ fn salt_or(
     }
 }
 
-/// The salt that the first reply of an AS exchange leaves: the one that a KRB-ERROR of any code names, or else the default one.
+/// The salt that an error leaves which answers the first request: the one that it names, of whatever code it is, or else the default one.
 ///
-/// Refused as `read_reply` refuses; as `EarlyAsRep` where the reply is an AS-REP; as `Shape` where the error's data or its first
-/// ETYPE-INFO2 is out of the grammar.
-#[tactic(auto, unfolding(crate::specs::Replied::WantsPreAuth))]
-pub fn wanted_salt(
+/// Refused as `Shape` where the error's data or its first ETYPE-INFO2 is out of the grammar.
+#[tactic(auto, unfolding(crate::specs::Replied::LeavesSalt))]
+pub fn left_salt(
+    alloc: Global,
+    credentials: &CredentialsBuffers,
+    error: &KrbError,
+) -> Result<Text, Cause>
+    ensures { Answers (LeavesSalt (default_salt credentials.now) error.now) result }
+{
+    let salt = named_salt(alloc, error)?;
+    salt_or(alloc, salt, credentials)
+}
+
+/// The suite of that key by what the error names, where it is known.
+#[tactic(auto, unfolding(crate::specs::Replied::TellsSuite))]
+fn told_suite(alloc: Global, asker: &Asker, error: &KrbError) -> Result<CipherSuite, Cause>
+    ensures { Answers (TellsSuite asker.now error.now) result }
+{
+    let named = named_suite(alloc, error)?;
+    Ok(suite_told(asker, named))
+}
+
+fn suite_by(
+    alloc: Global,
+    is_told: bool,
+    asker: &Asker,
+    error: &KrbError,
+) -> Result<CipherSuite, Cause>
+    ensures { Answers (LeavesSuite is_told asker.now error.now) result }
+{
+    if is_told {
+        told_suite(alloc, asker, error)
+    } else {
+        Ok(asker_suite(asker))
+    }
+}
+
+/// The suite of the key that the time is sealed under: the asker's, or, where each key goes by its own, the one that the error names.
+/// Refused as `left_salt` refuses the same error.
+pub(crate) fn left_suite(
+    alloc: Global,
+    asker: &Asker,
+    error: &KrbError,
+) -> Result<CipherSuite, Cause>
+    ensures { Answers (LeavesSuite (allows asker.now.interoperability suite_of_each_key) asker.now error.now) result }
+{
+    let options = asker.interoperability;
+    let is_told = options.allows(Interoperability::SUITE_OF_EACH_KEY);
+    suite_by(alloc, is_told, asker, error)
+}
+
+/// The first reply of an AS exchange: an error, or an AS-REP in its place. Refused as `read_reply` refuses. A reply is not longer than
+/// 2^24 octets, so none of its parts is.
+pub(crate) fn first_reply(
     alloc: Global,
     protocol: NetworkProtocol,
-    credentials: &CredentialsBuffers,
     reply: Result<Octets, NetFault>,
-) -> Result<Text, Cause>
-    ensures { Answers (WantsPreAuth protocol (default_salt credentials.now) reply) result }
+) -> Result<KrbResult<AsRep>, Cause>
+    ensures step { Answers (Replies protocol as_rep_layout reply) result }
+    ensures sendable { IfOk result IsSendableReply }
 {
-    let answer = read_reply::<AsRep>(alloc, protocol, reply)?;
-    let error = error_in(answer)?;
-    let salt = named_salt(alloc, &error)?;
-    salt_or(alloc, salt, credentials)
+    read_reply::<AsRep>(alloc, protocol, reply)
+}
+
+/// Whether an AS-REP may come in the place of that error. Refused as `EarlyAsRep` where it may not.
+pub(crate) fn check_early(options: Interoperability) -> Result<(), Cause>
+    ensures { Holds causes.EarlyAsRep (allows options no_preauthentication) result }
+{
+    hold(
+        options.allows(Interoperability::NO_PREAUTHENTICATION),
+        Cause::EarlyAsRep,
+    )
 }
 
 /// The reply that was asked for. Refused as `read_reply` refuses, and as `Kdc` with the code of a KRB-ERROR in its place.

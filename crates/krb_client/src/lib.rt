@@ -46,8 +46,8 @@ pub use krb_requests::{
 pub use bitflags::Flags;
 pub use krb_conf::{ConfigFile, Env, KerberosConfig};
 pub use krb_context::{
-    ApOptions, ContextChange, EncryptionParams, GssFlags, KdcOptions, Kerberos, KerberosState,
-    ProtocolConfig,
+    ApOptions, ContextChange, EncryptionParams, GssFlags, Interoperability, KdcOptions, Kerberos,
+    KerberosState, ProtocolConfig,
 };
 pub use krb_crypto::CipherSuite;
 pub use krb_der::{Asn1, IntegerAsn1, Items, Name, Octets, OutOfMemory, Text, Time, TryCopy};

@@ -21,7 +21,7 @@ use Rattle.krb_context.specs.ClearWraps.{checked_text, clear_key, clear_token, R
 use Rattle.krb_context.specs.Contexts.{is_acceptor, is_peer_acceptor, next_number}
 use Rattle.krb_context.specs.Header.{wrap_header, is_sealed, is_from, rrc_of, number_of, without_counts}
 use Rattle.krb_context.specs.Params.{suite_of}
-use Rattle.krb_context.specs.Parties.{ready_key, seal_usage, sign_flags}
+use Rattle.krb_context.specs.Parties.{ready_key, seal_usage, sign_flags, writes_subkey, own_sign_flags}
 use Rattle.krb_context.specs.Peers.{ArePeers}
 use Rattle.krb_context.specs.Spelled.{spelled}
 use Rattle.krb_context.specs.Spelt.{SpeltClear}
@@ -52,7 +52,7 @@ is_ready_clear state params key h =
 
 -- the header of a token that a side makes
 abbrev pub clear_header : Kerberos → List ℕ
-clear_header context = wrap_header (sign_flags (is_acceptor context)) 12 0 (next_number context.seq_number)
+clear_header context = wrap_header (own_sign_flags context) 12 0 (next_number context.seq_number)
 
 -- the checksum of such a token under a key
 abbrev pub clear_code_of : Kerberos → List ℕ → List ℕ → List ℕ
@@ -81,7 +81,7 @@ length-clear context p token h =
       length-append (clear_header context) (p ++ code),
       length-append p code,
       length-hmac12 (clear_key context.encryption_params m.key (is_acceptor context)) (p ++ without_counts (clear_header context)),
-      header_size (sign_flags (is_acceptor context)) 12 0 (next_number context.seq_number),
+      header_size (own_sign_flags context) 12 0 (next_number context.seq_number),
     )
 
 -- the number of a token
@@ -89,21 +89,25 @@ pub number-clear : (context : Kerberos) (p token : List ℕ) → WrapsClear cont
 number-clear context p token h =
     let m = is_clear context p token h in
     let number : ℕ = next_number context.seq_number in
-    let flags : ℕ = sign_flags (is_acceptor context) in
+    let flags : ℕ = own_sign_flags context in
     ap (λ (s : List ℕ). number_of s) (ap (take 16) m.is ∙ take_at (clear_header context) (p ++ clear_code_of context m.key p) 16 (header_size flags 12 0 number))
     ∙ header_number flags 12 0 number (omega arith)
 
 -- ---- the header that a writer makes
 
-clear_sealed : (acceptor : Bool) (ec rrc number : ℕ) → is_sealed (wrap_header (sign_flags acceptor) ec rrc number) ≡ false
+clear_sealed : (subkey acceptor : Bool) (ec rrc number : ℕ) → is_sealed (wrap_header (sign_flags subkey acceptor) ec rrc number) ≡ false
 unfolding wrap_header
-clear_sealed true ec rrc number = refl
-clear_sealed false ec rrc number = refl
+clear_sealed true true ec rrc number = refl
+clear_sealed true false ec rrc number = refl
+clear_sealed false true ec rrc number = refl
+clear_sealed false false ec rrc number = refl
 
-clear_side : (acceptor : Bool) (ec rrc number : ℕ) → is_from acceptor (wrap_header (sign_flags acceptor) ec rrc number) ≡ true
+clear_side : (subkey acceptor : Bool) (ec rrc number : ℕ) → is_from acceptor (wrap_header (sign_flags subkey acceptor) ec rrc number) ≡ true
 unfolding wrap_header
-clear_side true ec rrc number = refl
-clear_side false ec rrc number = refl
+clear_side true true ec rrc number = refl
+clear_side true false ec rrc number = refl
+clear_side false true ec rrc number = refl
+clear_side false false ec rrc number = refl
 
 clear_turn : (flags ec number : ℕ) → rrc_of (wrap_header flags ec 0 number) ≡ 0
 unfolding wrap_header
@@ -126,13 +130,13 @@ clear_spells context p token m buffers text =
       header = h;
       body = body;
       text = text ∙ m.is;
-      header_size = header_size (sign_flags side) 12 0 number;
-      token = header_token (sign_flags side) 12 0 number;
-      sealed = clear_sealed side 12 0 number;
-      side = clear_side side 12 0 number;
+      header_size = header_size (own_sign_flags context) 12 0 number;
+      token = header_token (own_sign_flags context) 12 0 number;
+      sealed = clear_sealed (writes_subkey context) side 12 0 number;
+      side = clear_side (writes_subkey context) side 12 0 number;
       whole = body;
-      clear_as = record { count = header_count (sign_flags side) 12 0 number (omega arith); is = refl };
-      is = not_turned body (rrc_of h) (clear_turn (sign_flags side) 12 number);
+      clear_as = record { count = header_count (own_sign_flags context) 12 0 number (omega arith); is = refl };
+      is = not_turned body (rrc_of h) (clear_turn (own_sign_flags context) 12 number);
     }
 
 -- what one end wraps in the clear the other opens

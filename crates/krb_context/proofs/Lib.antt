@@ -10,6 +10,7 @@ pub mod MicTokenLemmas
 pub mod OnceLemmas
 pub mod OpenLemmas
 pub mod OpenableLemmas
+pub mod OptionLemmas
 pub mod PeerLemmas
 pub mod PlaceLemmas
 pub mod ReadyLemmas

@@ -10,7 +10,6 @@ use Rattle.krb_context.specs.declared.params.EncryptionParams.{EncryptionParams}
 use Rattle.krb_context.specs.Header.{is_sealed, is_from}
 use Rattle.krb_context.specs.Mics.{mic_header, is_mic_header, mic_header_of, MicHeads, MicKeys, sign_key, signed, mic_token}
 use Rattle.krb_context.specs.Params.{suite_of}
-use Rattle.krb_context.specs.Parties.{sign_flags}
 use Rattle.krb_context.specs.Unwraps.{has_key_size}
 
 front_known : (long is : Bool) (front header : List ℕ) → (if long && is then Some front else None) ≡ Some header → (long ≡ true) × (is ≡ true) × (header ≡ front)
@@ -56,10 +55,10 @@ mic_sized params key h =
     ap length same ∙ eqb-true (length one.found) (key_size (suite_of params)) (held KeyLength (has_key_size params one.found) two.found two.first_held)
 
 -- what the code puts together is the token
-pub made_as : (params : EncryptionParams) (key : List ℕ) (side acceptor : Bool) (flags number : ℕ) (payload header code token : List ℕ) → side ≡ acceptor → flags ≡ sign_flags side
+pub made_as : (params : EncryptionParams) (key : List ℕ) (side acceptor : Bool) (own flags number : ℕ) (payload header code token : List ℕ) → side ≡ acceptor → flags ≡ own
     → header ≡ mic_header flags number → code ≡ hmac12 (sign_key params key side) (payload ++ header) → token ≡ header ++ code
-    → token ≡ mic_token params key acceptor number payload
+    → token ≡ mic_token params key acceptor own number payload
 unfolding mic_token
-made_as params key side acceptor flags number payload header code token es ef eh ec et =
+made_as params key side acceptor own flags number payload header code token es ef eh ec et =
     et ∙ ap (λ (c : List ℕ). header ++ c) ec
-    ∙ ap₂ (λ (a : Bool) (h : List ℕ). signed (sign_key params key a) payload h) es (eh ∙ ap (λ (f : ℕ). mic_header f number) (ef ∙ ap (λ (a : Bool). sign_flags a) es))
+    ∙ ap₂ (λ (a : Bool) (h : List ℕ). signed (sign_key params key a) payload h) es (eh ∙ ap (λ (f : ℕ). mic_header f number) ef)

@@ -16,7 +16,7 @@ use Rattle.krb_context.specs.Contexts.{is_acceptor, is_peer_acceptor, next_numbe
 use Rattle.krb_context.specs.Header.{is_sealed, is_from}
 use Rattle.krb_context.specs.Mics.{mic_header, is_mic_header, sign_key, signed, mic_token, MakesMic, mic_header_of, MicHeads, MicKeys, ReadsMic, ChecksMic}
 use Rattle.krb_context.specs.Params.{suite_of, or_else, key_of}
-use Rattle.krb_context.specs.Parties.{sign_usage, sign_flags}
+use Rattle.krb_context.specs.Parties.{sign_usage, sign_flags, writes_subkey, own_sign_flags}
 use Rattle.krb_context.specs.Unwraps.{has_key_size}
 
 holds_false : (cause : Cause) (test : Bool) → test ≡ false → Holds cause test (Err cause)
@@ -33,20 +33,26 @@ mic_is_token : (flags number : ℕ) → is_mic_header (mic_header flags number) 
 unfolding mic_header
 mic_is_token flags number = refl
 
-mic_clear : (acceptor : Bool) (number : ℕ) → not (is_sealed (mic_header (sign_flags acceptor) number)) ≡ true
+mic_clear : (subkey acceptor : Bool) (number : ℕ) → not (is_sealed (mic_header (sign_flags subkey acceptor) number)) ≡ true
 unfolding mic_header
-mic_clear true number = refl
-mic_clear false number = refl
+mic_clear true true number = refl
+mic_clear true false number = refl
+mic_clear false true number = refl
+mic_clear false false number = refl
 
-mic_side : (acceptor : Bool) (number : ℕ) → is_from acceptor (mic_header (sign_flags acceptor) number) ≡ true
+mic_side : (subkey acceptor : Bool) (number : ℕ) → is_from acceptor (mic_header (sign_flags subkey acceptor) number) ≡ true
 unfolding mic_header
-mic_side true number = refl
-mic_side false number = refl
+mic_side true true number = refl
+mic_side true false number = refl
+mic_side false true number = refl
+mic_side false false number = refl
 
-mic_not_own : (server : Option ServerProperties) (number : ℕ) → is_from (is_none server) (mic_header (sign_flags (is_some server)) number) ≡ false
+mic_not_own : (subkey : Bool) (server : Option ServerProperties) (number : ℕ) → is_from (is_none server) (mic_header (sign_flags subkey (is_some server)) number) ≡ false
 unfolding mic_header
-mic_not_own (Some server) number = refl
-mic_not_own None number = refl
+mic_not_own true (Some server) number = refl
+mic_not_own true None number = refl
+mic_not_own false (Some server) number = refl
+mic_not_own false None number = refl
 
 pub header_read : (token h : List ℕ) → 16 ≤ length token → take 16 token ≡ h → is_mic_header h ≡ true → mic_header_of token ≡ Some h
 header_read token h long front is =
@@ -59,7 +65,7 @@ pub record IsMade (context : Kerberos) (payload token : List ℕ) : Type 0 where
   pub key : List ℕ
   pub sub_key : context.encryption_params.sub_session_key ≡ Some key
   pub key_length : has_key_size context.encryption_params key ≡ true
-  pub is : token ≡ signed (sign_key context.encryption_params key (is_acceptor context)) payload (mic_header (sign_flags (is_acceptor context)) (next_number context.seq_number))
+  pub is : token ≡ signed (sign_key context.encryption_params key (is_acceptor context)) payload (mic_header (own_sign_flags context) (next_number context.seq_number))
 
 pub is_made : (context : Kerberos) (payload token : List ℕ) → MakesMic context payload (Ok token) → IsMade context payload token
 unfolding MakesMic mic_token
@@ -74,13 +80,13 @@ is_made context payload token h =
     }
 
 front_of : (context : Kerberos) (payload token : List ℕ) (m : IsMade context payload token)
-    → mic_header_of token ≡ Some (mic_header (sign_flags (is_acceptor context)) (next_number context.seq_number))
+    → mic_header_of token ≡ Some (mic_header (own_sign_flags context) (next_number context.seq_number))
 front_of context payload token m =
-    let h : List ℕ = mic_header (sign_flags (is_acceptor context)) (next_number context.seq_number) in
-    let size : length h ≡ 16 = mic_size (sign_flags (is_acceptor context)) (next_number context.seq_number) in
+    let h : List ℕ = mic_header (own_sign_flags context) (next_number context.seq_number) in
+    let size : length h ≡ 16 = mic_size (own_sign_flags context) (next_number context.seq_number) in
     let code : List ℕ = hmac12 (sign_key context.encryption_params m.key (is_acceptor context)) (payload ++ h) in
     header_read token h (omega (arith, ap length m.is, length-append h code, size)) (ap (take 16) m.is ∙ take_at h code 16 size)
-    (mic_is_token (sign_flags (is_acceptor context)) (next_number context.seq_number))
+    (mic_is_token (own_sign_flags context) (next_number context.seq_number))
 
 -- it is accepted by the other side
 pub mic_accepted : (maker other : Kerberos) (payload token : List ℕ) → is_acceptor maker ≡ is_peer_acceptor other
@@ -92,8 +98,8 @@ mic_accepted maker other payload token roles same_key same_suite made =
     let side : Bool = is_acceptor maker in
     let peer : Bool = is_peer_acceptor other in
     let number : ℕ = next_number maker.seq_number in
-    let h : List ℕ = mic_header (sign_flags side) number in
-    let from : is_from peer h ≡ true = ap (λ (a : Bool). is_from a h) (sym roles) ∙ mic_side side number in
+    let h : List ℕ = mic_header (own_sign_flags maker) number in
+    let from : is_from peer h ≡ true = ap (λ (a : Bool). is_from a h) (sym roles) ∙ mic_side (writes_subkey maker) side number in
     let there : key_of other.encryption_params ≡ Some m.key = ap (λ (k : Option (List ℕ)). or_else k other.encryption_params.session_key) (sym same_key ∙ m.sub_key) in
     let sized : has_key_size other.encryption_params m.key ≡ true = ap (λ (s : CipherSuite). length m.key == key_size s) (sym same_suite) ∙ m.key_length in
     let keys : sign_key maker.encryption_params m.key side ≡ sign_key other.encryption_params m.key peer =
@@ -101,7 +107,7 @@ mic_accepted maker other payload token roles same_key same_suite made =
     follows _ _ h _
     (follows _ _ h _ (takes_some Header (mic_header_of token) h (front_of maker payload token m))
     (follows _ _ tt _ (holds_true Direction (is_from peer h) from)
-    (follows _ _ tt _ (holds_true Sealed (not (is_sealed h)) (mic_clear side number)) (gives h))))
+    (follows _ _ tt _ (holds_true Sealed (not (is_sealed h)) (mic_clear (writes_subkey maker) side number)) (gives h))))
     (follows _ _ m.key _
     (follows _ _ m.key _ (takes_some NoKey (key_of other.encryption_params) m.key there)
     (follows _ _ tt _ (holds_true KeyLength (has_key_size other.encryption_params m.key) sized) (gives m.key)))
@@ -112,11 +118,11 @@ pub mic_refused : (maker : Kerberos) (payload token : List ℕ) → MakesMic mak
 unfolding ReadsMic MicHeads
 mic_refused maker payload token made =
     let m = is_made maker payload token made in
-    let h : List ℕ = mic_header (sign_flags (is_acceptor maker)) (next_number maker.seq_number) in
+    let h : List ℕ = mic_header (own_sign_flags maker) (next_number maker.seq_number) in
     record {
       middle = Err Direction;
       held =
           follows _ _ h _ (takes_some Header (mic_header_of token) h (front_of maker payload token m))
-          (record { middle = Err Direction; held = holds_false Direction (is_from (is_peer_acceptor maker) h) (mic_not_own maker.server (next_number maker.seq_number)); rest = refl });
+          (record { middle = Err Direction; held = holds_false Direction (is_from (is_peer_acceptor maker) h) (mic_not_own (writes_subkey maker) maker.server (next_number maker.seq_number)); rest = refl });
       rest = refl;
     }

@@ -1,16 +1,14 @@
 -- What a MIC token has to be is what its checks ask, and they give one answer.
-use Rattle.std.proofs.Common.{◌≡◌, ◌↔◌, ℕ, ◌≤◌, Bool, true, not, List, ◌++◌, length, take, refl, sym, subst, ap, ap₂, ◌∙◌, arith, length-append, Ok}
+use Rattle.std.proofs.Common.{◌≡◌, ℕ, ◌≤◌, Bool, true, not, List, ◌++◌, length, take, refl, sym, ap, ◌∙◌, arith, length-append, Ok}
 use Rattle.std.specs.Prelude.{Some}
 use Rattle.std.proofs.lemmas.List.{length-take-le}
 use Rattle.krb_crypto.specs.Hmac.{hmac12}
 use Rattle.sspi_core.specs.declared.cause.Cause.TheVariants.{Header, Direction, Sealed, NoKey, KeyLength}
 use Rattle.sspi_core.proofs.Chain.{follows, gives, passed, took, gave, takes_some, holds_true}
 use Rattle.sspi_core.proofs.Once.{Once, then_once, finds_once, takes_once, holds_once, gives_once}
-use Rattle.krb_context.specs.declared.context.Kerberos.{Kerberos}
 use Rattle.krb_context.specs.declared.params.EncryptionParams.{EncryptionParams}
-use Rattle.krb_context.specs.Contexts.{is_peer_acceptor}
 use Rattle.krb_context.specs.Header.{is_sealed, is_from}
-use Rattle.krb_context.specs.Mics.{is_mic_header, sign_key, signed, mic_header_of, IsSigned, IsMicToken, MicHeads, MicKeys, ReadsMic, ChecksMic}
+use Rattle.krb_context.specs.Mics.{sign_key, signed, mic_header_of, IsMicToken, MicHeads, MicKeys, ReadsMic}
 use Rattle.krb_context.specs.Params.{key_of}
 use Rattle.krb_context.specs.Unwraps.{has_key_size}
 use Rattle.krb_context.proofs.MicChecks.{is_headed}

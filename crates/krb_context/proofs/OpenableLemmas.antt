@@ -17,7 +17,7 @@ use Rattle.krb_context.specs.Params.{suite_of}
 use Rattle.krb_context.specs.Parties.{ready_key, seal_usage, keys_of}
 use Rattle.krb_context.specs.Spelled.{spelled}
 use Rattle.krb_context.specs.Spelt.{Spelt, SpeltClear}
-use Rattle.krb_context.specs.Unwraps.{header_of, has_count, has_key_size, Heads, extra_of, is_long, has_room, SpeltBy, OpensBody, aged, ReceivesMessage, Unwraps, message_number}
+use Rattle.krb_context.specs.Unwraps.{header_of, params_for, has_count, has_key_size, Heads, extra_of, is_long, has_room, SpeltBy, OpensBody, aged, ReceivesMessage, Unwraps, message_number}
 use Rattle.krb_context.specs.Window.{number_verdict}
 use Rattle.krb_context.proofs.TurnLemmas.{halves}
 use Rattle.krb_context.proofs.UnwrapLemmas.{IsOpened, is_opened, length-spelt, length-spelt_clear, length-opened, number_fresh}
@@ -33,7 +33,7 @@ header_there text h long front token =
 pub receives : (context : Kerberos) (peer : Bool) (buffers : List Buffer) (text p : List ℕ) → IsOpened context peer buffers text p → ReceivesMessage context peer buffers text (Ok p)
 unfolding ReceivesMessage Heads OpensBody
 receives context peer buffers text p o =
-    let params = context.encryption_params in
+    let params = params_for context text in
     let h : List ℕ = o.header in
     let sized : has_key_size params o.key ≡ true = eq-eqb (length o.key) (key_size (suite_of params)) o.headed.key_length in
     follows _ _ o.key _ (takes_some Sequence (ready_key context.state params) o.key o.ready)
@@ -56,10 +56,10 @@ fills h n m sum some = and_from (nat_le 1 n) (nat_le (extra_of h) n) (le-leb 1 n
 opened_sealed : (context : Kerberos) (key p : List ℕ) (buffers : List Buffer) (plain : Buffer) → ready_key context.state context.encryption_params ≡ Some key
     → has_key_size context.encryption_params key ≡ true → find_part Plain buffers ≡ Some plain → has_room buffers plain (length p) ≡ true
     → number_verdict context.window (message_number buffers) ≡ Fresh
-    → Spelt (keys_of context.encryption_params key (is_peer_acceptor context)) (is_peer_acceptor context) context.encryption_params.ec buffers p
+    → Spelt (keys_of context.encryption_params key (is_peer_acceptor context)) (is_peer_acceptor context) (params_for context (spelled buffers)).ec buffers p
     → IsOpened context (is_peer_acceptor context) buffers (spelled buffers) p
 opened_sealed context key p buffers plain ready sized found room fresh s =
-    let params = context.encryption_params in
+    let params = params_for context (spelled buffers) in
     let peer : Bool = is_peer_acceptor context in
     let text : List ℕ = spelled buffers in
     let front : s.header ≡ take 16 text = (halves text s.header s.body s.text s.header_size).0 in
@@ -94,7 +94,7 @@ opened_clear : (context : Kerberos) (key p : List ℕ) (buffers : List Buffer) (
     → SpeltClear (kc (suite_of context.encryption_params) key (seal_usage (is_peer_acceptor context))) (is_peer_acceptor context) buffers p
     → IsOpened context (is_peer_acceptor context) buffers (spelled buffers) p
 opened_clear context key p buffers plain ready sized found room fresh s =
-    let params = context.encryption_params in
+    let params = params_for context (spelled buffers) in
     let peer : Bool = is_peer_acceptor context in
     let text : List ℕ = spelled buffers in
     let front : s.header ≡ take 16 text = (halves text s.header s.body s.text s.header_size).0 in
@@ -130,7 +130,7 @@ opened_spelling : (context : Kerberos) (key p : List ℕ) (buffers : List Buffer
 opened_spelling context key p buffers plain ready sized found room fresh (inl s) = opened_sealed context key p buffers plain ready sized found room fresh s
 opened_spelling context key p buffers plain ready sized found room fresh (inr s) = opened_clear context key p buffers plain ready sized found room fresh s
 
-spelling_by : (context : Kerberos) (key p : List ℕ) (buffers : List Buffer) (sealed : Bool) → SpeltBy sealed context.encryption_params key (is_peer_acceptor context) buffers p
+spelling_by : (context : Kerberos) (key p : List ℕ) (buffers : List Buffer) (sealed : Bool) → SpeltBy sealed (params_for context (spelled buffers)) key (is_peer_acceptor context) buffers p
     → IsSpelling context key buffers p
 spelling_by context key p buffers true s = inl s
 spelling_by context key p buffers false s = inr s
@@ -138,7 +138,7 @@ spelling_by context key p buffers false s = inr s
 pub openable : (context : Kerberos) (key p : List ℕ) (buffers : List Buffer) (plain : Buffer) → ready_key context.state context.encryption_params ≡ Some key
     → find_part Plain buffers ≡ Some plain → Unwraps context buffers (Ok p) → IsOpenable context key buffers plain p
 openable context key p buffers plain ready found h =
-    let params = context.encryption_params in
+    let params = params_for context (spelled buffers) in
     let peer : Bool = is_peer_acceptor context in
     let text : List ℕ = spelled buffers in
     let o = is_opened context peer buffers text p h in

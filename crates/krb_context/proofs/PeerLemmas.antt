@@ -15,18 +15,20 @@ use Rattle.sspi_core.specs.Buffer.{Buffer}
 use Rattle.krb_context.specs.declared.context.Kerberos.{Kerberos}
 use Rattle.krb_context.specs.declared.window.NumberVerdict.TheVariants.{Fresh}
 use Rattle.krb_context.specs.Contexts.{is_acceptor, is_peer_acceptor, next_number}
-use Rattle.krb_context.specs.Header.{wrap_header, number_of}
+use Rattle.krb_context.specs.Header.{wrap_header, ec_of, number_of}
 use Rattle.krb_context.specs.Params.{suite_of}
-use Rattle.krb_context.specs.Parties.{seal_usage, seal_flags, keys_of}
+use Rattle.krb_context.specs.Parties.{seal_usage, writes_subkey, own_seal_flags, keys_of}
 use Rattle.krb_context.specs.Peers.{ArePeers, IsDelivered}
 use Rattle.krb_context.specs.Spelled.{part_octets, spelled, covered}
 use Rattle.krb_context.specs.Spelt.{sealed_body, IsSealedAs, Spelt}
-use Rattle.krb_context.specs.Unwraps.{has_key_size, Unwraps, message_number}
+use Rattle.krb_context.specs.Unwraps.{count_for, has_key_size, Unwraps, message_number}
 use Rattle.krb_context.specs.Window.{number_verdict}
 use Rattle.krb_context.specs.Wrapped.{written_body, wrapped_by}
 use Rattle.krb_context.specs.Wraps.{wrapped}
 use Rattle.krb_context.proofs.OpenableLemmas.{unwraps_openable}
 use Rattle.krb_context.proofs.ReadyLemmas.{IsReady}
+use Rattle.krb_context.proofs.TurnLemmas.{halves}
+use Rattle.krb_context.proofs.UnwrapLemmas.{count_kept}
 use Rattle.krb_context.proofs.WrappedLemmas.{wrapped_spells, spelled-wrapped, header_size}
 
 -- ---- a text in other buffers
@@ -72,13 +74,13 @@ header_number flags ec rrc number small = from_be_bytes-to_be_bytes_4 number sma
 -- the octets of a message that was wrapped
 pub text_made : (sender : Kerberos) (key confounder : List ℕ) (sent : List Buffer) → IsReady sender.state sender.encryption_params sent key
     → spelled (wrapped sender key confounder sent)
-    ≡ wrap_header (seal_flags (is_acceptor sender)) sender.encryption_params.ec 28 (next_number sender.seq_number)
-    ++ written_body (keys_of sender.encryption_params key (is_acceptor sender)) (is_acceptor sender) sender.encryption_params.ec (next_number sender.seq_number) confounder sent
+    ≡ wrap_header (own_seal_flags sender) sender.encryption_params.ec 28 (next_number sender.seq_number)
+    ++ written_body (keys_of sender.encryption_params key (is_acceptor sender)) (own_seal_flags sender) sender.encryption_params.ec (next_number sender.seq_number) confounder sent
 unfolding wrapped_by
 text_made sender key confounder sent ready =
     let ec : ℕ = sender.encryption_params.ec in
-    let h : List ℕ = wrap_header (seal_flags (is_acceptor sender)) ec 28 (next_number sender.seq_number) in
-    let body : List ℕ = written_body (keys_of sender.encryption_params key (is_acceptor sender)) (is_acceptor sender) ec (next_number sender.seq_number) confounder sent in
+    let h : List ℕ = wrap_header (own_seal_flags sender) ec 28 (next_number sender.seq_number) in
+    let body : List ℕ = written_body (keys_of sender.encryption_params key (is_acceptor sender)) (own_seal_flags sender) ec (next_number sender.seq_number) confounder sent in
     spelled-wrapped (h ++ take (44 + ec) body) (drop (44 + ec) body) sent ready.token ready.plain ready.stream
     ∙ append_assoc h (take (44 + ec) body) (drop (44 + ec) body) ∙ ap (λ (s : List ℕ). h ++ s) (take-append-drop (44 + ec) body)
 
@@ -89,11 +91,11 @@ number_made sender key confounder sent ready =
     let ec : ℕ = sender.encryption_params.ec in
     let side : Bool = is_acceptor sender in
     let number : ℕ = next_number sender.seq_number in
-    let h : List ℕ = wrap_header (seal_flags side) ec 28 number in
-    let body : List ℕ = written_body (keys_of sender.encryption_params key side) side ec number confounder sent in
+    let h : List ℕ = wrap_header (own_seal_flags sender) ec 28 number in
+    let body : List ℕ = written_body (keys_of sender.encryption_params key side) (own_seal_flags sender) ec number confounder sent in
     ap (λ (s : List ℕ). number_of s)
-    (ap (take 16) (text_made sender key confounder sent ready) ∙ take_at h body 16 (header_size (seal_flags side) ec 28 number))
-    ∙ header_number (seal_flags side) ec 28 number (omega arith)
+    (ap (take 16) (text_made sender key confounder sent ready) ∙ take_at h body 16 (header_size (own_seal_flags sender) ec 28 number))
+    ∙ header_number (own_seal_flags sender) ec 28 number (omega arith)
 
 -- the text is spelt at the other end
 spelt_there : (sender receiver : Kerberos) (key confounder : List ℕ) (sent received : List Buffer) → ArePeers sender receiver → length confounder ≡ 16 → IsOctets confounder
@@ -105,7 +107,7 @@ spelt_there sender receiver key confounder sent received peers size octets_c oct
     let p : List ℕ = part_octets Plain sent in
     let made : List Buffer = wrapped sender key confounder sent in
     let here : Spelt (keys_of sender.encryption_params key side) side sender.encryption_params.ec made p =
-    wrapped_spells (keys_of sender.encryption_params key side) side sender.encryption_params.ec (next_number sender.seq_number) confounder sent peers.small size octets_c octets_p
+    wrapped_spells (keys_of sender.encryption_params key side) (writes_subkey sender) side sender.encryption_params.ec (next_number sender.seq_number) confounder sent peers.small size octets_c octets_p
     ready.token ready.plain ready.stream in
     let P : CipherSuite → Bool → ℕ → Type 0 = λ suite acceptor ec. Spelt (sealing_pair suite key (seal_usage acceptor)) acceptor ec made p in
     let one : P (suite_of receiver.encryption_params) side sender.encryption_params.ec = subst (λ s. P s side sender.encryption_params.ec) peers.suite here in
@@ -122,9 +124,16 @@ opens_there sender receiver key confounder sent received peers size octets_c oct
     let there : message_number received ≡ number =
     ap (λ (text : List ℕ). number_of (take 16 text)) delivered.text ∙ number_made sender key confounder sent ready in
     let sized : has_key_size receiver.encryption_params key ≡ true = ap (λ (s : CipherSuite). length key == key_size s) (sym peers.suite) ∙ ready.sized in
+    let ec : ℕ = receiver.encryption_params.ec in
+    let peer : Bool = is_peer_acceptor receiver in
+    let s = spelt_there sender receiver key confounder sent received peers size octets_c octets_p ready delivered in
+    let front : s.header ≡ take 16 (spelled received) = (halves (spelled received) s.header s.body s.text s.header_size).0 in
+    let kept : count_for receiver.interoperability ec (spelled received) ≡ ec =
+    count_kept receiver.interoperability ec (spelled received) (ap (λ (h : List ℕ). ec_of h) (sym front) ∙ s.count) in
     unwraps_openable receiver key (part_octets Plain sent) received delivered.plain (sym peers.key ∙ ready.ready) sized delivered.found
     (record {
-      spelling = inl (spelt_there sender receiver key confounder sent received peers size octets_c octets_p ready delivered);
+      spelling =
+          inl (subst (λ (n : ℕ). Spelt (keys_of receiver.encryption_params key peer) peer n received (part_octets Plain sent)) (sym kept) s);
       room = delivered.room;
       fresh = ap (λ (n : ℕ). number_verdict receiver.window n) there ∙ fresh;
     })

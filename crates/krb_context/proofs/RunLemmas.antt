@@ -8,7 +8,7 @@ use Rattle.krb_context.specs.declared.context.Kerberos.{Kerberos}
 use Rattle.krb_context.specs.Contexts.{is_acceptor, next_number}
 use Rattle.krb_context.specs.Header.{number_of}
 use Rattle.krb_context.specs.Mics.{mic_header, sign_key, MakesMic}
-use Rattle.krb_context.specs.Parties.{sign_flags}
+use Rattle.krb_context.specs.Parties.{own_sign_flags}
 use Rattle.krb_context.specs.Runs.{Call, wraps, clears, signs, refused, other, with_next_number, AreCalls, made_numbers}
 use Rattle.krb_context.specs.Unwraps.{message_number}
 use Rattle.krb_context.specs.Wraps.{Wraps}
@@ -31,10 +31,10 @@ mic_takes_next : (context : Kerberos) (payload token : List ℕ) → MakesMic co
 mic_takes_next context payload token h =
     let m = is_made context payload token h in
     let number : ℕ = next_number context.seq_number in
-    let header : List ℕ = mic_header (sign_flags (is_acceptor context)) number in
+    let header : List ℕ = mic_header (own_sign_flags context) number in
     let code : List ℕ = hmac12 (sign_key context.encryption_params m.key (is_acceptor context)) (payload ++ header) in
-    ap (λ (s : List ℕ). number_of s) (ap (take 16) m.is ∙ take_at header code 16 (mic_size (sign_flags (is_acceptor context)) number))
-    ∙ mic_number (sign_flags (is_acceptor context)) number (omega arith)
+    ap (λ (s : List ℕ). number_of s) (ap (take 16) m.is ∙ take_at header code 16 (mic_size (own_sign_flags context) number))
+    ∙ mic_number (own_sign_flags context) number (omega arith)
 
 -- one number, and those behind it
 one_more : (number first : ℕ) (rest : List ℕ) → first ≡ next_number number

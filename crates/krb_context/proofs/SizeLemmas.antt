@@ -9,7 +9,7 @@ use Rattle.sspi_core.specs.Messages.{write}
 use Rattle.krb_context.specs.declared.context.Kerberos.{Kerberos}
 use Rattle.krb_context.specs.Contexts.{is_acceptor, next_number, number_after_messages}
 use Rattle.krb_context.specs.Header.{wrap_header}
-use Rattle.krb_context.specs.Parties.{seal_flags, keys_of}
+use Rattle.krb_context.specs.Parties.{writes_subkey, own_seal_flags, keys_of}
 use Rattle.krb_context.specs.Spelled.{octets_of, part_octets, has_part, spelled}
 use Rattle.krb_context.specs.Spelt.{Spelt}
 use Rattle.krb_context.specs.Unwraps.{message_number}
@@ -42,13 +42,13 @@ wrapped_sizes sender key confounder sent small size octets_c octets_p ready =
     let side : Bool = is_acceptor sender in
     let number : ℕ = next_number sender.seq_number in
     let p : List ℕ = part_octets Plain sent in
-    let h : List ℕ = wrap_header (seal_flags side) ec 28 number in
-    let body : List ℕ = written_body (keys_of sender.encryption_params key side) side ec number confounder sent in
+    let h : List ℕ = wrap_header (own_seal_flags sender) ec 28 number in
+    let body : List ℕ = written_body (keys_of sender.encryption_params key side) (own_seal_flags sender) ec number confounder sent in
     let made : List Buffer = wrapped sender key confounder sent in
     let is : spelled made ≡ h ++ body = text_made sender key confounder sent ready in
-    let h_size : length h ≡ 16 = header_size (seal_flags side) ec 28 number in
+    let h_size : length h ≡ 16 = header_size (own_seal_flags sender) ec 28 number in
     let spelt : Spelt (keys_of sender.encryption_params key side) side ec made p =
-    wrapped_spells (keys_of sender.encryption_params key side) side ec number confounder sent small size octets_c octets_p ready.token ready.plain ready.stream in
+    wrapped_spells (keys_of sender.encryption_params key side) (writes_subkey sender) side ec number confounder sent small size octets_c octets_p ready.token ready.plain ready.stream in
     let long : length body ≡ length p + (44 + ec) =
     omega (arith, ap length is, length-append h body, h_size, length-spelt (keys_of sender.encryption_params key side) side ec made p spelt) in
     let front : length (take (44 + ec) body) ≡ 44 + ec = length-take-le (44 + ec) body (omega (arith, long)) in

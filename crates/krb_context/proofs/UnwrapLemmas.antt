@@ -1,6 +1,6 @@
 -- What is known of a message that was opened.
 use Rattle.std.proofs.Common.{◌≡◌, ℕ, ◌+◌, ◌-◌, ◌%◌, ◌≤◌, Bool, true, false, List, ◌++◌, length, take, drop, refl, sym, subst, ap, ◌∙◌, arith, length-append, length-drop, Ok}
-use Rattle.std.specs.Prelude.{Option, Some, None, IfSome, ◌&&◌, ◌==◌, nat_le, if◌then◌else◌}
+use Rattle.std.specs.Prelude.{Option, Some, None, Result, IfSome, ◌&&◌, ◌==◌, nat_le, if◌then◌else◌}
 use Rattle.std.specs.List.{slice_rotate_right}
 use Rattle.std.proofs.lemmas.Bool.{eqb-true, leb-true, and_parts}
 use Rattle.std.proofs.lemmas.List.{length-take-le, take_at}
@@ -11,11 +11,15 @@ use Rattle.krb_crypto.specs.Suite.{key_size, kc}
 use Rattle.krb_crypto.specs.SealingPair.{SealingPair}
 use Rattle.krb_crypto.proofs.CtsInjective.{length-aes_cts}
 use Rattle.krb_crypto.proofs.SealedLemmas.{length-hmac12}
+use Rattle.sspi_core.specs.declared.cause.Cause.{Cause}
 use Rattle.sspi_core.specs.declared.cause.Cause.TheVariants.{Sequence, Buffers, Header, Direction, ExtraCount, KeyLength, Short, Room}
 use Rattle.sspi_core.specs.declared.buffer.Part.TheVariants.{Stream, Plain}
 use Rattle.sspi_core.specs.Buffer.{Buffer}
+use Rattle.sspi_core.specs.Checks.{Answers}
 use Rattle.sspi_core.specs.Messages.{find_part}
 use Rattle.sspi_core.proofs.Chain.{held, passed, took, gave, no_refusal}
+use Rattle.krb_context.specs.Interoperability.{allows, extra_count_by_token}
+use Rattle.krb_context.specs.declared.interoperability.Interoperability.{Interoperability}
 use Rattle.krb_context.specs.declared.context.Kerberos.{Kerberos}
 use Rattle.krb_context.specs.declared.params.EncryptionParams.{EncryptionParams}
 use Rattle.krb_context.specs.declared.window.NumberVerdict.{NumberVerdict}
@@ -26,7 +30,7 @@ use Rattle.krb_context.specs.Params.{suite_of}
 use Rattle.krb_context.specs.Parties.{ready_key, seal_usage, keys_of}
 use Rattle.krb_context.specs.Spelled.{spelled, has_part, covered}
 use Rattle.krb_context.specs.Spelt.{inner_text, sealed_body, sealed_turn, IsSealedAs, Spelt, SpeltClear}
-use Rattle.krb_context.specs.Unwraps.{header_of, has_count, has_key_size, Heads, extra_of, is_long, has_room, SpeltBy, OpensBody, aged, ReceivesMessage, message_number}
+use Rattle.krb_context.specs.Unwraps.{header_of, count_for, params_for, has_count, has_key_size, Heads, extra_of, is_long, has_room, SpeltBy, OpensBody, aged, ReceivesMessage, message_number}
 use Rattle.krb_context.specs.Window.{number_verdict}
 
 header_known : (text header : List ℕ) (b : Bool) → b ≡ (nat_le 16 (length text) && is_wrap_header (take 16 text))
@@ -63,10 +67,10 @@ pub record IsOpened (context : Kerberos) (peer : Bool) (buffers : List Buffer) (
   pub header : List ℕ
   pub ready : ready_key context.state context.encryption_params ≡ Some key
   pub found : find_part Plain buffers ≡ Some plain
-  pub headed : IsHeaded context.encryption_params key peer text header
+  pub headed : IsHeaded (params_for context text) key peer text header
   pub long : is_long header (length text - 16) ≡ true
   pub room : has_room buffers plain (length text - 16 - extra_of header) ≡ true
-  pub spelt : SpeltBy (is_sealed header) context.encryption_params key peer buffers p
+  pub spelt : SpeltBy (is_sealed header) (params_for context text) key peer buffers p
   pub fresh : number_verdict context.window (number_of header) ≡ Fresh
 
 not_aged : (verdict : NumberVerdict) → aged verdict ≡ None → verdict ≡ Fresh
@@ -77,7 +81,7 @@ not_aged Repeated e = absurd cc
 pub is_opened : (context : Kerberos) (peer : Bool) (buffers : List Buffer) (text p : List ℕ) → ReceivesMessage context peer buffers text (Ok p) → IsOpened context peer buffers text p
 unfolding ReceivesMessage OpensBody
 is_opened context peer buffers text p h =
-    let params = context.encryption_params in
+    let params = params_for context text in
     let one = passed _ _ _ h in
     let two = passed _ _ _ one.rest_held in
     let three = passed _ _ _ two.rest_held in
@@ -153,6 +157,28 @@ length-spelt_clear key peer buffers p s =
       ap (λ (h : List ℕ). ec_of h) front ∙ s.clear_as.count,
     )
 
+-- a text whose header says the context's own length is opened by that
+pub count_kept : (options : Interoperability) (ec : ℕ) (text : List ℕ) → ec_of (take 16 text) ≡ ec → count_for options ec text ≡ ec
+count_kept options ec text same = go (allows options extra_count_by_token && nat_le 16 (length text))
+  where
+    go : (b : Bool) → (if b then ec_of (take 16 text) else ec) ≡ ec
+    go true = same
+    go false = refl
+
+-- the checks of a header, where the length was found first
+pub heads_by : (context : Kerberos) (key : List ℕ) (peer : Bool) (text : List ℕ) (ec : ℕ) (answer : Result (List ℕ) Cause)
+    → ec ≡ count_for context.interoperability context.encryption_params.ec text
+    → Heads (record context.encryption_params { ec = ec }) key peer text answer → Heads (params_for context text) key peer text answer
+heads_by context key peer text ec answer is h = subst (λ (n : ℕ). Heads (record context.encryption_params { ec = n }) key peer text answer) is h
+
+-- those of a body
+pub opens_by : (context : Kerberos) (key : List ℕ) (peer : Bool) (buffers : List Buffer) (plain : Buffer) (text header : List ℕ) (ec : ℕ) (answer : Result (List ℕ) Cause)
+    → ec ≡ count_for context.interoperability context.encryption_params.ec text
+    → Answers (OpensBody (record context.encryption_params { ec = ec }) key peer buffers plain text header) answer
+    → Answers (OpensBody (params_for context text) key peer buffers plain text header) answer
+opens_by context key peer buffers plain text header ec answer is h =
+    subst (λ (n : ℕ). Answers (OpensBody (record context.encryption_params { ec = n }) key peer buffers plain text header) answer) is h
+
 pub count_is : (ec : ℕ) (header : List ℕ) → is_sealed header ≡ true → has_count ec header ≡ true → ec_of header ≡ ec
 count_is ec header sealed count = let same : (ec_of header == ec) ≡ true = rw sealed at count in eqb-true (ec_of header) ec same
 
@@ -160,7 +186,7 @@ count_is ec header sealed count = let same : (ec_of header == ec) ≡ true = rw 
 pub length-opened : (context : Kerberos) (peer : Bool) (buffers : List Buffer) (p : List ℕ) (o : IsOpened context peer buffers (spelled buffers) p)
     → length p ≡ length (spelled buffers) - 16 - extra_of o.header
 length-opened context peer buffers p o =
-    let params = context.encryption_params in
+    let params = params_for context (spelled buffers) in
     let P : Bool → Type 0 = λ v. (is_sealed o.header ≡ v) → SpeltBy v params o.key peer buffers p
     → length p ≡ length (spelled buffers) - 16 - (if v then 44 + ec_of o.header else ec_of o.header) in
     let both : P (is_sealed o.header) = elim (is_sealed o.header) as P [

@@ -14,7 +14,6 @@ use Rattle.sspi_core.specs.Buffer.{Buffer, has_readonly_flag, has_checksum_flag,
 use Rattle.sspi_core.specs.Messages.{find_part, write}
 use Rattle.sspi_core.proofs.PartLemmas.{find-other}
 use Rattle.krb_context.specs.Header.{wrap_header}
-use Rattle.krb_context.specs.Parties.{seal_flags}
 use Rattle.krb_context.specs.Spelled.{octets_of, part_octets}
 use Rattle.krb_context.specs.Spelt.{inner_text, sealed_body, covered_code}
 use Rattle.krb_context.specs.Wrapped.{limit_of, written_body, wrapped_by}
@@ -97,18 +96,18 @@ turned_halves whole ec end size low =
           ∙ ap (λ (k : ℕ). drop 16 (take k whole)) (omega arith) ∙ drop-take 16 (end - 16) whole,
     )
 
-pub wrapped_from : (keys : SealingPair) (acceptor : Bool) (ec number : ℕ) (confounder : List ℕ) (buffers new : List Buffer) (whole header token data_of copy : List ℕ) (end : ℕ)
-    → end + (28 + ec) ≡ length whole → 16 ≤ end → header ≡ wrap_header (seal_flags acceptor) ec 28 number → copy ≡ wrap_header (seal_flags acceptor) ec 0 number
+pub wrapped_from : (keys : SealingPair) (flags ec number : ℕ) (confounder : List ℕ) (buffers new : List Buffer) (whole header token data_of copy : List ℕ) (end : ℕ)
+    → end + (28 + ec) ≡ length whole → 16 ≤ end → header ≡ wrap_header flags ec 28 number → copy ≡ wrap_header flags ec 0 number
     → whole ≡ sealed_body keys buffers confounder (part_octets Plain buffers) (replicate ec 0) copy
     → token ≡ header ++ (drop end whole ++ take 16 whole) → data_of ≡ take (end - 16) (drop 16 whole)
-    → new ≡ write Token token (write Plain data_of buffers) → new ≡ wrapped_by keys acceptor ec number confounder buffers
+    → new ≡ write Token token (write Plain data_of buffers) → new ≡ wrapped_by keys flags ec number confounder buffers
 unfolding wrapped_by written_body
-wrapped_from keys acceptor ec number confounder buffers new whole header token data_of copy end size low eh eg ew et ed en =
+wrapped_from keys flags ec number confounder buffers new whole header token data_of copy end size low eh eg ew et ed en =
     let halves = turned_halves whole ec end size low in
-    let made : whole ≡ sealed_body keys buffers confounder (part_octets Plain buffers) (replicate ec 0) (wrap_header (seal_flags acceptor) ec 0 number) =
+    let made : whole ≡ sealed_body keys buffers confounder (part_octets Plain buffers) (replicate ec 0) (wrap_header flags ec 0 number) =
     ew ∙ ap (sealed_body keys buffers confounder (part_octets Plain buffers) (replicate ec 0)) eg in
     let body : List ℕ = slice_rotate_right whole (28 + ec) in
-    let same : body ≡ written_body keys acceptor ec number confounder buffers = ap (λ (w : List ℕ). slice_rotate_right w (28 + ec)) made in
+    let same : body ≡ written_body keys flags ec number confounder buffers = ap (λ (w : List ℕ). slice_rotate_right w (28 + ec)) made in
     en
     ∙ ap₂ (λ (t d : List ℕ). write Token t (write Plain d buffers))
     (et ∙ ap₂ (λ (u v : List ℕ). u ++ v) eh (sym halves.0 ∙ ap (take (44 + ec)) same))

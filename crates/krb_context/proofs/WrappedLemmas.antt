@@ -78,15 +78,19 @@ pub header_token : (flags ec rrc number : ℕ) → is_wrap_header (wrap_header f
 unfolding wrap_header
 header_token flags ec rrc number = refl
 
-pub header_sealed : (acceptor : Bool) (ec rrc number : ℕ) → is_sealed (wrap_header (seal_flags acceptor) ec rrc number) ≡ true
+pub header_sealed : (subkey acceptor : Bool) (ec rrc number : ℕ) → is_sealed (wrap_header (seal_flags subkey acceptor) ec rrc number) ≡ true
 unfolding wrap_header
-header_sealed true ec rrc number = refl
-header_sealed false ec rrc number = refl
+header_sealed true true ec rrc number = refl
+header_sealed true false ec rrc number = refl
+header_sealed false true ec rrc number = refl
+header_sealed false false ec rrc number = refl
 
-pub header_side : (acceptor : Bool) (ec rrc number : ℕ) → is_from acceptor (wrap_header (seal_flags acceptor) ec rrc number) ≡ true
+pub header_side : (subkey acceptor : Bool) (ec rrc number : ℕ) → is_from acceptor (wrap_header (seal_flags subkey acceptor) ec rrc number) ≡ true
 unfolding wrap_header
-header_side true ec rrc number = refl
-header_side false ec rrc number = refl
+header_side true true ec rrc number = refl
+header_side true false ec rrc number = refl
+header_side false true ec rrc number = refl
+header_side false false ec rrc number = refl
 
 pub header_count : (flags ec rrc number : ℕ) → ec < 2 ^ 16 → ec_of (wrap_header flags ec rrc number) ≡ ec
 unfolding wrap_header
@@ -103,27 +107,29 @@ header_copied flags ec number = record { size = refl; front = refl; back = refl 
 low_octet : (x : ℕ) (xs : List ℕ) → IsOctets xs → IsOctets (x % 256 ∷ xs)
 low_octet x xs h = more_octets (x % 256) xs (omega arith) h
 
-small_flags : (acceptor : Bool) → seal_flags acceptor < 256
-small_flags true = omega arith
-small_flags false = omega arith
+small_flags : (subkey acceptor : Bool) → seal_flags subkey acceptor < 256
+small_flags true true = omega arith
+small_flags true false = omega arith
+small_flags false true = omega arith
+small_flags false false = omega arith
 
-octets_header : (acceptor : Bool) (ec rrc number : ℕ) → IsOctets (wrap_header (seal_flags acceptor) ec rrc number)
+octets_header : (subkey acceptor : Bool) (ec rrc number : ℕ) → IsOctets (wrap_header (seal_flags subkey acceptor) ec rrc number)
 unfolding wrap_header
-octets_header acceptor ec rrc number =
-    more_octets 5 _ (omega arith) (more_octets 4 _ (omega arith) (more_octets (seal_flags acceptor) _ (small_flags acceptor) (more_octets 255 _ (omega arith)
+octets_header subkey acceptor ec rrc number =
+    more_octets 5 _ (omega arith) (more_octets 4 _ (omega arith) (more_octets (seal_flags subkey acceptor) _ (small_flags subkey acceptor) (more_octets 255 _ (omega arith)
     (low_octet (ec / 256) _ (low_octet ec _ (low_octet (rrc / 256) _ (low_octet rrc _ (low_octet (number / 72057594037927936) _ (low_octet (number / 281474976710656) _ (low_octet (number / 1099511627776) _ (low_octet (number / 4294967296) _ (low_octet (number / 16777216) _ (low_octet (number / 65536) _ (low_octet (number / 256) _ (low_octet number _ none_octets)))))))))))))))
 
 octets_zeros : (n : ℕ) → IsOctets (replicate n 0)
 octets_zeros zero = none_octets
 octets_zeros (suc n) = more_octets 0 (replicate n 0) (omega arith) (octets_zeros n)
 
-pub wrapped_spells : (keys : SealingPair) (acceptor : Bool) (ec number : ℕ) (confounder : List ℕ) (bs : List Buffer)
+pub wrapped_spells : (keys : SealingPair) (subkey acceptor : Bool) (ec number : ℕ) (confounder : List ℕ) (bs : List Buffer)
     → ec < 2 ^ 16 → length confounder ≡ 16 → IsOctets confounder → IsOctets (part_octets Plain bs)
     → has_part Token bs ≡ true → has_part Plain bs ≡ true → has_part Stream bs ≡ false
-    → Spelt keys acceptor ec (wrapped_by keys acceptor ec number confounder bs) (part_octets Plain bs)
+    → Spelt keys acceptor ec (wrapped_by keys (seal_flags subkey acceptor) ec number confounder bs) (part_octets Plain bs)
 unfolding wrapped_by written_body sealed_body
-wrapped_spells keys acceptor ec number confounder bs fits size_c octets_c octets_p t p s =
-    let flags : ℕ = seal_flags acceptor in
+wrapped_spells keys subkey acceptor ec number confounder bs fits size_c octets_c octets_p t p s =
+    let flags : ℕ = seal_flags subkey acceptor in
     let header : List ℕ = wrap_header flags ec 28 number in
     let copy : List ℕ = wrap_header flags ec 0 number in
     let text : List ℕ = part_octets Plain bs in
@@ -138,8 +144,8 @@ wrapped_spells keys acceptor ec number confounder bs fits size_c octets_c octets
       text = spelled-wrapped token plain bs t p s ∙ append_assoc header (take (44 + ec) body) plain ∙ ap (λ (l : List ℕ). header ++ l) (take-append-drop (44 + ec) body);
       header_size = header_size flags ec 28 number;
       token = header_token flags ec 28 number;
-      sealed = header_sealed acceptor ec 28 number;
-      side = header_side acceptor ec 28 number;
+      sealed = header_sealed subkey acceptor ec 28 number;
+      side = header_side subkey acceptor ec 28 number;
       count = header_count flags ec 28 number fits;
       whole = whole;
       sealed_as = record {
@@ -152,7 +158,7 @@ wrapped_spells keys acceptor ec number confounder bs fits size_c octets_c octets
         octets =
             (IsOctets-append (confounder ++ text ++ filler) copy
             (IsOctets-append (confounder ++ text) filler (IsOctets-append confounder text octets_c octets_p) (octets_zeros ec))
-            (octets_header acceptor ec 0 number)).below;
+            (octets_header subkey acceptor ec 0 number)).below;
         is = ap (λ (c : List ℕ). cts (aes keys.encryption) (inner_text confounder text filler copy)
             ++ hmac12 keys.integrity (confounder ++ c ++ filler ++ copy)) (sym (covered-wrapped text token plain bs));
       };

@@ -11,7 +11,7 @@ use Rattle.krb_context.specs.declared.state.KerberosState.{KerberosState}
 use Rattle.krb_context.specs.Contexts.{is_acceptor, next_number}
 use Rattle.krb_context.specs.Header.{wrap_header, without_counts}
 use Rattle.krb_context.specs.Params.{suite_of}
-use Rattle.krb_context.specs.Parties.{ready_key, seal_usage, sign_flags}
+use Rattle.krb_context.specs.Parties.{ready_key, seal_usage, own_sign_flags}
 use Rattle.krb_context.specs.Unwraps.{has_key_size}
 
 -- a header, a text, and the checksum of both, the header's counts left out
@@ -23,8 +23,8 @@ abbrev pub clear_key : EncryptionParams → List ℕ → Bool → List ℕ
 clear_key params key acceptor = kc (suite_of params) key (seal_usage acceptor)
 
 -- the token that a side makes: not sealed, as a MIC token is not; its EC is the checksum's length, and its body is not turned
-unfoldable pub clear_token : EncryptionParams → List ℕ → Bool → ℕ → List ℕ → List ℕ
-clear_token params key acceptor number p = checked_text (clear_key params key acceptor) (wrap_header (sign_flags acceptor) 12 0 number) p
+unfoldable pub clear_token : EncryptionParams → List ℕ → Bool → ℕ → ℕ → List ℕ → List ℕ
+clear_token params key acceptor flags number p = checked_text (clear_key params key acceptor) (wrap_header flags 12 0 number) p
 
 -- the checks, and the key
 unfoldable pub ReadiesClear : KerberosState → EncryptionParams → Result (List ℕ) Cause → Type 0
@@ -37,4 +37,4 @@ ReadiesClear state params = do
 unfoldable pub WrapsClear : Kerberos → List ℕ → Result (List ℕ) Cause → Type 0
 WrapsClear context p = do
   key ← ReadiesClear context.state context.encryption_params
-  Gives (clear_token context.encryption_params key (is_acceptor context) (next_number context.seq_number) p)
+  Gives (clear_token context.encryption_params key (is_acceptor context) (own_sign_flags context) (next_number context.seq_number) p)

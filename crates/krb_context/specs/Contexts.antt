@@ -10,6 +10,7 @@ use Rattle.krb_context.specs.declared.context.ContextChange.{ContextChange}
 use Rattle.krb_context.specs.declared.params.EncryptionParams.{EncryptionParams}
 use Rattle.krb_context.specs.declared.server.ServerProperties.{ServerProperties}
 use Rattle.krb_context.specs.declared.state.KerberosState.TheVariants.{TgtExchange}
+use Rattle.krb_context.specs.Interoperability.{no_options}
 use Rattle.krb_context.specs.Params.{or_else}
 use Rattle.krb_context.specs.Window.{new_window}
 
@@ -24,6 +25,7 @@ new_context params config server number = record {
   realm = None;
   krb5_user_to_user = false;
   server = server;
+  interoperability = no_options;
   window = new_window;
   kept_to_seal = tt;
   kept_to_open = tt;

@@ -11,7 +11,7 @@ use Rattle.krb_context.specs.declared.params.EncryptionParams.{EncryptionParams}
 use Rattle.krb_context.specs.Contexts.{is_acceptor, is_peer_acceptor, next_number}
 use Rattle.krb_context.specs.Header.{is_sealed, is_from}
 use Rattle.krb_context.specs.Params.{suite_of, key_of}
-use Rattle.krb_context.specs.Parties.{sign_usage, sign_flags}
+use Rattle.krb_context.specs.Parties.{sign_usage, own_sign_flags}
 use Rattle.krb_context.specs.Unwraps.{has_key_size}
 
 -- the header of a MIC token
@@ -33,15 +33,15 @@ abbrev pub signed : List ℕ → List ℕ → List ℕ → List ℕ
 signed key payload header = header ++ hmac12 key (payload ++ header)
 
 -- the token that a side makes under a key
-unfoldable pub mic_token : EncryptionParams → List ℕ → Bool → ℕ → List ℕ → List ℕ
-mic_token params key acceptor number payload = signed (sign_key params key acceptor) payload (mic_header (sign_flags acceptor) number)
+unfoldable pub mic_token : EncryptionParams → List ℕ → Bool → ℕ → ℕ → List ℕ → List ℕ
+mic_token params key acceptor flags number payload = signed (sign_key params key acceptor) payload (mic_header flags number)
 
 -- the checks of a token that is to be made, and the token: under the sub-session key, with the next number
 unfoldable pub MakesMic : Kerberos → List ℕ → Result (List ℕ) Cause → Type 0
 MakesMic context payload = do
   key ← Takes NoSubKey context.encryption_params.sub_session_key
   Holds KeyLength (has_key_size context.encryption_params key)
-  Gives (mic_token context.encryption_params key (is_acceptor context) (next_number context.seq_number) payload)
+  Gives (mic_token context.encryption_params key (is_acceptor context) (own_sign_flags context) (next_number context.seq_number) payload)
 
 -- the header of a MIC token: 16 octets with its id and its filler
 abbrev pub mic_header_of : List ℕ → Option (List ℕ)

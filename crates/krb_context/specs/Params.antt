@@ -1,5 +1,5 @@
 -- The suite and the keys of a context.
-use Rattle.std.specs.Prelude.{ℕ, List, Option, Some, None, unwrap_or}
+use Rattle.std.specs.Prelude.{ℕ, false, List, Option, Some, None, unwrap_or}
 use Rattle.krb_crypto.specs.declared.suite.CipherSuite.{CipherSuite}
 use Rattle.krb_crypto.specs.declared.suite.CipherSuite.TheVariants.{Aes128CtsHmacSha196, Aes256CtsHmacSha196}
 use Rattle.krb_crypto.specs.declared.suite.AesSize.{AesSize}
@@ -15,6 +15,7 @@ default_params encrypt_usage decrypt_usage = record {
   sspi_encrypt_key_usage = encrypt_usage;
   sspi_decrypt_key_usage = decrypt_usage;
   ec = 0;
+  acceptor_subkey = false;
 }
 
 -- the suite that was chosen, else AES-256

@@ -9,11 +9,13 @@ use Rattle.sspi_core.specs.Buffer.{Buffer}
 use Rattle.sspi_core.specs.Checks.{Finds, Takes, Holds, Passes, Gives, ◌>>=◌, ◌>>◌}
 use Rattle.sspi_core.specs.Messages.{find_part, write, write_whole}
 use Rattle.krb_context.specs.declared.context.Kerberos.{Kerberos}
+use Rattle.krb_context.specs.declared.interoperability.Interoperability.{Interoperability}
 use Rattle.krb_context.specs.declared.params.EncryptionParams.{EncryptionParams}
 use Rattle.krb_context.specs.declared.window.NumberVerdict.{NumberVerdict}
 use Rattle.krb_context.specs.declared.window.NumberVerdict.TheVariants.{Fresh, Old, Repeated}
 use Rattle.krb_context.specs.Contexts.{is_peer_acceptor}
 use Rattle.krb_context.specs.Header.{is_wrap_header, is_sealed, is_from, ec_of, number_of}
+use Rattle.krb_context.specs.Interoperability.{allows, extra_count_by_token}
 use Rattle.krb_context.specs.Params.{suite_of}
 use Rattle.krb_context.specs.Parties.{ready_key, seal_usage, keys_of}
 use Rattle.krb_context.specs.Spelled.{spelled, has_part}
@@ -24,7 +26,17 @@ use Rattle.krb_context.specs.Window.{number_verdict}
 abbrev pub header_of : List ℕ → Option (List ℕ)
 header_of text = if nat_le 16 (length text) && is_wrap_header (take 16 text) then Some (take 16 text) else None
 
--- the filler of a sealed text is as long as the context's
+-- the length of the filler that a text is opened by: the context's, and where it is allowed the one that the text's own header says, up to
+-- what its body holds (RFC 4121, section 4.2.3)
+abbrev pub count_for : Interoperability → ℕ → List ℕ → ℕ
+count_for options ec text = if allows options extra_count_by_token && nat_le 16 (length text) then ec_of (take 16 text) else ec
+
+-- what a text is opened by
+abbrev pub params_for : Kerberos → List ℕ → EncryptionParams
+params_for context text =
+    record context.encryption_params { ec = count_for context.interoperability context.encryption_params.ec text }
+
+-- the filler of a sealed text is as long as that
 abbrev pub has_count : ℕ → List ℕ → Bool
 has_count ec h = not (is_sealed h) || ec_of h == ec
 
@@ -75,8 +87,8 @@ unfoldable pub ReceivesMessage : Kerberos → Bool → List Buffer → List ℕ 
 ReceivesMessage context peer buffers text = do
   key ← Takes Sequence (ready_key context.state context.encryption_params)
   plain ← Takes Buffers (find_part Plain buffers)
-  header ← Heads context.encryption_params key peer text
-  opened ← OpensBody context.encryption_params key peer buffers plain text header
+  header ← Heads (params_for context text) key peer text
+  opened ← OpensBody (params_for context text) key peer buffers plain text header
   Passes (aged (number_verdict context.window (number_of header)))
   Gives opened
 

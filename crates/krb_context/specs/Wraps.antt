@@ -10,7 +10,7 @@ use Rattle.krb_context.specs.declared.context.Kerberos.{Kerberos}
 use Rattle.krb_context.specs.declared.params.EncryptionParams.{EncryptionParams}
 use Rattle.krb_context.specs.declared.state.KerberosState.{KerberosState}
 use Rattle.krb_context.specs.Contexts.{is_acceptor, next_number}
-use Rattle.krb_context.specs.Parties.{ready_key, keys_of}
+use Rattle.krb_context.specs.Parties.{ready_key, keys_of, own_seal_flags}
 use Rattle.krb_context.specs.Spelled.{has_part}
 use Rattle.krb_context.specs.Unwraps.{has_key_size}
 use Rattle.krb_context.specs.Wrapped.{limit_of, wrapped_by}
@@ -35,7 +35,7 @@ Readies state params buffers = do
 -- the buffers that this end makes under a key
 abbrev pub wrapped : Kerberos → List ℕ → List ℕ → List Buffer → List Buffer
 wrapped context key confounder buffers =
-    wrapped_by (keys_of context.encryption_params key (is_acceptor context)) (is_acceptor context) context.encryption_params.ec
+    wrapped_by (keys_of context.encryption_params key (is_acceptor context)) (own_seal_flags context) context.encryption_params.ec
     (next_number context.seq_number) confounder buffers
 
 -- all checks, and the buffers

@@ -15,7 +15,7 @@ ghost use Rattle.krb_context.specs.Refusals.{Refuses};
 use crate::context::Kerberos;
 use crate::header::{without_counts, wrap_header};
 use crate::params::EncryptionParams;
-use crate::parties::{check_key_size, ready_key, seal_usage, sign_flags};
+use crate::parties::{check_key_size, ready_key, seal_usage};
 use crate::state::KerberosState;
 use krb_crypto::start_checksum;
 use krb_der::Octets;
@@ -67,13 +67,14 @@ impl EncryptionParams {
         alloc: Global,
         key: &Octets,
         acceptor: bool,
+        flags: u8,
         number: u32,
         plain: &[u8],
     ) -> Result<Octets, AllocError>
         requires { length key.now ≡ key_size (suite_of self.now) }
-        ensures { IfOk result (λ token. token ≡ clear_token self.now key.now acceptor number plain.now) }
+        ensures { IfOk result (λ token. token ≡ clear_token self.now key.now acceptor flags number plain.now) }
     {
-        let header = wrap_header(sign_flags(acceptor), 12, 0, number);
+        let header = wrap_header(flags, 12, 0, number);
         let code = self.clear_code(key, acceptor, plain, &header);
         joined(alloc, &header, plain, &code)
     }
@@ -104,6 +105,8 @@ impl Kerberos {
         let params = &self.encryption_params;
         let key = ready_to_clear(self.state, params)?;
         let number = self.seq_number.wrapping_add(1);
-        Ok(params.clear_token(alloc, key, self.server.is_some(), number, plain)?)
+        let flags = self.own_sign_flags();
+        let acceptor = self.server.is_some();
+        Ok(params.clear_token(alloc, key, acceptor, flags, number, plain)?)
     }
 }

@@ -5,6 +5,7 @@ ghost use Rattle.std.specs.Int.{from_be_bytes, w32};
 ghost use Rattle.krb_context.specs.Params.{default_params};
 ghost use Rattle.krb_context.specs.Contexts.{new_context, next_number, settled, with_key, kdc_of};
 
+use crate::interoperability::Interoperability;
 use crate::kept::KeptKey;
 use crate::params::EncryptionParams;
 use crate::server::ServerProperties;
@@ -32,6 +33,8 @@ pub struct Kerberos {
     pub krb5_user_to_user: bool,
     /// The service of an acceptor; an initiator has none.
     pub server: Option<ServerProperties>,
+    /// What the caller allows beyond the rules that a context has by itself: nothing in a new one.
+    pub interoperability: Interoperability,
     /// The numbers of the messages that were opened.
     pub window: NumberWindow,
     /// The derived keys of the messages that this end seals. Contracts see nothing of them; `KeptKey::new()` makes them.
@@ -69,6 +72,7 @@ fn new_context(
         realm: None,
         krb5_user_to_user: false,
         server,
+        interoperability: Interoperability::none(),
         window: NumberWindow::new(),
         kept_to_seal: KeptKey::new(),
         kept_to_open: KeptKey::new(),
@@ -184,6 +188,7 @@ impl TryCopy for Kerberos {
             realm: copier.copy(&self.realm),
             krb5_user_to_user: self.krb5_user_to_user,
             server: copier.copy(&self.server),
+            interoperability: self.interoperability,
             window: self.window,
             kept_to_seal: KeptKey::new(),
             kept_to_open: KeptKey::new(),

@@ -50,6 +50,8 @@ fn sealed_turn(ec: u16, rrc: u16, len: usize) -> usize
 #[derive(Drop)]
 pub(crate) struct Headed<'a> {
     pub(crate) params: &'a EncryptionParams,
+    /// The length of the filler that it is opened by.
+    pub(crate) ec: u16,
     pub(crate) key: &'a Octets,
     /// Whether it came from an acceptor.
     pub(crate) peer: bool,
@@ -57,7 +59,7 @@ pub(crate) struct Headed<'a> {
     pub(crate) text: &'a TokenText<'a>,
     pub(crate) header: &'a [u8; 16],
     ghost of_message: { text.now ≡ spelled message.now },
-    ghost checked: { IsHeaded params.now key.now peer text.now header.now },
+    ghost checked: { IsHeaded (record params.now { ec = ec }) key.now peer text.now header.now },
 }
 
 impl Headed<'_> {
@@ -90,10 +92,10 @@ impl Headed<'_> {
         requires long { is_long self.now.header.now (length self.now.text.now - 16) ≡ true }
         requires sealed { is_sealed self.now.header.now ≡ true }
         ensures { Answers (Finds causes.Altered (λ p. Spelt (keys_of self.now.params.now self.now.key.now self.now.peer) self.now.peer
-            self.now.params.now.ec self.now.message.now p)) result }
+            self.now.ec self.now.message.now p)) result }
     {
         let params = self.params;
-        let turn = sealed_turn(params.ec, rrc_of(self.header), self.body_len());
+        let turn = sealed_turn(self.ec, rrc_of(self.header), self.body_len());
         let whole = self.text.turned_body(alloc, turn)?;
         let key = self.key.as_slice();
         let kept = kept_to_open.take(alloc, params.suite(), key, seal_usage(self.peer))?;
@@ -101,7 +103,7 @@ impl Headed<'_> {
             &kept.sealing,
             self.message,
             self.header,
-            params.ec as usize,
+            self.ec as usize,
             whole,
         );
         kept_to_open.put(kept);
@@ -130,7 +132,7 @@ impl Headed<'_> {
     /// The text.
     fn find(&self, kept_to_open: &mut KeptKey, alloc: Global) -> Result<Octets, Cause>
         requires { is_long self.now.header.now (length self.now.text.now - 16) ≡ true }
-        ensures { Answers (Finds causes.Altered (λ p. SpeltBy (is_sealed self.now.header.now) self.now.params.now self.now.key.now self.now.peer
+        ensures { Answers (Finds causes.Altered (λ p. SpeltBy (is_sealed self.now.header.now) (record self.now.params.now { ec = self.now.ec }) self.now.key.now self.now.peer
             self.now.message.now p)) result }
     {
         if is_sealed(self.header) {
@@ -147,7 +149,7 @@ impl Headed<'_> {
         alloc: Global,
         plain: &SecurityBufferRef,
     ) -> Result<Octets, Cause>
-        ensures { Answers (OpensBody self.now.params.now self.now.key.now self.now.peer self.now.message.now plain.now self.now.text.now
+        ensures { Answers (OpensBody (record self.now.params.now { ec = self.now.ec }) self.now.key.now self.now.peer self.now.message.now plain.now self.now.text.now
             self.now.header.now) result }
     {
         self.check_long()?;

@@ -1,6 +1,6 @@
 //! Laws of messages, of windows and of keys: public functions without parameters, whose clauses hold for all values.
 
-ghost use Rattle.std.specs.Prelude.{◌≡◌, ◌↔◌, ◌+◌, ◌%◌, ◌^◌, ◌<◌, ◌≤◌, ℕ, ℤ, List, length, slice_index, Some, Result, Ok, Err, Bool, true, codes};
+ghost use Rattle.std.specs.Prelude.{◌≡◌, ◌↔◌, ◌+◌, ◌%◌, ◌^◌, ◌<◌, ◌≤◌, ℕ, ℤ, List, length, take, slice_index, Some, Result, Ok, Err, Bool, true, codes, if◌then◌else◌};
 ghost use Rattle.krb_aes.specs.Octets.{IsOctets};
 ghost use Rattle.krb_crypto.specs.SealingPair.{SealingPair};
 ghost use Rattle.krb_crypto.specs.declared.suite.CipherSuite.TheVariants.{Aes256CtsHmacSha196};
@@ -16,17 +16,19 @@ ghost use Rattle.krb_context.specs.declared.server.ServerProperties.{ServerPrope
 ghost use Rattle.krb_context.specs.declared.window.NumberVerdict.TheVariants.{Fresh};
 ghost use Rattle.krb_context.specs.ClearWraps.{WrapsClear};
 ghost use Rattle.krb_context.specs.Contexts.{is_acceptor, is_peer_acceptor, next_number, number_after_messages};
+ghost use Rattle.krb_context.specs.Header.{ec_of};
+ghost use Rattle.krb_context.specs.Interoperability.{no_options, allows, subkey_flag_by_origin, extra_count_by_token};
 ghost use Rattle.krb_context.specs.Mics.{MakesMic, ChecksMic, IsMicToken};
 ghost use Rattle.krb_context.specs.Openable.{IsOpenable};
 ghost use Rattle.krb_context.specs.Params.{suite_of, key_of};
-ghost use Rattle.krb_context.specs.Parties.{ready_key};
+ghost use Rattle.krb_context.specs.Parties.{ready_key, writes_subkey, own_seal_flags, own_sign_flags};
 ghost use Rattle.krb_context.specs.Peers.{ArePeers, IsDelivered};
 ghost use Rattle.krb_context.specs.Places.{verdict_of, opened};
 ghost use Rattle.krb_context.specs.Runs.{Call, AreCalls, made_numbers};
 ghost use Rattle.krb_context.specs.ServiceKeys.{service_key};
 ghost use Rattle.krb_context.specs.Spelled.{part_octets, spelled};
 ghost use Rattle.krb_context.specs.Spelt.{Spelt};
-ghost use Rattle.krb_context.specs.Unwraps.{has_key_size, has_room, Unwraps, message_number};
+ghost use Rattle.krb_context.specs.Unwraps.{params_for, has_key_size, has_room, Unwraps, message_number};
 ghost use Rattle.krb_context.specs.Window.{Window, StandsFor, number_verdict, noted};
 ghost use Rattle.krb_context.specs.Wrapped.{limit_of};
 ghost use Rattle.krb_context.specs.Wraps.{has_parts, wrapped, Wraps};
@@ -126,6 +128,26 @@ pub fn mic_tokens_have_one_answer()
 /// A MIC token is refused by the side that made it, as one of the wrong direction.
 pub fn own_mic_tokens_are_refused()
     ensures { (maker : Kerberos) (payload token : List ℕ) → MakesMic maker payload (Ok token) → ChecksMic maker token payload (Err Direction) }
+{}
+
+/// Where nothing is allowed beyond the rules, each end says in all that it seals and signs that the acceptor chose the key.
+pub fn without_options_the_subkey_is_the_acceptors()
+    ensures sealed { (context : Kerberos) → context.interoperability ≡ no_options → own_seal_flags context ≡ (if is_acceptor context then 7 else 6) }
+    ensures signed { (context : Kerberos) → context.interoperability ≡ no_options → own_sign_flags context ≡ (if is_acceptor context then 5 else 4) }
+{}
+
+/// Where it is allowed, each end says so exactly where the sub-session key came in an AP-REP (RFC 4121, section 4.2.2).
+pub fn the_subkey_flag_goes_by_its_origin()
+    ensures { (context : Kerberos) → allows context.interoperability subkey_flag_by_origin ≡ true
+        → writes_subkey context ≡ context.encryption_params.acceptor_subkey }
+{}
+
+/// Where nothing is allowed beyond the rules, a text is opened by the context's own length of the filler; where it is allowed, a text by
+/// that of its own header.
+pub fn texts_are_opened_by_a_count()
+    ensures own { (context : Kerberos) (text : List ℕ) → context.interoperability ≡ no_options → params_for context text ≡ context.encryption_params }
+    ensures tokens { (context : Kerberos) (text : List ℕ) → allows context.interoperability extra_count_by_token ≡ true → 16 ≤ length text
+        → (params_for context text).ec ≡ ec_of (take 16 text) }
 {}
 
 /// A window judges and notes a number as each list of places that it stands for.

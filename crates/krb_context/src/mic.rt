@@ -19,7 +19,7 @@ use crate::context::Kerberos;
 use crate::header::{check_direction, is_sealed};
 use crate::kept::{KeptKey, keep_codes};
 use crate::params::EncryptionParams;
-use crate::parties::{check_key_size, sign_flags, sign_usage};
+use crate::parties::{check_key_size, sign_usage};
 use krb_crypto::is_equal;
 use krb_der::Octets;
 use sspi_core::{Cause, Error, Place, hold};
@@ -179,7 +179,7 @@ impl Kerberos {
         let key = params.sub_key()?;
         check_key_size(params, key)?;
         let acceptor = self.server.is_some();
-        let header = mic_header(sign_flags(acceptor), self.seq_number.wrapping_add(1));
+        let header = mic_header(self.own_sign_flags(), self.seq_number.wrapping_add(1));
         let code = params.mic_code(&self.kept_to_seal, key, acceptor, payload, &header);
         Ok(joined(alloc, &header, &code)?)
     }

@@ -26,6 +26,9 @@ pub struct EncryptionParams {
     pub sspi_decrypt_key_usage: u32,
     /// How many octets of filler a sealed message has.
     pub ec: u16,
+    /// Whether the sub-session key came in an AP-REP, so that the acceptor chose it (RFC 4121, section 4.2.2). Nothing but the option
+    /// `SUBKEY_FLAG_BY_ORIGIN` reads it.
+    pub acceptor_subkey: bool,
 }
 
 impl EncryptionParams {
@@ -39,6 +42,7 @@ impl EncryptionParams {
             sspi_encrypt_key_usage,
             sspi_decrypt_key_usage,
             ec: 0,
+            acceptor_subkey: false,
         }
     }
 
@@ -124,6 +128,7 @@ impl TryCopy for EncryptionParams {
             sspi_encrypt_key_usage: self.sspi_encrypt_key_usage,
             sspi_decrypt_key_usage: self.sspi_decrypt_key_usage,
             ec: self.ec,
+            acceptor_subkey: self.acceptor_subkey,
         };
         copier.finish(copy)
     }

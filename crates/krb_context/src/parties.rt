@@ -5,8 +5,10 @@ ghost use Rattle.std.specs.Result.{result_map_both};
 ghost use Rattle.sspi_core.specs.Checks.{Holds, Takes};
 ghost use Rattle.sspi_core.specs.declared.cause.Cause.TheVariants as causes;
 ghost use Rattle.krb_context.specs.Unwraps.{has_key_size};
-ghost use Rattle.krb_context.specs.Parties.{ready_key, seal_usage, sign_usage, seal_flags, sign_flags};
+ghost use Rattle.krb_context.specs.Parties.{ready_key, seal_usage, sign_usage, has_subkey_flag, seal_flags, sign_flags, own_seal_flags, own_sign_flags};
 
+use crate::context::Kerberos;
+use crate::interoperability::Interoperability;
 use crate::params::EncryptionParams;
 use crate::state::KerberosState;
 use krb_der::Octets;
@@ -59,16 +61,51 @@ pub(crate) fn sign_usage(acceptor: bool) -> u32
     }
 }
 
-/// The flags of a side's sealed messages.
-pub(crate) fn seal_flags(acceptor: bool) -> u8
-    ensures { result ≡ seal_flags acceptor }
+/// Whether tokens say that the acceptor chose the key.
+fn has_subkey_flag(options: Interoperability, params: &EncryptionParams) -> bool
+    ensures { result ≡ has_subkey_flag options params.now }
 {
-    if acceptor { 7 } else { 6 }
+    !options.allows(Interoperability::SUBKEY_FLAG_BY_ORIGIN) || params.acceptor_subkey
+}
+
+/// The flags of a side's sealed messages.
+fn seal_flags(subkey: bool, acceptor: bool) -> u8
+    ensures { result ≡ seal_flags subkey acceptor }
+{
+    match (acceptor, subkey) {
+        (true, true) => 7,
+        (true, false) => 3,
+        (false, true) => 6,
+        (false, false) => 2,
+    }
 }
 
 /// The flags of a side's MIC tokens.
-pub(crate) fn sign_flags(acceptor: bool) -> u8
-    ensures { result ≡ sign_flags acceptor }
+fn sign_flags(subkey: bool, acceptor: bool) -> u8
+    ensures { result ≡ sign_flags subkey acceptor }
 {
-    if acceptor { 5 } else { 4 }
+    match (acceptor, subkey) {
+        (true, true) => 5,
+        (true, false) => 1,
+        (false, true) => 4,
+        (false, false) => 0,
+    }
+}
+
+impl Kerberos {
+    /// The flags of this end's sealed messages.
+    pub(crate) fn own_seal_flags(&self) -> u8
+        ensures { result ≡ own_seal_flags self.now }
+    {
+        let subkey = has_subkey_flag(self.interoperability, &self.encryption_params);
+        seal_flags(subkey, self.server.is_some())
+    }
+
+    /// The flags of what this end sends in the clear, and of its MIC tokens.
+    pub(crate) fn own_sign_flags(&self) -> u8
+        ensures { result ≡ own_sign_flags self.now }
+    {
+        let subkey = has_subkey_flag(self.interoperability, &self.encryption_params);
+        sign_flags(subkey, self.server.is_some())
+    }
 }

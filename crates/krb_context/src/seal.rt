@@ -5,14 +5,12 @@ ghost use Rattle.krb_aes.specs.Aes.{aes};
 ghost use Rattle.krb_crypto.specs.Cts.{cts};
 ghost use Rattle.sspi_core.specs.Messages.{find_part, write};
 ghost use Rattle.krb_context.specs.Header.{wrap_header};
-ghost use Rattle.krb_context.specs.Parties.{seal_flags};
 ghost use Rattle.krb_context.specs.Spelled.{part_octets, has_part};
 ghost use Rattle.krb_context.specs.Spelt.{inner_text, sealed_body};
 ghost use Rattle.krb_context.specs.Wrapped.{wrapped_by, limit_of};
 
 use crate::header::wrap_header;
 use crate::open::{covered_code, plain_part};
-use crate::parties::seal_flags;
 use crate::text::part_octets;
 use krb_crypto::SealingKey;
 use krb_der::Octets;
@@ -91,7 +89,7 @@ fn token_of(
 pub(crate) fn seal_message(
     alloc: Global,
     sealing: &SealingKey,
-    acceptor: bool,
+    flags: u8,
     ec: u16,
     number: u32,
     confounder: &[u8; 16],
@@ -100,10 +98,9 @@ pub(crate) fn seal_message(
     requires plain { has_part Part.Plain message.old ≡ true }
     requires token { has_part Part.Token message.old ≡ true }
     requires room { 60 + ec ≤ limit_of (find_part Part.Token message.old) }
-    ensures { MatchResult result (λ _. message.new ≡ wrapped_by sealing.now acceptor ec number confounder.now message.old)
+    ensures { MatchResult result (λ _. message.new ≡ wrapped_by sealing.now flags ec number confounder.now message.old)
         (λ _. message.new ≡ message.old) }
 {
-    let flags = seal_flags(acceptor);
     let whole = sealed_body(
         alloc,
         sealing,

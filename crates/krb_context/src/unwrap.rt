@@ -11,12 +11,13 @@ ghost use Rattle.krb_context.specs.Header.{number_of};
 ghost use Rattle.krb_context.specs.Places.{verdict_of, opened};
 ghost use Rattle.krb_context.specs.Refusals.{Refuses};
 ghost use Rattle.krb_context.specs.Spelled.{spelled, has_part};
-ghost use Rattle.krb_context.specs.Unwraps.{header_of, has_count, Heads, aged, ReceivesMessage, Unwraps, message_number, unwrapped};
+ghost use Rattle.krb_context.specs.Unwraps.{header_of, count_for, has_count, Heads, aged, ReceivesMessage, Unwraps, message_number, unwrapped};
 ghost use Rattle.krb_context.specs.Window.{StandsFor, number_verdict, noted};
 
 use crate::context::Kerberos;
 use crate::headed::Headed;
 use crate::header::{check_direction, ec_of, is_sealed, is_wrap_header, number_of};
+use crate::interoperability::Interoperability;
 use crate::kept::keep_codes;
 use crate::params::EncryptionParams;
 use crate::parties::{check_key_size, ready_key};
@@ -66,14 +67,31 @@ fn check_number(window: &NumberWindow, header: &[u8; 16]) -> Result<(), Cause>
     }
 }
 
+/// The length of the filler that a text is opened by.
+fn count_for(options: Interoperability, ec: u16, text: &TokenText<'_>) -> u16
+    ensures { result ≡ count_for options ec text.now }
+{
+    if options.allows(Interoperability::EXTRA_COUNT_BY_TOKEN) && 16 <= text.len() {
+        ec_of(&text.header())
+    } else {
+        ec
+    }
+}
+
 impl EncryptionParams {
-    /// The header of a token, once it is checked.
-    fn head(&self, key: &Octets, peer: bool, text: &TokenText<'_>) -> Result<[u8; 16], Cause>
-        ensures { Heads self.now key.now peer text.now result }
+    /// The header of a token, once it is checked, with this length of the filler.
+    fn head(
+        &self,
+        ec: u16,
+        key: &Octets,
+        peer: bool,
+        text: &TokenText<'_>,
+    ) -> Result<[u8; 16], Cause>
+        ensures { Heads (record self.now { ec = ec }) key.now peer text.now result }
     {
         let header = header_of(text)?;
         check_direction(peer, &header)?;
-        check_count(self.ec, &header)?;
+        check_count(ec, &header)?;
         check_key_size(self, key)?;
         Ok(header)
     }
@@ -95,9 +113,11 @@ impl Kerberos {
         let params = &self.encryption_params;
         let key = ready_key(self.state, params)?;
         let plain = plain_data(message)?;
-        let header = params.head(key, peer, text)?;
+        let ec = count_for(self.interoperability, params.ec, text);
+        let header = params.head(ec, key, peer, text)?;
         let headed = Headed {
             params,
+            ec,
             key,
             peer,
             message,

@@ -86,6 +86,7 @@ impl Kerberos {
         ensures refused { IfErr result (λ error. Refuses places.Elsewhere (Wraps self.old confounder message.old) error) }
         ensures stays { OnErr result ((message.new ≡ message.old) × (self.new ≡ self.old)) }
     {
+        let flags = self.own_seal_flags();
         let params = &self.encryption_params;
         let key = ready_to_wrap(self.state, params, message)?;
         let number = self.seq_number.wrapping_add(1);
@@ -99,7 +100,7 @@ impl Kerberos {
         let sealed = seal_message(
             alloc,
             &kept.sealing,
-            acceptor,
+            flags,
             params.ec,
             number,
             &confounder,

@@ -14,7 +14,6 @@ use Rattle.krb_der.specs.Layout.{spelling}
 use Rattle.krb_crypto.specs.Suite.{key_size}
 use Rattle.krb_crypto.specs.Sealed.{sealed}
 use Rattle.krb_crypto.specs.declared.suite.CipherSuite.{CipherSuite}
-use Rattle.krb_crypto.specs.declared.suite.CipherSuite.TheVariants.{Aes128CtsHmacSha196, Aes256CtsHmacSha196}
 use Rattle.krb_crypto.proofs.CtsInjective.{IsOctets-take}
 use Rattle.krb_messages.specs.Frame.{IsFrame, framed}
 use Rattle.krb_messages.specs.Layouts.{ap_rep_layout, authenticator_layout, authenticator_row, enc_ap_rep_part_layout, principal_name_row, checksum_row}
@@ -188,8 +187,8 @@ module _ (server : Kerberos) (draw : Draw) (client : UserName) (offer : Offer) (
 
     -- what the initiator makes of the answer
     abbrev pub done_in : Bool → InitDone
-    done_in true = replied caller offer.part.key.key_value (drawn_key offer.suite draw) (next_number_octets server.seq_number) own
-    done_in false = confirmed caller (drawn_key offer.suite draw)
+    done_in true = replied caller offer.part.key.key_value true (drawn_key offer.suite draw) (next_number_octets server.seq_number) own
+    done_in false = confirmed caller true (drawn_key offer.suite draw)
 
     ends_so : (dce : Bool) → FinishesInitiation dce caller offer.part.key.key_value part own (Ok (done_in dce))
     unfolding Confirms Replies

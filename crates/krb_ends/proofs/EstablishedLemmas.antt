@@ -1,7 +1,6 @@
 -- An exchange ends well, in either style.
-use Rattle.std.proofs.Common.{◌≡◌, ℕ, ◌+◌, ◌≤◌, ◌^◌, ◌%◌, Bool, true, false, List, length, take, Option, option_map, refl, sym, subst, ap, ◌∙◌, arith, lit<, Result, Ok, Err}
-use Rattle.std.specs.Prelude.{Some, None, is_some, is_none, nat_le, ◌==◌}
-use Rattle.std.specs.Cmp.Lexicographic.{pointwise}
+use Rattle.std.proofs.Common.{◌≡◌, ℕ, ◌+◌, ◌<◌, ◌≤◌, ◌^◌, ◌%◌, Bool, true, false, List, length, take, Option, option_map, refl, sym, subst, ap, ◌∙◌, arith, lit<, Result, Ok, Err}
+use Rattle.std.specs.Prelude.{Some, None, is_some, is_none, nat_le, ◌&&◌, ◌||◌, if◌then◌else◌}
 use Rattle.std.proofs.lemmas.Bool.{le-leb}
 use Rattle.std.proofs.lemmas.List.{length-take-le}
 use Rattle.krb_der.specs.Layout.{spelling}
@@ -16,7 +15,8 @@ use Rattle.krb_context.specs.declared.context.Kerberos.{Kerberos}
 use Rattle.krb_context.specs.declared.server.ServerProperties.{ServerProperties}
 use Rattle.krb_context.specs.declared.state.KerberosState.{KerberosState}
 use Rattle.krb_context.specs.declared.state.KerberosState.TheVariants.{ApExchange}
-use Rattle.krb_context.specs.Contexts.{with_key, settled as with_change}
+use Rattle.krb_context.specs.Contexts.{with_key, next_number, settled as with_change}
+use Rattle.krb_context.specs.Interoperability.{allows, first_number_as_shown, third_leg_by_value}
 use Rattle.sspi_core.proofs.Chain.{takes_some, holds_true, halts, follows}
 use Rattle.krb_replay.specs.declared.ask.Ask.{Ask}
 use Rattle.krb_replay.specs.declared.ask.Verdict.{Verdict}
@@ -33,7 +33,7 @@ use Rattle.krb_admission.specs.Accepts.{BeginsAdmission, Asks, Ends, awaits_last
 use Rattle.krb_context.specs.Drawn.{drawn_key}
 use Rattle.krb_admission.specs.Admission.{ap_rep_with, ap_rep_part, next_number_octets, mutual_admission, with_client, answer_for, settled}
 use Rattle.krb_admission.specs.Requests.{ask_of}
-use Rattle.krb_admission.specs.ThirdLeg.{ReadsApRep, TellsLast, IsLastWord, concluded, last_answer, Concludes}
+use Rattle.krb_admission.specs.ThirdLeg.{ReadsApRep, TellsLast, has_value, repeats, IsLastWord, concluded, last_answer, Concludes}
 use Rattle.krb_admission.proofs.Once.{begins_once, concludes_once}
 use Rattle.krb_server.specs.declared.accept.Accepted.{Accepted}
 use Rattle.krb_server.specs.TgtReqs.{Found, may_begin, BeginsUserToUser}
@@ -48,6 +48,11 @@ use Rattle.krb_ends.proofs.AnswerLemmas.{made, done_in, hears, moment_time, time
 use Rattle.krb_ends.proofs.HonestLemmas.{is_answered, same_octets}
 use Rattle.krb_ends.proofs.OctetsLemmas.{IsOctets-time, short-word}
 use Rattle.krb_ends.proofs.RepLemmas.{IsReadable, readable}
+
+-- the own number behind the exchange, whether it stays or rises
+settled_small : (stays : Bool) (number : ℕ) → number < 2 ^ 32 → (if stays then number else next_number number) < 2 ^ 32
+settled_small true number h = h
+settled_small false number h = omega arith
 
 module _ (server : Kerberos) (draw : Draw) (client : UserName) (offer : Offer) (for_it : IsFor server client offer) (is : IsDraw draw) (initiator : Kerberos) (options : InitOptions) (own : Draw) (offered : Offered initiator offer) where
   abbrev admission : Bool → Admission
@@ -86,7 +91,7 @@ module _ (server : Kerberos) (draw : Draw) (client : UserName) (offer : Offer) (
     unopened = record {
       filler = new.filler;
       small = new.small;
-      initiator_number = omega arith;
+      initiator_number = settled_small (allows initiator.interoperability first_number_as_shown) initiator.seq_number new.initiator_number;
       acceptor_number = new.acceptor_number;
       initiator_window = new.initiator_window;
       acceptor_window = new.acceptor_window;
@@ -179,7 +184,8 @@ module _ (server : Kerberos) (draw : Draw) (client : UserName) (offer : Offer) (
       (follows _ _ number _
       (follows _ _ (ap_rep_with offer.suite cipher) _ (word_read drawn)
       (follows _ _ offer.part.key.key_value _ (record { is = refl }) (tells drawn)))
-      (holds_true Number (pointwise ◌==◌ number number) (same_octets number)))
+      (holds_true Number (repeats server.interoperability server.seq_number number)
+      (ap (λ (b : Bool). b || (allows server.interoperability third_leg_by_value && has_value (next_number server.seq_number) number)) (same_octets number))))
 
   concludes : IsDraw own → Concludes acceptor (done true).token (Ok last_answer) (concluded acceptor)
   concludes drawn = record {

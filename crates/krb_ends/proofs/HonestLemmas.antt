@@ -49,7 +49,11 @@ use Rattle.sspi_core.specs.declared.cause.Cause.TheVariants.{Sequence, NoService
 use Rattle.sspi_core.specs.declared.cause.Cause.{Cause}
 use Rattle.sspi_core.specs.declared.draw.Draw.{Draw}
 use Rattle.sspi_core.specs.Usernames.{UserName}
+use Rattle.krb_context.specs.declared.interoperability.Interoperability.{Interoperability}
+use Rattle.krb_exchange.specs.declared.enc_kdc_rep_part.EncAsRepPart.{EncAsRepPart}
+use Rattle.krb_replies.specs.Keys.{OpensFirst, HasSuite}
 use Rattle.krb_ends.specs.Answers.{admission_for, IsAnswered}
+use Rattle.krb_ends.specs.HonestKdc.{CarriesFirst}
 use Rattle.krb_ends.specs.Offers.{Carries, Offer, message_of, octets_of, offered_token, request_of, IsHonest, IsFor}
 
 -- ---- spellings and frames
@@ -79,6 +83,11 @@ unfolding suite_of_integer
 suite_of_integer-number Aes128CtsHmacSha196 = refl
 suite_of_integer-number Aes256CtsHmacSha196 = refl
 
+-- a key whose type names the suite has it
+pub has_suite : (is_own : Bool) (suite : CipherSuite) → HasSuite is_own suite (suite_number suite ∷ []) (Ok suite)
+has_suite false suite = gives suite
+has_suite true suite = takes_some Etype (suite_of_integer (suite_number suite ∷ [])) suite (suite_of_integer-number suite)
+
 pub opens_carried : {A : Type 0} (layout : Layout A) (refusals : Refusals) (suite : CipherSuite) (key : List ℕ) (usage : ℕ) (text : List ℕ) (value : A) → length key ≡ key_size suite
     → Carries layout suite key usage text value → OpensSealed layout refusals suite key usage text (Ok value)
 unfolding OpensSealed Unseals
@@ -88,6 +97,17 @@ opens_carried layout refusals suite key usage text value fits carries =
     follows _ _ carries.plain _
     (follows _ _ tt _ (holds_true refusals.key_length (length key == key_size suite) (eq-eqb (length key) (key_size suite) fits))
     (follows _ _ tt _ (holds_true refusals.short (nat_le 28 (length text)) long) (record { is = carries.sealed })))
+    (record { is = carries.read })
+
+pub opens_first : (options : Interoperability) (suite : CipherSuite) (key text : List ℕ) (part : EncAsRepPart) → length key ≡ key_size suite
+    → CarriesFirst options suite key text part → OpensFirst options suite key text (Ok part)
+unfolding OpensFirst Unseals
+opens_first options suite key text part fits carries =
+    let long : nat_le 28 (length text) ≡ true =
+    le-leb 28 (length text) (omega (arith, plain_shorter suite key 3 text carries.plain carries.sealed)) in
+    follows _ _ carries.plain _
+    (follows _ _ tt _ (holds_true own_key.key_length (length key == key_size suite) (eq-eqb (length key) (key_size suite) fits))
+    (follows _ _ tt _ (holds_true own_key.short (nat_le 28 (length text)) long) (record { is = carries.sealed })))
     (record { is = carries.read })
 
 opens_data : {A : Type 0} (layout : Layout A) (suite : CipherSuite) (key : List ℕ) (usage : ℕ) (part : EncryptedData) (value : A) → suite_of_integer part.etype ≡ Some suite

@@ -12,7 +12,7 @@ use Rattle.krb_initiator.specs.declared.seeker.InitPhase.{InitPhase}
 use Rattle.krb_initiator.specs.declared.seeker.InitPhase.TheVariants.{New}
 use Rattle.krb_initiator.proofs.Once.{starts_once, next_once}
 use Rattle.krb_ends.specs.Fetches.{Leads, Fetches}
-use Rattle.krb_ends.specs.HonestKdc.{Step, Answers}
+use Rattle.krb_ends.specs.HonestKdc.{Step, Answers, steps_of}
 
 abbrev Turned : Type 0
 Turned = Result (Turn InitPhase InitDone) Cause
@@ -33,5 +33,5 @@ same_leads seeker phase (step ∷ steps) last one other h k =
 pub one_end : (seeker : Seeker) (draw : Draw) (answers : Answers) (one other : InitDone) → Fetches seeker draw answers one → Fetches seeker draw answers other → one ≡ other
 one_end seeker draw answers one other h k =
     let e = same_phase h.request k.request h.phase k.phase ((starts_once (Seeks seeker) New draw).same _ _ h.starts k.starts) in
-    same_leads seeker h.phase (answers.error ∷ answers.first ∷ answers.referrals) answers.last one other h.leads
-    (subst (λ (p : InitPhase). Leads seeker p (answers.error ∷ answers.first ∷ answers.referrals) answers.last other) (sym e) k.leads)
+    same_leads seeker h.phase (steps_of answers) answers.last one other h.leads
+    (subst (λ (p : InitPhase). Leads seeker p (steps_of answers) answers.last other) (sym e) k.leads)

@@ -29,7 +29,7 @@ use Rattle.krb_initiator.specs.Beginnings.{identity_of, seeker_of}
 use Rattle.krb_initiator.specs.InitRuns.{Starts, Next}
 use Rattle.krb_initiator.specs.Tgts.{no_tgt}
 use Rattle.krb_ends.specs.Answers.{Offered}
-use Rattle.krb_ends.specs.HonestKdc.{Step, Answers, service_of}
+use Rattle.krb_ends.specs.HonestKdc.{Step, Answers, steps_of, service_of}
 use Rattle.krb_ends.specs.Offers.{Offer, offered_token, IsHonest}
 
 -- an initiator before its exchange, whose caller asks for mutual authentication by a service of two parts, not for user-to-user, and
@@ -61,7 +61,7 @@ pub record Fetches (seeker : Seeker) (draw : Draw) (answers : Answers) (done : I
   pub request : NetworkRequest
   pub phase : InitPhase
   pub starts : Starts (Seeks seeker) New draw (Ok (Asks request phase))
-  pub leads : Leads seeker phase (answers.error ∷ answers.first ∷ answers.referrals) answers.last done
+  pub leads : Leads seeker phase (steps_of answers) answers.last done
 
 -- mutual authentication is asked for, and the mechanism's name is short
 pub record AsksMutual (seeker : Seeker) : Type 0 where

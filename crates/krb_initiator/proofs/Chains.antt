@@ -1,13 +1,13 @@
 -- The keys of a run's replies are a chain.
-use Rattle.std.proofs.Common.{◌≡◌, ℕ, ◌+◌, Bool, true, false, List, [], ◌∷◌, ◌++◌, Option, Some, None, Result, Ok, refl, sym, ap, ◌∙◌, subst, length-append}
-use Rattle.std.specs.Prelude.{◌&&◌, is_some}
+use Rattle.std.proofs.Common.{◌≡◌, inl, inr, ℕ, ◌+◌, Bool, true, false, List, [], ◌∷◌, ◌++◌, Option, Some, None, Result, Ok, refl, sym, ap, ◌∙◌, subst, append_assoc, length-append}
+use Rattle.std.specs.Prelude.{◌&&◌, ◌⊎◌, is_some}
 use Rattle.std.specs.List.{list_all}
-use Rattle.krb_crypto.specs.declared.suite.CipherSuite.{CipherSuite}
 use Rattle.krb_exchange.specs.declared.kdc_rep.KdcRep.{KdcRep}
 use Rattle.krb_exchange.specs.declared.kdc_rep.TgsRep.{TgsRep}
 use Rattle.krb_exchange.specs.declared.kdc_req.KdcReqBody.{KdcReqBody}
 use Rattle.sspi_core.specs.declared.cause.Cause.{Cause}
 use Rattle.sspi_core.specs.declared.draw.Draw.{Draw}
+use Rattle.sspi_core.specs.declared.protocol.NetworkProtocol.{NetworkProtocol}
 use Rattle.sspi_generator.specs.declared.network.NetworkRequest.{NetworkRequest}
 use Rattle.sspi_generator.specs.declared.network.NetFault.{NetFault}
 use Rattle.krb_as.specs.declared.kdc.Kdc.{Kdc}
@@ -19,11 +19,11 @@ use Rattle.krb_as.specs.declared.done.InitDone.{InitDone}
 use Rattle.krb_as.specs.declared.as_phase.AsPhase.{AsPhase}
 use Rattle.krb_as.specs.declared.as_phase.AsPhase.TheVariants.{AwaitsError, AwaitsAsRep}
 use Rattle.krb_as.specs.declared.key.SealedTime.{SealedTime}
+use Rattle.krb_as.specs.Askers.{default_salt}
 use Rattle.krb_as.specs.AsPhases.{TakesReplyWithin}
-use Rattle.krb_as.proofs.AsTurns.{asked_first, error_taken, as_rep_taken}
+use Rattle.krb_as.proofs.AsTurns.{asked_first, AskedSecond, WentOn, WentOnEarly, error_taken, as_rep_taken}
 use Rattle.krb_as.specs.declared.key.Grant.{Grant}
-use Rattle.krb_tgs.specs.Chain.{IsChain}
-use Rattle.krb_tgs.proofs.Chains.{chain_begins, chain_goes_on, taken_tgs, TgsTaken}
+use Rattle.krb_tgs.proofs.Chains.{key_of, chain_begins, chain_goes_on, taken_tgs, TgsTaken}
 use Rattle.krb_ap.specs.Shown.{shown as shown_to, ShowsTicket}
 use Rattle.krb_initiator.specs.declared.seeker.Seeker.{Seeker}
 use Rattle.krb_initiator.specs.declared.seeker.TgsLeg.{TgsLeg}
@@ -32,7 +32,7 @@ use Rattle.krb_initiator.specs.declared.seeker.InitPhase.{InitPhase}
 use Rattle.krb_initiator.specs.declared.seeker.InitPhase.TheVariants.{New, InAsExchange, AwaitsTgsRep, Over}
 use Rattle.krb_initiator.specs.InitSteps.{body_of, AsksFirstTgs, Refers, Arrives, GoesTo, TakesNext}
 use Rattle.krb_initiator.specs.InitRuns.{Starts, Next}
-use Rattle.krb_initiator.specs.Came.{IsGranted, AreGranted, is_referral, HasChain, CameWithSalt, CameWithKey, Came, IsSession}
+use Rattle.krb_initiator.specs.Came.{IsGranted, AreGranted, is_referral, LeaveSalt, HasChain, CameWithSalt, CameWithKey, Came, IsSession}
 
 -- which turn was given
 asked : (request made : NetworkRequest) (next phase : InitPhase) → ◌≡◌ {A = Turn InitPhase InitDone} (Asks made next) (Asks request phase) → next ≡ phase
@@ -51,50 +51,65 @@ module _ (seeker : Seeker) (reply : Result (List ℕ) NetFault) (draw : Draw) wh
   abbrev Taken : AsPhase → Turn InitPhase InitDone → Type 0
   Taken phase turn = TakesReplyWithin InAsExchange AsksTgs seeker.asker phase reply draw (Ok turn)
 
-  -- the error
-  second : (kdc : Kdc) (body : KdcReqBody) (replies : List (Result (List ℕ) NetFault)) (request : NetworkRequest) (next : InitPhase) → replies ≡ [] → Taken (AwaitsError kdc body) (Asks request next)
-      → Came seeker (replies ++ (reply ∷ [])) next
-  second kdc body replies request next none h =
-      let second = error_taken InAsExchange AsksTgs seeker.asker reply draw (Asks request next) kdc body h in
-      subst (λ (p : InitPhase). Came seeker (replies ++ (reply ∷ [])) p) (sym (asked _ request next _ second.is))
-      (record {
-        error = reply;
-        are = ap (λ (r : List (Result (List ℕ) NetFault)). r ++ (reply ∷ [])) none;
-        names = record { protocol = kdc.protocol; named = second.names };
-      })
-
-  -- the AS-REP
-  first : (sealed : SealedTime) (replies : List (Result (List ℕ) NetFault)) (request : NetworkRequest) (next : InitPhase) → CameWithSalt seeker replies sealed.salt → Taken (AwaitsAsRep sealed) (Asks request next)
-      → Came seeker (replies ++ (reply ∷ [])) next
+  -- a ticket was taken, and the ticket-granting service of the client's realm was asked
+  asked_on : (before : List (Result (List ℕ) NetFault)) (salt : List ℕ) (protocol : NetworkProtocol) (replies : List (Result (List ℕ) NetFault)) (request : NetworkRequest) (next : InitPhase)
+      → replies ≡ before → LeaveSalt seeker before salt → WentOn AsksTgs seeker.asker protocol salt reply (Asks request next) → Came seeker (replies ++ (reply ∷ [])) next
   unfolding AsksFirstTgs
-  first sealed replies request next came h =
-      let on = as_rep_taken InAsExchange AsksTgs seeker.asker reply draw (Asks request next) sealed h in
+  asked_on before salt protocol replies request next are leave on =
       let begun = passed _ _ _ on.rest in
       subst (λ (p : InitPhase). Came seeker (replies ++ (reply ∷ [])) p) (sym (asked _ request next _ (gave _ _ begun.rest_held)))
       (record {
         reps = [];
         has = record {
-          error = came.error;
+          before = before;
           first = reply;
           rest = [];
-          are = ap (λ (r : List (Result (List ℕ) NetFault)). r ++ (reply ∷ [])) came.are;
-          salt = sealed.salt;
-          names = came.names;
+          are = ap (λ (r : List (Result (List ℕ) NetFault)). r ++ (reply ∷ [])) are;
+          salt = salt;
+          leave = leave;
           as_rep = on.taken.rep;
-          grants = record { protocol = sealed.kdc.protocol; granted = on.taken.granted };
+          grants = record { protocol = protocol; granted = on.taken.granted };
           granted = tt;
-          chain = chain_begins seeker.asker.credentials sealed.salt on.taken.rep on.grant.suite on.grant.key on.taken.opened;
+          chain = chain_begins seeker.asker.interoperability seeker.asker.credentials salt on.taken.rep (key_of on.grant) on.taken.opened;
         };
         referrals = refl;
         count = refl;
       })
 
+  -- the error, or an AS-REP at once
+  second : (kdc : Kdc) (body : KdcReqBody) (replies : List (Result (List ℕ) NetFault)) (request : NetworkRequest) (next : InitPhase) → replies ≡ [] → Taken (AwaitsError kdc body) (Asks request next)
+      → Came seeker (replies ++ (reply ∷ [])) next
+  second kdc body replies request next none h = go (error_taken InAsExchange AsksTgs seeker.asker reply draw (Asks request next) kdc body h)
+    where
+      go : AskedSecond {O = InitDone} InAsExchange seeker.asker kdc reply (Asks request next) ⊎ WentOnEarly AsksTgs seeker.asker kdc reply (Asks request next) → Came seeker (replies ++ (reply ∷ [])) next
+      go (inl second) =
+          subst (λ (p : InitPhase). Came seeker (replies ++ (reply ∷ [])) p) (sym (asked _ request next _ second.is))
+          (record {
+            error = reply;
+            are = ap (λ (r : List (Result (List ℕ) NetFault)). r ++ (reply ∷ [])) none;
+            names = record { protocol = kdc.protocol; named = second.names };
+          })
+      go (inr went) = asked_on [] (default_salt seeker.asker.credentials) kdc.protocol replies request next none (went.allowed, refl) went.on
+
+  -- the AS-REP
+  first : (sealed : SealedTime) (replies : List (Result (List ℕ) NetFault)) (request : NetworkRequest) (next : InitPhase) → CameWithSalt seeker replies sealed.salt → Taken (AwaitsAsRep sealed) (Asks request next)
+      → Came seeker (replies ++ (reply ∷ [])) next
+  first sealed replies request next came h =
+      asked_on (came.error ∷ []) sealed.salt sealed.kdc.protocol replies request next came.are came.names (as_rep_taken InAsExchange AsksTgs seeker.asker reply draw (Asks request next) sealed h)
+
   -- neither ends the run
-  no_end : (phase : AsPhase) (done : InitDone) → Taken phase (Ends done) → ⊥
+  goes_on_asking : (protocol : NetworkProtocol) (salt : List ℕ) (done : InitDone) → WentOn AsksTgs seeker.asker protocol salt reply (Ends done) → ⊥
   unfolding AsksFirstTgs
-  no_end (AwaitsError kdc body) done h = let second = error_taken InAsExchange AsksTgs seeker.asker reply draw (Ends done) kdc body h in let f = second.is in absurd cc
+  goes_on_asking protocol salt done on = let begun = passed _ _ _ on.rest in let f = gave _ _ begun.rest_held in absurd cc
+
+  no_end : (phase : AsPhase) (done : InitDone) → Taken phase (Ends done) → ⊥
+  no_end (AwaitsError kdc body) done h = go (error_taken InAsExchange AsksTgs seeker.asker reply draw (Ends done) kdc body h)
+    where
+      go : AskedSecond {O = InitDone} InAsExchange seeker.asker kdc reply (Ends done) ⊎ WentOnEarly AsksTgs seeker.asker kdc reply (Ends done) → ⊥
+      go (inl second) = let f = second.is in absurd cc
+      go (inr went) = goes_on_asking kdc.protocol (default_salt seeker.asker.credentials) done went.on
   no_end (AwaitsAsRep sealed) done h =
-      let on = as_rep_taken InAsExchange AsksTgs seeker.asker reply draw (Ends done) sealed h in let begun = passed _ _ _ on.rest in let f = gave _ _ begun.rest_held in absurd cc
+      goes_on_asking sealed.kdc.protocol sealed.salt done (as_rep_taken InAsExchange AsksTgs seeker.asker reply draw (Ends done) sealed h)
 
   -- one more TGS-REP
   more_granted : (replies : List (Result (List ℕ) NetFault)) (reps : List TgsRep) (rep : TgsRep) → AreGranted replies reps → IsGranted reply rep → AreGranted (replies ++ (reply ∷ [])) (reps ++ (rep ∷ []))
@@ -112,21 +127,23 @@ module _ (seeker : Seeker) (reply : Result (List ℕ) NetFault) (draw : Draw) wh
       step false b c h goes = h
 
   module _ (leg : TgsLeg) (replies : List (Result (List ℕ) NetFault)) (shown : Grant) (came : CameWithKey seeker replies leg)
-      (taken : TgsTaken leg.kdc.protocol leg.suite leg.key reply shown) where
+      (taken : TgsTaken seeker.asker.interoperability leg.kdc.protocol leg.suite leg.key reply shown) where
     one_more : HasChain seeker (replies ++ (reply ∷ [])) shown.suite (came.reps ++ (taken.rep ∷ [])) shown.key
     one_more = record {
-      error = came.has.error;
+      before = came.has.before;
       first = came.has.first;
       rest = came.has.rest ++ (reply ∷ []);
-      are = ap (λ (r : List (Result (List ℕ) NetFault)). r ++ (reply ∷ [])) came.has.are;
+      are =
+          ap (λ (r : List (Result (List ℕ) NetFault)). r ++ (reply ∷ [])) came.has.are
+          ∙ append_assoc came.has.before (came.has.first ∷ came.has.rest) (reply ∷ []);
       salt = came.has.salt;
-      names = came.has.names;
+      leave = came.has.leave;
       as_rep = came.has.as_rep;
       grants = came.has.grants;
       granted = more_granted came.has.rest came.reps taken.rep came.has.granted (record { protocol = leg.kdc.protocol; granted = taken.granted });
       chain =
-          subst (λ (s : CipherSuite). IsChain seeker.asker.credentials came.has.salt came.has.as_rep s (came.reps ++ (taken.rep ∷ [])) shown.key) (sym taken.same)
-          (chain_goes_on seeker.asker.credentials came.has.salt came.has.as_rep leg.suite came.reps taken.rep leg.key shown.key came.has.chain taken.opened);
+          chain_goes_on seeker.asker.interoperability seeker.asker.credentials came.has.salt came.has.as_rep came.reps taken.rep (record { suite = leg.suite; key = leg.key }) (key_of shown)
+          came.has.chain taken.opened;
     }
 
     -- whether it is a referral
@@ -185,14 +202,14 @@ module _ (seeker : Seeker) (reply : Result (List ℕ) NetFault) (draw : Draw) wh
   unfolding TakesNext
   next_goes leg replies request next came h =
       let shown = passed _ _ _ h in
-      goes leg replies shown.found came (taken_tgs leg.kdc.protocol leg.suite leg.key reply shown.found shown.first_held) _ request next refl shown.rest_held
+      goes leg replies shown.found came (taken_tgs seeker.asker.interoperability leg.kdc.protocol leg.suite leg.key reply shown.found shown.first_held) _ request next refl shown.rest_held
 
   next_ends : (leg : TgsLeg) (replies : List (Result (List ℕ) NetFault)) (done : InitDone) → CameWithKey seeker replies leg → TakesNext seeker leg reply draw (Ok (Ends done))
       → IsSession seeker (replies ++ (reply ∷ [])) done
   unfolding TakesNext
   next_ends leg replies done came h =
       let shown = passed _ _ _ h in
-      ends_at leg replies shown.found came (taken_tgs leg.kdc.protocol leg.suite leg.key reply shown.found shown.first_held) _ done refl shown.rest_held
+      ends_at leg replies shown.found came (taken_tgs seeker.asker.interoperability leg.kdc.protocol leg.suite leg.key reply shown.found shown.first_held) _ done refl shown.rest_held
 
 pub goes_on : (seeker : Seeker) (replies : List (Result (List ℕ) NetFault)) (phase : InitPhase) (reply : Result (List ℕ) NetFault) (draw : Draw) (request : NetworkRequest) (next : InitPhase)
     → Came seeker replies phase → Next (Seeks seeker) phase reply draw (Ok (Asks request next)) → Came seeker (replies ++ (reply ∷ [])) next

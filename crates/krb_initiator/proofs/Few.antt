@@ -13,13 +13,11 @@ use Rattle.sspi_generator.proofs.Few.{resolves_in}
 use Rattle.krb_as.specs.declared.as_phase.AsPhase.TheVariants.{AwaitsError, AwaitsAsRep}
 use Rattle.krb_as.specs.declared.done.InitDone.{InitDone}
 use Rattle.krb_as.specs.declared.key.Grant.{Grant}
-use Rattle.krb_as.specs.declared.turn.Turn.{Turn}
 use Rattle.krb_as.specs.declared.turn.Turn.TheVariants.{Asks}
 use Rattle.krb_as.proofs.Few.{asked, first_down, second_down, grant_down}
 use Rattle.krb_as.proofs.Tasks.{turns_down}
 use Rattle.krb_replies.specs.Realms.{referral_realm}
 use Rattle.krb_tgs.specs.TgsAsked.{Follows}
-use Rattle.krb_ap.specs.Shown.{ShowsTicket}
 use Rattle.krb_initiator.specs.declared.init_run.InitRun.{InitRun}
 use Rattle.krb_initiator.specs.declared.seeker.Seeker.{Seeker}
 use Rattle.krb_initiator.specs.declared.seeker.TgsLeg.{TgsLeg}
@@ -71,7 +69,8 @@ module _ (seeker : Seeker) (draw : Draw) (request : NetworkRequest) (phase : Ini
   unfolding TakesNext
   next_down New reply h = absurd h
   next_down (InAsExchange (AwaitsError kdc body)) reply h =
-      second_down InitDone InAsExchange turns_left 11 seeker.asker (λ grant. AsksFirstTgs seeker grant draw) reply draw request phase kdc body (λ sealed. lit< tt) h
+      second_down InitDone InAsExchange turns_left 11 seeker.asker (λ grant. AsksFirstTgs seeker grant draw) reply draw request phase kdc body (λ sealed. lit< tt)
+      (λ grant asks. omega (arith, tgs_down grant asks)) h
   next_down (InAsExchange (AwaitsAsRep sealed)) reply h =
       grant_down InitDone InAsExchange turns_left 10 seeker.asker (λ grant. AsksFirstTgs seeker grant draw) reply draw request phase sealed tgs_down h
   next_down (AwaitsTgsRep leg) reply h = let shown = passed _ _ _ h in goes_down (referral_realm shown.found.rep.ticket.sname) leg shown.found shown.rest_held

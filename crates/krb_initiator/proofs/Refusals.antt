@@ -12,11 +12,12 @@ use Rattle.sspi_generator.specs.declared.network.NetFault.{NetFault}
 use Rattle.sspi_generator.specs.Steps.{IsFailure}
 use Rattle.krb_as.specs.Kdcs.{FindsKdc}
 use Rattle.krb_replies.specs.Unseals.{Unseals, OpensSealed}
-use Rattle.krb_replies.specs.Keys.{HandsOnKey}
+use Rattle.krb_context.specs.declared.interoperability.Interoperability.{Interoperability}
+use Rattle.krb_replies.specs.Keys.{BringsNext}
 use Rattle.krb_replies.specs.Answered.{OpensApRep}
 use Rattle.krb_replies.specs.Realms.{referral_realm}
 use Rattle.krb_as.specs.declared.asker.Asker.{Asker}
-use Rattle.krb_as.proofs.Refusals.{IsNetwork, Refuses, then_refuses, finds_refuses, takes_refuses, holds_refuses, gives_refuses, begins_within_refuses, takes_reply_within_refuses, grants_refuse}
+use Rattle.krb_as.proofs.Refusals.{IsNetwork, Refuses, then_refuses, finds_refuses, takes_refuses, holds_refuses, gives_refuses, begins_within_refuses, takes_reply_within_refuses, takes_key_refuses, grants_refuse}
 use Rattle.krb_tgs.specs.declared.wanted.Wanted.{Wanted}
 use Rattle.krb_as.specs.declared.key.Grant.{Grant}
 use Rattle.krb_tgs.specs.TgsAsked.{AsksTgs, Follows}
@@ -63,12 +64,12 @@ module _ (P : Type 0) where
       then_refuses P _ _ (holds_refuses P Hops _ (λ z. let e = z.1 in absurd cc))
       (λ _. then_refuses P _ _ (holds_refuses P SameRealm _ (λ z. let e = z.1 in absurd cc)) (λ _. asks_refuse asker wanted shown home realm None draw))
 
-  hands_refuse : (suite : CipherSuite) (key : List ℕ) (rep : TgsRep) → Refuses P (HandsOnKey suite key rep)
-  unfolding HandsOnKey OpensSealed Unseals
-  hands_refuse suite key rep =
+  brings_refuse : (options : Interoperability) (suite : CipherSuite) (key : List ℕ) (rep : TgsRep) → Refuses P (BringsNext options suite key rep)
+  unfolding BringsNext OpensSealed Unseals
+  brings_refuse options suite key rep =
       then_refuses P _ _ (then_refuses P _ _ (then_refuses P _ _ (holds_refuses P Reply _ not_reply)
       (λ _. then_refuses P _ _ (holds_refuses P Reply _ not_reply) (λ _. finds_refuses P Reply _ not_reply)))
-      (λ plain. finds_refuses P Inner _ not_inner)) (λ part. gives_refuses P _)
+      (λ plain. finds_refuses P Inner _ not_inner)) (λ part. takes_key_refuses P options suite part.0.key)
 
   -- what the service is shown
   shows_refuse : (seeker : Seeker) (leg : TgsLeg) (shown : Grant) (draw : Draw) → Refuses P (Arrives seeker leg shown draw)
@@ -137,7 +138,7 @@ starts_refuse initiation Over draw e h z = h
 takes_next_refuses : (seeker : Seeker) (leg : TgsLeg) (reply : Result (List ℕ) NetFault) (draw : Draw) → Refuses (IsFailure reply) (TakesNext seeker leg reply draw)
 unfolding TakesNext TakesTgsRep
 takes_next_refuses seeker leg reply draw =
-    then_refuses _ _ _ (then_refuses _ _ _ (grants_refuse reply leg.kdc.protocol _) (λ rep. then_refuses _ _ _ (hands_refuse _ leg.suite leg.key rep) (λ next. gives_refuses _ _)))
+    then_refuses _ _ _ (then_refuses _ _ _ (grants_refuse reply leg.kdc.protocol _) (λ rep. then_refuses _ _ _ (brings_refuse _ _ leg.suite leg.key rep) (λ next. gives_refuses _ _)))
     (λ shown. goes_refuse _ (referral_realm shown.rep.ticket.sname) seeker leg shown draw)
 
 continues_refuse : (seeker : Seeker) (phase : InitPhase) (reply : Result (List ℕ) NetFault) (draw : Draw) (e : Cause) → Continues seeker phase reply draw (Err e) → IsNetwork e → IsFailure reply

@@ -65,6 +65,7 @@ initiator_of context user_to_user flags = record {
   realm = context.realm;
   user_to_user = user_to_user;
   flags = flags;
+  interoperability = context.interoperability;
 }
 
 abbrev pub errand_of : Kerberos → InitOptions → Bool → List ℕ → Errand

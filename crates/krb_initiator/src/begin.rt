@@ -111,6 +111,7 @@ fn initiator_of(
         realm,
         user_to_user,
         flags,
+        interoperability: context.interoperability,
     })
 }
 

@@ -1,6 +1,6 @@
 -- The refusal that asks for pre-authentication is an honest KDC's error.
-use Rattle.std.proofs.Common.{◌≡◌, ℕ, ◌+◌, ◌%◌, ◌/◌, ◌<◌, ◌≤◌, ◌^◌, pos, true, List, [], ◌∷◌, length, Option, Some, None, IfSome, refl, arith, lit<, lit≤, nat_lt, Ok}
-use Rattle.std.specs.Prelude.{codes, nat_le, unwrap_or}
+use Rattle.std.proofs.Common.{◌≡◌, ℕ, ◌+◌, ◌%◌, ◌/◌, ◌<◌, ◌≤◌, ◌^◌, pos, true, List, [], ◌∷◌, length, Option, Some, None, IfSome, refl, arith, lit<, lit≤, nat_lt, Ok, Bool, false, sym, ap}
+use Rattle.std.specs.Prelude.{codes, nat_le, unwrap_or, if◌then◌else◌}
 use Rattle.std.specs.Int.{w32, to_be_bytes}
 use Rattle.std.specs.Option.{option_map_or}
 use Rattle.std.proofs.lemmas.Bool.{le-leb, leb-true, ltb-true}
@@ -24,11 +24,13 @@ use Rattle.sspi_core.specs.declared.protocol.NetworkProtocol.TheVariants.{Tcp}
 use Rattle.sspi_core.specs.Moments.{last_moment}
 use Rattle.sspi_core.proofs.Chain.{follows, gives, holds_true}
 use Rattle.krb_as.specs.Replies.{Skips, Unpacks, Unwraps}
-use Rattle.krb_replies.specs.Salts.{NamesSalt}
+use Rattle.krb_context.specs.Interoperability.{allows, suite_of_each_key}
+use Rattle.krb_replies.specs.Salts.{NamesSalt, NamesSuite}
 use Rattle.krb_as.specs.declared.asker.Asker.{Asker}
-use Rattle.krb_as.specs.Askers.{default_salt}
+use Rattle.krb_as.specs.Askers.{asker_suite, suite_told, time_suite, default_salt}
+use Rattle.krb_as.specs.Replied.{TellsSuite, LeavesSuite}
 use Rattle.krb_requests.specs.Pieces.{principal}
-use Rattle.krb_ends.proofs.HonestLemmas.{spells_itself}
+use Rattle.krb_ends.proofs.HonestLemmas.{spells_itself, suite_of_integer-number}
 use Rattle.krb_ends.proofs.RepLemmas.{short-number}
 use Rattle.krb_kdc.proofs.Found.{and_first, and_second}
 use Rattle.krb_kdc.specs.Fitting.{IsShortSalt}
@@ -136,9 +138,24 @@ module _ (suite : CipherSuite) (realm : List ℕ) (draw : Draw) (salt : Option (
       (follows _ _ (Some (entry suite salt ∷ [])) _ (record { is = spells_itself (items_layout etype_info2_entry_layout) (entry suite salt ∷ []) entries_sound (omega (arith, part.short)) })
       (gives salt))
 
+  names_suite : NamesSuite (krb_error realm draw 25 (Some (hint suite salt))) (Ok (Some suite))
+  unfolding NamesSuite krb_error hint etype_info2
+  names_suite =
+      let whole = short-hint in
+      let part = short-entries in
+      follows _ _ (etype_info2 suite salt ∷ []) _ (record { is = spells_itself (items_layout pa_data_layout) (etype_info2 suite salt ∷ []) hint_sound (omega (arith, whole.short)) })
+      (follows _ _ (Some (entry suite salt ∷ [])) _ (record { is = spells_itself (items_layout etype_info2_entry_layout) (entry suite salt ∷ []) entries_sound (omega (arith, part.short)) })
+      (record { is = ap Ok (sym (suite_of_integer-number suite)) }))
+
+  leaves_suite : (asker : Asker) (is_told : Bool)
+      → LeavesSuite is_told asker (krb_error realm draw 25 (Some (hint suite salt))) (Ok (if is_told then suite_told asker (Some suite) else asker_suite asker))
+  unfolding TellsSuite
+  leaves_suite asker true = follows _ _ (Some suite) _ names_suite (gives (suite_told asker (Some suite)))
+  leaves_suite asker false = gives (asker_suite asker)
+
   -- the first reply of an honest KDC
   pub answers_error : (asker : Asker) → length (refusal realm draw 25 (Some (hint suite salt))) ≤ 2 ^ 23
-      → AnswersError asker Tcp (with_length (refusal realm draw 25 (Some (hint suite salt)))) (unwrap_or salt (default_salt asker.credentials))
+      → AnswersError asker Tcp (with_length (refusal realm draw 25 (Some (hint suite salt)))) (time_suite asker (Some suite)) (unwrap_or salt (default_salt asker.credentials))
   answers_error asker short = record {
     error = krb_error realm draw 25 (Some (hint suite salt));
     brings = record {
@@ -151,4 +168,5 @@ module _ (suite : CipherSuite) (realm : List ℕ) (draw : Draw) (salt : Option (
     named = salt;
     names = names_salt;
     salt_is = refl;
+    leaves = leaves_suite asker (allows asker.interoperability suite_of_each_key);
   }

@@ -1,5 +1,6 @@
 -- The AS-REP of a KDC is an honest one.
-use Rattle.std.proofs.Common.{◌≡◌, ℕ, ◌+◌, ◌/◌, ◌<◌, ◌≤◌, ◌^◌, ℤ, pos, List, [], ◌∷◌, length, take, drop, replicate, None, refl, sym, subst, ap, ◌∙◌, arith, lit<, lit≤, Ok, length-drop}
+use Rattle.std.specs.Prelude.{◌&&◌}
+use Rattle.std.proofs.Common.{◌≡◌, Bool, true, false, ℕ, ◌+◌, ◌/◌, ◌<◌, ◌≤◌, ◌^◌, ℤ, pos, List, [], ◌∷◌, length, take, drop, replicate, None, refl, sym, subst, ap, ◌∙◌, arith, lit<, lit≤, Ok, length-drop}
 use Rattle.std.proofs.lemmas.List.{length-take}
 use Rattle.std.proofs.lemmas.Int.{ints}
 use Rattle.krb_aes.specs.Octets.{IsOctets}
@@ -11,7 +12,6 @@ use Rattle.krb_der.specs.Layout.{spelling}
 use Rattle.krb_crypto.specs.Suite.{key_size, suite_number}
 use Rattle.krb_crypto.specs.Sealed.{sealed, IsSealed}
 use Rattle.krb_crypto.specs.declared.suite.CipherSuite.{CipherSuite}
-use Rattle.krb_crypto.specs.declared.suite.CipherSuite.TheVariants.{Aes128CtsHmacSha196, Aes256CtsHmacSha196}
 use Rattle.krb_crypto.proofs.SealedLemmas.{is_sealed}
 use Rattle.krb_messages.specs.Table.{encryption_key as encryption_key_kind, encrypted_data, ticket as ticket_kind}
 use Rattle.krb_messages.specs.Layouts.{encryption_key_row, encryption_key_layout, encrypted_data_row, encrypted_data_layout, ticket_row, ticket_layout, principal_name_layout}
@@ -27,7 +27,7 @@ use Rattle.krb_replies.specs.Salts.{TellsEtype}
 use Rattle.krb_as.specs.declared.asker.Asker.{Asker}
 use Rattle.krb_as.specs.Askers.{client_key}
 use Rattle.krb_requests.specs.Pieces.{sealed_data, encryption_key}
-use Rattle.krb_ends.proofs.HonestLemmas.{spells_itself, suite_of_integer-number}
+use Rattle.krb_ends.proofs.HonestLemmas.{spells_itself, suite_of_integer-number, has_suite}
 use Rattle.krb_ends.proofs.RepLemmas.{short-number}
 use Rattle.krb_crypto.proofs.CtsInjective.{IsOctets-take}
 use Rattle.krb_kdc.specs.declared.grant.Grant.{Grant}
@@ -36,6 +36,9 @@ use Rattle.krb_context.proofs.DrawnLemmas.{key_size_small}
 use Rattle.krb_kdc.specs.Grants.{reply_confounder, reply_part, ticket, as_rep}
 use Rattle.krb_kdc.proofs.Lengths.{time_short}
 use Rattle.krb_ends.specs.Answers.{IsDraw}
+use Rattle.krb_context.specs.Interoperability.{allows, as_rep_tagged_26, suite_of_each_key}
+use Rattle.krb_exchange.specs.declared.enc_kdc_rep_part.EncAsRepPart.{EncAsRepPart}
+use Rattle.krb_replies.specs.Keys.{is_tagged_26, IsFirstPart}
 use Rattle.krb_ends.specs.HonestKdc.{GrantsFirst}
 use Rattle.krb_kdc_ends.specs.Granting.{IsSoundGrant}
 use Rattle.krb_kdc_ends.proofs.ErrorLemmas.{unwraps_tcp, ascii_octets, short-octet}
@@ -117,6 +120,15 @@ module _ (suite : CipherSuite) (realm : List ℕ) (draw : Draw) (d : IsDraw draw
         (follows _ _ (suite_number suite ∷ [], used) _ (record { is = refl })
         (follows _ _ suite _ (takes_some Etype (suite_of_integer (suite_number suite ∷ [])) suite (suite_of_integer-number suite)) (gives (suite_number suite, used))))
 
+    -- what it seals is tagged 25, whatever the client allows
+    untagged : (part : EncAsRepPart) → is_tagged_26 (spelling enc_as_rep_part_layout part) ≡ false
+    unfolding enc_as_rep_part tlv
+    untagged part = refl
+
+    and_false : (b : Bool) → (b && false) ≡ false
+    and_false true = refl
+    and_false false = refl
+
     -- the second reply of an honest KDC, to a client whose key this is
     pub grants_first : (asker : Asker) (used key : List ℕ) → client_key suite used asker.credentials ≡ key → length key ≡ key_size suite
         → IsOctets (with_length (spelling as_rep_layout (as_rep suite realm draw nonce key grant)))
@@ -143,8 +155,13 @@ module _ (suite : CipherSuite) (realm : List ℕ) (draw : Draw) (d : IsDraw draw
           carries = record {
             plain = plain;
             sealed = subst (λ (k : List ℕ). IsSealed suite k 3 (sealed suite key 3 (reply_confounder suite draw) plain) plain) (sym is) sealed_in;
-            read = spells_itself enc_as_rep_part_layout (record { 0 = reply_part suite realm draw nonce grant }) part_sound (omega (arith, whole.short));
+            read =
+                subst (λ (b : Bool). IsFirstPart b plain (record { 0 = reply_part suite realm draw nonce grant }))
+                (sym (ap (λ (b : Bool). allows asker.interoperability as_rep_tagged_26 && b) (untagged (record { 0 = reply_part suite realm draw nonce grant }))
+                ∙ and_false (allows asker.interoperability as_rep_tagged_26)))
+                (spells_itself enc_as_rep_part_layout (record { 0 = reply_part suite realm draw nonce grant }) part_sound (omega (arith, whole.short)));
           };
+          same_suite = has_suite (allows asker.interoperability suite_of_each_key) suite;
           key_is = refl;
           fits = drawn_fits;
         }

@@ -19,8 +19,8 @@ use Rattle.sspi_generator.specs.Runs.{Finishes}
 use Rattle.krb_as.specs.Replies.{Unwraps, Replies}
 use Rattle.krb_as.specs.declared.done.InitDone.{InitDone}
 use Rattle.krb_as.specs.declared.turn.Turn.{Turn}
-use Rattle.krb_as.specs.Replied.{WantsPreAuth, Grants}
-use Rattle.krb_as.specs.AsPhases.{AsksSecond, SealsTime, TakesAsRep, TakesReplyWithin}
+use Rattle.krb_as.specs.Replied.{TakesFirst, Grants}
+use Rattle.krb_as.specs.AsPhases.{TakesAsRep, TakesReplyWithin}
 use Rattle.krb_as.specs.declared.as_phase.AsPhase.{AsPhase}
 use Rattle.krb_as.specs.declared.as_phase.AsPhase.TheVariants.{AwaitsError, AwaitsAsRep}
 use Rattle.krb_as.specs.Turns.{IsWant, state_of, phase_of}
@@ -87,14 +87,14 @@ grants_want : {A : Type 0} (layout : Layout A) (protocol : NetworkProtocol) → 
 unfolding Grants Replies Unwraps
 grants_want layout protocol = halts _ _ Memory _ (halts _ _ Memory _ (halts _ _ Memory _ (record { is = refl }) refl) refl) refl
 
-wants_want : (protocol : NetworkProtocol) (default : List ℕ) → WantsPreAuth protocol default (Err OutOfMemory) (Err Memory)
-unfolding WantsPreAuth Replies Unwraps
-wants_want protocol default = halts _ _ Memory _ (halts _ _ Memory _ (halts _ _ Memory _ (record { is = refl }) refl) refl) refl
+replies_want : (protocol : NetworkProtocol) → Replies protocol as_rep_layout (Err OutOfMemory) (Err Memory)
+unfolding Replies Unwraps
+replies_want protocol = halts _ _ Memory _ (halts _ _ Memory _ (record { is = refl }) refl) refl
 
 pub as_wants : (seeker : Seeker) (phase : AsPhase) (draw : Draw) → Next (Seeks seeker) (InAsExchange phase) (Err OutOfMemory) draw (Err Memory)
-unfolding TakesReplyWithin AsksSecond SealsTime TakesAsRep
+unfolding TakesReplyWithin TakesFirst TakesAsRep
 as_wants seeker (AwaitsError address body) draw =
-    halts _ _ Memory _ (halts _ _ Memory _ (halts _ _ Memory _ (wants_want address.protocol _) refl) refl) refl
+    halts _ _ Memory _ (halts _ _ Memory _ (replies_want address.protocol) refl) refl
 as_wants seeker (AwaitsAsRep sealed) draw = halts _ _ Memory _ (halts _ _ Memory _ (grants_want as_rep_layout sealed.kdc.protocol) refl) refl
 
 pub next_wants : (seeker : Seeker) (leg : TgsLeg) (draw : Draw) → TakesNext seeker leg (Err OutOfMemory) draw (Err Memory)

@@ -23,6 +23,7 @@ use Rattle.sspi_core.specs.declared.error.Error.{Error}
 use Rattle.sspi_core.specs.declared.identity.CredentialsBuffers.{CredentialsBuffers}
 use Rattle.sspi_core.specs.declared.identity.CredentialsBuffers.TheVariants.{AuthIdentity as Password, Keytab as Key}
 use Rattle.sspi_core.specs.declared.protocol.NetworkProtocol.{NetworkProtocol}
+use Rattle.sspi_core.specs.declared.protocol.NetworkProtocol.TheVariants.{Tcp}
 use Rattle.sspi_core.specs.Usernames.{UserName}
 use Rattle.sspi_generator.specs.declared.network.NetFault.{NetFault}
 use Rattle.sspi_generator.specs.declared.network.NetFault.TheVariants.{OutOfMemory}
@@ -39,7 +40,9 @@ use Rattle.krb_as.specs.declared.done.InitDone.{InitDone}
 use Rattle.krb_as.specs.declared.turn.Turn.TheVariants.{Asks}
 use Rattle.krb_as.specs.Asked.{first_request, second_request}
 use Rattle.krb_as.specs.AsPhases.{sealed_time}
-use Rattle.krb_as.specs.Askers.{asker_suite, client_key, default_salt, key_for}
+use Rattle.krb_as.specs.declared.asker.Asker.{Asker}
+use Rattle.krb_as.specs.Askers.{suite_for, asker_suite, time_suite, client_key, default_salt, key_for}
+use Rattle.krb_context.specs.Interoperability.{allows, suite_of_each_key}
 use Rattle.krb_as.specs.declared.as_phase.AsPhase.TheVariants.{AwaitsError, AwaitsAsRep}
 use Rattle.krb_as.specs.declared.key.SealedTime.{SealedTime}
 use Rattle.krb_as.specs.Turns.{IsWant}
@@ -93,6 +96,18 @@ key_is_its : (suite : CipherSuite) (salt key : List ℕ) (credentials : Credenti
 key_is_its suite salt key (Password identity) e = some_is (password_key suite identity.password salt) key e
 key_is_its suite salt key (Key identity) e = if_some (length identity.key == key_size suite) identity.key key e
 
+-- the time is sealed in the suite of the credentials where the KDC names that
+named_so : (suite : CipherSuite) (credentials : CredentialsBuffers) → suite_for (suite_for suite credentials) credentials ≡ suite_for suite credentials
+named_so suite (Password identity) = refl
+named_so suite (Key identity) = refl
+
+either : (b : Bool) (x y : CipherSuite) → x ≡ y → (if b then x else y) ≡ y
+either true x y e = e
+either false x y e = refl
+
+time_told : (asker : Asker) → time_suite asker (Some (asker_suite asker)) ≡ asker_suite asker
+time_told asker = either (allows asker.interoperability suite_of_each_key) _ _ (named_so asker.suite asker.credentials)
+
 ended_so : (out : Result InitDone Error) (one other : InitDone) → out ≡ Ok one → one ≡ other → out ≡ Ok other
 ended_so out one other is same = is ∙ ap Ok same
 
@@ -124,7 +139,7 @@ module _ (seeker : Seeker) (pairs : List (List ℕ × Kdc)) (draws : Draws) (ser
   salt = unwrap_or c.has.client.salt (default_salt seeker.asker.credentials)
 
   abbrev sealed : SealedTime
-  sealed = sealed_time seeker.asker address salt c.has.client.key
+  sealed = sealed_time address suite salt c.has.client.key
 
   abbrev plain_message : List ℕ
   plain_message = spelling as_req_layout (as_req_with plain_pa_datas body)
@@ -180,10 +195,11 @@ module _ (seeker : Seeker) (pairs : List (List ℕ × Kdc)) (draws : Draws) (ser
       reply c.sizes.request answers
       ∙ ap error_message c.stands.suite_is
 
-  error_is : AnswersError seeker.asker address.protocol (error_message suite) salt
+  error_is : AnswersError seeker.asker address.protocol (error_message suite) suite salt
   error_is =
-      subst (λ (p : NetworkProtocol). AnswersError seeker.asker p (error_message suite) salt) (sym c.stands.tcp)
-      (answers_error suite kdc.realm draws.error c.has.client.salt salted error_timely.is.moment seeker.asker c.sizes.error)
+      subst (λ (p : NetworkProtocol). AnswersError seeker.asker p (error_message suite) suite salt) (sym c.stands.tcp)
+      (subst (λ (s : CipherSuite). AnswersError seeker.asker Tcp (error_message suite) s salt) (time_told seeker.asker)
+      (answers_error suite kdc.realm draws.error c.has.client.salt salted error_timely.is.moment seeker.asker c.sizes.error))
 
   client_fits : length c.has.client.key ≡ key_size kdc.suite
   client_fits = key_of kdc.suite c.has.client (principal_found kdc.suite (user_components seeker.client.name) kdc.principals c.has.client kdc.principals_fit c.has.known)
@@ -250,7 +266,7 @@ module _ (seeker : Seeker) (pairs : List (List ℕ × Kdc)) (draws : Draws) (ser
   module _ (run next : InitRun) (state : GeneratorState NetworkRequest (Result InitDone Error)) (after : Net) (owns : List Draw) (is : run.initiation ≡ Seeks seeker) where
     asks_again : Next (Seeks seeker) (InAsExchange (AwaitsError address body)) (Ok (error_message suite)) draws.second
         (Ok (Asks (second_request suite c.has.client.key draws.second address body) (InAsExchange (AwaitsAsRep sealed))))
-    asks_again = asks_second seeker suite address body (record { reply = error_message suite; draw = draws.second }) salt c.has.client.key error_is c.has.keyed
+    asks_again = asks_second seeker suite address body (record { reply = error_message suite; draw = draws.second }) suite salt c.has.client.key error_is c.has.keyed
 
     first_turn : run.phase ≡ InAsExchange (AwaitsError address body) → (reply : Result (List ℕ) NetFault) → AnswersWith kdc (with_length plain_message) (of_kdcs draws) reply
         → ResumesAt run reply draws.second state next → Runs seeker out run' net' wanting state next after owns
@@ -314,7 +330,7 @@ module _ (seeker : Seeker) (pairs : List (List ℕ × Kdc)) (draws : Draws) (ser
       c.kdcs held kdc seeker.asker.kdc_url seeker.asker.realm c.stands draws.third draws.owns draws.rest 0 held_then first_knows c.leads
       c.drawn.by_client.1.1.0 c.drawn.by_client.1.1.1 c.drawn.by_kdcs.1.1 (omega (arith, c.few)) two.3 two.1 two_turn.turned.stays two_turn.turned.phase_is two_sent.pairs_are two_sent.draws_are three in
       let all : AllAnswers = record {
-        error = record { reply = error_message suite; draw = draws.second };
+        error = Some (record { reply = error_message suite; draw = draws.second });
         first = record { reply = rep_message suite; draw = draws.third };
         referrals = comes.steps;
         last = comes.last;
@@ -323,9 +339,7 @@ module _ (seeker : Seeker) (pairs : List (List ℕ × Kdc)) (draws : Draws) (ser
         first_kdc = address;
         first_found = c.stands.found;
         salt = salt;
-        error = error_is;
-        key = c.has.client.key;
-        has_key = c.has.keyed;
+        leads = record { suite = suite; error = error_is; key = c.has.client.key; has_key = c.has.keyed };
         as_rep = rep_in suite;
         known = known;
         grants = two_turn.grants;

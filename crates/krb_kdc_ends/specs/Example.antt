@@ -4,6 +4,7 @@ use Rattle.std.proofs.Common.{refl, lit≤, Global}
 use Rattle.std.specs.Prelude.{ℕ, List, [], ◌∷◌, codes, replicate, Some, None, false}
 use Rattle.url.specs.Parts.{Parts, serialize}
 use Rattle.url.specs.declared.host.Host.TheVariants.{Domain}
+use Rattle.krb_context.specs.Interoperability.{no_options}
 use Rattle.krb_crypto.specs.declared.suite.CipherSuite.TheVariants.{Aes256CtsHmacSha196}
 use Rattle.sspi_core.specs.declared.draw.Draw.{Draw}
 use Rattle.sspi_core.specs.declared.identity.CredentialsBuffers.{CredentialsBuffers}
@@ -61,7 +62,14 @@ example_credentials = Keytab (record { principal = UserPrincipal (codes "alice")
 
 abbrev pub example_seeker : Seeker
 example_seeker = record {
-  asker = record { kdc_url = Some example_url; env = record { vars = []; files = [] }; realm = example_realm; suite = Aes256CtsHmacSha196; credentials = example_credentials };
+  asker = record {
+    kdc_url = Some example_url;
+    env = record { vars = []; files = [] };
+    realm = example_realm;
+    suite = Aes256CtsHmacSha196;
+    credentials = example_credentials;
+    interoperability = no_options;
+  };
   client = record { name = codes "alice"; name_type = 1; realm = example_realm; host = codes "PC" };
   wanted = record { target = codes "host/b"; flags = record { 0 = mutual_auth }; channel_bindings = None };
   tgt = None;
@@ -74,11 +82,13 @@ example_seeker = record {
         sspi_encrypt_key_usage = 24;
         sspi_decrypt_key_usage = 22;
         ec = 0;
+        acceptor_subkey = false;
       };
       number = 0;
       realm = None;
       user_to_user = false;
       flags = record { 0 = mutual_auth };
+      interoperability = no_options;
     };
     bindings = None;
     mechanism = 0x2a ∷ 0x86 ∷ 0x48 ∷ 0x86 ∷ 0xf7 ∷ 0x12 ∷ 0x01 ∷ 0x02 ∷ 0x02 ∷ [];

@@ -218,7 +218,7 @@ pub record HasClient (seeker : Seeker) (kdc : Kdc) (user : UserName) : Type 0 wh
   pub realm_is : seeker.client.realm ≡ kdc.realm
   pub client : Principal
   pub known : principal_with (user_components seeker.client.name) kdc.principals ≡ Some client
-  pub keyed : sized_key seeker.asker (unwrap_or client.salt (default_salt seeker.asker.credentials)) ≡ Some client.key
+  pub keyed : sized_key seeker.asker (asker_suite seeker.asker) (unwrap_or client.salt (default_salt seeker.asker.credentials)) ≡ Some client.key
   pub user_named : client_of (name_of seeker) kdc.realm ≡ Some user
 
 -- all draws of both ends lie within so many seconds, less one

@@ -32,7 +32,7 @@ ghost use Rattle.sspi_core.specs.declared.protocol.NetworkProtocol.TheVariants.{
 ghost use Rattle.krb_as.specs.declared.asker.Asker.{Asker};
 ghost use Rattle.krb_crypto.specs.Suite.{key_size};
 ghost use Rattle.krb_kdc.specs.declared.grant.Grant.{Grant};
-ghost use Rattle.krb_as.specs.Askers.{client_key, default_salt};
+ghost use Rattle.krb_as.specs.Askers.{time_suite, client_key, default_salt};
 ghost use Rattle.krb_ends.specs.Answers.{IsDraw, AdmitsOnly, AreNew, EndsWellIn};
 ghost use Rattle.krb_ends.specs.HonestKdc.{AnswersError, GrantsFirst, Known, HasKdc, Refers, Serves, service_of};
 ghost use Rattle.krb_kdc_ends.specs.Granting.{IsSoundGrant, IsSoundClient};
@@ -45,6 +45,7 @@ ghost use Rattle.sspi_core.specs.Usernames.{UserName};
 ghost use Rattle.sspi_generator.specs.Runs.{Resolves};
 ghost use Rattle.krb_conf.specs.declared.env.Env.{Env};
 ghost use Rattle.krb_context.specs.declared.context.Kerberos.{Kerberos};
+ghost use Rattle.krb_context.specs.declared.interoperability.Interoperability.{Interoperability};
 ghost use Rattle.krb_context.specs.Contexts.{settled};
 ghost use Rattle.krb_exchange.specs.declared.kdc_rep.KdcRep.{KdcRep};
 ghost use Rattle.krb_replay.specs.Clock.{in_microseconds, is_later};
@@ -109,13 +110,13 @@ pub fn holders_of_tickets_are_served()
         (tgs_rep kdc.suite kdc.realm draw body.nonce part.key.key_value (next_grant draw.moment body part target))) }
 {}
 
-/// The reply by which a KDC asks a client that it has for its key is, over TCP, an honest KDC's error that names the client's salt.
+/// The reply by which a KDC asks a client that it has for its key is, over TCP, an honest KDC's error that names the client's suite and salt.
 pub fn requests_for_a_key_are_honest()
     ensures { (kdc : Kdc) (components : List (List ℕ)) (principal : Principal) (draw : Draw) (asker : Asker)
         → principal_with components kdc.principals ≡ Some principal → draw.moment ≤ last_moment
         → length (refusal kdc.realm draw 25 (Some (hint kdc.suite principal.salt))) ≤ 2 ^ 23
         → AnswersError asker Tcp (with_length (refusal kdc.realm draw 25 (Some (hint kdc.suite principal.salt))))
-        (unwrap_or principal.salt (default_salt asker.credentials)) }
+        (time_suite asker (Some kdc.suite)) (unwrap_or principal.salt (default_salt asker.credentials)) }
 {}
 
 /// The AS-REP that grants a client its first ticket is, over TCP, an honest KDC's to a client with that key.
@@ -157,13 +158,13 @@ pub fn next_replies_are_honest()
         → HasKdc asker home address.realm address
         → Refers asker home suite known (with_length (spelling tgs_rep_layout (tgs_rep suite realm draw nonce known.key grant)))
         (record { key = drawn_key suite draw; kdc = address }) }
-    ensures serves { (suite : CipherSuite) (realm nonce : List ℕ) (draw : Draw) (grant : Grant) (known : Known) (target : List ℕ)
-        → IsDraw draw → IsSoundGrant realm nonce grant → known.kdc.protocol ≡ Tcp
+    ensures serves { (suite : CipherSuite) (realm nonce : List ℕ) (draw : Draw) (grant : Grant) (known : Known) (options : Interoperability)
+        (target : List ℕ) → IsDraw draw → IsSoundGrant realm nonce grant → known.kdc.protocol ≡ Tcp
         → IsOctets (with_length (spelling tgs_rep_layout (tgs_rep suite realm draw nonce known.key grant)))
         → length (spelling tgs_rep_layout (tgs_rep suite realm draw nonce known.key grant)) ≤ 2 ^ 23
         → IsSoundClient grant.crealm grant.cname → length grant.key ≡ key_size suite → grant.sname ≡ name_with 2 (service_of target)
         → referral_realm (name_with 2 (service_of target)) ≡ None
-        → Serves target suite grant.key known (with_length (spelling tgs_rep_layout (tgs_rep suite realm draw nonce known.key grant)))
+        → Serves options target suite grant.key known (with_length (spelling tgs_rep_layout (tgs_rep suite realm draw nonce known.key grant)))
         (tgs_rep suite realm draw nonce known.key grant) (ticket_part suite draw grant) }
 {}
 

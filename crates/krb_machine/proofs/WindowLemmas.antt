@@ -7,7 +7,7 @@ use Rattle.krb_aes.specs.Octets.{IsOctets}
 use Rattle.krb_context.specs.Contexts.{is_peer_acceptor}
 use Rattle.krb_context.specs.Header.{is_wrap_header, number_of}
 use Rattle.krb_context.specs.Spelled.{spelled}
-use Rattle.krb_context.specs.Unwraps.{Heads, OpensBody, aged, ReceivesMessage, Unwraps, message_number}
+use Rattle.krb_context.specs.Unwraps.{Heads, params_for, OpensBody, aged, ReceivesMessage, Unwraps, message_number}
 use Rattle.krb_context.specs.Window.{number_verdict}
 use Rattle.krb_context.specs.declared.context.Kerberos.{Kerberos}
 use Rattle.krb_context.specs.declared.params.EncryptionParams.{EncryptionParams}
@@ -148,7 +148,7 @@ opened_is_fresh context message text h =
     let c = passed _ _ text b.rest in
     let d = passed _ _ text c.rest in
     let e = passed _ _ text d.rest in
-    let front = heads_front context.encryption_params a.found (is_peer_acceptor context) (spelled message) c.found c.held in
+    let front = heads_front (params_for context (spelled message)) a.found (is_peer_acceptor context) (spelled message) c.found c.held in
     ap (λ (header : List ℕ). number_verdict context.window (number_of header)) (sym front) ∙ aged_fresh (number_verdict context.window (number_of c.found)) e.found e.held.is
 
 -- and one whose refusal tells its age is refused by the window
@@ -157,9 +157,9 @@ unfolding ReceivesMessage
 refused_by_age context message cause age h =
     let a = behind _ _ cause (takes_no_age causes.Sequence _ (no_age causes.Sequence (λ e. cc) (λ e. cc))) age h in
     let b = behind _ _ cause (takes_no_age causes.Buffers _ (no_age causes.Buffers (λ e. cc) (λ e. cc))) age a.rest in
-    let c = behind _ _ cause (heads_no_age context.encryption_params a.found (is_peer_acceptor context) (spelled message)) age b.rest in
-    let d = behind _ _ cause (opens_no_age context.encryption_params a.found (is_peer_acceptor context) message b.found (spelled message) c.found) age c.rest in
-    let front = heads_front context.encryption_params a.found (is_peer_acceptor context) (spelled message) c.found c.held in
+    let c = behind _ _ cause (heads_no_age (params_for context (spelled message)) a.found (is_peer_acceptor context) (spelled message)) age b.rest in
+    let d = behind _ _ cause (opens_no_age (params_for context (spelled message)) a.found (is_peer_acceptor context) message b.found (spelled message) c.found) age c.rest in
+    let front = heads_front (params_for context (spelled message)) a.found (is_peer_acceptor context) (spelled message) c.found c.held in
     ap (λ (header : List ℕ). aged (number_verdict context.window (number_of header))) (sym front)
     ∙ last_by (number_verdict context.window (number_of c.found)) d.found d.rest.middle cause d.rest.held d.rest.rest
 

@@ -10,23 +10,24 @@ use Rattle.krb_initiator.specs.declared.seeker.Initiation.{Initiation}
 use Rattle.krb_initiator.specs.declared.seeker.Initiation.TheVariants.{Requests, Seeks, Hears}
 use Rattle.krb_initiator.specs.Beginnings.{identity_of, NamesIdentity, Identifies, SeeksTicket, RequestsTgt, BeginsNew, BeginsIn, BeginsInitiation}
 
--- it keeps the context's keys, or fetches a ticket for its caller's credentials
+-- it keeps the context's keys, or fetches a ticket for its caller's credentials, with what the context is allowed
 abbrev pub IsFor : Kerberos → InitOptions → Initiation → Type 0
 IsFor context options (Requests initiator token) = initiator.params ≡ context.encryption_params
-IsFor context options (Seeks seeker) = options.credentials ≡ Some seeker.asker.credentials
+IsFor context options (Seeks seeker) = (options.credentials ≡ Some seeker.asker.credentials) × (seeker.asker.interoperability ≡ context.interoperability)
 IsFor context options (Hears initiator token) = initiator.params ≡ context.encryption_params
 
 module _ (context : Kerberos) (options : InitOptions) (initiation : Initiation) where
   abbrev Is : Initiation → Type 0
   Is i = IsFor context options i
 
-  identified : (identity : Identity) → Identifies context options (Ok identity) → options.credentials ≡ Some identity.asker.credentials
+  identified : (identity : Identity) → Identifies context options (Ok identity)
+      → (options.credentials ≡ Some identity.asker.credentials) × (identity.asker.interoperability ≡ context.interoperability)
   unfolding Identifies NamesIdentity
   identified identity h =
       let credentials = passed _ _ _ h in
       let client = passed _ _ _ credentials.rest_held in
       let is : identity ≡ identity_of context credentials.found options.env client.found = gave _ _ client.rest_held in
-      took _ _ _ credentials.first_held ∙ ap (λ (i : Identity). Some i.asker.credentials) (sym is)
+      (took _ _ _ credentials.first_held ∙ ap (λ (i : Identity). Some i.asker.credentials) (sym is), ap (λ (i : Identity). i.asker.interoperability) is)
 
   seeks_for : SeeksTicket context options (Ok initiation) → IsFor context options initiation
   unfolding SeeksTicket

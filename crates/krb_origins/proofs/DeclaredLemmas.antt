@@ -1,5 +1,6 @@
 -- The initiators that lines declare have no session key, and await no KDC.
 use Rattle.std.proofs.Common.{◌≡◌, ℕ, Bool, true, false, cond, List, [], ◌∷◌, Option, Some, None, refl, subst}
+use Rattle.krb_context.specs.Interoperability.{no_options}
 use Rattle.krb_replay.specs.History.{History}
 use Rattle.krb_script.specs.Script.{Setup, Declared, at_id}
 use Rattle.krb_script.specs.declared.endpoint.Endpoint.{Endpoint}
@@ -16,12 +17,13 @@ use Rattle.krb_origins.specs.Origins.{IsKeyless, HasOrigin}
 use Rattle.krb_origins.proofs.EventLemmas.{origin}
 
 record IsFresh (connection : Connection) : Type 0 where
+  none_set : connection.context.interoperability ≡ no_options
   key : connection.context.encryption_params.session_key ≡ None
   free : connection.exchange ≡ None
 
 fresh_in : (skew : ℕ) (endpoint : Endpoint) (role : Role) → IsFresh (connection_in skew endpoint role)
-fresh_in skew endpoint (Acceptor service) = record { key = refl; free = refl }
-fresh_in skew endpoint (Initiator target) = record { key = refl; free = refl }
+fresh_in skew endpoint (Acceptor service) = record { none_set = refl; key = refl; free = refl }
+fresh_in skew endpoint (Initiator target) = record { none_set = refl; key = refl; free = refl }
 
 some_same : (x y : Connection) → Some x ≡ Some y → x ≡ y
 some_same x y e = cc
@@ -39,7 +41,7 @@ fresh_at skew (entry ∷ endpoints) id connection e =
 
 pub declared_keyless : (setup : Setup) (id : ℕ) (connection : Connection) → at_id id (connections_of setup) ≡ Some connection → connection.context.server ≡ None → IsKeyless connection
 declared_keyless setup id connection e role =
-    let fresh = fresh_at (skew_of setup) setup.endpoints id connection e in record { role = role; key = fresh.key; free = fresh.free }
+    let fresh = fresh_at (skew_of setup) setup.endpoints id connection e in record { role = role; none_set = fresh.none_set; key = fresh.key; free = fresh.free }
 
 pub declared_origin : (so_far : Declared) (text : List ℕ) (replies : List Reply) (after : State History) (id : ℕ) (first last : Connection) (key : List ℕ) → Answered so_far text replies after
     → at_id id (connections_of so_far.setup) ≡ Some first → first.context.server ≡ None → at_id id after.connections ≡ Some last → last.context.encryption_params.session_key ≡ Some key

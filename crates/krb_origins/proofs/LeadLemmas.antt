@@ -1,9 +1,12 @@
 -- The key that an initiation ends with has its origin in the replies that led to it.
-use Rattle.std.proofs.Common.{◌≡◌, ℕ, ◌+◌, List, [], ◌∷◌, ◌++◌, length, Some, Result, Ok, refl, ap, ◌∙◌, subst, arith, length-append}
+use Rattle.std.proofs.Common.{◌≡◌, ℕ, ◌+◌, true, false, List, [], ◌∷◌, ◌++◌, length, Some, Result, Ok, refl, sym, ap, ◌∙◌, subst, arith, length-append}
 use Rattle.std.proofs.lemmas.List.{length-map}
 use Rattle.sspi_generator.specs.declared.network.NetFault.{NetFault}
 use Rattle.krb_as.specs.declared.done.InitDone.{InitDone}
-use Rattle.krb_initiator.specs.Came.{AreGranted, GrantsFirst, NamesFirst}
+use Rattle.krb_context.specs.Interoperability.{no_options, allows, no_preauthentication}
+use Rattle.krb_context.specs.declared.interoperability.Interoperability.{Interoperability}
+use Rattle.krb_tgs.specs.Chain.{IsChain}
+use Rattle.krb_initiator.specs.Came.{AreGranted, GrantsFirst, NamesFirst, LeaveSalt}
 use Rattle.krb_initiator.specs.declared.seeker.Seeker.{Seeker}
 use Rattle.krb_origins.specs.Origins.{handed, LeavesSalt, LeadTo}
 use Rattle.krb_origins.proofs.PhaseLemmas.{LedToEnd, granted_length}
@@ -38,11 +41,23 @@ leaves seeker error octets salt is h =
     let named : NamesFirst seeker (Ok octets) salt = subst (λ (a : Answer). NamesFirst seeker a salt) is h in
     record { protocol = named.protocol; named = named.named }
 
-pub ends_with : (seeker : Seeker) (replies : List (List ℕ)) (done : InitDone) → LedToEnd seeker replies done → EndsWith seeker replies done
-ends_with seeker replies done led =
+-- where nothing is allowed beyond the rules, an error came before the AS-REP
+pub record CameError (seeker : Seeker) (before : List Answer) (salt : List ℕ) : Type 0 where
+  pub error : Answer
+  pub are : before ≡ error ∷ []
+  pub names : NamesFirst seeker error salt
+
+came_error : (seeker : Seeker) (before : List Answer) (salt : List ℕ) → seeker.asker.interoperability ≡ no_options → LeaveSalt seeker before salt → CameError seeker before salt
+came_error seeker [] salt set h = let may : false ≡ true = sym (ap (λ (o : Interoperability). allows o no_preauthentication) set) ∙ h.0 in absurd cc
+came_error seeker (error ∷ []) salt set h = record { error = error; are = refl; names = h }
+came_error seeker (error ∷ (more ∷ rest)) salt set h = absurd h
+
+pub ends_with : (seeker : Seeker) (replies : List (List ℕ)) (done : InitDone) → seeker.asker.interoperability ≡ no_options → LedToEnd seeker replies done → EndsWith seeker replies done
+ends_with seeker replies done set led =
     let session = led.session in
     let has = session.has in
-    let octets = are_handed replies has.error has.first has.rest has.are in
+    let came = came_error seeker has.before has.salt set has.leave in
+    let octets = are_handed replies came.error has.first has.rest (has.are ∙ ap (λ (b : List Answer). b ++ (has.first ∷ has.rest)) came.are) in
     let granted : AreGranted (handed octets.rest_octets) (session.referrals ++ (session.last ∷ [])) = subst (λ (r : List Answer). AreGranted r (session.referrals ++ (session.last ∷ []))) octets.rest_is has.granted in
     let all = ap length octets.are in
     let rest : length has.rest ≡ length (session.referrals ++ (session.last ∷ [])) = granted_length has.rest (session.referrals ++ (session.last ∷ [])) has.granted in
@@ -58,7 +73,7 @@ ends_with seeker replies done led =
         rest = octets.rest_octets;
         are = octets.are;
         salt = has.salt;
-        leaves = leaves seeker has.error octets.error_octets has.salt octets.error_is has.names;
+        leaves = leaves seeker came.error octets.error_octets has.salt octets.error_is came.names;
         as_rep = has.as_rep;
         grants = subst (λ (a : Answer). GrantsFirst a has.as_rep) octets.first_is has.grants;
         referrals = session.referrals;
@@ -68,6 +83,8 @@ ends_with seeker replies done led =
         are_referrals = session.are_referrals;
         is_service = session.is_service;
         suite = session.suite;
-        chain = has.chain;
+        chain =
+            subst (λ (o : Interoperability). IsChain o seeker.asker.credentials has.salt has.as_rep (session.referrals ++ (session.last ∷ [])) (record { suite = session.suite; key = session.key }))
+            set has.chain;
       };
     }

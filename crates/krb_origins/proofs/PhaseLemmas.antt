@@ -1,22 +1,23 @@
 -- What is known of an initiation behind its replies: how far they led it, by no more than nine referrals, and to which key at its end.
-use Rattle.std.proofs.Common.{◌≡◌, ℕ, ◌+◌, ◌<◌, ◌≤◌, suc, Bool, true, false, List, [], ◌∷◌, ◌++◌, length, Option, Some, None, Result, Ok, Err, refl, sym, ap, subst, arith, lit≤, length-append}
-use Rattle.std.specs.Prelude.{nat_lt}
+use Rattle.std.proofs.Common.{◌≡◌, inl, inr, ℕ, ◌+◌, ◌<◌, ◌≤◌, suc, Bool, true, false, List, [], ◌∷◌, ◌++◌, length, Option, Some, None, Result, Ok, Err, refl, sym, ap, subst, arith, lit≤, length-append}
+use Rattle.std.specs.Prelude.{◌⊎◌, nat_lt}
 use Rattle.std.proofs.lemmas.Bool.{ltb-true}
 use Rattle.std.proofs.lemmas.List.{length-map}
 use Rattle.krb_der.specs.Layout.{Layout}
 use Rattle.krb_exchange.specs.declared.kdc_rep.TgsRep.{TgsRep}
 use Rattle.krb_exchange.specs.declared.result.KrbResult.{KrbResult}
+use Rattle.krb_exchange.specs.declared.result.KrbResult.TheVariants.{Err as Refusal}
 use Rattle.sspi_core.proofs.Chain.{passed, gave}
-use Rattle.krb_as.proofs.AsTurns.{asked_first, error_taken, as_rep_taken}
+use Rattle.krb_as.proofs.AsTurns.{asked_first, AskedSecond, WentOnEarly, error_taken, as_rep_taken}
 use Rattle.krb_as.specs.AsPhases.{TakesReplyWithin}
 use Rattle.krb_as.specs.declared.as_phase.AsPhase.{AsPhase}
 use Rattle.krb_as.specs.declared.as_phase.AsPhase.TheVariants.{AwaitsError, AwaitsAsRep}
-use Rattle.krb_as.specs.Replied.{WantsPreAuth, Grants}
+use Rattle.krb_as.specs.Replied.{Grants}
 use Rattle.krb_as.specs.declared.done.InitDone.{InitDone}
 use Rattle.krb_as.specs.declared.turn.Turn.{Turn}
 use Rattle.krb_as.specs.declared.turn.Turn.TheVariants.{Asks, Ends}
 use Rattle.krb_initiator.proofs.Chains.{begins, goes_on, ends}
-use Rattle.krb_initiator.specs.Came.{Came, CameWithKey, IsSession, AreGranted}
+use Rattle.krb_initiator.specs.Came.{Came, CameWithKey, IsSession, AreGranted, LeaveSalt}
 use Rattle.krb_initiator.specs.InitRuns.{StartsNew, Continues, Next}
 use Rattle.krb_initiator.specs.InitSteps.{body_of, AsksFirstTgs, Refers, Arrives, GoesTo, TakesNext}
 use Rattle.krb_initiator.specs.declared.seeker.InitPhase.{InitPhase}
@@ -75,15 +76,21 @@ held cause true u h = refl
 held cause false u h = let e = h.is in absurd cc
 
 module _ (seeker : Seeker) (reply : Result (List ℕ) NetFault) (draw : Draw) (request : NetworkRequest) (next : InitPhase) where
-  as_few : (phase : AsPhase) → TakesReplyWithin InAsExchange (λ grant. AsksFirstTgs seeker grant draw) seeker.asker phase reply draw (Ok (Asks request next)) → IsFew next
+  tgs_few : (grant : Grant) → AsksFirstTgs seeker grant draw (Ok (Asks request next)) → IsFew next
   unfolding AsksFirstTgs
-  as_few (AwaitsError kdc body) h =
-      let second = error_taken InAsExchange (λ grant. AsksFirstTgs seeker grant draw) seeker.asker reply draw (Asks request next) kdc body h in
-      subst (λ (p : InitPhase). IsFew p) (sym (asked _ request next _ second.is)) tt
+  tgs_few grant h =
+      let begun = passed _ _ _ h in
+      subst (λ (p : InitPhase). IsFew p) (sym (asked _ request next _ (gave _ _ begun.rest_held))) (lit≤ tt)
+
+  as_few : (phase : AsPhase) → TakesReplyWithin InAsExchange (λ grant. AsksFirstTgs seeker grant draw) seeker.asker phase reply draw (Ok (Asks request next)) → IsFew next
+  as_few (AwaitsError kdc body) h = go (error_taken InAsExchange (λ grant. AsksFirstTgs seeker grant draw) seeker.asker reply draw (Asks request next) kdc body h)
+    where
+      go : AskedSecond {O = InitDone} InAsExchange seeker.asker kdc reply (Asks request next) ⊎ WentOnEarly (λ grant. AsksFirstTgs seeker grant draw) seeker.asker kdc reply (Asks request next) → IsFew next
+      go (inl second) = subst (λ (p : InitPhase). IsFew p) (sym (asked _ request next _ second.is)) tt
+      go (inr went) = tgs_few went.on.grant went.on.rest
   as_few (AwaitsAsRep sealed) h =
       let on = as_rep_taken InAsExchange (λ grant. AsksFirstTgs seeker grant draw) seeker.asker reply draw (Asks request next) sealed h in
-      let begun = passed _ _ _ on.rest in
-      subst (λ (p : InitPhase). IsFew p) (sym (asked _ request next _ (gave _ _ begun.rest_held))) (lit≤ tt)
+      tgs_few on.grant on.rest
 
   followed : (leg : TgsLeg) (realm : List ℕ) (shown : Grant) → Refers seeker leg realm shown draw (Ok (Asks request next)) → IsFew next
   unfolding Refers Follows
@@ -136,11 +143,11 @@ module _ (fault : NetFault) where
 
   module _ (seeker : Seeker) (draw : Draw) (turn : Turn InitPhase InitDone) where
     no_as : (phase : AsPhase) → TakesReplyWithin InAsExchange (λ grant. AsksFirstTgs seeker grant draw) seeker.asker phase (Err fault) draw (Ok turn) → ⊥
-    unfolding WantsPreAuth
-    no_as (AwaitsError kdc body) h =
-        let second = error_taken InAsExchange (λ grant. AsksFirstTgs seeker grant draw) seeker.asker (Err fault) draw turn kdc body h in
-        let result = passed _ _ _ second.names in
-        no_reply kdc.protocol _ result.found result.first_held
+    no_as (AwaitsError kdc body) h = go (error_taken InAsExchange (λ grant. AsksFirstTgs seeker grant draw) seeker.asker (Err fault) draw turn kdc body h)
+      where
+        go : AskedSecond InAsExchange seeker.asker kdc (Err fault) turn ⊎ WentOnEarly (λ grant. AsksFirstTgs seeker grant draw) seeker.asker kdc (Err fault) turn → ⊥
+        go (inl second) = no_reply kdc.protocol _ (Refusal second.names.error) second.names.replies
+        go (inr went) = no_grant kdc.protocol _ went.on.taken.rep went.on.taken.granted
     no_as (AwaitsAsRep sealed) h =
         let on = as_rep_taken InAsExchange (λ grant. AsksFirstTgs seeker grant draw) seeker.asker (Err fault) draw turn sealed h in
         no_grant sealed.kdc.protocol _ on.taken.rep on.taken.granted
@@ -163,13 +170,20 @@ granted_length [] (rep ∷ reps) h = absurd h
 granted_length (reply ∷ replies) [] h = absurd h
 granted_length (reply ∷ replies) (rep ∷ reps) h = ap (λ (n : ℕ). suc n) (granted_length replies reps h.1)
 
+before_short : (seeker : Seeker) (before : List (Result (List ℕ) NetFault)) (salt : List ℕ) → LeaveSalt seeker before salt → length before ≤ 1
+before_short seeker [] salt h = lit≤ tt
+before_short seeker (error ∷ []) salt h = lit≤ tt
+before_short seeker (error ∷ (more ∷ rest)) salt h = absurd h
+
 with_key_short : (seeker : Seeker) (replies : List (Result (List ℕ) NetFault)) (leg : TgsLeg) → CameWithKey seeker replies leg → leg.hops ≤ 9 → length replies ≤ 11
 with_key_short seeker replies leg came few =
     let has = came.has in
     let all = ap length has.are in
     let rest = granted_length has.rest came.reps has.granted in
     let count = came.count in
-    omega (arith, all, rest, count, few)
+    let before = before_short seeker has.before has.salt has.leave in
+    let behind : length (has.before ++ has.first ∷ has.rest) ≡ length has.before + length (has.first ∷ has.rest) = length-append has.before (has.first ∷ has.rest) in
+    omega (arith, all, rest, count, few, before, behind)
 
 so_far_short : (seeker : Seeker) (replies : List (Result (List ℕ) NetFault)) (phase : InitPhase) (reply : Result (List ℕ) NetFault) (draw : Draw) (answer : Result (Turn InitPhase InitDone) Cause) → Came seeker replies phase → IsFew phase
     → Continues seeker phase reply draw answer → length replies ≤ 11

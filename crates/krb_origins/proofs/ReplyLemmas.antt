@@ -51,7 +51,7 @@ module _ (identity : Option CredentialsBuffers) (id : ℕ) (events : List Event)
     waits_again later next octets phase stays coming led at is =
         let so_far : Led fetching.seeker (replies_with octets) later.phase = subst (λ (p : InitPhase). Led fetching.seeker (replies_with octets) p) (sym at) led in
         let goes_on : IsFetching identity id now later =
-        record { seeker = fetching.seeker; seeks = stays ∙ fetching.seeks; speaks = fetching.speaks; replies = replies_with octets; coming = coming; led = so_far } in
+        record { seeker = fetching.seeker; seeks = stays ∙ fetching.seeks; speaks = fetching.speaks; none_set = fetching.none_set; replies = replies_with octets; coming = coming; led = so_far } in
         subst Holds (sym is) (stands_waiting identity id now connection after later goes_on)
 
     has_key : (octets : List ℕ) (change_key : Option (List ℕ)) (key : List ℕ) → change_key ≡ Some key → HasOrigin identity id now key → IfSome change_key (λ key. HasOrigin identity id now key)
@@ -62,7 +62,7 @@ module _ (identity : Option CredentialsBuffers) (id : ℕ) (events : List Event)
     answers (Ok octets) draw later (Ok (Asks request phase)) next is stays h l =
         waits_again later next octets phase stays (coming_with octets is) (led_next fetching.seeker fetching.replies old.phase octets draw request phase fetching.led h) l.0 l.1
     answers (Ok octets) draw later (Ok (Ends done)) next is stays h l =
-        let end : EndsWith fetching.seeker (replies_with octets) done = ends_with fetching.seeker (replies_with octets) done (led_to_end fetching.seeker fetching.replies old.phase octets draw done fetching.led h) in
+        let end : EndsWith fetching.seeker (replies_with octets) done = ends_with fetching.seeker (replies_with octets) done fetching.none_set (led_to_end fetching.seeker fetching.replies old.phase octets draw done fetching.led h) in
         let origin : HasOrigin identity id now end.key =
         record { credentials = fetching.seeker.asker.credentials; has = fetching.speaks; replies = replies_with octets; brought = coming_brought id (replies_with octets) now (coming_with octets is); lead = end.lead } in
         subst Holds (sym l) (stands_settled identity id now connection after done.change (has_key octets done.change.encryption_params.session_key end.key end.key_is origin))

@@ -1,6 +1,7 @@
 -- An event at which an initiator begins, or hears its peer, keeps what is known of it.
 use Rattle.std.proofs.Common.{◌≡◌, ℕ, Bool, true, false, List, [], Option, Some, None, Result, Ok, Err, refl, sym, ap, ◌∙◌, subst}
 use Rattle.sspi_core.proofs.Chain.{passed, gave}
+use Rattle.krb_context.specs.Interoperability.{no_options}
 use Rattle.krb_as.specs.declared.done.InitDone.{InitDone}
 use Rattle.krb_as.specs.declared.turn.Turn.{Turn}
 use Rattle.krb_as.specs.declared.turn.Turn.TheVariants.{Asks, Ends}
@@ -100,20 +101,20 @@ module _ (identity : Option CredentialsBuffers) (id : ℕ) (events : List Event)
       subst Holds (sym (subst (Gone later next) is l)) (stands_kept identity id events connection speaks (requested initiator token).change (ap (λ p. p.session_key) same))
 
   -- it fetches a ticket
-  seeks_lands : (seeker : Seeker) (draw : Draw) (later : InitRun) (answer : Answer) (next : Connection) → identity ≡ Some seeker.asker.credentials → later.initiation ≡ Seeks seeker
+  seeks_lands : (seeker : Seeker) (draw : Draw) (later : InitRun) (answer : Answer) (next : Connection) → identity ≡ Some seeker.asker.credentials → seeker.asker.interoperability ≡ no_options → later.initiation ≡ Seeks seeker
       → StartsNew (Seeks seeker) draw answer → Lands connection later answer next → Holds next
-  seeks_lands seeker draw later (Ok (Asks request phase)) next for_it seeks h l =
+  seeks_lands seeker draw later (Ok (Asks request phase)) next for_it set seeks h l =
       let led : Led seeker [] later.phase = subst (λ (p : InitPhase). Led seeker [] p) (sym l.0) (led_first seeker draw request phase h) in
-      let fetching : IsFetching identity id events later = record { seeker = seeker; seeks = seeks; speaks = for_it; replies = []; coming = none_coming id events; led = led } in
+      let fetching : IsFetching identity id events later = record { seeker = seeker; seeks = seeks; speaks = for_it; none_set = set; replies = []; coming = none_coming id events; led = led } in
       subst Holds (sym l.1) (stands_waiting identity id events connection speaks later fetching)
-  seeks_lands seeker draw later (Ok (Ends done)) next for_it seeks h l = absurd (starts_not_ended seeker draw done h)
-  seeks_lands seeker draw later (Err cause) next for_it seeks h l = subst Holds (sym l) (stands_free identity id events connection speaks)
+  seeks_lands seeker draw later (Ok (Ends done)) next for_it set seeks h l = absurd (starts_not_ended seeker draw done h)
+  seeks_lands seeker draw later (Err cause) next for_it set seeks h l = subst Holds (sym l) (stands_free identity id events connection speaks)
 
   starts_lands : (options : InitOptions) (initiation : Initiation) (draw : Draw) (later : InitRun) (answer : Answer) (next : Connection) → options.credentials ≡ connection.context.auth_identity
       → IsFor connection.context options initiation → later.initiation ≡ initiation → StartsNew initiation draw answer → Lands connection later answer next → Holds next
   starts_lands options (Requests initiator token) draw later answer next own is seeks h l = requests_lands initiator token later answer next is h.is l
   starts_lands options (Seeks seeker) draw later answer next own is seeks h l =
-      seeks_lands seeker draw later answer next (sym speaks.identity_is ∙ sym own ∙ is) seeks h l
+      seeks_lands seeker draw later answer next (sym speaks.identity_is ∙ sym own ∙ is.0) (is.1 ∙ speaks.none_set) seeks h l
   starts_lands options (Hears initiator token) draw later answer next own is seeks h l = hears_lands initiator token draw later answer next is h l
 
   opens_stands : (options : InitOptions) (initiation : Initiation) (run : InitRun) (draw : Draw) (reply : Reply) (next : Connection) → options.credentials ≡ connection.context.auth_identity

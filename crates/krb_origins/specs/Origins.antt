@@ -9,8 +9,9 @@ use Rattle.krb_exchange.specs.declared.kdc_rep.TgsRep.{TgsRep}
 use Rattle.sspi_core.specs.declared.identity.CredentialsBuffers.{CredentialsBuffers}
 use Rattle.sspi_core.specs.declared.protocol.NetworkProtocol.{NetworkProtocol}
 use Rattle.sspi_generator.specs.declared.network.NetFault.{NetFault}
+use Rattle.krb_context.specs.Interoperability.{no_options}
 use Rattle.krb_as.specs.Askers.{default_salt}
-use Rattle.krb_as.specs.Replied.{WantsPreAuth}
+use Rattle.krb_as.specs.Replied.{LeavesFirst}
 use Rattle.krb_tgs.specs.Chain.{IsChain}
 use Rattle.krb_initiator.specs.Came.{AreGranted, GrantsFirst, is_referral}
 use Rattle.krb_script.specs.declared.item.Event.{Event}
@@ -45,7 +46,7 @@ pub record AreBrought (id : ℕ) (replies : List (List ℕ)) (events : List Even
 -- the first reply is an error; it names the salt of the credentials' key, or leaves their own, the domain and then the user
 pub record LeavesSalt (credentials : CredentialsBuffers) (error salt : List ℕ) : Type 0 where
   pub protocol : NetworkProtocol
-  pub named : WantsPreAuth protocol (default_salt credentials) (Ok error) (Ok salt)
+  pub named : LeavesFirst protocol (default_salt credentials) (Ok error) salt
 
 -- replies lead from credentials to a key: an error; an AS-REP, sealed under the key of the credentials, with the salt that it tells or
 -- else that of the error; and one to ten TGS-REPs, each sealed under the key that the reply before it brought, all of them referrals but
@@ -66,7 +67,7 @@ pub record LeadTo (credentials : CredentialsBuffers) (replies : List (List ℕ))
   pub are_referrals : list_all is_referral referrals ≡ true
   pub is_service : is_referral last ≡ false
   pub suite : CipherSuite
-  pub chain : IsChain credentials salt as_rep suite (referrals ++ last ∷ []) key
+  pub chain : IsChain no_options credentials salt as_rep (referrals ++ last ∷ []) (record { suite = suite; key = key })
 
 -- who has this identity has credentials, and from them replies that these events brought lead to the key
 pub record HasOrigin (identity : Option CredentialsBuffers) (id : ℕ) (events : List Event) (key : List ℕ) : Type 0 where
@@ -76,9 +77,10 @@ pub record HasOrigin (identity : Option CredentialsBuffers) (id : ℕ) (events :
   pub brought : AreBrought id replies events
   pub lead : LeadTo credentials replies key
 
--- an initiator without a session key that awaits no KDC
+-- an initiator without a session key that awaits no KDC, and is allowed nothing beyond the rules
 pub record IsKeyless (connection : Connection) : Type 0 where
   pub role : connection.context.server ≡ None
+  pub none_set : connection.context.interoperability ≡ no_options
   pub key : connection.context.encryption_params.session_key ≡ None
   pub free : connection.exchange ≡ None
 

@@ -1,5 +1,5 @@
 -- How often the change of a password asks.
-use Rattle.std.proofs.Common.{◌≡◌, ℕ, ◌+◌, ◌<◌, List, Result, Ok, refl, sym, subst, take, lit<}
+use Rattle.std.proofs.Common.{◌≡◌, ℕ, ◌+◌, ◌<◌, List, Result, Ok, refl, sym, subst, take, arith, lit<}
 use Rattle.sspi_core.proofs.Chain.{passed, gave}
 use Rattle.krb_context.specs.declared.context.ContextChange.{ContextChange}
 use Rattle.sspi_core.specs.declared.draw.Draw.{Draw}
@@ -12,7 +12,6 @@ use Rattle.krb_as.specs.declared.as_phase.AsPhase.TheVariants.{AwaitsError, Awai
 use Rattle.krb_as.specs.declared.kdc.Kdc.{Kdc}
 use Rattle.krb_as.specs.declared.key.Grant.{Grant}
 use Rattle.krb_as.specs.declared.turn.Turn.TheVariants.{Asks}
-use Rattle.krb_as.specs.AsPhases.{kdc_of}
 use Rattle.krb_as.proofs.Few.{asked, first_down, second_down, grant_down}
 use Rattle.krb_as.proofs.Tasks.{turns_down}
 use Rattle.krb_password_change.specs.declared.change.Changer.{Changer}
@@ -53,7 +52,8 @@ next_down : (changer : Changer) (old : ChangePhase) (reply : Result (List ℕ) N
     → Next changer old reply draw (Ok (Asks request phase)) → turns_left phase < turns_left old
 next_down changer New reply draw request phase h = absurd h
 next_down changer (InAsExchange (AwaitsError kdc body)) reply draw request phase h =
-    second_down ContextChange InAsExchange turns_left 2 changer.asker (AsksChange changer kdc draw) reply draw request phase kdc body (λ sealed. lit< tt) h
+    second_down ContextChange InAsExchange turns_left 2 changer.asker (AsksChange changer kdc draw) reply draw request phase kdc body (λ sealed. lit< tt)
+    (λ grant asks. omega (arith, change_down changer kdc draw request phase grant asks)) h
 next_down changer (InAsExchange (AwaitsAsRep sealed)) reply draw request phase h =
     grant_down ContextChange InAsExchange turns_left 1 changer.asker (AsksChange changer sealed.kdc draw) reply draw request phase sealed (change_down changer sealed.kdc draw request phase) h
 next_down changer (AwaitsAnswer leg) reply draw request phase h = absurd (no_more changer leg reply request phase h)

@@ -1,18 +1,12 @@
 -- The octets of a request for a new password, and how many there are.
 use Rattle.std.proofs.Common.{◌≡◌, ℕ, ◌+◌, ◌<◌, ◌≤◌, ◌^◌, List, [], ◌∷◌, ◌++◌, length, Result, Ok, Err, IfOk, arith, lit≤, sym, subst, ap, ◌∙◌, refl}
-use Rattle.std.proofs.lemmas.List.{length-take}
 use Rattle.krb_der.specs.declared.memory.OutOfMemory.{OutOfMemory}
 use Rattle.krb_der.proofs.Lengths.{append_le}
-use Rattle.krb_crypto.specs.Suite.{key_size}
-use Rattle.krb_crypto.specs.declared.suite.CipherSuite.{CipherSuite}
-use Rattle.krb_crypto.specs.declared.suite.CipherSuite.TheVariants.{Aes128CtsHmacSha196, Aes256CtsHmacSha196}
 use Rattle.krb_exchange.specs.PrivMessages.{SpellsAp, IsWritten, two_octets, message_octets}
 use Rattle.krb_exchange.specs.declared.priv_message.KrbPrivMessage.{KrbPrivMessage}
 use Rattle.krb_exchange.specs.declared.priv_message.ApMessage.{ApMessage}
 use Rattle.krb_exchange.specs.declared.priv_message.ApMessage.TheVariants.{ApReq, ApRep}
-use Rattle.sspi_core.specs.declared.draw.Draw.{Draw}
 use Rattle.krb_authenticators.specs.Passwords.{FitsRequest, FitsPriv}
-use Rattle.krb_context.specs.Drawn.{drawn_key}
 use Rattle.krb_password_change.specs.Requested.{ap_spelling, written}
 
 -- what is written is the spelling

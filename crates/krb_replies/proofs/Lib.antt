@@ -1,4 +1,6 @@
 pub mod Telling
 pub mod Chains
 pub mod Tickets
+pub mod FirstParts
+pub mod Suites
 pub mod Once

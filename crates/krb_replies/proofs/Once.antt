@@ -1,10 +1,20 @@
 -- What is sealed to a key is found in one way.
-use Rattle.std.proofs.Common.{ℕ, List}
+use Rattle.std.proofs.Common.{◌≡◌, ℕ, Bool, true, false, List, ap}
+use Rattle.std.specs.Prelude.{◌&&◌}
+use Rattle.krb_messages.specs.declared.encryption.EncryptionKey.{EncryptionKey}
 use Rattle.krb_der.specs.Layout.{Layout}
 use Rattle.krb_crypto.proofs.SealedLemmas.{sealed_once}
 use Rattle.krb_crypto.specs.declared.suite.CipherSuite.{CipherSuite}
+use Rattle.krb_context.specs.declared.interoperability.Interoperability.{Interoperability}
+use Rattle.krb_context.specs.Interoperability.{allows, as_rep_tagged_26, suite_of_each_key}
+use Rattle.krb_exchange.specs.declared.kdc_rep.AsRep.{AsRep}
+use Rattle.krb_exchange.specs.declared.kdc_rep.TgsRep.{TgsRep}
+use Rattle.krb_exchange.specs.declared.enc_kdc_rep_part.EncAsRepPart.{EncAsRepPart}
+use Rattle.krb_exchange.specs.declared.enc_kdc_rep_part.EncTgsRepPart.{EncTgsRepPart}
+use Rattle.krb_exchange.specs.Layouts.{enc_as_rep_part_layout, enc_tgs_rep_part_layout}
 use Rattle.krb_exchange.proofs.Spelled.{same_record}
-use Rattle.sspi_core.proofs.Once.{Once, then_once, finds_once, holds_once}
+use Rattle.sspi_core.proofs.Once.{Once, then_once, finds_once, takes_once, holds_once, gives_once}
+use Rattle.krb_replies.specs.Keys.{is_tagged_26, IsFirstPart, OpensFirst, HasSuite, TakesKey, BringsFirst, BringsNext}
 use Rattle.krb_replies.specs.Unseals.{Unseals, OpensSealed}
 use Rattle.krb_replies.specs.declared.unseal.Refusals.{Refusals}
 
@@ -18,3 +28,36 @@ pub opens_once : {A : Type 0} (layout : Layout A) (refusals : Refusals) (suite :
 unfolding OpensSealed
 opens_once layout refusals suite key usage text =
     then_once _ _ (unseals_once refusals suite key usage text) (λ plain. finds_once _ _ (λ x y s t. same_record layout x y plain s t))
+
+-- what an AS-REP seals is found in one way, whatever its tag
+abbrev first_of : EncTgsRepPart → EncAsRepPart
+first_of part = record { 0 = part.0 }
+
+same_first : (tagged : Bool) (plain : List ℕ) (x y : EncAsRepPart) → IsFirstPart tagged plain x → IsFirstPart tagged plain y → x ≡ y
+same_first false plain x y s t = same_record enc_as_rep_part_layout x y plain s t
+same_first true plain x y s t =
+    ap (λ (part : EncTgsRepPart). first_of part) (same_record enc_tgs_rep_part_layout (record { 0 = x.0 }) (record { 0 = y.0 }) plain s t)
+
+pub opens_first_once : (options : Interoperability) (suite : CipherSuite) (key text : List ℕ) → Once (OpensFirst options suite key text)
+unfolding OpensFirst
+opens_first_once options suite key text =
+    then_once _ _ (unseals_once _ suite key 3 text) (λ plain. finds_once _ _ (same_first (allows options as_rep_tagged_26 && is_tagged_26 plain) plain))
+
+-- so is the key that it brings, and its suite
+has_suite_once : (is_own : Bool) (suite : CipherSuite) (key_type : List ℕ) → Once (λ r. HasSuite is_own suite key_type r)
+has_suite_once false suite key_type = record { same = λ r s h k. (gives_once suite).same r s h k }
+has_suite_once true suite key_type = record { same = λ r s h k. (takes_once _ _).same r s h k }
+
+takes_key_once : (options : Interoperability) (suite : CipherSuite) (key : EncryptionKey) → Once (TakesKey options suite key)
+unfolding TakesKey
+takes_key_once options suite key = then_once _ _ (has_suite_once (allows options suite_of_each_key) suite key.key_type) (λ own. gives_once _)
+
+pub brings_first_once : (options : Interoperability) (suite : CipherSuite) (key : List ℕ) (as_rep : AsRep) → Once (BringsFirst options suite key as_rep)
+unfolding BringsFirst
+brings_first_once options suite key as_rep =
+    then_once _ _ (opens_first_once options suite key as_rep.0.enc_part.cipher) (λ part. takes_key_once options suite part.0.key)
+
+pub brings_next_once : (options : Interoperability) (suite : CipherSuite) (key : List ℕ) (tgs_rep : TgsRep) → Once (BringsNext options suite key tgs_rep)
+unfolding BringsNext
+brings_next_once options suite key tgs_rep =
+    then_once _ _ (opens_once enc_tgs_rep_part_layout _ suite key 8 tgs_rep.0.enc_part.cipher) (λ part. takes_key_once options suite part.0.key)

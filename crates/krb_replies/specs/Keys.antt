@@ -1,21 +1,67 @@
 -- The keys that replies of a KDC bring, each sealed under the key before it (RFC 4120, sections 3.1.5, 3.3.4 and 7.5.1).
-use Rattle.std.specs.Prelude.{ℕ, List, Result}
+use Rattle.std.specs.Prelude.{ℕ, ◌==◌, ◌&&◌, Bool, true, false, List, [], ◌∷◌, Result}
 use Rattle.krb_crypto.specs.declared.suite.CipherSuite.{CipherSuite}
+use Rattle.krb_messages.specs.declared.encryption.EncryptionKey.{EncryptionKey}
 use Rattle.krb_exchange.specs.declared.kdc_rep.AsRep.{AsRep}
 use Rattle.krb_exchange.specs.declared.kdc_rep.TgsRep.{TgsRep}
+use Rattle.krb_exchange.specs.declared.enc_kdc_rep_part.EncAsRepPart.{EncAsRepPart}
 use Rattle.krb_exchange.specs.Layouts.{enc_as_rep_part_layout, enc_tgs_rep_part_layout}
+use Rattle.krb_context.specs.declared.interoperability.Interoperability.{Interoperability}
+use Rattle.krb_context.specs.Interoperability.{allows, as_rep_tagged_26, suite_of_each_key, no_options}
 use Rattle.sspi_core.specs.declared.cause.Cause.{Cause}
-use Rattle.sspi_core.specs.Checks.{Gives, ◌>>=◌}
-use Rattle.krb_replies.specs.Unseals.{OpensSealed, own_key, session_key}
+use Rattle.sspi_core.specs.declared.cause.Cause.TheVariants.{Etype, Inner}
+use Rattle.sspi_core.specs.Checks.{Finds, Takes, Gives, ◌>>=◌}
+use Rattle.krb_replies.specs.declared.keys.ReplyKey.{ReplyKey}
+use Rattle.krb_replies.specs.Unseals.{suite_of_integer, IsRead, Unseals, OpensSealed, own_key, session_key}
+
+-- the plain text begins with application tag 26
+abbrev pub is_tagged_26 : List ℕ → Bool
+is_tagged_26 [] = false
+is_tagged_26 (tag ∷ rest) = tag == 0x7a
+
+-- what an AS-REP seals: an EncASRepPart, or, tagged 26 where that is allowed, an EncTGSRepPart, which has the same fields (RFC 4120,
+-- section 5.4.2)
+abbrev pub IsFirstPart : Bool → List ℕ → EncAsRepPart → Type 0
+IsFirstPart false plain part = IsRead enc_as_rep_part_layout plain part
+IsFirstPart true plain part = IsRead enc_tgs_rep_part_layout plain (record { 0 = part.0 })
 
 -- an AS-REP is sealed under the client's key, with usage 3
+unfoldable pub OpensFirst : Interoperability → CipherSuite → List ℕ → List ℕ → Result EncAsRepPart Cause → Type 0
+OpensFirst options suite key text = do
+  plain ← Unseals own_key suite key 3 text
+  Finds Inner (IsFirstPart (allows options as_rep_tagged_26 && is_tagged_26 plain) plain)
+
+-- the suite of a key that a reply brings: that of the key under which the reply is sealed, or, where each key goes by its own, the one
+-- that the key's type names (RFC 4120, sections 3.1.3 and 3.3.3)
+abbrev pub HasSuite : Bool → CipherSuite → List ℕ → Result CipherSuite Cause → Type 0
+HasSuite false suite key_type answer = Gives suite answer
+HasSuite true suite key_type answer = Takes Etype (suite_of_integer key_type) answer
+
+-- the key in its suite
+unfoldable pub TakesKey : Interoperability → CipherSuite → EncryptionKey → Result ReplyKey Cause → Type 0
+TakesKey options suite key = do
+  own ← HasSuite (allows options suite_of_each_key) suite key.key_type
+  Gives (record { suite = own; key = key.key_value })
+
+-- an AS-REP brings the key that is sealed in it
+unfoldable pub BringsFirst : Interoperability → CipherSuite → List ℕ → AsRep → Result ReplyKey Cause → Type 0
+BringsFirst options suite key as_rep = do
+  part ← OpensFirst options suite key as_rep.0.enc_part.cipher
+  TakesKey options suite part.0.key
+
+-- so does a TGS-REP, which is sealed under the session key of the ticket that was shown, with usage 8
+unfoldable pub BringsNext : Interoperability → CipherSuite → List ℕ → TgsRep → Result ReplyKey Cause → Type 0
+BringsNext options suite key tgs_rep = do
+  part ← OpensSealed enc_tgs_rep_part_layout session_key suite key 8 tgs_rep.0.enc_part.cipher
+  TakesKey options suite part.0.key
+
+-- the octets of these keys, where nothing is allowed beyond the rules
 unfoldable pub BringsKey : CipherSuite → List ℕ → AsRep → Result (List ℕ) Cause → Type 0
 BringsKey suite key as_rep = do
-  part ← OpensSealed enc_as_rep_part_layout own_key suite key 3 as_rep.0.enc_part.cipher
-  Gives part.0.key.key_value
+  brought ← BringsFirst no_options suite key as_rep
+  Gives brought.key
 
--- a TGS-REP under the session key of the ticket that was shown, with usage 8
 unfoldable pub HandsOnKey : CipherSuite → List ℕ → TgsRep → Result (List ℕ) Cause → Type 0
 HandsOnKey suite key tgs_rep = do
-  part ← OpensSealed enc_tgs_rep_part_layout session_key suite key 8 tgs_rep.0.enc_part.cipher
-  Gives part.0.key.key_value
+  brought ← BringsNext no_options suite key tgs_rep
+  Gives brought.key

@@ -2,6 +2,7 @@
 use Rattle.std.specs.Prelude.{◌≡◌, ℕ, List, [], ◌∷◌, Option, Some, None, Result, Ok, Err, unwrap_or}
 use Rattle.krb_der.specs.Layout.{items_layout}
 use Rattle.krb_crypto.specs.Suite.{suite_number}
+use Rattle.krb_crypto.specs.declared.suite.CipherSuite.{CipherSuite}
 use Rattle.krb_exchange.specs.declared.pa_data.PaData.{PaData}
 use Rattle.krb_exchange.specs.declared.pa_data.EtypeInfo2Entry.{EtypeInfo2Entry}
 use Rattle.krb_exchange.specs.declared.krb_error.KrbError.{KrbError}
@@ -31,6 +32,19 @@ NamesSalt error = do
   hints ← Finds Shape (IsHints error.e_data)
   entries ← Finds Shape (IsInfo2 (etype_info2 hints))
   Gives (first_salt entries)
+
+-- the suite of the first entry, where it is known
+abbrev pub first_suite : Option (List EtypeInfo2Entry) → Option CipherSuite
+first_suite None = None
+first_suite (Some []) = None
+first_suite (Some (entry ∷ entries)) = suite_of_integer entry.etype
+
+-- the suite that an error names, if it names one
+unfoldable pub NamesSuite : KrbError → Result (Option CipherSuite) Cause → Type 0
+NamesSuite error = do
+  hints ← Finds Shape (IsHints error.e_data)
+  entries ← Finds Shape (IsInfo2 (etype_info2 hints))
+  Gives (first_suite entries)
 
 -- an entry's type and salt
 abbrev pub entry_hint : List ℕ → Option (List ℕ) → Result (List ℕ × List ℕ) Cause

@@ -1,23 +1,170 @@
 //! The keys that replies of a KDC bring.
 
-ghost use Rattle.sspi_core.specs.Checks.{Answers};
+ghost use Rattle.std.specs.Prelude.{◌≡◌, ◌&&◌, true};
+ghost use Rattle.sspi_core.specs.declared.cause.Cause.TheVariants as causes;
+ghost use Rattle.sspi_core.specs.Checks.{Answers, Finds};
 ghost use Rattle.krb_crypto.specs.Password.{password_key};
+ghost use Rattle.krb_context.specs.Interoperability.{allows, as_rep_tagged_26, suite_of_each_key};
 ghost use Rattle.krb_context.specs.Params.{suite_of};
 ghost use Rattle.krb_replies.specs.Told.{Tells};
-ghost use Rattle.krb_replies.specs.Keys.{BringsKey, HandsOnKey};
+ghost use Rattle.krb_replies.specs.Keys.{is_tagged_26, IsFirstPart, OpensFirst, HasSuite, TakesKey, BringsFirst, BringsNext, BringsKey, HandsOnKey};
 
 use crate::told::tell;
-use crate::unseal::{OWN_KEY, SESSION_KEY, open};
-use krb_context::EncryptionParams;
+use crate::unseal::{OWN_KEY, SESSION_KEY, open, read_inner, suite_of, unseal};
+use krb_context::{EncryptionParams, Interoperability};
 use krb_crypto::{CipherSuite, generate_key_from_password};
-use krb_der::Octets;
+use krb_der::{IntegerAsn1, Octets};
 use krb_exchange::{AsRep, EncAsRepPart, EncTgsRepPart, TgsRep};
+use krb_messages::EncryptionKey;
 use krb_messages::constants::{AS_REP_USAGE, TGS_REP_USAGE};
-use sspi_core::{Cause, Error, Secret};
+use sspi_core::{Cause, Error, Secret, take};
 use std::alloc::Global;
 
-/// The key that an AS-REP brings, as a chain of checks.
-pub fn session_key_in_as_rep(
+/// The key that a reply of a KDC brings.
+#[derive(Drop)]
+pub struct ReplyKey {
+    /// The suite of the key.
+    pub suite: CipherSuite,
+    /// The session key of the ticket.
+    pub key: Secret<Octets>,
+}
+
+/// The application tag of an EncTGSRepPart, 26 (RFC 4120, section 5.4.2).
+const TAG_26: u8 = 0x7a;
+
+fn is_tagged_26(plain: &Octets) -> bool
+    ensures { result ≡ is_tagged_26 plain.now }
+{
+    match plain.as_slice() {
+        [] => false,
+        [tag, ..] => *tag == TAG_26,
+    }
+}
+
+/// Whether a plain text is read by the tag of an EncTGSRepPart.
+fn is_allowed_tag(options: Interoperability, plain: &Octets) -> bool
+    ensures { result ≡ (allows options as_rep_tagged_26 && is_tagged_26 plain.now) }
+{
+    options.allows(Interoperability::AS_REP_TAGGED_26) && is_tagged_26(plain)
+}
+
+/// The fields of an EncTGSRepPart as those of an EncASRepPart.
+fn read_tagged_26(alloc: Global, plain: &Octets) -> Result<EncAsRepPart, Cause>
+    ensures { Answers (Finds causes.Inner (IsFirstPart true plain.now)) result }
+{
+    let part = read_inner::<EncTgsRepPart>(alloc, plain)?;
+    let EncTgsRepPart(part) = part;
+    Ok(EncAsRepPart(part))
+}
+
+fn read_first(alloc: Global, is_tagged: bool, plain: &Octets) -> Result<EncAsRepPart, Cause>
+    ensures { Answers (Finds causes.Inner (IsFirstPart is_tagged plain.now)) result }
+{
+    if is_tagged {
+        read_tagged_26(alloc, plain)
+    } else {
+        read_inner(alloc, plain)
+    }
+}
+
+/// What an AS-REP seals, by its tag.
+fn first_part(
+    alloc: Global,
+    options: Interoperability,
+    plain: &Octets,
+) -> Result<EncAsRepPart, Cause>
+    ensures { let is_tagged = allows options as_rep_tagged_26 && is_tagged_26 plain.now in
+        Answers (Finds causes.Inner (IsFirstPart is_tagged plain.now)) result }
+{
+    let is_tagged = is_allowed_tag(options, plain);
+    read_first(alloc, is_tagged, plain)
+}
+
+fn open_first(
+    alloc: Global,
+    options: Interoperability,
+    suite: CipherSuite,
+    key: &[u8],
+    text: &[u8],
+) -> Result<EncAsRepPart, Cause>
+    ensures { Answers (OpensFirst options suite key.now text.now) result }
+{
+    let plain = unseal(alloc, OWN_KEY, suite, key, AS_REP_USAGE, text)?;
+    first_part(alloc, options, &plain)
+}
+
+fn suite_by(is_own: bool, suite: CipherSuite, key_type: &IntegerAsn1) -> Result<CipherSuite, Cause>
+    ensures { HasSuite is_own suite key_type.now result }
+{
+    if is_own {
+        take(suite_of(key_type), Cause::Etype)
+    } else {
+        Ok(suite)
+    }
+}
+
+/// The suite of a key: the one that is handed in, or, where each key goes by its own, the one that its type names.
+fn suite_of_key(
+    options: Interoperability,
+    suite: CipherSuite,
+    key_type: &IntegerAsn1,
+) -> Result<CipherSuite, Cause>
+    ensures { HasSuite (allows options suite_of_each_key) suite key_type.now result }
+{
+    let is_own = options.allows(Interoperability::SUITE_OF_EACH_KEY);
+    suite_by(is_own, suite, key_type)
+}
+
+/// The key in its suite.
+fn taken_key(
+    options: Interoperability,
+    suite: CipherSuite,
+    key: EncryptionKey,
+) -> Result<ReplyKey, Cause>
+    ensures { Answers (TakesKey options suite key) result }
+{
+    let own = suite_of_key(options, suite, &key.key_type)?;
+    Ok(ReplyKey {
+        suite: own,
+        key: Secret::new(key.key_value),
+    })
+}
+
+/// The key that an AS-REP brings, as a chain of checks. What it seals may have application tag 26 where that is allowed, and the key goes
+/// by its own suite where that is.
+pub fn key_in_as_rep(
+    alloc: Global,
+    options: Interoperability,
+    suite: CipherSuite,
+    key: &[u8],
+    as_rep: &AsRep,
+) -> Result<ReplyKey, Cause>
+    ensures { Answers (BringsFirst options suite key.now as_rep.now) result }
+{
+    let text = as_rep.0.enc_part.cipher.as_slice();
+    let part = open_first(alloc, options, suite, key, text)?;
+    let EncAsRepPart(part) = part;
+    taken_key(options, suite, part.key)
+}
+
+/// The key that a TGS-REP brings, in the same way.
+pub fn key_in_tgs_rep(
+    alloc: Global,
+    options: Interoperability,
+    suite: CipherSuite,
+    key: &[u8],
+    tgs_rep: &TgsRep,
+) -> Result<ReplyKey, Cause>
+    ensures { Answers (BringsNext options suite key.now tgs_rep.now) result }
+{
+    let text = tgs_rep.0.enc_part.cipher.as_slice();
+    let part = open::<EncTgsRepPart>(alloc, SESSION_KEY, suite, key, TGS_REP_USAGE, text)?;
+    let EncTgsRepPart(part) = part;
+    taken_key(options, suite, part.key)
+}
+
+/// The octets of the key that an AS-REP brings, where nothing is allowed beyond the rules.
+fn session_key_in_as_rep(
     alloc: Global,
     suite: CipherSuite,
     key: &[u8],
@@ -25,14 +172,13 @@ pub fn session_key_in_as_rep(
 ) -> Result<Secret<Octets>, Cause>
     ensures { Answers (BringsKey suite key.now as_rep.now) result }
 {
-    let text = as_rep.0.enc_part.cipher.as_slice();
-    let part = open::<EncAsRepPart>(alloc, OWN_KEY, suite, key, AS_REP_USAGE, text)?;
-    let EncAsRepPart(part) = part;
-    Ok(Secret::new(part.key.key_value))
+    let options = Interoperability::none();
+    let brought = key_in_as_rep(alloc, options, suite, key, as_rep)?;
+    Ok(brought.key)
 }
 
-/// The key that a TGS-REP brings, as a chain of checks.
-pub fn session_key_in_tgs_rep(
+/// The same of a TGS-REP.
+fn session_key_in_tgs_rep(
     alloc: Global,
     suite: CipherSuite,
     key: &[u8],
@@ -40,10 +186,9 @@ pub fn session_key_in_tgs_rep(
 ) -> Result<Secret<Octets>, Cause>
     ensures { Answers (HandsOnKey suite key.now tgs_rep.now) result }
 {
-    let text = tgs_rep.0.enc_part.cipher.as_slice();
-    let part = open::<EncTgsRepPart>(alloc, SESSION_KEY, suite, key, TGS_REP_USAGE, text)?;
-    let EncTgsRepPart(part) = part;
-    Ok(Secret::new(part.key.key_value))
+    let options = Interoperability::none();
+    let brought = key_in_tgs_rep(alloc, options, suite, key, tgs_rep)?;
+    Ok(brought.key)
 }
 
 /// The session key of the ticket in an AS-REP, which is sealed under the key of this password and salt, in the parameters'

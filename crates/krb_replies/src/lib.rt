@@ -9,6 +9,7 @@
 mod answered;
 mod hints;
 mod keys;
+pub mod laws;
 mod realms;
 mod salts;
 mod ticket;
@@ -21,12 +22,13 @@ pub use answered::{
     extract_sub_session_key_from_ap_rep,
 };
 pub use keys::{
-    extract_session_key_from_as_rep, extract_session_key_from_as_rep_with_key,
-    extract_session_key_from_tgs_rep, session_key_in_as_rep, session_key_in_tgs_rep,
+    ReplyKey, extract_session_key_from_as_rep, extract_session_key_from_as_rep_with_key,
+    extract_session_key_from_tgs_rep, key_in_as_rep, key_in_tgs_rep,
 };
 pub use realms::referral_target_realm;
 pub use salts::{
-    extract_encryption_params_from_as_rep, extract_salt_from_krb_error, named_salt, told_etype,
+    extract_encryption_params_from_as_rep, extract_salt_from_krb_error, named_salt, named_suite,
+    told_etype,
 };
 pub use ticket::extract_tgt_ticket_with_oid;
 pub use token::{MAX_TOKEN_LEN, check_token_length};

@@ -5,7 +5,7 @@ ghost use Rattle.sspi_core.specs.declared.cause.Cause.TheVariants as causes;
 ghost use Rattle.sspi_core.specs.Checks.{Answers, Finds, Takes, Gives};
 ghost use Rattle.krb_replies.specs.Told.{Hands, Tells};
 ghost use Rattle.krb_replies.specs.Unseals.{suite_of_integer};
-ghost use Rattle.krb_replies.specs.Salts.{IsHints, first_salt, first_hint, NamesSalt, TellsEtype};
+ghost use Rattle.krb_replies.specs.Salts.{IsHints, first_salt, first_suite, first_hint, NamesSalt, NamesSuite, TellsEtype};
 
 use crate::hints::entries_in;
 use crate::told::tell;
@@ -68,6 +68,29 @@ pub fn extract_salt_from_krb_error(alloc: Global, error: &KrbError) -> Result<Op
     ensures { Tells (NamesSalt error.now) result }
 {
     tell(named_salt(alloc, error))
+}
+
+/// The suite of the first entry, where it is known.
+fn first_suite(entries: &Option<Items<EtypeInfo2Entry>>) -> Result<Option<CipherSuite>, Cause>
+    ensures { Gives (first_suite entries.now) result }
+{
+    let Some(entries) = entries else {
+        return Ok(None);
+    };
+    match entries.as_slice() {
+        [] => Ok(None),
+        [entry, ..] => Ok(suite_of(&entry.etype)),
+    }
+}
+
+/// The suite that an error names: of the first entry of the first ETYPE-INFO2 in its `e-data`, where it is known. Refused as `named_salt`
+/// refuses.
+pub fn named_suite(alloc: Global, error: &KrbError) -> Result<Option<CipherSuite>, Cause>
+    ensures { Answers (NamesSuite error.now) result }
+{
+    let hints = hints_in(alloc, &error.e_data)?;
+    let entries = entries_in(alloc, hints.as_slice())?;
+    first_suite(&entries)
 }
 
 fn elements_of(padata: &Option<Items<PaData>>) -> &[PaData]

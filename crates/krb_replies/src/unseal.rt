@@ -98,7 +98,7 @@ fn decrypt_or(
 }
 
 /// The plain text that is sealed so.
-fn unseal(
+pub(crate) fn unseal(
     alloc: Global,
     refusals: Refusals,
     suite: CipherSuite,
@@ -113,7 +113,8 @@ fn unseal(
     decrypt_or(alloc, refusals, suite, key, usage, text)
 }
 
-fn read_inner<T: Asn1>(alloc: Global, octets: &Octets) -> Result<T, Cause>
+/// The record that a plain text is.
+pub(crate) fn read_inner<T: Asn1>(alloc: Global, octets: &Octets) -> Result<T, Cause>
     ensures { Answers (Finds causes.Inner (IsRead T.layout octets.now)) result }
 {
     read_or(alloc, octets.as_slice(), Cause::Inner)

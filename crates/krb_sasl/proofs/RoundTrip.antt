@@ -1,5 +1,5 @@
 -- What one end seals the other unseals.
-use Rattle.std.proofs.Common.{◌≡◌, ℕ, ◌+◌, ◌-◌, ◌<◌, ◌≤◌, ◌^◌, Bool, true, false, List, [], ◌++◌, length, drop, refl, sym, subst, ap, ◌∙◌, arith, length-append, Ok}
+use Rattle.std.proofs.Common.{◌≡◌, ℕ, ◌<◌, ◌≤◌, ◌^◌, Bool, true, false, List, [], ◌++◌, length, drop, refl, sym, subst, ap, ◌∙◌, arith, length-append, Ok}
 use Rattle.std.specs.Prelude.{Option, Some, ◌&&◌, ◌||◌, ◌==◌, nat_le, nat_lt, is_some}
 use Rattle.std.specs.Int.{w32, to_be_bytes}
 use Rattle.std.proofs.lemmas.Bool.{le-leb, leb-true, and_from, eq-eqb}
@@ -14,7 +14,7 @@ use Rattle.krb_context.specs.declared.context.Kerberos.{Kerberos}
 use Rattle.krb_context.specs.declared.window.NumberVerdict.TheVariants.{Fresh}
 use Rattle.krb_context.specs.Contexts.{is_acceptor, next_number}
 use Rattle.krb_context.specs.Header.{wrap_header, is_sealed}
-use Rattle.krb_context.specs.Parties.{seal_flags, sign_flags, keys_of}
+use Rattle.krb_context.specs.Parties.{seal_flags, sign_flags, writes_subkey, own_seal_flags, keys_of}
 use Rattle.krb_context.specs.Peers.{ArePeers}
 use Rattle.krb_context.specs.Spelled.{spelled, part_octets, has_part, covered}
 use Rattle.krb_context.specs.Unwraps.{Unwraps}
@@ -137,17 +137,19 @@ is_spelled context confounder p message h =
           ∙ sym (spelled_parts made (no_stream context w.key confounder sent w.ready.stream));
     }
 
-sealed_front : (acceptor : Bool) (ec number : ℕ) (body : List ℕ) → is_sealed (wrap_header (seal_flags acceptor) ec 28 number ++ body) ≡ true
+sealed_front : (subkey acceptor : Bool) (ec number : ℕ) (body : List ℕ) → is_sealed (wrap_header (seal_flags subkey acceptor) ec 28 number ++ body) ≡ true
 unfolding wrap_header
-sealed_front true ec number body = refl
-sealed_front false ec number body = refl
+sealed_front true true ec number body = refl
+sealed_front true false ec number body = refl
+sealed_front false true ec number body = refl
+sealed_front false false ec number body = refl
 
 sealed_flags : (sender : Kerberos) (confounder p message : List ℕ) → IsSpelled sender confounder p message → is_sealed message ≡ true
 sealed_flags sender confounder p message s =
     let sent : List Buffer = as_data sender.encryption_params.ec p in
-    let body : List ℕ = written_body (keys_of sender.encryption_params s.key (is_acceptor sender)) (is_acceptor sender) sender.encryption_params.ec (next_number sender.seq_number) confounder sent in
+    let body : List ℕ = written_body (keys_of sender.encryption_params s.key (is_acceptor sender)) (own_seal_flags sender) sender.encryption_params.ec (next_number sender.seq_number) confounder sent in
     ap (λ (m : List ℕ). is_sealed m) (s.is ∙ text_made sender s.key confounder sent s.ready)
-    ∙ sealed_front (is_acceptor sender) sender.encryption_params.ec (next_number sender.seq_number) body
+    ∙ sealed_front (writes_subkey sender) (is_acceptor sender) sender.encryption_params.ec (next_number sender.seq_number) body
 
 -- what one end seals the other opens
 sealed_opens_there : (sender receiver : Kerberos) (confounder p message : List ℕ) → ArePeers sender receiver → length confounder ≡ 16 → IsOctets confounder
@@ -166,13 +168,15 @@ sealed_opens_there sender receiver confounder p message peers size octets_c octe
 
 -- ---- both ends
 
-clear_front : (acceptor : Bool) (number : ℕ) (body : List ℕ) → is_sealed (wrap_header (sign_flags acceptor) 12 0 number ++ body) ≡ false
+clear_front : (subkey acceptor : Bool) (number : ℕ) (body : List ℕ) → is_sealed (wrap_header (sign_flags subkey acceptor) 12 0 number ++ body) ≡ false
 unfolding wrap_header
-clear_front true number body = refl
-clear_front false number body = refl
+clear_front true true number body = refl
+clear_front true false number body = refl
+clear_front false true number body = refl
+clear_front false false number body = refl
 
 clear_flags : (sender : Kerberos) (p message : List ℕ) → IsClear sender p message → is_sealed message ≡ false
-clear_flags sender p message m = ap (λ (s : List ℕ). is_sealed s) m.is ∙ clear_front (is_acceptor sender) (next_number sender.seq_number) _
+clear_flags sender p message m = ap (λ (s : List ℕ). is_sealed s) m.is ∙ clear_front (writes_subkey sender) (is_acceptor sender) (next_number sender.seq_number) _
 
 or_true : (b : Bool) → (b || true) ≡ true
 or_true true = refl

@@ -1,5 +1,5 @@
 -- The tokens of both ends are handed over.
-use Rattle.std.proofs.Common.{◌≡◌, ℕ, Bool, true, false, List, [], ◌∷◌, Option, Some, None, Result, Ok, refl, sym, ap, ◌∙◌, subst}
+use Rattle.std.proofs.Common.{◌≡◌, ℕ, Bool, true, false, List, [], Option, Some, None, Result, Ok, refl, sym, ap, ◌∙◌, subst}
 use Rattle.std.specs.Prelude.{nat_le, is_some, if◌then◌else◌}
 use Rattle.std.proofs.lemmas.Bool.{le-leb}
 use Rattle.krb_server.specs.Whole.{AcceptsWhole}
@@ -21,7 +21,7 @@ use Rattle.krb_ends.proofs.HonestLemmas.{begins as request_begins, is_answered}
 use Rattle.krb_ends.proofs.ReachLemmas.{reach}
 use Rattle.krb_ends.specs.Answers.{AdmitsOnly, IsDraw, AreNew, AreEstablished, AreEstablishedBy, EndsWellIn, IsTaken, admission_for}
 use Rattle.krb_ends.specs.Fetches.{CanBegin, seeker_for, EndsWithOffer, HoldsKey}
-use Rattle.krb_ends.specs.HonestKdc.{Answers, AreHonestKdcs}
+use Rattle.krb_ends.specs.HonestKdc.{Answers, steps_of, AreHonestKdcs}
 use Rattle.krb_ends.specs.Offers.{request_of, offered_token, IsFor}
 use Rattle.krb_exchange.specs.declared.kdc_rep.TgsRep.{TgsRep}
 use Rattle.krb_initiator.specs.Beginnings.{BeginsInitiation}
@@ -127,7 +127,7 @@ module _ {G : Type 0} (admits : G → Ask → Verdict → G → Type 0) (initiat
         let came = initiator-turns admits f.state f.after f.event f.asked initiator f.waiting [] (Seeks seeker) first f.answered (in_range_is f.event draw f.brought.draw_is f.brought.in_range)
         initiator_free can.role (ap is_call f.brought.input_is) (ap answer_of f.brought.input_is) hearing begins starts in
         let waits = came.made.2 in
-        let ends = handed-in admits seeker answers.last end.done (answers.error ∷ answers.first ∷ answers.referrals) f.waiting f.nearly waiting came.later end.fetches.phase reply
+        let ends = handed-in admits seeker answers.last end.done (steps_of answers) f.waiting f.nearly waiting came.later end.fetches.phase reply
         (ap (λ (c : Connection). c.exchange) waits) came.stays came.made.1 end.fetches.leads f.handed_in f.last_reply in
         let F : Connection → Connection = λ c. record c { context = settled c.context end.done.change; exchange = None } in
         record { reply_is = ends.reply_is ∙ ap (λ (s : SecurityStatus). Done s end.done.token false) end.status; waiting_is = ends.final_is ∙ ap F waits }

@@ -58,7 +58,7 @@ token_in (Refused error) = []
 
 -- the KDC of the client's realm has the service, so there is no referral
 abbrev pub replies_of : Exchanged → Answers
-replies_of e = record { error = e.error; first = e.first; referrals = []; last = e.last }
+replies_of e = record { error = Some e.error; first = e.first; referrals = []; last = e.last }
 
 -- the acceptor is handed the token of a reply
 abbrev pub handing : Exchanged → Reply → Event

@@ -3,7 +3,7 @@ use Rattle.std.specs.Prelude.{take, ◌≡◌, ◌≤◌, ℕ, Bool, true, false
 use Rattle.krb_conf.specs.declared.env.Env.{Env}
 use Rattle.krb_crypto.specs.declared.suite.CipherSuite.{CipherSuite}
 use Rattle.krb_ends.specs.Answers.{AdmitsOnly, IsDraw, AreEstablished}
-use Rattle.krb_ends.specs.HonestKdc.{Step, Answers}
+use Rattle.krb_ends.specs.HonestKdc.{Step, Answers, steps_of}
 use Rattle.krb_ends.specs.Messages.{Message, text_of}
 use Rattle.krb_ends.specs.Talk.{Turn, left_wraps, right_wraps, left_gets, right_gets}
 use Rattle.krb_context.specs.Unwraps.{unwrapped}
@@ -75,7 +75,7 @@ module _ {G : Type 0} (admits : G → Ask → Verdict → G → Type 0) where
     pub waiting : Connection
     pub answered : IsAnsweredAt state event asked after initiator waiting
     pub nearly : Connection
-    pub handed_in : AreHandedIn (answers.error ∷ answers.first ∷ answers.referrals) waiting nearly
+    pub handed_in : AreHandedIn (steps_of answers) waiting nearly
     pub last_reply : Meets (KdcReply answers.last.reply) answers.last.draw nearly reply last
 
   -- a token of the peer's is handed to a connection, by an event of this style

@@ -2,6 +2,7 @@
 //! gate, each state, names of clients, the longest token, and an AP-REP alone.
 
 mod ap_rep;
+mod by_value;
 mod clients;
 mod established;
 mod gates;

@@ -7,22 +7,23 @@ pub mod sessions;
 mod talk;
 pub mod tokens;
 
-use krb_context::Kerberos;
+use krb_context::{Interoperability, Kerberos};
 use krb_crypto::CipherSuite;
 use krb_der::Octets;
 use krb_replay::ReplayBook;
 use parties::{acceptor_of, initiator_of};
 use sessions::{
     FRAMED, IN_DCE_STYLE, OF_A_KEYTAB, OVER_A_REFERRAL, OVER_A_REFERRAL_IN_DCE_STYLE,
-    OVER_NINE_REFERRALS,
+    OVER_NINE_REFERRALS, without_an_error,
 };
 use sspi_core::Secret;
 use std::alloc::Global;
 use std::test::Fail;
 use talk::{IN_ANOTHER_ORDER, IN_ORDER, IN_TURNS, Turn, WITH_LOSSES, understand};
-use tokens::{answer, ends_so, establishes, is_answered_so, is_hex, offer};
+use tokens::{answer, ends_so, establishes, establishes_one_way, is_answered_so, is_hex, offer};
 
 /// Who a client is.
+#[derive(Drop)]
 pub enum Has {
     /// The user `alice` of EXAMPLE.COM, with this password.
     Password(&'static str),
@@ -32,6 +33,7 @@ pub enum Has {
 
 /// A client, the service's key, what the KDCs reply, the tokens that then go from one end to the other, and what both ends then
 /// have. Octets are in hex.
+#[derive(Drop)]
 pub struct Session {
     pub has: Has,
     /// The number that the client's context begins with.
@@ -228,5 +230,38 @@ fn established_ends_understand_each_other(rt: HostRuntime) -> Result<(), Fail> {
             Trial::Talks(&IN_TURNS)
         )?
     );
+    Ok(())
+}
+
+/// Where that is allowed, a KDC asks for no pre-authentication, and both ends are the same.
+#[test]
+fn no_error_comes_where_that_is_allowed(rt: HostRuntime) -> Result<(), Fail> {
+    let alloc = rt.alloc();
+    let session = without_an_error();
+    let mut initiator = initiator_of(alloc, &session)?;
+    initiator.interoperability = Interoperability::NO_PREAUTHENTICATION;
+    assert!(rt; holds_at(alloc, &session, Trial::Talks(&IN_ORDER), &mut initiator)?);
+    Ok(())
+}
+
+/// Whether both ends are established by one token, and then understand each other, where the initiator has these options.
+fn talks_one_way(alloc: Global, options: Interoperability) -> Result<bool, Fail> {
+    let mut initiator = initiator_of(alloc, &FRAMED)?;
+    let mut acceptor = acceptor_of(alloc, &FRAMED)?;
+    let mut book = ReplayBook::new(alloc, 300)?;
+    initiator.interoperability = options;
+    let tokens = establishes_one_way(alloc, &FRAMED, &mut initiator, &mut acceptor, &mut book)?;
+    Ok(tokens && understand(alloc, &mut initiator, &mut acceptor, &IN_ORDER)?)
+}
+
+/// Who asks for no answer is established where that is allowed.
+#[test]
+fn no_answer_is_awaited_where_that_is_allowed(rt: HostRuntime) -> Result<(), Fail> {
+    let alloc = rt.alloc();
+    let alone = Interoperability::ONE_WAY_IS_SETTLED;
+    let more = Interoperability::FIRST_NUMBER_AS_SHOWN | Interoperability::SUBKEY_FLAG_BY_ORIGIN;
+    assert!(rt; talks_one_way(alloc, alone)?);
+    assert!(rt; talks_one_way(alloc, alone | more)?);
+    assert!(rt; !talks_one_way(alloc, more)?);
     Ok(())
 }

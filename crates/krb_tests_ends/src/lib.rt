@@ -5,6 +5,8 @@
 #![tactic(auto)]
 
 #[cfg(test)]
+mod krb_ap_tests;
+#[cfg(test)]
 mod krb_ends_tests;
 #[cfg(test)]
 mod krb_origins_tests;

@@ -1,8 +1,10 @@
 //! AS exchanges over recorded replies, from a client's credentials to the session key of its ticket.
 
+mod early;
 mod exchanges;
 mod proxies;
 mod refusals;
+mod suites;
 
 ghost use Rattle.std.specs.Prelude.{◌≡◌, ◌<◌, ◌≤◌, ◌^◌, IfOk, length};
 ghost use Rattle.sspi_core.specs.Moments.{last_moment};
@@ -15,14 +17,14 @@ ghost use Rattle.krb_as.specs.Clients.{IsShort};
 use crate::rows::{is_row, octets};
 use exchanges::{ALICE, ALICE_IN_A_KEYTAB, FIRST, SECOND};
 use krb_as::{
-    AsDone, AsExchange, Asker, Client, FirstService, ReplyKey, client_of, first_body, reply_key,
-    short_name,
+    AsDone, AsExchange, Asker, Client, FirstService, client_of, first_body, reply_key, short_name,
 };
 use krb_conf::{Env, KerberosConfig};
-use krb_context::Kerberos;
+use krb_context::{Interoperability, Kerberos};
 use krb_crypto::CipherSuite;
 use krb_der::{Octets, OutOfMemory, Text, TryCopy, boxed};
 use krb_exchange::KdcReqBody;
+use krb_replies::ReplyKey;
 use krb_requests::name_of;
 use proxies::{PROXIED, PROXIED_FIRST, PROXIED_SECOND};
 use sspi_core::{
@@ -310,6 +312,7 @@ fn asker(alloc: Global, who: &Who) -> Result<Asker, Cause> {
         realm,
         suite: CipherSuite::Aes256CtsHmacSha196,
         credentials,
+        interoperability: Interoperability::none(),
     })
 }
 

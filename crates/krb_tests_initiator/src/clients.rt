@@ -2,9 +2,10 @@
 
 use crate::octets::octets;
 use crate::script::Script;
+use bitflags::Flags;
 use krb_conf::{Env, KerberosConfig};
-use krb_context::Kerberos;
-use krb_der::{Items, Name, OutOfMemory, Text, boxed};
+use krb_context::{Interoperability, Kerberos};
+use krb_der::{Items, Name, Octets, OutOfMemory, Text, boxed};
 use sspi_core::{AuthIdentityBuffers, CredentialsBuffers, KeytabIdentity, Secret, Username};
 use std::alloc::Global;
 use std::test::Fail;
@@ -14,6 +15,8 @@ use std::test::Fail;
 pub struct Initiator {
     /// Its number, the name of its machine, and the service and its host.
     itself: &'static str,
+    /// The bits of what its context allows beside its own rules.
+    allows: Option<&'static str>,
     /// The URL of its KDC.
     kdc: Option<&'static str>,
     /// A user, its realm and its password.
@@ -29,6 +32,7 @@ impl Initiator {
     pub fn next(script: &mut Script) -> Initiator {
         Initiator {
             itself: script.take("initiator").unwrap_or(""),
+            allows: script.take("allows"),
             kdc: script.take("kdc"),
             password: script.take("password"),
             keytab: script.take("keytab"),
@@ -36,15 +40,20 @@ impl Initiator {
         }
     }
 
+    /// What its context allows.
+    fn allowed(&self) -> Interoperability {
+        let bits: u32 = self.allows.unwrap_or("").parse().unwrap_or(0);
+        Interoperability::from_bits_retain(bits)
+    }
+
     /// The context before its exchange.
     pub fn client(&self, alloc: Global) -> Result<Box<Kerberos>, OutOfMemory> {
         let mut words = self.itself.split(' ');
         let number: u32 = words.next().unwrap_or("").parse().unwrap_or(0);
         let config = config(alloc, self.kdc, words.next().unwrap_or(""))?;
-        boxed(
-            alloc,
-            Kerberos::new_client_from_config(config, number.to_be_bytes()),
-        )
+        let mut client = Kerberos::new_client_from_config(config, number.to_be_bytes());
+        client.interoperability = self.allowed();
+        boxed(alloc, client)
     }
 
     /// What it seeks, if anything.

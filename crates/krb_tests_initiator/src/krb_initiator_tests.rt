@@ -4,6 +4,7 @@ ghost use Rattle.std.specs.Prelude.{◌≡◌, IfOk};
 ghost use Rattle.sspi_generator.specs.Draws.{IsInRange, AreInRange};
 ghost use Rattle.krb_initiator.specs.InitRuns.{IsNew, turns_left};
 
+mod allowed;
 mod ap_reps;
 mod as_replies;
 mod beginnings;
@@ -327,6 +328,11 @@ fn an_initiator_gets_a_ticket_and_is_established(rt: HostRuntime) -> Result<(), 
 #[test]
 fn kdcs_of_others_are_understood(rt: HostRuntime) -> Result<(), Fail> {
     assert_all(&rt, &recorded::SESSIONS)
+}
+
+#[test]
+fn what_a_context_allows_is_taken(rt: HostRuntime) -> Result<(), Fail> {
+    assert_all(&rt, &allowed::SESSIONS)
 }
 
 #[test]

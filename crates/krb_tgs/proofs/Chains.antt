@@ -1,5 +1,5 @@
 -- A chain of replies goes on by one at its end, with what a reply brought.
-use Rattle.std.proofs.Common.{◌≡◌, refl, sym, subst, ap, ℕ, List, [], ◌∷◌, ◌++◌, Ok, Result}
+use Rattle.std.proofs.Common.{◌≡◌, refl, sym, subst, ap, ◌∙◌, ℕ, List, [], ◌∷◌, ◌++◌, Ok, Result}
 use Rattle.krb_crypto.specs.declared.suite.CipherSuite.{CipherSuite}
 use Rattle.krb_exchange.specs.declared.kdc_rep.AsRep.{AsRep}
 use Rattle.krb_exchange.specs.declared.kdc_rep.TgsRep.{TgsRep}
@@ -8,7 +8,11 @@ use Rattle.sspi_core.specs.declared.cause.Cause.{Cause}
 use Rattle.sspi_core.specs.Checks.{Gives}
 use Rattle.sspi_generator.specs.declared.network.NetFault.{NetFault}
 use Rattle.sspi_core.specs.declared.identity.CredentialsBuffers.{CredentialsBuffers}
-use Rattle.krb_replies.specs.Keys.{HandsOnKey}
+use Rattle.krb_context.specs.declared.interoperability.Interoperability.{Interoperability}
+use Rattle.krb_context.specs.Interoperability.{no_options}
+use Rattle.krb_replies.specs.declared.keys.ReplyKey.{ReplyKey}
+use Rattle.krb_replies.specs.Keys.{BringsNext}
+use Rattle.krb_replies.proofs.Suites.{next_keeps}
 use Rattle.sspi_core.proofs.Chain.{passed, gave}
 use Rattle.krb_exchange.specs.Layouts.{tgs_rep_layout}
 use Rattle.krb_as.specs.Replied.{Grants}
@@ -17,46 +21,53 @@ use Rattle.krb_as.specs.declared.key.Grant.{Grant}
 use Rattle.krb_tgs.specs.Taken.{TakesTgsRep}
 use Rattle.krb_tgs.specs.Chain.{HandsOn, IsChain}
 
-module _ (suite : CipherSuite) (reply : TgsRep) (middle last : List ℕ) (opened : HandsOnKey suite middle reply (Ok last)) where
-  pub one_more : (key : List ℕ) (replies : List TgsRep) → HandsOn suite key replies middle → HandsOn suite key (replies ++ (reply ∷ [])) last
-  one_more key [] h = (last, subst (λ (k : List ℕ). HandsOnKey suite k reply (Ok last)) (sym h) opened, refl)
-  one_more key (first ∷ replies) h = (h.0, h.1, one_more h.0 replies h.2)
+module _ (options : Interoperability) (reply : TgsRep) (middle last : ReplyKey) (opened : BringsNext options middle.suite middle.key reply (Ok last)) where
+  pub one_more : (shown : ReplyKey) (replies : List TgsRep) → HandsOn options shown replies middle → HandsOn options shown (replies ++ (reply ∷ [])) last
+  one_more shown [] h = (last, subst (λ (k : ReplyKey). BringsNext options k.suite k.key reply (Ok last)) (sym h) opened, refl)
+  one_more shown (first ∷ replies) h = (h.0, h.1, one_more h.0 replies h.2)
 
 -- the key of an AS-REP is a chain without TGS-REPs
-pub chain_begins : (credentials : CredentialsBuffers) (used : List ℕ) (as_rep : AsRep) (suite : CipherSuite) (key : List ℕ)
-    → TakesReplyKey credentials used as_rep (Ok (record { suite = suite; key = key })) → IsChain credentials used as_rep suite [] key
-chain_begins credentials used as_rep suite key h = record { start = key; begins = h; hands_on = refl }
+pub chain_begins : (options : Interoperability) (credentials : CredentialsBuffers) (used : List ℕ) (as_rep : AsRep) (start : ReplyKey)
+    → TakesReplyKey options credentials used as_rep (Ok start) → IsChain options credentials used as_rep [] start
+chain_begins options credentials used as_rep start h = record { start = start; begins = h; hands_on = refl }
 
 -- and goes on with each TGS-REP that is opened under its last key
-pub chain_goes_on : (credentials : CredentialsBuffers) (used : List ℕ) (as_rep : AsRep) (suite : CipherSuite) (replies : List TgsRep) (reply : TgsRep) (middle last : List ℕ)
-    → IsChain credentials used as_rep suite replies middle → HandsOnKey suite middle reply (Ok last)
-    → IsChain credentials used as_rep suite (replies ++ (reply ∷ [])) last
-chain_goes_on credentials used as_rep suite replies reply middle last chain opened =
-    record { start = chain.start; begins = chain.begins; hands_on = one_more suite reply middle last opened chain.start replies chain.hands_on }
+pub chain_goes_on : (options : Interoperability) (credentials : CredentialsBuffers) (used : List ℕ) (as_rep : AsRep) (replies : List TgsRep) (reply : TgsRep) (middle last : ReplyKey)
+    → IsChain options credentials used as_rep replies middle → BringsNext options middle.suite middle.key reply (Ok last)
+    → IsChain options credentials used as_rep (replies ++ (reply ∷ [])) last
+chain_goes_on options credentials used as_rep replies reply middle last chain opened =
+    record { start = chain.start; begins = chain.begins; hands_on = one_more options reply middle last opened chain.start replies chain.hands_on }
+
+-- without options one suite goes through the whole of it
+pub hands_on_suite : (shown : ReplyKey) (replies : List TgsRep) (last : ReplyKey) → HandsOn no_options shown replies last → last.suite ≡ shown.suite
+hands_on_suite shown [] last h = ap (λ (k : ReplyKey). k.suite) (sym h)
+hands_on_suite shown (reply ∷ replies) last h = hands_on_suite h.0 replies last h.2 ∙ next_keeps shown.suite shown.key reply h.0 h.1
+
+-- the key that a ticket came with
+abbrev pub key_of : Grant → ReplyKey
+key_of shown = record { suite = shown.suite; key = shown.key }
 
 -- what was taken from a TGS-REP: the key that it hands on
-pub record TgsTaken (protocol : NetworkProtocol) (suite : CipherSuite) (key : List ℕ) (reply : Result (List ℕ) NetFault) (shown : Grant) : Type 0 where
+pub record TgsTaken (options : Interoperability) (protocol : NetworkProtocol) (suite : CipherSuite) (key : List ℕ) (reply : Result (List ℕ) NetFault) (shown : Grant) : Type 0 where
   pub rep : TgsRep
   pub granted : Grants protocol tgs_rep_layout reply (Ok rep)
-  pub opened : HandsOnKey suite key rep (Ok shown.key)
+  pub opened : BringsNext options suite key rep (Ok (key_of shown))
   pub brought : shown.rep ≡ rep.0
-  pub same : shown.suite ≡ suite
 
-tgs_given : (suite : CipherSuite) (key : List ℕ) (rep : TgsRep) (shown : Grant) → Gives {E = Cause} (record { suite = suite; key = key; rep = rep.0 }) (Ok shown)
-    → shown ≡ record { suite = suite; key = key; rep = rep.0 }
-tgs_given suite key rep shown h = gave _ _ h
+tgs_given : (next : ReplyKey) (rep : TgsRep) (shown : Grant) → Gives {E = Cause} (record { suite = next.suite; key = next.key; rep = rep.0 }) (Ok shown)
+    → shown ≡ record { suite = next.suite; key = next.key; rep = rep.0 }
+tgs_given next rep shown h = gave _ _ h
 
-pub taken_tgs : (protocol : NetworkProtocol) (suite : CipherSuite) (key : List ℕ) (reply : Result (List ℕ) NetFault) (shown : Grant)
-    → TakesTgsRep protocol suite key reply (Ok shown) → TgsTaken protocol suite key reply shown
+pub taken_tgs : (options : Interoperability) (protocol : NetworkProtocol) (suite : CipherSuite) (key : List ℕ) (reply : Result (List ℕ) NetFault) (shown : Grant)
+    → TakesTgsRep options protocol suite key reply (Ok shown) → TgsTaken options protocol suite key reply shown
 unfolding TakesTgsRep
-taken_tgs protocol suite key reply shown h =
+taken_tgs options protocol suite key reply shown h =
     let rep = passed _ _ _ h in
     let next = passed _ _ _ rep.rest_held in
-    let is = tgs_given suite next.found rep.found shown next.rest_held in
+    let is = tgs_given next.found rep.found shown next.rest_held in
     record {
       rep = rep.found;
       granted = rep.first_held;
-      opened = subst (λ (k : List ℕ). HandsOnKey suite key rep.found (Ok k)) (sym (ap (λ (s : Grant). s.key) is)) next.first_held;
+      opened = subst (λ (k : ReplyKey). BringsNext options suite key rep.found (Ok k)) (sym (ap (λ (s : Grant). key_of s) is)) next.first_held;
       brought = ap (λ (s : Grant). s.rep) is;
-      same = ap (λ (s : Grant). s.suite) is;
     }

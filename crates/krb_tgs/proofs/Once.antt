@@ -3,16 +3,15 @@ use Rattle.std.proofs.Common.{ℕ, List, Option, None, Result, arith}
 use Rattle.krb_crypto.specs.declared.suite.CipherSuite.{CipherSuite}
 use Rattle.krb_messages.specs.declared.ticket.Ticket.{Ticket}
 use Rattle.krb_exchange.specs.Table.{tgs_rep, krb_error}
-use Rattle.krb_exchange.specs.Layouts.{tgs_rep_layout, enc_tgs_rep_part_layout}
+use Rattle.krb_exchange.specs.Layouts.{tgs_rep_layout}
 use Rattle.krb_exchange.specs.Results.{HasOneResult}
-use Rattle.krb_exchange.specs.declared.kdc_rep.TgsRep.{TgsRep}
 use Rattle.krb_exchange.proofs.Results.{one_result_of}
 use Rattle.sspi_core.proofs.Once.{Once, then_once, holds_once, gives_once}
 use Rattle.sspi_core.specs.declared.draw.Draw.{Draw}
 use Rattle.sspi_core.specs.declared.protocol.NetworkProtocol.{NetworkProtocol}
 use Rattle.sspi_generator.specs.declared.network.NetFault.{NetFault}
-use Rattle.krb_replies.specs.Keys.{HandsOnKey}
-use Rattle.krb_replies.proofs.Once.{opens_once}
+use Rattle.krb_context.specs.declared.interoperability.Interoperability.{Interoperability}
+use Rattle.krb_replies.proofs.Once.{brings_next_once}
 use Rattle.krb_as.proofs.Once.{finds_kdc_once, grants_once}
 use Rattle.krb_as.specs.declared.asker.Asker.{Asker}
 use Rattle.krb_tgs.specs.declared.wanted.Wanted.{Wanted}
@@ -35,11 +34,8 @@ tgs_rep_once : HasOneResult tgs_rep_layout
 unfolding tgs_rep krb_error
 tgs_rep_once = one_result_of tgs_rep_layout (λ e. omega (arith, e))
 
-hands_on_key_once : (suite : CipherSuite) (key : List ℕ) (tgs_rep : TgsRep) → Once (HandsOnKey suite key tgs_rep)
-unfolding HandsOnKey
-hands_on_key_once suite key tgs_rep = then_once _ _ (opens_once enc_tgs_rep_part_layout _ suite key 8 tgs_rep.0.enc_part.cipher) (λ part. gives_once _)
-
-pub takes_tgs_rep_once : (protocol : NetworkProtocol) (suite : CipherSuite) (key : List ℕ) (reply : Result (List ℕ) NetFault) → Once (TakesTgsRep protocol suite key reply)
+pub takes_tgs_rep_once : (options : Interoperability) (protocol : NetworkProtocol) (suite : CipherSuite) (key : List ℕ) (reply : Result (List ℕ) NetFault)
+    → Once (TakesTgsRep options protocol suite key reply)
 unfolding TakesTgsRep
-takes_tgs_rep_once protocol suite key reply =
-    then_once _ _ (grants_once protocol tgs_rep_layout reply tgs_rep_once) (λ tgs_rep. then_once _ _ (hands_on_key_once suite key tgs_rep) (λ next. gives_once _))
+takes_tgs_rep_once options protocol suite key reply =
+    then_once _ _ (grants_once protocol tgs_rep_layout reply tgs_rep_once) (λ tgs_rep. then_once _ _ (brings_next_once options suite key tgs_rep) (λ next. gives_once _))

@@ -1,20 +1,21 @@
 -- The keys that replies hand on, one behind the other (RFC 4120, sections 3.1.5 and 3.3.4).
 use Rattle.std.specs.Prelude.{◌≡◌, ℕ, List, [], ◌∷◌, Ok}
-use Rattle.krb_crypto.specs.declared.suite.CipherSuite.{CipherSuite}
 use Rattle.krb_exchange.specs.declared.kdc_rep.AsRep.{AsRep}
 use Rattle.krb_exchange.specs.declared.kdc_rep.TgsRep.{TgsRep}
 use Rattle.sspi_core.specs.declared.identity.CredentialsBuffers.{CredentialsBuffers}
-use Rattle.krb_replies.specs.Keys.{HandsOnKey}
+use Rattle.krb_context.specs.declared.interoperability.Interoperability.{Interoperability}
+use Rattle.krb_replies.specs.declared.keys.ReplyKey.{ReplyKey}
+use Rattle.krb_replies.specs.Keys.{BringsNext}
 use Rattle.krb_as.specs.ReplyKeys.{TakesReplyKey}
 
 -- these replies, in their order, lead from a key to the last one: each is sealed under the key before it and brings the next
-abbrev pub HandsOn : CipherSuite → List ℕ → List TgsRep → List ℕ → Type 0
-HandsOn suite key [] last = key ≡ last
-HandsOn suite key (reply ∷ replies) last = (next : List ℕ) × HandsOnKey suite key reply (Ok next) × HandsOn suite next replies last
+abbrev pub HandsOn : Interoperability → ReplyKey → List TgsRep → ReplyKey → Type 0
+HandsOn options shown [] last = shown ≡ last
+HandsOn options shown (reply ∷ replies) last = (next : ReplyKey) × BringsNext options shown.suite shown.key reply (Ok next) × HandsOn options next replies last
 
--- a key that began with the credentials: the AS-REP is sealed under theirs, and the TGS-REPs lead from its key to this one
-pub record IsChain (credentials : CredentialsBuffers) (used : List ℕ) (as_rep : AsRep) (suite : CipherSuite) (replies : List TgsRep)
-    (last : List ℕ) : Type 0 where
-  pub start : List ℕ
-  pub begins : TakesReplyKey credentials used as_rep (Ok (record { suite = suite; key = start }))
-  pub hands_on : HandsOn suite start replies last
+-- a key that began with the credentials: the AS-REP is sealed under theirs, and the TGS-REPs lead from its key to this one. The options
+-- are those of the context that asked
+pub record IsChain (options : Interoperability) (credentials : CredentialsBuffers) (used : List ℕ) (as_rep : AsRep) (replies : List TgsRep) (last : ReplyKey) : Type 0 where
+  pub start : ReplyKey
+  pub begins : TakesReplyKey options credentials used as_rep (Ok start)
+  pub hands_on : HandsOn options start replies last

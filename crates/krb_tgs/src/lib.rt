@@ -6,6 +6,7 @@
 //! before it.
 #![tactic(auto)]
 
+pub mod laws;
 mod replies;
 mod tgs;
 mod wanted;

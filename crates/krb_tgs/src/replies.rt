@@ -2,28 +2,29 @@
 
 ghost use Rattle.std.specs.Prelude.{IfOk};
 ghost use Rattle.sspi_core.specs.Checks.{Answers, Gives};
-ghost use Rattle.krb_replies.specs.Keys.{HandsOnKey};
+ghost use Rattle.krb_replies.specs.Keys.{BringsNext};
 ghost use Rattle.krb_as.specs.Granted.{IsSendable};
 ghost use Rattle.krb_tgs.specs.Taken.{TakesTgsRep};
 
 use krb_as::{Grant, granted_tgs_rep};
+use krb_context::Interoperability;
 use krb_crypto::CipherSuite;
 use krb_der::Octets;
 use krb_exchange::TgsRep;
-use krb_replies::session_key_in_tgs_rep;
+use krb_replies::{ReplyKey, key_in_tgs_rep};
 use sspi_core::{Cause, NetworkProtocol, Secret};
 use sspi_generator::NetFault;
 use std::alloc::Global;
 
 /// What a TGS-REP brought.
-fn shown_by_tgs(suite: CipherSuite, key: Secret<Octets>, tgs_rep: TgsRep) -> Result<Grant, Cause>
+fn shown_by_tgs(next: ReplyKey, tgs_rep: TgsRep) -> Result<Grant, Cause>
     requires { IsSendable tgs_rep.0 }
-    ensures made { Answers (Gives (record { suite = suite; key = key; rep = tgs_rep.0 })) result }
+    ensures made { Answers (Gives (record { suite = next.suite; key = next.key; rep = tgs_rep.0 })) result }
     ensures sendable { IfOk result (λ shown. IsSendable shown.rep) }
 {
     Ok(Grant {
-        suite,
-        key,
+        suite: next.suite,
+        key: next.key,
         rep: tgs_rep.0,
     })
 }
@@ -31,31 +32,33 @@ fn shown_by_tgs(suite: CipherSuite, key: Secret<Octets>, tgs_rep: TgsRep) -> Res
 /// The session key that is sealed in a TGS-REP.
 fn next_key(
     alloc: Global,
+    options: Interoperability,
     suite: CipherSuite,
     key: &Secret<Octets>,
     tgs_rep: &TgsRep,
-) -> Result<Secret<Octets>, Cause>
-    ensures { Answers (HandsOnKey suite key.now tgs_rep.now) result }
+) -> Result<ReplyKey, Cause>
+    ensures { Answers (BringsNext options suite key.now tgs_rep.now) result }
 {
-    session_key_in_tgs_rep(alloc, suite, key.as_ref().as_slice(), tgs_rep)
+    key_in_tgs_rep(alloc, options, suite, key.as_ref().as_slice(), tgs_rep)
 }
 
 /// What a TGS-REP brings: its ticket, and the session key that is sealed in it under that of the ticket that was shown.
 ///
 /// Refused as `granted_tgs_rep` refuses; then as `Reply` where nothing is sealed to it under that key, as `Inner` where what is
-/// sealed is no EncTGSRepPart.
+/// sealed is no EncTGSRepPart; as `Etype` where the key goes by its own suite, and that is not known.
 #[tactic(auto, unfolding(crate::specs::Taken::TakesTgsRep))]
 pub fn take_tgs_rep(
     alloc: Global,
+    options: Interoperability,
     protocol: NetworkProtocol,
     suite: CipherSuite,
     key: &Secret<Octets>,
     reply: Result<Octets, NetFault>,
 ) -> Result<Grant, Cause>
-    ensures step { Answers (TakesTgsRep protocol suite key.now reply) result }
+    ensures step { Answers (TakesTgsRep options protocol suite key.now reply) result }
     ensures sendable { IfOk result (λ shown. IsSendable shown.rep) }
 {
     let tgs_rep = granted_tgs_rep(alloc, protocol, reply)?;
-    let next = next_key(alloc, suite, key, &tgs_rep)?;
-    shown_by_tgs(suite, next, tgs_rep)
+    let next = next_key(alloc, options, suite, key, &tgs_rep)?;
+    shown_by_tgs(next, tgs_rep)
 }

@@ -1,5 +1,5 @@
 -- How often the exchange of a service asks.
-use Rattle.std.proofs.Common.{◌≡◌, ℕ, ◌+◌, ◌<◌, List, Result, Ok, refl, subst, take, lit<}
+use Rattle.std.proofs.Common.{◌≡◌, ℕ, ◌+◌, ◌<◌, List, Result, Ok, refl, subst, take, arith, lit<}
 use Rattle.sspi_core.proofs.Chain.{gave}
 use Rattle.sspi_core.specs.declared.draw.Draw.{Draw}
 use Rattle.sspi_core.specs.declared.error.Error.{Error}
@@ -34,7 +34,8 @@ next_down : (acceptor : Acceptor) (old : AcceptPhase) (reply : Result (List ℕ)
     → Next acceptor old reply draw (Ok (Asks request phase)) → turns_left phase < turns_left old
 next_down acceptor (New client) reply draw request phase h = absurd h
 next_down acceptor (InAsExchange (AwaitsError kdc body)) reply draw request phase h =
-    second_down InitDone InAsExchange turns_left 1 acceptor.asker (EndsWithTicket acceptor) reply draw request phase kdc body (λ sealed. lit< tt) h
+    second_down InitDone InAsExchange turns_left 1 acceptor.asker (EndsWithTicket acceptor) reply draw request phase kdc body (λ sealed. lit< tt)
+    (λ grant ends. omega (arith, ticket_down acceptor request phase grant ends)) h
 next_down acceptor (InAsExchange (AwaitsAsRep sealed)) reply draw request phase h =
     grant_down InitDone InAsExchange turns_left 0 acceptor.asker (EndsWithTicket acceptor) reply draw request phase sealed (ticket_down acceptor request phase) h
 next_down acceptor Over reply draw request phase h = absurd h

@@ -1,14 +1,15 @@
 //! Ends of established connections.
 
 use krb_conf::KerberosConfig;
-use krb_context::{Kerberos, KerberosState, ServerProperties};
+use krb_context::{Interoperability, Kerberos, KerberosState, ServerProperties};
 use krb_crypto::CipherSuite;
 use krb_der::{Octets, Text, boxed};
 use sspi_core::Secret;
 use std::alloc::Global;
 use std::test::Fail;
 
-/// One end: its side, its suite and its key in hex, its filler, and the number before that of its next message.
+/// One end: its side, its suite and its key in hex, its filler, the number before that of its next message, whether its key came in an
+/// AP-REP, and what it allows beyond its own rules.
 #[derive(Clone, Copy)]
 pub struct End {
     pub acceptor: bool,
@@ -16,6 +17,8 @@ pub struct End {
     pub key: &'static str,
     pub ec: u16,
     pub number: u32,
+    pub acceptor_subkey: bool,
+    pub options: Option<Interoperability>,
 }
 
 /// An initiator with a key of 32 octets.
@@ -25,6 +28,8 @@ pub const INITIATOR: End = End {
     key: "202122232425262728292a2b2c2d2e2f303132333435363738393a3b3c3d3e3f",
     ec: 0,
     number: 1234,
+    acceptor_subkey: false,
+    options: None,
 };
 
 /// Its acceptor.
@@ -41,6 +46,8 @@ pub const SHORT_ACCEPTOR: End = End {
     key: "101112131415161718191a1b1c1d1e1f",
     ec: 16,
     number: 0,
+    acceptor_subkey: false,
+    options: None,
 };
 
 pub fn octets(alloc: Global, text: &str) -> Result<Octets, Fail> {
@@ -78,6 +85,10 @@ fn establish(context: &mut Kerberos, end: &End, key: Octets) {
     context.encryption_params.encryption_type = Some(end.suite);
     context.encryption_params.sub_session_key = Some(Secret::new(key));
     context.encryption_params.ec = end.ec;
+    context.encryption_params.acceptor_subkey = end.acceptor_subkey;
+    if let Some(options) = end.options {
+        context.interoperability = options;
+    }
 }
 
 pub fn context_of(alloc: Global, end: &End) -> Result<Box<Kerberos>, Fail> {

@@ -1,7 +1,8 @@
-//! MIC tokens, and how a second implementation makes them.
+//! MIC tokens, and how a second implementation and Java make them.
 
 use super::cause_of;
 use super::ends::{ACCEPTOR, End, INITIATOR, SHORT_ACCEPTOR, context_of, octets};
+use krb_context::Interoperability;
 use krb_der::Octets;
 use sspi_core::{Cause, Error, ErrorKind};
 use std::alloc::Global;
@@ -14,7 +15,15 @@ struct Mic {
     token: &'static str,
 }
 
-static MICS: [Mic; 4] = [
+/// The initiator of recorded tokens of Java.
+const JAVA: End = End {
+    key: "31b73bcb960c1ae04a4789e9723cfb24d68b6f8f36ba8f6f2fc81c312e4b9309",
+    number: 976321985,
+    options: Some(Interoperability::SUBKEY_FLAG_BY_ORIGIN),
+    ..INITIATOR
+};
+
+static MICS: [Mic; 8] = [
     Mic {
         end: INITIATOR,
         payload: "payload",
@@ -41,6 +50,38 @@ static MICS: [Mic; 4] = [
         },
         payload: "",
         token: "040405ffffffffff00000000ffffffffb5c3809c2d6964a7ee0c1e3e",
+    },
+    // Two that Java made without mutual authentication, where the key came in no AP-REP.
+    Mic {
+        end: JAVA,
+        payload: "",
+        token: "040400ffffffffff000000003a317dc236d702ea4c651d28a806d545",
+    },
+    Mic {
+        end: End {
+            number: 976321986,
+            ..JAVA
+        },
+        payload: "\"",
+        token: "040400ffffffffff000000003a317dc34298f149e2a180661beef8a8",
+    },
+    // By an acceptor where it came in none, and by one where it did.
+    Mic {
+        end: End {
+            options: Some(Interoperability::SUBKEY_FLAG_BY_ORIGIN),
+            ..ACCEPTOR
+        },
+        payload: "payload",
+        token: "040401ffffffffff0000000000000001cec67c70b73e803a7812edd3",
+    },
+    Mic {
+        end: End {
+            acceptor_subkey: true,
+            options: Some(Interoperability::SUBKEY_FLAG_BY_ORIGIN),
+            ..ACCEPTOR
+        },
+        payload: "payload",
+        token: "040405ffffffffff0000000000000001aa96ad9897f55fd731d38f4e",
     },
 ];
 

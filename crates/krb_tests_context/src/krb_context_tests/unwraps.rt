@@ -1,7 +1,8 @@
-//! Messages that are opened: a recorded one of Windows, those of a second implementation, and the same with changed headers.
+//! Messages that are opened: recorded ones of Windows and of MIT krb5, those of a second implementation, and the same with changed headers.
 
 use super::ends::{ACCEPTOR, End};
 use super::rows::Row;
+use krb_context::Interoperability;
 use krb_crypto::CipherSuite;
 use sspi_core::Cause;
 
@@ -16,6 +17,8 @@ const WINDOWS: End = End {
     key: "5b0bbce30a5bb4f64081fbc876526d41f1b16d207c277fabde84c7c77e6e03a6",
     ec: 16,
     number: 0,
+    acceptor_subkey: false,
+    options: None,
 };
 
 /// An initiator whose acceptor does not seal.
@@ -25,9 +28,28 @@ const CLEAR_END: End = End {
     key: "9e8f7d6c5b4a39281706f5e4d3c2b1a0102132435465768798a9bacbdcedfe0f",
     ec: 0,
     number: 0,
+    acceptor_subkey: false,
+    options: None,
 };
 
-static UNWRAPS: [Row; 28] = [
+/// An acceptor in DCE style of a client of MIT krb5.
+const PADDED: End = End {
+    acceptor: true,
+    suite: CipherSuite::Aes256CtsHmacSha196,
+    key: "66e5251540db88e97abe0ad42bec7ccdcb0fe8e882b1aa77f600a6a3f1585d81",
+    ec: 16,
+    number: 0,
+    acceptor_subkey: false,
+    options: None,
+};
+
+/// It takes the count of each token.
+const COUNTED: End = End {
+    options: Some(Interoperability::EXTRA_COUNT_BY_TOKEN),
+    ..PADDED
+};
+
+static UNWRAPS: [Row; 36] = [
     // A recorded message of Windows: a header and a trailer that are covered and not sealed, the data, and the token.
     Row {
         end: WINDOWS,
@@ -223,5 +245,76 @@ static UNWRAPS: [Row; 28] = [
         before: "S:050406ff0000001c00000000000004d337cfe6113628ffb62e5a44d02e1287dfa571feb04eef2994105a3614f51e1a956250a70b8338d587b858435e2df2883e99d74674c5dca867e964c6c0170f D:",
         after: "S: D:736f6d6520706c61696e206d657373616765",
         refusal: None,
+    },
+    // A recorded message of MIT krb5 in DCE style, whose filler has 15 octets.
+    Row {
+        end: COUNTED,
+        before: "S:050406ff000f001c0000000034220cb489cf8ebf0e8b24f9006211c194c3fcf840c5807c5c39d4149375c7d845cfc2dbfd552d765d0e184a6b5b0a13c3bed42e4ef2cc393e2071cb7b367036 D::1",
+        after: "S: D:22",
+        refusal: None,
+    },
+    // Another, whose filler has one octet.
+    Row {
+        end: COUNTED,
+        before: "S:050406ff0001001c0000000034220cb51df88ef79770c3ebf45ea04e52be69cb6faefc2e150d2feae0169d55e45e5774c4aee1a105f079c0793d6f4e3d6fbc2f0b39d10982450bc11cb5ccd9 D::15",
+        after: "S: D:fc1b1af75abc7f354fcdfb02067585",
+        refusal: None,
+    },
+    // The first at an end that allows nothing.
+    Row {
+        end: PADDED,
+        before: "S:050406ff000f001c0000000034220cb489cf8ebf0e8b24f9006211c194c3fcf840c5807c5c39d4149375c7d845cfc2dbfd552d765d0e184a6b5b0a13c3bed42e4ef2cc393e2071cb7b367036 D::1",
+        after: "S:050406ff000f001c0000000034220cb489cf8ebf0e8b24f9006211c194c3fcf840c5807c5c39d4149375c7d845cfc2dbfd552d765d0e184a6b5b0a13c3bed42e4ef2cc393e2071cb7b367036 D:",
+        refusal: Some(Cause::ExtraCount),
+    },
+    // And at one that allows another thing.
+    Row {
+        end: End {
+            options: Some(Interoperability::SUBKEY_FLAG_BY_ORIGIN),
+            ..PADDED
+        },
+        before: "S:050406ff000f001c0000000034220cb489cf8ebf0e8b24f9006211c194c3fcf840c5807c5c39d4149375c7d845cfc2dbfd552d765d0e184a6b5b0a13c3bed42e4ef2cc393e2071cb7b367036 D::1",
+        after: "S:050406ff000f001c0000000034220cb489cf8ebf0e8b24f9006211c194c3fcf840c5807c5c39d4149375c7d845cfc2dbfd552d765d0e184a6b5b0a13c3bed42e4ef2cc393e2071cb7b367036 D:",
+        refusal: Some(Cause::ExtraCount),
+    },
+    // A message without a filler, at an end that has one.
+    Row {
+        end: End {
+            ec: 16,
+            options: Some(Interoperability::EXTRA_COUNT_BY_TOKEN),
+            ..ACCEPTOR
+        },
+        before: "T:050406ff0000001c00000000000004d337cfe6113628ffb62e5a44d02e1287dfa571feb04eef2994105a3614f51e1a956250a70b8338d587b858435e D:2df2883e99d74674c5dca867e964c6c0170f",
+        after: "T:050406ff0000001c00000000000004d337cfe6113628ffb62e5a44d02e1287dfa571feb04eef2994105a3614f51e1a956250a70b8338d587b858435e D:736f6d6520706c61696e206d657373616765",
+        refusal: None,
+    },
+    // A count of 1, as the token says and its sealed copy does not.
+    Row {
+        end: End {
+            options: Some(Interoperability::EXTRA_COUNT_BY_TOKEN),
+            ..ACCEPTOR
+        },
+        before: "T:050406ff0001001c00000000000004d30f37cfe6113628ffb62e5a44d02e1287dfa571feb04eef2994105a3614f51e1a956250a70b8338d587b85843 D:5e2df2883e99d74674c5dca867e964c6c017",
+        after: "T:050406ff0001001c00000000000004d30f37cfe6113628ffb62e5a44d02e1287dfa571feb04eef2994105a3614f51e1a956250a70b8338d587b85843 D:5e2df2883e99d74674c5dca867e964c6c017",
+        refusal: Some(Cause::Altered),
+    },
+    // A count of 18, as much as the body holds, and one of 19.
+    Row {
+        end: End {
+            options: Some(Interoperability::EXTRA_COUNT_BY_TOKEN),
+            ..ACCEPTOR
+        },
+        before: "T:050406ff0012001c00000000000004d337cfe6113628ffb62e5a44d02e1287dfa571feb04eef2994105a3614f51e1a956250a70b8338d587b858435e D:2df2883e99d74674c5dca867e964c6c0170f",
+        after: "T:050406ff0012001c00000000000004d337cfe6113628ffb62e5a44d02e1287dfa571feb04eef2994105a3614f51e1a956250a70b8338d587b858435e D:2df2883e99d74674c5dca867e964c6c0170f",
+        refusal: Some(Cause::Altered),
+    },
+    Row {
+        end: End {
+            options: Some(Interoperability::EXTRA_COUNT_BY_TOKEN),
+            ..ACCEPTOR
+        },
+        before: "T:050406ff0013001c00000000000004d337cfe6113628ffb62e5a44d02e1287dfa571feb04eef2994105a3614f51e1a956250a70b8338d587b858435e D:2df2883e99d74674c5dca867e964c6c0170f",
+        after: "T:050406ff0013001c00000000000004d337cfe6113628ffb62e5a44d02e1287dfa571feb04eef2994105a3614f51e1a956250a70b8338d587b858435e D:2df2883e99d74674c5dca867e964c6c0170f",
+        refusal: Some(Cause::Short),
     },
 ];

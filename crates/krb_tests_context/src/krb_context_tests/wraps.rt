@@ -2,13 +2,14 @@
 
 use super::ends::{ACCEPTOR, End, INITIATOR, SHORT_ACCEPTOR};
 use super::rows::Row;
+use krb_context::Interoperability;
 use sspi_core::Cause;
 
 pub fn wraps() -> &'static [Row] {
     &WRAPS
 }
 
-static WRAPS: [Row; 8] = [
+static WRAPS: [Row; 13] = [
     // Eighteen octets, and just the room that the token needs.
     Row {
         end: INITIATOR,
@@ -76,6 +77,59 @@ static WRAPS: [Row; 8] = [
         },
         before: "D:4142434445464748494a4b4c4d4e4f5051 T::100",
         after: "D:784260dc0400c584223fc6de821c4f4c7d T:050406ff0000001c00000000000000011337a427627572bfb47eb8a77a3e44bff07dbdab03d0f56f0b61108cb2c5e9fc85e9933ed944c688bc124739",
+        refusal: None,
+    },
+    // By an end whose key did not come in an AP-REP, which says so.
+    Row {
+        end: End {
+            options: Some(Interoperability::SUBKEY_FLAG_BY_ORIGIN),
+            ..INITIATOR
+        },
+        before: "T::60 D:736f6d6520706c61696e206d657373616765",
+        after: "T:050402ff0000001c00000000000004d352155048a50d1ee037f68bc9a89abcfc55da5dd9024c6e96cef98227f51e1a956250a70b8338d587b858435e D:2df2883e99d74674c5dca867e964c6c08ca2",
+        refusal: None,
+    },
+    // By its acceptor.
+    Row {
+        end: End {
+            number: 7,
+            options: Some(Interoperability::SUBKEY_FLAG_BY_ORIGIN),
+            ..ACCEPTOR
+        },
+        before: "T::60 D:736f6d6520706c61696e206d657373616765",
+        after: "T:050403ff0000001c0000000000000008c99303e05f9b53caeb80fe6df3310d1103577a7c77a8d9fa86a0e09c23bd1f2824d7dc953587493a6b0cedd5 D:1c5f2b9995cdc376d2f6d39064ce2505269b",
+        refusal: None,
+    },
+    // By both where the key came in an AP-REP.
+    Row {
+        end: End {
+            acceptor_subkey: true,
+            options: Some(Interoperability::SUBKEY_FLAG_BY_ORIGIN),
+            ..INITIATOR
+        },
+        before: "T::60 D:736f6d6520706c61696e206d657373616765",
+        after: "T:050406ff0000001c00000000000004d337cfe6113628ffb62e5a44d02e1287dfa571feb04eef2994105a3614f51e1a956250a70b8338d587b858435e D:2df2883e99d74674c5dca867e964c6c0170f",
+        refusal: None,
+    },
+    Row {
+        end: End {
+            number: 7,
+            acceptor_subkey: true,
+            options: Some(Interoperability::SUBKEY_FLAG_BY_ORIGIN),
+            ..ACCEPTOR
+        },
+        before: "T::60 D:736f6d6520706c61696e206d657373616765",
+        after: "T:050407ff0000001c00000000000000081d27ab3544cd8faddc61d037d96a91329de0d8924449daf3abdb742d23bd1f2824d7dc953587493a6b0cedd5 D:1c5f2b9995cdc376d2f6d39064ce25057cf9",
+        refusal: None,
+    },
+    // By one that allows another thing.
+    Row {
+        end: End {
+            options: Some(Interoperability::EXTRA_COUNT_BY_TOKEN),
+            ..INITIATOR
+        },
+        before: "T::60 D:736f6d6520706c61696e206d657373616765",
+        after: "T:050406ff0000001c00000000000004d337cfe6113628ffb62e5a44d02e1287dfa571feb04eef2994105a3614f51e1a956250a70b8338d587b858435e D:2df2883e99d74674c5dca867e964c6c0170f",
         refusal: None,
     },
 ];

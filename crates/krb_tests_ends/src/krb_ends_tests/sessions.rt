@@ -158,3 +158,25 @@ pub static OVER_A_REFERRAL_IN_DCE_STYLE: Session = Session {
     session_key: "202122232425262728292a2b2c2d2e2f303132333435363738393a3b3c3d3e3f",
     sub_session_key: "404142434445464748494a4b4c4d4e4f505152535455565758595a5b5c5d5e5f",
 };
+
+/// The replies of a KDC that asks for no pre-authentication.
+static WITHOUT_AN_ERROR: [&str; 2] = [AS_REP, TGS_REP];
+
+/// The session in frames over these: its tokens are the same.
+pub fn without_an_error() -> Session {
+    Session {
+        has: Has::Password("secret"),
+        number: FRAMED.number,
+        machine: FRAMED.machine,
+        all: FRAMED.all,
+        dce: FRAMED.dce,
+        key: FRAMED.key,
+        replies: &WITHOUT_AN_ERROR,
+        offer: FRAMED.offer,
+        answer: FRAMED.answer,
+        last: FRAMED.last,
+        suite: FRAMED.suite,
+        session_key: FRAMED.session_key,
+        sub_session_key: FRAMED.sub_session_key,
+    }
+}

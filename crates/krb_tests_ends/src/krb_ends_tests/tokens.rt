@@ -12,7 +12,7 @@ use krb_context::Kerberos;
 use krb_initiator::{GeneratorInitSecurityContext, InitOptions, initialize_security_context};
 use krb_replay::ReplayBook;
 use krb_server::{Accepted, accept_security_context};
-use sspi_core::{Error, SecurityStatus, ServerRequestFlags};
+use sspi_core::{ClientRequestFlags, Error, SecurityStatus, ServerRequestFlags};
 use sspi_generator::{Generator, NetworkClient};
 use std::alloc::Global;
 use std::test::Fail;
@@ -251,4 +251,54 @@ pub fn establishes(
     let takes = goes_on_so(alloc, initiator, session, &last_word(session))?;
     let ends = !session.dce || is_answered_so(alloc, acceptor, book, &end(session), false)?;
     Ok(offers && answers && takes && ends)
+}
+
+/// What an initiator ends with that asks for no answer.
+fn unanswered(
+    alloc: Global,
+    initiator: &Kerberos,
+    session: &Session,
+    network: &mut Network,
+) -> Result<InitDone, Fail> {
+    let mut options = options_with(alloc, session, "")?;
+    options.flags = ClientRequestFlags::SEQUENCE_DETECT;
+    Ok(end_over(alloc, initiator, options, network)?)
+}
+
+/// Whether an acceptor admits a client by this token and answers nothing.
+fn is_admitted_silently(
+    alloc: Global,
+    acceptor: &mut Kerberos,
+    book: &mut ReplayBook,
+    token: &[u8],
+) -> bool {
+    let step = Step {
+        token: "",
+        replies: &[],
+        status: SecurityStatus::Ok,
+        answer: "",
+        flags: server_flags(false),
+    };
+    is_token_answered_so(alloc, acceptor, book, &step, token, true)
+}
+
+/// Whether both ends are established by the one token of an initiator that asks for no answer.
+pub fn establishes_one_way(
+    alloc: Global,
+    session: &Session,
+    initiator: &mut Kerberos,
+    acceptor: &mut Kerberos,
+    book: &mut ReplayBook,
+) -> Result<bool, Fail> {
+    let mut network = Network::new(alloc, session.replies);
+    match unanswered(alloc, initiator, session, &mut network) {
+        Ok(done) => {
+            let is_over = done.status == SecurityStatus::Ok;
+            let token = done.token.as_slice();
+            let is_admitted = is_admitted_silently(alloc, acceptor, book, token);
+            initiator.settle(done.change);
+            Ok(is_over && is_admitted)
+        }
+        Err(fail) => Err(fail),
+    }
 }

@@ -2,11 +2,13 @@
 
 use crate::rows::is_hex;
 use crate::services::{user_with_key, user_with_password};
-use krb_as::{Asker, ReplyKey, reply_key};
+use krb_as::{Asker, reply_key};
 use krb_conf::Env;
+use krb_context::Interoperability;
 use krb_crypto::CipherSuite;
 use krb_der::{Asn1, Name, Text, boxed};
 use krb_exchange::AsRep;
+use krb_replies::ReplyKey;
 use sspi_core::{Cause, CredentialsBuffers};
 use std::alloc::Global;
 use std::test::Fail;
@@ -115,6 +117,7 @@ fn asker_of(alloc: Global, row: &AsReply) -> Result<Box<Asker>, Fail> {
         realm,
         suite: CipherSuite::Aes256CtsHmacSha196,
         credentials: Box::into_inner(credentials),
+        interoperability: Interoperability::none(),
     };
     Ok(boxed(alloc, asker)?)
 }

@@ -1,5 +1,4 @@
 use Rattle.std.proofs.Common.{rules, ◌≡◌, ◌+◌, ◌-◌, ◌≤◌, ◌++◌, ℕ, List, length, take, drop, ap, ◌∙◌, arith}
-use Rattle.krb_context.specs.Header.{wrap_header}
 use Rattle.krb_context.proofs.WrapLemmas.{wrapped_from}
 use Rattle.krb_context.proofs.seal.seal_message.Goals as goal
 
@@ -10,10 +9,9 @@ returns c =
     let size : c.in_ok-whole.whole.len ≡ length whole = search rules in
     let low : 16 ≤ end = omega (arith, c.in_ok-whole.ensures.size, c.len.ensures) in
     let sizes : end + (28 + c.args.ec) ≡ length whole = omega (arith, c.in_ok-whole.ensures.size, c.len.ensures, size) in
-    wrapped_from c.args.sealing.now c.args.acceptor c.args.ec c.args.number c.args.confounder.now c.args.message.now c.put_sealed.new.message whole c.wrap_header-header.result
+    wrapped_from c.args.sealing.now c.args.flags c.args.ec c.args.number c.args.confounder.now c.args.message.now c.put_sealed.new.message whole c.wrap_header-header.result
     c.new.result c.new-2.result c.wrap_header.result end sizes low
-    (c.wrap_header-header.ensures ∙ ap (λ (f : ℕ). wrap_header f c.args.ec 28 c.args.number) c.seal_flags-flags.ensures)
-    (c.wrap_header.ensures ∙ ap (λ (f : ℕ). wrap_header f c.args.ec 0 c.args.number) c.seal_flags-flags.ensures)
+    c.wrap_header-header.ensures c.wrap_header.ensures
     c.in_ok-whole.ensures.whole
     (c.new.ensures ∙ c.in_ok-token.ensures.token ∙ ap (λ (s : List ℕ). c.wrap_header-header.result ++ (drop end s ++ take 16 s)) c.as_slice.ensures.value)
     (c.new-2.ensures ∙ c.plain_part.ensures.items) c.put_sealed.ensures

@@ -15,7 +15,7 @@ use Rattle.krb_context.proofs.headed.Headed.find_sealed.Goals as goal
 
 pub sealed_turn-turn-requires : goal.sealed_turn-turn-requires
 sealed_turn-turn-requires c =
-    let least = sealed_long c.args.self.now.params.now.ec c.args.self.now.header.now (length c.args.self.now.text.now - 16) c.requires.sealed c.args.self.now.checked.count c.requires.long in
+    let least = sealed_long c.args.self.now.ec c.args.self.now.header.now (length c.args.self.now.text.now - 16) c.requires.sealed c.args.self.now.checked.count c.requires.long in
     omega (arith, least, c.body_len.ensures)
 
 pub turned_body-requires : goal.turned_body-requires
@@ -26,12 +26,13 @@ take-requires c = ap length c.as_slice-key.ensures ∙ c.args.self.now.checked.k
 
 pub open_sealed-found-requires : goal.open_sealed-found-requires
 open_sealed-found-requires c =
-    let least = sealed_long c.args.self.now.params.now.ec c.args.self.now.header.now (length c.args.self.now.text.now - 16) c.requires.sealed c.args.self.now.checked.count c.requires.long in
+    let least = sealed_long c.args.self.now.ec c.args.self.now.header.now (length c.args.self.now.text.now - 16) c.requires.sealed c.args.self.now.checked.count c.requires.long in
     omega (arith, least, c.in_ok-whole.ensures.size)
 
 pub returns : goal.returns
 returns c =
     let params = c.args.self.now.params.now in
+    let ec : ℕ = c.args.self.now.ec in
     let buffers = c.args.self.now.message.now in
     let peer = c.args.self.now.peer in
     let header : List ℕ = c.args.self.now.header.now in
@@ -50,14 +51,14 @@ returns c =
       fits = omega (arith, c.sealed_turn-turn.ensures.fits, len_is);
       back = c.in_ok-whole.ensures.body ∙ ap (λ (s : List ℕ). drop turn (drop 16 s) ++ take turn (drop 16 s)) text;
     } in
-    let turn_is : turn ≡ sealed_turn params.ec (rrc_of header) (length (spelled buffers) - 16) =
-    c.sealed_turn-turn.ensures.is ∙ ap₂ (λ (r n : ℕ). sealed_turn params.ec r n) c.rrc_of.ensures len_is in
+    let turn_is : turn ≡ sealed_turn ec (rrc_of header) (length (spelled buffers) - 16) =
+    c.sealed_turn-turn.ensures.is ∙ ap₂ (λ (r n : ℕ). sealed_turn ec r n) c.rrc_of.ensures len_is in
     let found =
-    found_as (λ v. v) (IsSealedAs c.deref.result.now.sealing params.ec header buffers whole) (Spelt keys peer params.ec buffers) c.open_sealed-found.result
+    found_as (λ v. v) (IsSealedAs c.deref.result.now.sealing ec header buffers whole) (Spelt keys peer ec buffers) c.open_sealed-found.result
     (λ p s.
-    to_spelt keys peer params.ec buffers header whole turn p turned turn_is c.args.self.now.checked.token c.requires.sealed c.args.self.now.checked.side
-    (count_is params.ec header c.requires.sealed c.args.self.now.checked.count)
-    (subst (λ (k : SealingPair). IsSealedAs k params.ec header buffers whole p) same s))
-    (λ p s. subst (λ (k : SealingPair). IsSealedAs k params.ec header buffers whole p) (sym same) (from_spelt keys peer params.ec buffers header whole turn p turned turn_is s))
+    to_spelt keys peer ec buffers header whole turn p turned turn_is c.args.self.now.checked.token c.requires.sealed c.args.self.now.checked.side
+    (count_is ec header c.requires.sealed c.args.self.now.checked.count)
+    (subst (λ (k : SealingPair). IsSealedAs k ec header buffers whole p) same s))
+    (λ p s. subst (λ (k : SealingPair). IsSealedAs k ec header buffers whole p) (sym same) (from_spelt keys peer ec buffers header whole turn p turned turn_is s))
     c.open_sealed-found.ensures in
-    answers _ _ (finds_from Altered (Spelt keys peer params.ec buffers) c.open_sealed-found.result c.take-2.result found c.take-2.ensures)
+    answers _ _ (finds_from Altered (Spelt keys peer ec buffers) c.open_sealed-found.result c.take-2.result found c.take-2.ensures)

@@ -1,4 +1,4 @@
-use Rattle.std.proofs.Common.{ℕ, List, Option, Some, None, sym, ap, ◌∙◌, ◌<◌, subst}
+use Rattle.std.proofs.Common.{ℕ, List, Some, sym, ap, ◌∙◌, ◌<◌, subst}
 use Rattle.krb_messages.specs.declared.principal_name.PrincipalName.{PrincipalName}
 use Rattle.krb_context.specs.AdditionalKeys.{additional_key}
 use Rattle.krb_context.proofs.ServiceKeyLemmas.{place_low, key_there, key_nowhere}

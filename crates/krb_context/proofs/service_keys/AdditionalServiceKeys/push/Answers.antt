@@ -1,4 +1,4 @@
-use Rattle.std.proofs.Common.{ℕ, List, Option, ◌++◌, ◌∷◌, [], Some, None, sym, ap, ◌∙◌}
+use Rattle.std.proofs.Common.{ℕ, List, ◌++◌, ◌∷◌, [], sym, ap, ◌∙◌}
 use Rattle.krb_messages.specs.declared.principal_name.PrincipalName.{PrincipalName}
 use Rattle.krb_context.specs.AdditionalKeys.{first_place}
 use Rattle.krb_context.proofs.ServiceKeyLemmas.{place_pushed}

@@ -1,0 +1,48 @@
+-- What a caller allows a context beyond its own rules. Each is one case of the definition that has the rule, and named by the section of
+-- the RFC there.
+use Rattle.std.specs.Prelude.{ℕ, Bool}
+use Rattle.sspi_core.specs.Flags.{has_flag}
+use Rattle.krb_context.specs.declared.interoperability.Interoperability.{Interoperability}
+
+-- RFC 4120, section 5.4.2
+abbrev pub as_rep_tagged_26 : ℕ
+as_rep_tagged_26 = 0x1
+
+-- RFC 4120, section 3.1.3
+abbrev pub no_preauthentication : ℕ
+no_preauthentication = 0x2
+
+-- RFC 4120, sections 3.1.3 and 3.3.3
+abbrev pub suite_of_each_key : ℕ
+suite_of_each_key = 0x4
+
+-- RFC 4121, section 4.2.2
+abbrev pub subkey_flag_by_origin : ℕ
+subkey_flag_by_origin = 0x8
+
+-- RFC 4120, section 5.5.1; RFC 4121, section 4.2.1
+abbrev pub first_number_as_shown : ℕ
+first_number_as_shown = 0x10
+
+-- RFC 4121, section 2
+abbrev pub ap_rep_without_subkey : ℕ
+ap_rep_without_subkey = 0x20
+
+-- RFC 4120, section 5.5.2
+abbrev pub third_leg_by_value : ℕ
+third_leg_by_value = 0x40
+
+-- RFC 4120, section 3.2.4
+abbrev pub one_way_is_settled : ℕ
+one_way_is_settled = 0x80
+
+-- RFC 4121, section 4.2.3
+abbrev pub extra_count_by_token : ℕ
+extra_count_by_token = 0x100
+
+-- what a new context has
+abbrev pub no_options : Interoperability
+no_options = record { 0 = 0 }
+
+abbrev pub allows : Interoperability → ℕ → Bool
+allows options option = has_flag options.0 option

@@ -1,0 +1,37 @@
+//! A first reply that is an AS-REP, where that is allowed.
+
+use super::exchanges::{ALICE, FIRST, SECOND, alices};
+use super::{Recorded, Turn, draws, exchange_at, is_end, kerberos, key_in, run};
+use krb_context::Interoperability;
+use krb_replies::ReplyKey;
+use sspi_core::Cause;
+use std::alloc::Global;
+
+/// What an exchange of alice ends with whose first reply is an AS-REP, where her context allows that.
+fn early_end(alloc: Global) -> Result<ReplyKey, Cause> {
+    let turns = [Turn {
+        reply: SECOND.reply,
+        ..FIRST
+    }];
+    let draws = draws(&turns);
+    let mut kerberos = kerberos(alloc, &ALICE)?;
+    kerberos.interoperability = Interoperability::NO_PREAUTHENTICATION;
+    let exchange = exchange_at(alloc, &kerberos, &ALICE, &draws[0])?;
+    let mut network = Recorded {
+        alloc,
+        url: ALICE.url,
+        turns: &turns,
+        is_same: true,
+        faults: 0,
+    };
+    match run(alloc, exchange, &mut network, &draws) {
+        Ok(done) => key_in(alloc, &ALICE, &done),
+        Err(error) => Err(error.cause),
+    }
+}
+
+#[test]
+fn a_first_as_rep_is_taken_where_that_is_allowed(rt: HostRuntime) {
+    let alloc = rt.alloc();
+    assert!(rt; is_end(&early_end(alloc), &Ok(alices().end)));
+}
