@@ -3,9 +3,8 @@ use Rattle.std.proofs.Common.{◌≡◌, ℕ, Bool, true, false, if◌then◌els
 use Rattle.std.proofs.Math.Logic.{∥∥₁_elim}
 use Rattle.std.specs.Result.{IsErrAnd}
 use Rattle.sspi_core.specs.declared.cause.Cause.{Cause}
-use Rattle.sspi_core.specs.declared.cause.Cause.TheVariants.{ClientName, ApOptions, SubKey, Memory, Sequence}
+use Rattle.sspi_core.specs.declared.cause.Cause.TheVariants.{Memory, Sequence}
 use Rattle.sspi_core.specs.declared.draw.Draw.{Draw}
-use Rattle.sspi_core.specs.Usernames.{UserName}
 use Rattle.sspi_core.specs.Checks.{ok_or, Takes, Holds, Passes, Gives, Goes, Then, Answers, ◌>>◌}
 use Rattle.sspi_core.proofs.Chain.{halts, follows, is_err, same_err}
 use Rattle.sspi_core.proofs.Once.{Once, passes_once}
@@ -20,7 +19,7 @@ use Rattle.krb_admission.specs.declared.admission.Answer.{Answer}
 use Rattle.krb_admission.specs.Requests.{ask_of}
 use Rattle.krb_admission.specs.Complete.{Completes}
 use Rattle.krb_admission.specs.Accepts.{BeginsAdmission, FinishesAdmission, DecidesAdmission, Asks, Accepts, MakesAnswer, Ends, awaits_last_word, refusal}
-use Rattle.krb_admission.specs.Halves.{Prepared, Prepares, IsPrepared, JudgesApReq, question, outcome_behind, PassesGate, RefusesOnly, AdmitsWhere, AdmitsPrepared, AdmitsNext, JudgesAndAdmits}
+use Rattle.krb_admission.specs.Halves.{Prepared, Prepares, IsPrepared, JudgesApReq, question, outcome_behind, PassesGate, AdmitsWhere, AdmitsPrepared, AdmitsNext, JudgesAndAdmits}
 use Rattle.krb_admission.proofs.Begun.{passed}
 use Rattle.krb_admission.proofs.Once.{begins_once}
 use Rattle.krb_admission.proofs.Steps.{answered, waits, refused, answered_at_gate, finishes_refuses}

@@ -1,6 +1,5 @@
 -- How long an AP-REP can be.
 use Rattle.std.proofs.Common.{◌≡◌, ℕ, ◌+◌, ◌<◌, ◌≤◌, ◌^◌, ◌%◌, ℤ, Bool, true, false, List, [], ◌∷◌, ◌++◌, length, Option, Some, None, option_map, IfSome, arith, lit≤, lit<, refl, sym, subst}
-use Rattle.std.proofs.lemmas.List.{length-take}
 use Rattle.std.specs.Int.{w32, to_be_bytes}
 use Rattle.std.specs.Option.{option_map_or}
 use Rattle.krb_der.specs.Der.{tlv}
@@ -9,8 +8,7 @@ use Rattle.krb_der.specs.Schema.{IsComplete, contents, tag_of}
 use Rattle.krb_der.proofs.Lengths.{tlv_le, field_le, append_le}
 use Rattle.krb_messages.specs.Table.{enc_ap_rep_part, ap_rep as ap_rep_kind, encryption_key, encrypted_data}
 use Rattle.krb_messages.specs.Layouts.{enc_ap_rep_part_row, ap_rep_row, encryption_key_row, encrypted_data_row}
-use Rattle.krb_crypto.specs.Suite.{suite_number, key_size}
-use Rattle.krb_crypto.specs.declared.suite.CipherSuite.TheVariants.{Aes128CtsHmacSha196, Aes256CtsHmacSha196}
+use Rattle.krb_crypto.specs.Suite.{suite_number}
 use Rattle.sspi_core.specs.declared.draw.Draw.{Draw}
 use Rattle.krb_admission.specs.declared.request.Request.{Request}
 use Rattle.krb_crypto.specs.declared.suite.CipherSuite.{CipherSuite}

@@ -5,6 +5,8 @@ ghost use Rattle.std.specs.Result.{result_map_both};
 ghost use Rattle.sspi_core.specs.declared.cause.Cause.TheVariants as causes;
 ghost use Rattle.sspi_core.specs.Checks.{Answers, Holds, Takes};
 ghost use Rattle.krb_context.specs.ServiceKeys.{service_key};
+ghost use Rattle.krb_messages.specs.Layouts.{authenticator_layout};
+ghost use Rattle.krb_replies.specs.Unseals.{OpensData};
 ghost use Rattle.krb_admission.specs.Requests.{is_same_client, OpensTicket, OpensAuthenticator, Requests, ask_of};
 
 use crate::token::receive;
@@ -12,10 +14,10 @@ use krb_context::{KeptKey, ServerProperties};
 use krb_crypto::CipherSuite;
 use krb_der::{Blank, Copier, Octets, OutOfMemory, boxed};
 use krb_messages::constants::{AP_REQ_AUTHENTICATOR_USAGE, TICKET_USAGE};
-use krb_messages::{ApReq, Authenticator, EncTicketPart, PrincipalName};
+use krb_messages::{ApReq, Authenticator, EncTicketPart, EncryptedData, PrincipalName};
 use krb_replay::{Ask, Record};
-use krb_replies::open_data;
-use sspi_core::{Cause, hold};
+use krb_replies::{OWN_KEY, open, open_data, suite_of};
+use sspi_core::{Cause, hold, take};
 use std::alloc::Global;
 use std::mem;
 
@@ -67,7 +69,28 @@ fn open_ticket(
     Ok(part)
 }
 
-/// The authenticator, of the same client. Its key comes with the ticket, and nothing of it is kept.
+/// What is sealed in the authenticator, and its suite. Its key comes with the ticket and opens this text alone, so it is derived for
+/// that, and nothing of it is kept.
+fn open_once(
+    alloc: Global,
+    key: &Octets,
+    sealed: &EncryptedData,
+) -> Result<(CipherSuite, Authenticator), Cause>
+    ensures { Answers (OpensData authenticator_layout key.now 11 sealed.now) result }
+{
+    let suite = take(suite_of(&sealed.etype), Cause::Etype)?;
+    let value = open::<Authenticator>(
+        alloc,
+        OWN_KEY,
+        suite,
+        key.as_slice(),
+        AP_REQ_AUTHENTICATOR_USAGE,
+        sealed.cipher.as_slice(),
+    )?;
+    Ok((suite, value))
+}
+
+/// The authenticator, of the same client.
 fn open_authenticator(
     alloc: Global,
     message: &ApReq,
@@ -75,13 +98,7 @@ fn open_authenticator(
 ) -> Result<(CipherSuite, Authenticator), Cause>
     ensures { Answers (OpensAuthenticator message.now part.now) result }
 {
-    let sealed = open_data::<Authenticator>(
-        alloc,
-        &mut KeptKey::new(),
-        &part.key.key_value,
-        AP_REQ_AUTHENTICATOR_USAGE,
-        &message.authenticator,
-    )?;
+    let sealed = open_once(alloc, &part.key.key_value, &message.authenticator)?;
     check_names(part, &sealed.1)?;
     Ok(sealed)
 }
