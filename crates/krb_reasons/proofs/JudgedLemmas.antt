@@ -9,7 +9,7 @@ use Rattle.krb_script.specs.declared.item.Item.{Item}
 use Rattle.krb_script.specs.declared.item.Event.{Event}
 use Rattle.krb_script.specs.declared.item.Item.TheVariants.{Declaration as DeclarationItem, Event as EventItem}
 use Rattle.krb_script.specs.declared.declaration.Declaration.{Declaration}
-use Rattle.krb_reasons.specs.Judged.{Judged, judged_of, step, after, has_any}
+use Rattle.krb_reasons.specs.Judged.{judged_of, step, after, has_any}
 
 -- behind one event more there is an event
 some_event : (events : List Event) (event : Event) → has_any (events ++ event ∷ []) ≡ true
