@@ -5,7 +5,7 @@ ghost use Rattle.sspi_generator.specs.Draws.{IsInRange, AreInRange};
 use anyhow::Result;
 use krb_conf::KerberosConfig;
 use krb_context::Kerberos;
-use krb_der::{Octets, OutOfMemory, Text, TryCopy};
+use krb_der::{Octets, OutOfMemory, Text, TryCopy, boxed};
 use sspi_core::{AuthIdentityBuffers, CredentialsBuffers, Draw, KeytabIdentity, Secret, Username};
 use sspi_generator::{MemClient, NetFault};
 use std::alloc::Global;
@@ -42,23 +42,30 @@ pub fn octets(alloc: Global, digits: &str) -> Result<Octets> {
     Ok(Octets::new(hex::decode(alloc, digits)?))
 }
 
-pub fn with_password(alloc: Global) -> Result<CredentialsBuffers, OutOfMemory> {
-    Ok(CredentialsBuffers::AuthIdentity(AuthIdentityBuffers {
-        user: Text::from_str(alloc, "alice")?,
-        domain: Text::from_str(alloc, "EXAMPLE.COM")?,
-        password: Secret::new(Text::from_str(alloc, "secret")?),
-    }))
+pub fn with_password(alloc: Global) -> Result<Box<CredentialsBuffers>, OutOfMemory> {
+    let user = Text::from_str(alloc, "alice")?;
+    let domain = Text::from_str(alloc, "EXAMPLE.COM")?;
+    let password = Secret::new(Text::from_str(alloc, "secret")?);
+    boxed(
+        alloc,
+        CredentialsBuffers::AuthIdentity(AuthIdentityBuffers {
+            user,
+            domain,
+            password,
+        }),
+    )
 }
 
 /// With the key of a keytab.
-pub fn with_key(alloc: Global) -> Result<CredentialsBuffers> {
+pub fn with_key(alloc: Global) -> Result<Box<CredentialsBuffers>> {
     let key = octets(alloc, KEY)?;
     let principal = Username::parse(alloc, "EXAMPLE.COM\\alice")?;
-    Ok(CredentialsBuffers::Keytab(KeytabIdentity {
+    let credentials = CredentialsBuffers::Keytab(KeytabIdentity {
         principal,
         key: Secret::new(key),
         key_enctype: 18,
-    }))
+    });
+    Ok(boxed(alloc, credentials)?)
 }
 
 /// Her machine, which knows where the KDC is.
@@ -70,8 +77,10 @@ pub fn config(alloc: Global) -> Result<KerberosConfig, OutOfMemory> {
 /// Her context before its exchange.
 pub fn context(alloc: Global, config: &KerberosConfig) -> Result<Box<Kerberos>, OutOfMemory> {
     let config = config.copy(alloc)?;
-    let context = Kerberos::new_client_from_config(config, [0, 0, 0, 7]);
-    Ok(Box::new(alloc, context)?)
+    boxed(
+        alloc,
+        Kerberos::new_client_from_config(config, [0, 0, 0, 7]),
+    )
 }
 
 /// One more client is answered by these replies.
@@ -87,10 +96,10 @@ fn add_answers(
 }
 
 /// A KDC that answers so many clients, each by these replies.
-pub fn network(alloc: Global, replies: &[&str], count: u32) -> Result<MemClient> {
+pub fn network(alloc: Global, replies: &[&str], count: u32) -> Result<Box<MemClient>> {
     let mut answers = VecDeque::new(alloc);
     for _ in 0..count {
         add_answers(alloc, &mut answers, replies)?;
     }
-    Ok(MemClient::new(answers))
+    Ok(boxed(alloc, MemClient::new(answers))?)
 }

@@ -1,6 +1,6 @@
 //! AS exchanges: from alice's credentials to the session key of her ticket for the ticket-granting service.
 
-ghost use Rattle.std.specs.Prelude.{◌≤◌, ◌^◌, IfOk, length};
+ghost use Rattle.std.specs.Prelude.{◌≡◌, ◌≤◌, ◌^◌, IfOk, length};
 ghost use Rattle.krb_exchange.specs.Layouts.{kdc_req_body_layout};
 ghost use Rattle.krb_requests.specs.Pieces.{Fits};
 ghost use Rattle.krb_as.specs.AsPhases.{IsAwaiting, turns_left};
@@ -17,13 +17,21 @@ use krb_as::{
 };
 use krb_conf::Env;
 use krb_context::Kerberos;
-use krb_der::OutOfMemory;
+use krb_der::{OutOfMemory, boxed};
 use krb_exchange::KdcReqBody;
 use sspi_core::{Cause, ClientRequestFlags, CredentialsBuffers, Error};
-use sspi_generator::{MemClient, NetworkClient};
+use sspi_generator::{MemClient, NetworkClient, NetworkRequest};
 use std::alloc::Global;
 use std::rt::Clock;
 use std::time::Instant;
+
+/// Who asks, and where the KDC is looked for.
+#[derive(Clone, Copy)]
+struct Setting<'a> {
+    context: &'a Kerberos,
+    credentials: &'a CredentialsBuffers,
+    env: &'a Env,
+}
 
 /// What a KDC replies to one exchange.
 const REPLIES: [&str; 2] = [KRB_ERROR, AS_REP];
@@ -59,10 +67,26 @@ fn end_of(
         Turn::Ends(_) => Err(Cause::Suspended),
         Turn::Asks(request, phase) => {
             let reply = network.send(request);
-            let turn = take_reply(alloc, asker, phase, reply, &draw())?;
+            let turn = boxed(alloc, take_reply(alloc, asker, phase, reply, &draw())?)?;
             granted_sum(&turn)
         }
     }
+}
+
+/// What follows the first request.
+fn end_behind(
+    alloc: Global,
+    asker: &Asker,
+    request: &NetworkRequest,
+    phase: &AsPhase,
+    network: &mut MemClient,
+) -> Result<u64, Cause>
+    requires awaiting { IsAwaiting asker.now phase.now }
+    requires turns { turns_left phase.now ≡ 1 }
+{
+    let reply = network.send(request);
+    let turn = boxed(alloc, take_reply(alloc, asker, phase, reply, &draw())?)?;
+    end_of(alloc, asker, &turn, network)
 }
 
 /// What an exchange for this body ends with.
@@ -75,67 +99,100 @@ fn exchange(
     requires body { Fits kdc_req_body_layout (2 ^ 28) body }
     requires realm { length asker.now.realm ≤ 2 ^ 24 }
 {
-    let (request, phase) = begin_exchange(alloc, asker, body)?;
-    let reply = network.send(&request);
-    let turn = take_reply(alloc, asker, &phase, reply, &draw())?;
-    end_of(alloc, asker, &turn, network)
+    let sent = boxed(alloc, begin_exchange(alloc, asker, body)?)?;
+    end_behind(alloc, asker, &sent.0, &sent.1, network)
 }
 
 fn key_of_client(
     alloc: Global,
-    context: &Kerberos,
-    credentials: &CredentialsBuffers,
+    setting: &Setting,
     client: &Client,
     network: &mut MemClient,
 ) -> Result<u64, Cause>
     requires { IsShort client.now }
 {
-    let asker = asker_of(alloc, context, credentials, &Env::new(alloc), client)?;
-    let body = body(alloc, client)?;
-    exchange(alloc, &asker, body, network)
+    let Setting {
+        context,
+        credentials,
+        env,
+    } = *setting;
+    let asker = boxed(alloc, asker_of(alloc, context, credentials, env, client)?)?;
+    exchange(alloc, &asker, body(alloc, client)?, network)
 }
 
 /// One exchange: the sum of the octets of the key that it brings.
-fn key_of_one(
-    alloc: Global,
-    context: &Kerberos,
-    credentials: &CredentialsBuffers,
-    network: &mut MemClient,
-) -> Result<u64, Cause> {
-    let machine = &context.config.client_computer_name;
-    let client = client_of(alloc, credentials, machine, &Env::new(alloc))?;
-    key_of_client(alloc, context, credentials, &client, network)
+fn key_of_one(alloc: Global, setting: &Setting, network: &mut MemClient) -> Result<u64, Cause> {
+    let machine = &setting.context.config.client_computer_name;
+    let client = client_of(alloc, setting.credentials, machine, setting.env)?;
+    key_of_client(alloc, setting, &client, network)
 }
 
 /// So many exchanges: the sum of the octets of their keys.
 fn keys_of(
     alloc: Global,
-    context: &Kerberos,
-    credentials: &CredentialsBuffers,
+    setting: &Setting,
     network: &mut MemClient,
     count: u32,
 ) -> Result<u64, Cause> {
     let mut sum: u64 = 0;
     for _ in 0..count {
-        sum = sum.wrapping_add(key_of_one(alloc, context, credentials, network)?);
+        sum = sum.wrapping_add(key_of_one(alloc, setting, network)?);
     }
     Ok(sum)
+}
+
+fn measure_over(
+    rt: &(impl Print + Eprint + Clock + AllocGlobal),
+    name: &str,
+    setting: &Setting,
+    network: &mut MemClient,
+    count: u32,
+) -> Result<()> {
+    let start = Instant::now(rt)?;
+    match keys_of(rt.alloc(), setting, network, count) {
+        Ok(sum) => report(rt, name, count, sum, start.elapsed(rt)?),
+        Err(cause) => Err(Error::from(cause))?,
+    }
 }
 
 fn measure(
     rt: &(impl Print + Eprint + Clock + AllocGlobal),
     name: &str,
-    context: &Kerberos,
-    credentials: &CredentialsBuffers,
+    setting: &Setting,
     count: u32,
 ) -> Result<()> {
-    let alloc = rt.alloc();
-    let mut network = network(alloc, &REPLIES, count)?;
-    let start = Instant::now(rt)?;
-    match keys_of(alloc, context, credentials, &mut network, count) {
-        Ok(sum) => report(rt, name, count, sum, start.elapsed(rt)?),
-        Err(cause) => Err(Error::from(cause))?,
-    }
+    let mut network = network(rt.alloc(), &REPLIES, count)?;
+    measure_over(rt, name, setting, &mut network, count)
+}
+
+fn measure_keytab(
+    rt: &(impl Print + Eprint + Clock + AllocGlobal),
+    context: &Kerberos,
+    env: &Env,
+    count: u32,
+) -> Result<()> {
+    let credentials = with_key(rt.alloc())?;
+    let setting = Setting {
+        context,
+        credentials: &credentials,
+        env,
+    };
+    measure(rt, "as exchange: keytab", &setting, count)
+}
+
+fn measure_password(
+    rt: &(impl Print + Eprint + Clock + AllocGlobal),
+    context: &Kerberos,
+    env: &Env,
+    count: u32,
+) -> Result<()> {
+    let credentials = with_password(rt.alloc())?;
+    let setting = Setting {
+        context,
+        credentials: &credentials,
+        env,
+    };
+    measure(rt, "as exchange: password", &setting, count)
 }
 
 fn measure_both(
@@ -144,16 +201,18 @@ fn measure_both(
     full: bool,
 ) -> Result<()> {
     let (many, few) = if full { (20_000, 500) } else { (3, 3) };
-    let keytab = with_key(rt.alloc())?;
-    measure(rt, "as exchange: keytab", context, &keytab, many)?;
-    let password = with_password(rt.alloc())?;
-    measure(rt, "as exchange: password", context, &password, few)
+    let env = boxed(rt.alloc(), Env::new(rt.alloc()))?;
+    measure_keytab(rt, context, &env, many)?;
+    measure_password(rt, context, &env, few)
+}
+
+fn new_context(alloc: Global) -> Result<Box<Kerberos>, OutOfMemory> {
+    let config = boxed(alloc, config(alloc)?)?;
+    context(alloc, &config)
 }
 
 /// Measures exchanges with the key of a keytab, and with a password.
 pub fn run(rt: &(impl Print + Eprint + Clock + AllocGlobal), full: bool) -> Result<()> {
-    let alloc = rt.alloc();
-    let config = config(alloc)?;
-    let context = context(alloc, &config)?;
+    let context = new_context(rt.alloc())?;
     measure_both(rt, &context, full)
 }

@@ -12,7 +12,7 @@ use bitflags::Flags;
 use krb_as::InitDone;
 use krb_conf::{Env, KerberosConfig};
 use krb_context::Kerberos;
-use krb_der::{Octets, TryCopy};
+use krb_der::{Octets, TryCopy, boxed};
 use krb_initiator::{GeneratorInitSecurityContext, InitOptions, initialize_security_context};
 use krb_requests::name_of;
 use sspi_core::{ClientRequestFlags, CredentialsBuffers, Error};
@@ -27,13 +27,13 @@ const REPLIES: [&str; 3] = [KRB_ERROR, AS_REP, TGS_REP];
 /// Who asks, and what the service answers.
 #[derive(Drop)]
 struct Setting {
-    config: KerberosConfig,
-    credentials: CredentialsBuffers,
+    config: Box<KerberosConfig>,
+    credentials: Box<CredentialsBuffers>,
     ap_rep: Octets,
 }
 
 fn new_setting(alloc: Global) -> Result<Setting> {
-    let config = config(alloc)?;
+    let config = boxed(alloc, config(alloc)?)?;
     let ap_rep = octets(alloc, AP_REP)?;
     let credentials = with_key(alloc)?;
     Ok(Setting {
@@ -47,15 +47,16 @@ fn new_setting(alloc: Global) -> Result<Setting> {
 fn options(
     alloc: Global,
     credentials: &CredentialsBuffers,
-    token: Octets,
+    token: &Octets,
 ) -> Result<InitOptions, Error> {
+    let credentials = boxed(alloc, credentials.copy(alloc)?)?;
     let target = name_of(alloc, "host/server.example.com")?;
-    let credentials = credentials.copy(alloc)?;
+    let token = token.copy(alloc)?;
     Ok(InitOptions {
         flags: ClientRequestFlags::MUTUAL_AUTH.union(ClientRequestFlags::CONFIDENTIALITY),
         target: Some(target),
         token,
-        credentials: Some(credentials),
+        credentials: Some(Box::into_inner(credentials)),
         channel_bindings: None,
         env: Env::new(alloc),
     })
@@ -88,27 +89,16 @@ fn end_of(
     run.resolve_with_client(network, &draws())
 }
 
-fn done_with(
-    alloc: Global,
-    context: &Kerberos,
-    options: InitOptions,
-    network: &mut MemClient,
-) -> Result<InitDone, Error> {
-    match run_of(alloc, context, options) {
-        Ok(run) => end_of(run, network),
-        Err(error) => Err(error),
-    }
-}
-
 fn done_of(
     alloc: Global,
     context: &Kerberos,
     credentials: &CredentialsBuffers,
-    token: Octets,
+    token: &Octets,
     network: &mut MemClient,
 ) -> Result<InitDone, Error> {
     let options = options(alloc, credentials, token)?;
-    done_with(alloc, context, options, network)
+    let run = run_of(alloc, context, options)?;
+    end_of(run, network)
 }
 
 /// Her context takes this token.
@@ -116,7 +106,7 @@ fn take(
     alloc: Global,
     context: &mut Kerberos,
     credentials: &CredentialsBuffers,
-    token: Octets,
+    token: &Octets,
     network: &mut MemClient,
 ) -> Result<(), Error> {
     let done = done_of(alloc, context, credentials, token, network)?;
@@ -140,9 +130,14 @@ fn key_in(
     network: &mut MemClient,
 ) -> Result<u64, Error> {
     let nothing = Octets::new(Vec::new(alloc));
-    take(alloc, context, &setting.credentials, nothing, network)?;
-    let ap_rep = setting.ap_rep.copy(alloc)?;
-    take(alloc, context, &setting.credentials, ap_rep, network)?;
+    take(alloc, context, &setting.credentials, &nothing, network)?;
+    take(
+        alloc,
+        context,
+        &setting.credentials,
+        &setting.ap_rep,
+        network,
+    )?;
     Ok(key_sum(context))
 }
 
@@ -166,16 +161,24 @@ fn keys_of(
     Ok(sum)
 }
 
+fn measure_over(
+    rt: &(impl Print + Eprint + Clock + AllocGlobal),
+    setting: &Setting,
+    network: &mut MemClient,
+    count: u32,
+) -> Result<()> {
+    let start = Instant::now(rt)?;
+    let sum = keys_of(rt.alloc(), setting, network, count)?;
+    report(rt, "initialization: keytab", count, sum, start.elapsed(rt)?)
+}
+
 fn measure(
     rt: &(impl Print + Eprint + Clock + AllocGlobal),
     setting: &Setting,
     count: u32,
 ) -> Result<()> {
-    let alloc = rt.alloc();
-    let mut network = network(alloc, &REPLIES, count)?;
-    let start = Instant::now(rt)?;
-    let sum = keys_of(alloc, setting, &mut network, count)?;
-    report(rt, "initialization: keytab", count, sum, start.elapsed(rt)?)
+    let mut network = network(rt.alloc(), &REPLIES, count)?;
+    measure_over(rt, setting, &mut network, count)
 }
 
 /// Measures initializations with the key of a keytab.

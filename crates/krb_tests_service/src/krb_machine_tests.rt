@@ -7,9 +7,9 @@ mod stopped;
 use bitflags::Flags;
 use krb_conf::{Env, KerberosConfig};
 use krb_context::{Kerberos, ServerProperties};
-use krb_der::{Items, Octets, Text};
-use krb_machine::{Event, Input, Service};
-use krb_replay::ReplayBook;
+use krb_der::{Items, Octets, Text, boxed};
+use krb_machine::{Event, Input, Reply, Service};
+use krb_replay::{ReplayBook, ReplayGate};
 use sspi_core::{ClientRequestFlags, Secret};
 use std::alloc::Global;
 use std::test::Fail;
@@ -32,14 +32,22 @@ fn config(alloc: Global) -> Result<KerberosConfig, Fail> {
     Ok(KerberosConfig::new(alloc, "", host)?)
 }
 
-fn properties(alloc: Global) -> Result<ServerProperties, Fail> {
+fn properties(alloc: Global) -> Result<Box<ServerProperties>, Fail> {
     let name = ["host", "server.example.com"];
-    Ok(ServerProperties::new(alloc, &name, None, 300, Some(key(alloc)?))?)
+    let key = key(alloc)?;
+    let properties = ServerProperties::new(alloc, &name, None, 300, Some(key))?;
+    Ok(boxed(alloc, properties)?)
 }
 
-fn acceptor(alloc: Global) -> Result<Kerberos, Fail> {
+fn acceptor(alloc: Global) -> Result<Box<Kerberos>, Fail> {
     let server = properties(alloc)?;
-    Ok(Kerberos::new_server_from_config(config(alloc)?, server, [0, 0, 0, 100])?)
+    let config = config(alloc)?;
+    let acceptor = Kerberos::new_server_from_config(
+        config,
+        Box::into_inner(server),
+        [0, 0, 0, 100],
+    )?;
+    Ok(boxed(alloc, acceptor)?)
 }
 
 /// The token comes at a connection.
@@ -53,37 +61,81 @@ fn event(alloc: Global, connection: u32) -> Result<Event, Fail> {
     })
 }
 
-/// Two acceptors over one replay book.
-fn service(alloc: Global) -> Result<Service<ReplayBook>, Fail> {
-    let mut service = Service::new(alloc, ReplayBook::new(alloc, 300)?);
-    service.set_env(Env {
-        vars: Items::new(Vec::new(alloc)),
-        files: Items::new(Vec::new(alloc)),
-    });
-    service.add_acceptor(1, acceptor(alloc)?)?;
-    service.add_acceptor(2, acceptor(alloc)?)?;
-    Ok(service)
+/// Adds two acceptors to a service.
+fn add_acceptors<G: ReplayGate>(alloc: Global, service: &mut Service<G>) -> Result<(), Fail> {
+    for number in 1..=2 {
+        service.add_acceptor(number, Box::into_inner(acceptor(alloc)?))?;
+    }
+    Ok(())
 }
 
-/// Whether the replies to the token at connections 2 and 1 are an admission and a refusal, and one record is kept.
-fn admits_one(alloc: Global, service: &mut Service<ReplayBook>) -> Result<bool, Fail> {
-    let mut events = Vec::new(alloc);
-    events.push(event(alloc, 2)?)?;
-    events.push(event(alloc, 1)?)?;
-    let mut replies = Vec::new(alloc);
-    let ran = service.run(alloc, &events, &mut replies);
+/// The token comes at these connections, one behind the other.
+fn add_events(alloc: Global, events: &mut Vec<Event>, connections: &[u32]) -> Result<(), Fail> {
+    for connection in connections {
+        events.push(event(alloc, *connection)?)?;
+    }
+    Ok(())
+}
+
+/// Whether the replies to these events are an admission and a refusal, and one record is kept.
+fn admits_one(
+    alloc: Global,
+    service: &mut Service<ReplayBook>,
+    events: &[Event],
+    replies: &mut Vec<Reply>,
+) -> bool {
+    let ran = service.run(alloc, events, replies);
     let done = match replies.as_slice() {
         [first, second] => first.admits_peer() && !second.admits_peer(),
         _ => false,
     };
-    Ok(ran.is_ok() && done && service.gate().kept() == 1)
+    ran.is_ok() && done && service.gate().kept() == 1
+}
+
+/// Whether the token is admitted at connection 2, and then not at connection 1, and what number connection 2 has then.
+fn number_behind(
+    alloc: Global,
+    service: &mut Service<ReplayBook>,
+    events: &mut Vec<Event>,
+    replies: &mut Vec<Reply>,
+) -> Result<Option<u32>, Fail> {
+    add_acceptors(alloc, service)?;
+    add_events(alloc, events, &[2, 1])?;
+    if admits_one(alloc, service, events.as_slice(), replies) {
+        Ok(service.connection(2).map(|context| context.seq_number))
+    } else {
+        Ok(None)
+    }
+}
+
+fn number_of_admitted(
+    alloc: Global,
+    service: &mut Service<ReplayBook>,
+) -> Result<Option<u32>, Fail> {
+    let mut events = Vec::new(alloc);
+    let mut replies = Vec::new(alloc);
+    number_behind(alloc, service, &mut events, &mut replies)
+}
+
+/// Connections over one replay book.
+fn service(alloc: Global) -> Result<Box<Service<ReplayBook>>, Fail> {
+    let book = ReplayBook::new(alloc, 300)?;
+    Ok(boxed(alloc, Service::new(alloc, book))?)
+}
+
+/// What is set as the environment of a service.
+fn no_env(alloc: Global) -> Env {
+    Env {
+        vars: Items::new(Vec::new(alloc)),
+        files: Items::new(Vec::new(alloc)),
+    }
 }
 
 #[test]
 fn a_token_is_admitted_at_one_connection_alone(rt: HostRuntime) -> Result<(), Fail> {
-    let mut service = service(rt.alloc())?;
-    assert!(rt; admits_one(rt.alloc(), &mut service)?);
-    let number = service.connection(2).map(|context| context.seq_number);
-    assert_eq!(rt; number, Some(41));
+    let alloc = rt.alloc();
+    let mut service = service(alloc)?;
+    service.set_env(no_env(alloc));
+    assert_eq!(rt; number_of_admitted(alloc, &mut service)?, Some(41));
     Ok(())
 }

@@ -4,7 +4,7 @@ ghost use Rattle.sspi_generator.specs.Draws.{AreInRange};
 
 use super::parties::{add_alice, add_principal, add_route, add_trust, draw_at, new_kdc};
 use krb_crypto::CipherSuite;
-use krb_der::{Items, Octets, OutOfMemory, Text, TryCopy, boxed};
+use krb_der::{Items, Octets, OutOfMemory, Text, boxed};
 use krb_kdc::{Kdc, KdcNet};
 use sspi_core::Draw;
 use sspi_generator::{NetFault, NetworkClient, NetworkRequest};
@@ -163,8 +163,8 @@ fn add_kdc(
     next: Option<&Place>,
 ) -> Result<(), Fail> {
     let at = pairs.len().min(100) as u8;
-    let url = Text::from_str(alloc, place.url)?;
     let kdc = kdc_at(alloc, suite, place, before, next, at)?;
+    let url = Text::from_str(alloc, place.url)?;
     pairs.push((url, Box::into_inner(kdc)))?;
     Ok(())
 }
@@ -269,12 +269,11 @@ fn flip(octets: &mut [u8]) {
 }
 
 fn altered(alloc: Global, request: &NetworkRequest) -> Result<NetworkRequest, OutOfMemory> {
-    let copy = request.copy(alloc)?;
-    let mut octets = copy.payload.into_inner();
+    let mut octets = Vec::from_slice(alloc, request.payload.as_slice())?;
     flip(&mut octets);
     Ok(NetworkRequest {
-        protocol: copy.protocol,
-        url: copy.url,
+        protocol: request.protocol,
+        url: request.url.clone()?,
         payload: Octets::new(octets),
     })
 }

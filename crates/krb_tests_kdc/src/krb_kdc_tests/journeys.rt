@@ -4,11 +4,10 @@ ghost use Rattle.std.specs.Prelude.{◌≡◌, IfOk};
 ghost use Rattle.sspi_generator.specs.Draws.{AreInRange};
 ghost use Rattle.krb_initiator.specs.InitRuns.{IsNew, turns_left};
 
-use super::chains::{MOMENT, PLACES, Wire, keytab_key};
+use super::chains::{MOMENT, PLACES, Place, Wire, keytab_key};
 use super::parties::{draw_at, key_of};
 use super::talk::understand;
 use bitflags::Flags;
-use krb_as::InitDone;
 use krb_conf::{Env, KerberosConfig};
 use krb_context::{Kerberos, ServerProperties};
 use krb_crypto::CipherSuite;
@@ -127,61 +126,63 @@ fn initiator(alloc: Global) -> Result<Box<Kerberos>, OutOfMemory> {
     )
 }
 
-fn properties(alloc: Global, suite: CipherSuite) -> Result<ServerProperties, Fail> {
+fn properties(alloc: Global, suite: CipherSuite) -> Result<Box<ServerProperties>, Fail> {
     let key = key_of(alloc, &[7; 32][..suite.key_size()])?;
-    Ok(ServerProperties::new(alloc, &["host", "b"], None, 300, Some(key))?)
-}
-
-fn acceptor_with(
-    alloc: Global,
-    config: KerberosConfig,
-    properties: ServerProperties,
-) -> Result<Box<Kerberos>, OutOfMemory> {
-    match Kerberos::new_server_from_config(config, properties, [0, 0, 0, 100]) {
-        Ok(acceptor) => boxed(alloc, acceptor),
-        Err(OutOfMemory) => Err(OutOfMemory),
-    }
+    let properties = ServerProperties::new(alloc, &["host", "b"], None, 300, Some(key))?;
+    Ok(boxed(alloc, properties)?)
 }
 
 /// The service, with its key.
 fn acceptor(alloc: Global, suite: CipherSuite) -> Result<Box<Kerberos>, Fail> {
-    let config = config(alloc, "server")?;
     let properties = properties(alloc, suite)?;
-    Ok(acceptor_with(alloc, config, properties)?)
+    let config = config(alloc, "server")?;
+    let acceptor = Kerberos::new_server_from_config(
+        config,
+        Box::into_inner(properties),
+        [0, 0, 0, 100],
+    )?;
+    Ok(boxed(alloc, acceptor)?)
+}
+
+/// The variable that tells where a KDC is.
+fn variable(alloc: Global, place: &Place) -> Result<(Text, Text), OutOfMemory> {
+    let variable = Text::from_str(alloc, place.variable)?;
+    Ok((variable, Text::from_str(alloc, place.url)?))
 }
 
 /// The variables that tell where the KDCs are.
-fn env(alloc: Global) -> Result<Env, Fail> {
+fn env(alloc: Global) -> Result<Box<Env>, Fail> {
     let mut vars = Vec::new(alloc);
     for place in &PLACES {
-        let variable = Text::from_str(alloc, place.variable)?;
-        vars.push((variable, Text::from_str(alloc, place.url)?))?;
+        vars.push(variable(alloc, place)?)?;
     }
-    Ok(Env {
+    let env = Env {
         vars: Items::new(vars),
         files: Items::new(Vec::new(alloc)),
-    })
+    };
+    Ok(boxed(alloc, env)?)
 }
 
-fn with_password(alloc: Global) -> Result<CredentialsBuffers, Fail> {
-    Ok(CredentialsBuffers::AuthIdentity(AuthIdentityBuffers {
+fn with_password(alloc: Global) -> Result<Box<CredentialsBuffers>, Fail> {
+    let identity = AuthIdentityBuffers {
         user: Text::from_str(alloc, "alice")?,
         domain: Text::from_str(alloc, "EXAMPLE.COM")?,
         password: Secret::new(Text::from_str(alloc, "secret")?),
-    }))
+    };
+    Ok(boxed(alloc, CredentialsBuffers::AuthIdentity(identity))?)
 }
 
-fn with_keytab(alloc: Global) -> Result<CredentialsBuffers, Fail> {
+fn with_keytab(alloc: Global) -> Result<Box<CredentialsBuffers>, Fail> {
     let key = key_of(alloc, &keytab_key())?;
-    let principal = Username::parse(alloc, "EXAMPLE.COM\\alice")?;
-    Ok(CredentialsBuffers::Keytab(KeytabIdentity {
-        principal,
+    let identity = KeytabIdentity {
+        principal: Username::parse(alloc, "EXAMPLE.COM\\alice")?,
         key,
         key_enctype: 17,
-    }))
+    };
+    Ok(boxed(alloc, CredentialsBuffers::Keytab(identity))?)
 }
 
-fn credentials(alloc: Global, suite: CipherSuite) -> Result<CredentialsBuffers, Fail> {
+fn credentials(alloc: Global, suite: CipherSuite) -> Result<Box<CredentialsBuffers>, Fail> {
     if suite == CipherSuite::Aes128CtsHmacSha196 {
         with_keytab(alloc)
     } else {
@@ -189,18 +190,20 @@ fn credentials(alloc: Global, suite: CipherSuite) -> Result<CredentialsBuffers, 
     }
 }
 
-fn options(alloc: Global, suite: CipherSuite, token: Octets) -> Result<InitOptions, Fail> {
-    let target = name_of(alloc, "host/b")?;
-    let env = env(alloc)?;
+fn options(alloc: Global, suite: CipherSuite, token: &[u8]) -> Result<Box<InitOptions>, Fail> {
     let credentials = credentials(alloc, suite)?;
-    Ok(InitOptions {
+    let env = env(alloc)?;
+    let target = name_of(alloc, "host/b")?;
+    let token = Octets::from_slice(alloc, token)?;
+    let options = InitOptions {
         flags: ClientRequestFlags::MUTUAL_AUTH,
         target: Some(target),
         token,
-        credentials: Some(credentials),
+        credentials: Some(Box::into_inner(credentials)),
         channel_bindings: None,
-        env,
-    })
+        env: Box::into_inner(env),
+    };
+    Ok(boxed(alloc, options)?)
 }
 
 fn run_of(
@@ -217,33 +220,38 @@ fn run_of(
     }
 }
 
-/// What an initiator ends with where it is called with these options.
-fn end_over(
-    alloc: Global,
-    initiator: &Kerberos,
-    options: InitOptions,
+/// What a run ends with that begins at this initiator, which is settled: its token.
+fn settled(
+    run: Box<GeneratorInitSecurityContext>,
+    initiator: &mut Kerberos,
     network: &mut dyn NetworkClient,
-) -> Result<InitDone, Error> {
-    let mut run = run_of(alloc, initiator, options)?;
-    run.resolve_with_client(network, &draws())
+) -> Result<Octets, Error>
+    requires new { IsNew run.value }
+    requires turns { turns_left run.value.phase ≡ 12 }
+{
+    let mut run = run;
+    match run.resolve_with_client(network, &draws()) {
+        Ok(done) => {
+            initiator.settle(done.change);
+            Ok(done.token)
+        }
+        Err(error) => Err(error),
+    }
 }
 
-/// The same with the token that came.
+/// What an initiator ends with where this token came.
 fn end_of(
     alloc: Global,
     suite: CipherSuite,
-    initiator: &Kerberos,
-    token: Octets,
+    initiator: &mut Kerberos,
+    token: &[u8],
     wire: &mut Wire,
-) -> Result<Result<InitDone, Error>, Fail> {
+) -> Result<Result<Octets, Error>, Fail> {
     let options = options(alloc, suite, token)?;
-    Ok(end_over(alloc, initiator, options, wire))
-}
-
-/// Puts what an initiator ended with into it, and gives its token.
-fn settled(initiator: &mut Kerberos, done: InitDone) -> Octets {
-    initiator.settle(done.change);
-    done.token
+    match run_of(alloc, initiator, Box::into_inner(options)) {
+        Ok(run) => Ok(settled(run, initiator, wire)),
+        Err(error) => Ok(Err(error)),
+    }
 }
 
 /// The answer by which a client is admitted.
@@ -263,13 +271,15 @@ fn answer(
     alloc: Global,
     acceptor: &mut Kerberos,
     book: &mut ReplayBook,
-    token: &Octets,
+    token: &[u8],
 ) -> Result<Option<Octets>, Fail> {
     let (flags, env) = (ServerRequestFlags::empty(), Env::new(alloc));
     let draw = draw_at(MOMENT, 64);
-    match accept_security_context(alloc, acceptor, book, token.as_slice(), flags, &env, &draw) {
-        Ok(accepted) => token_of(alloc, &accepted),
-        Err(error) => Err(error.into()),
+    let answer = accept_security_context(alloc, acceptor, book, token, flags, &env, &draw);
+    let answer = boxed(alloc, answer)?;
+    match &*answer {
+        Ok(accepted) => token_of(alloc, accepted),
+        Err(_) => Ok(None),
     }
 }
 
@@ -278,33 +288,40 @@ fn takes(
     alloc: Global,
     suite: CipherSuite,
     initiator: &mut Kerberos,
-    token: Octets,
+    token: &[u8],
     wire: &mut Wire,
 ) -> Result<bool, Fail> {
     match end_of(alloc, suite, initiator, token, wire)? {
-        Ok(done) => {
-            settled(initiator, done);
-            Ok(initiator.state.is_final())
-        }
+        Ok(_) => Ok(initiator.state.is_final()),
         Err(error) => Err(error.into()),
     }
 }
 
-/// Whether both ends are established behind the initiator's token, and understand each other.
+/// Whether both ends are established behind the acceptor's answer, and understand each other.
+fn understands(
+    alloc: Global,
+    suite: CipherSuite,
+    initiator: &mut Kerberos,
+    acceptor: &mut Kerberos,
+    token: &[u8],
+    wire: &mut Wire,
+) -> Result<bool, Fail> {
+    Ok(takes(alloc, suite, initiator, token, wire)? && understand(alloc, initiator, acceptor)?)
+}
+
+/// The same behind the initiator's token.
 fn arrives(
     alloc: Global,
     suite: CipherSuite,
     initiator: &mut Kerberos,
     acceptor: &mut Kerberos,
-    token: &Octets,
+    token: &[u8],
     wire: &mut Wire,
 ) -> Result<bool, Fail> {
     let mut book = boxed(alloc, ReplayBook::new(alloc, 300)?)?;
     match answer(alloc, acceptor, &mut book, token)? {
         None => Ok(false),
-        Some(token) => Ok(
-            takes(alloc, suite, initiator, token, wire)? && understand(alloc, initiator, acceptor)?,
-        ),
+        Some(token) => understands(alloc, suite, initiator, acceptor, token.as_slice(), wire),
     }
 }
 
@@ -313,17 +330,41 @@ fn arrives_at(
     alloc: Global,
     suite: CipherSuite,
     initiator: &mut Kerberos,
-    token: &Octets,
+    token: &[u8],
     wire: &mut Wire,
 ) -> Result<bool, Fail> {
     let mut acceptor = acceptor(alloc, suite)?;
     arrives(alloc, suite, initiator, &mut acceptor, token, wire)
 }
 
-fn is_hex(alloc: Global, octets: &Octets, digits: &str) -> bool {
+fn is_hex(alloc: Global, octets: &[u8], digits: &str) -> bool {
     match hex::decode(alloc, digits) {
-        Ok(wanted) => octets.as_slice() == wanted.as_slice(),
+        Ok(wanted) => octets == wanted.as_slice(),
         Err(_) => false,
+    }
+}
+
+/// Whether this is the initiator's token, and the acceptor and the initiator get through by it.
+fn goes_on(
+    alloc: Global,
+    journey: &Journey,
+    initiator: &mut Kerberos,
+    token: &[u8],
+    wire: &mut Wire,
+) -> Result<bool, Fail> {
+    match journey.end {
+        End::Token(digits) => Ok(
+            is_hex(alloc, token, digits)
+                && arrives_at(alloc, journey.suite, initiator, token, wire)?,
+        ),
+        End::Refused(_, _) => Ok(false),
+    }
+}
+
+fn is_refused(error: Error, end: End) -> bool {
+    match end {
+        End::Token(_) => false,
+        End::Refused(kind, cause) => error == Error::new(kind, cause),
     }
 }
 
@@ -334,20 +375,9 @@ fn goes_so(
     initiator: &mut Kerberos,
     wire: &mut Wire,
 ) -> Result<bool, Fail> {
-    let none = Octets::new(Vec::new(alloc));
-    match (
-        end_of(alloc, journey.suite, initiator, none, wire)?,
-        journey.end,
-    ) {
-        (Ok(done), End::Token(digits)) => {
-            let token = settled(initiator, done);
-            Ok(
-                is_hex(alloc, &token, digits)
-                    && arrives_at(alloc, journey.suite, initiator, &token, wire)?,
-            )
-        }
-        (Err(error), End::Refused(kind, cause)) => Ok(error == Error::new(kind, cause)),
-        _ => Ok(false),
+    match end_of(alloc, journey.suite, initiator, &[], wire)? {
+        Ok(token) => goes_on(alloc, journey, initiator, token.as_slice(), wire),
+        Err(error) => Ok(is_refused(error, journey.end)),
     }
 }
 

@@ -1,7 +1,8 @@
 //! Connections that are added to a service.
 
-use super::{acceptor, config};
+use super::{acceptor, config, service};
 use krb_context::Kerberos;
+use krb_der::boxed;
 use krb_machine::Service;
 use krb_replay::ReplayBook;
 use sspi_core::{Cause, Error};
@@ -28,9 +29,14 @@ fn additions() -> &'static [Addition] {
     &ADDITIONS
 }
 
-fn context(alloc: Global, is_client: bool) -> Result<Kerberos, Fail> {
+fn initiator(alloc: Global) -> Result<Box<Kerberos>, Fail> {
+    let config = config(alloc)?;
+    Ok(boxed(alloc, Kerberos::new_client_from_config(config, [0; 4]))?)
+}
+
+fn context(alloc: Global, is_client: bool) -> Result<Box<Kerberos>, Fail> {
     if is_client {
-        Ok(Kerberos::new_client_from_config(config(alloc)?, [0; 4]))
+        initiator(alloc)
     } else {
         acceptor(alloc)
     }
@@ -49,12 +55,12 @@ fn refusal(
     service: &mut Service<ReplayBook>,
     &(id, is_client, as_client, _): &Addition,
 ) -> Result<Option<Cause>, Fail> {
-    let context = context(alloc, is_client)?;
-    if as_client {
-        Ok(cause_of(service.add_initiator(id, context, None)))
+    let context = Box::into_inner(context(alloc, is_client)?);
+    Ok(cause_of(if as_client {
+        service.add_initiator(id, context, None)
     } else {
-        Ok(cause_of(service.add_acceptor(id, context)))
-    }
+        service.add_acceptor(id, context)
+    }))
 }
 
 /// Whether the connection is an initiator's, where there is one.
@@ -65,12 +71,27 @@ fn is_client(service: &Service<ReplayBook>, id: u32) -> Option<bool> {
     }
 }
 
+/// How many of the additions, from the first on, are refused for their cause or not at all.
+fn are_added(
+    alloc: Global,
+    service: &mut Service<ReplayBook>,
+    additions: &[Addition],
+) -> Result<usize, Fail> {
+    let mut count = 0usize;
+    for addition in additions {
+        if refusal(alloc, service, addition)? != addition.3 {
+            return Ok(count);
+        }
+        count = count.saturating_add(1);
+    }
+    Ok(count)
+}
+
 #[test]
 fn connections_are_added_once_and_in_their_role(rt: HostRuntime) -> Result<(), Fail> {
-    let mut service = Service::new(rt.alloc(), ReplayBook::new(rt.alloc(), 300)?);
-    for addition in additions() {
-        assert_eq!(rt; refusal(rt.alloc(), &mut service, addition)?, addition.3);
-    }
+    let mut service = service(rt.alloc())?;
+    let count = are_added(rt.alloc(), &mut service, additions())?;
+    assert_eq!(rt; count, additions().len());
     assert_eq!(rt;
         (
             is_client(&service, 1),

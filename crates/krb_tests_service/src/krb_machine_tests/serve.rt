@@ -94,32 +94,33 @@ fn a_long_line_is_named(rt: HostRuntime) -> Result<(), Fail> {
     check_line_of(&rt, 1_048_577, (7, b"long line 2\n"))
 }
 
+/// No words but `serve` are served: nothing is written.
+fn check_refused(rt: &(impl AllocGlobal + Abort), words: &Words) {
+    let input = (b"skew 300".as_slice(), Calls::sound(rt.alloc()));
+    check(rt, words, input, Calls::sound(rt.alloc()), (2, b""));
+}
+
 #[test]
 fn other_words_are_refused(rt: HostRuntime) -> Result<(), Fail> {
-    let alloc = rt.alloc();
-    let none = Words::new(Vec::new(alloc));
-    let other = word(alloc, "serves")?;
-    for words in [none, other] {
-        let input = (b"skew 300".as_slice(), Calls::sound(alloc));
-        check(&rt, &words, input, Calls::sound(alloc), (2, b""));
-    }
+    check_refused(&rt, &Words::new(Vec::new(rt.alloc())));
+    let other = word(rt.alloc(), "serves")?;
+    check_refused(&rt, &other);
     Ok(())
+}
+
+/// Each read and each write moves so many octets at most.
+fn check_pieces(rt: &(impl AllocGlobal + Abort), words: &Words, most: usize) {
+    let alloc = rt.alloc();
+    let input = (two_events(), Calls::new(Vec::new(alloc), Some(most)));
+    let writes = Calls::new(Vec::new(alloc), Some(most));
+    check(rt, words, input, writes, (0, whole_text()));
 }
 
 #[test]
 fn pieces_of_any_length_give_one_answer(rt: HostRuntime) -> Result<(), Fail> {
-    let alloc = rt.alloc();
-    let words = word(alloc, "serve")?;
+    let words = word(rt.alloc(), "serve")?;
     for most in [1, 7, 64, 100_000] {
-        let reads = Calls::new(Vec::new(alloc), Some(most));
-        let writes = Calls::new(Vec::new(alloc), Some(most));
-        check(
-            &rt,
-            &words,
-            (two_events(), reads),
-            writes,
-            (0, whole_text()),
-        );
+        check_pieces(&rt, &words, most);
     }
     Ok(())
 }
@@ -201,18 +202,24 @@ fn failed_calls() -> &'static [FailedCalls] {
     &FAILED_CALLS
 }
 
-/// The calls of reading and of writing, of which one fails. The others move 64 and 16 octets at most.
-fn calls(
-    alloc: Global,
-    failing: Failing,
+/// Lets the call with this number fail. The others move so many octets at most, and where the writes fail the reads 64, where the
+/// reads fail the writes 16.
+fn check_failed_call(
+    rt: &(impl AllocGlobal + Abort),
+    words: &Words,
+    input: &str,
     number: u64,
-    most: usize,
-) -> Result<(Calls, Calls), AllocError> {
+    &(failing, most, _, _, status, written): &FailedCalls,
+) -> Result<(), AllocError> {
+    let alloc = rt.alloc();
     let failed = failing_call(alloc, number, most)?;
-    match failing {
-        Failing::Reads => Ok((failed, Calls::new(Vec::new(alloc), Some(16)))),
-        Failing::Writes => Ok((Calls::new(Vec::new(alloc), Some(64)), failed)),
-    }
+    let (reads, writes) = match failing {
+        Failing::Reads => (failed, Calls::new(Vec::new(alloc), Some(16))),
+        Failing::Writes => (Calls::new(Vec::new(alloc), Some(64)), failed),
+    };
+    let wanted = (status, written_front(written));
+    check(rt, words, (input.as_bytes(), reads), writes, wanted);
+    Ok(())
 }
 
 /// Lets each of these calls fail, in a run of its own.
@@ -220,23 +227,31 @@ fn check_failed_calls(
     rt: &(impl AllocGlobal + Abort),
     words: &Words,
     input: &str,
-    &(failing, most, first, last, status, written): &FailedCalls,
+    row: &FailedCalls,
 ) -> Result<(), AllocError> {
-    for number in first..=last {
-        let (reads, writes) = calls(rt.alloc(), failing, number, most)?;
-        let wanted = (status, written_front(written));
-        check(rt, words, (input.as_bytes(), reads), writes, wanted);
+    for number in row.2..=row.3 {
+        check_failed_call(rt, words, input, number, row)?;
+    }
+    Ok(())
+}
+
+/// Lets each call of the table fail.
+fn check_all_failed_calls(
+    rt: &(impl AllocGlobal + Abort),
+    words: &Words,
+    input: &str,
+) -> Result<(), AllocError> {
+    for row in failed_calls() {
+        check_failed_calls(rt, words, input, row)?;
     }
     Ok(())
 }
 
 #[test]
 fn replies_before_each_failed_call_stand(rt: HostRuntime) -> Result<(), Fail> {
-    let words = word(rt.alloc(), "serve")?;
     let input = admission_and_replay(rt.alloc())?;
-    for row in failed_calls() {
-        check_failed_calls(&rt, &words, &input, row)?;
-    }
+    let words = word(rt.alloc(), "serve")?;
+    check_all_failed_calls(&rt, &words, input.as_str())?;
     Ok(())
 }
 
@@ -287,6 +302,7 @@ impl Sink for CountingSink<'_> {
 #[test]
 fn a_reply_is_written_before_the_next_read(rt: HostRuntime) -> Result<(), Fail> {
     let taken = Cell::new(0);
+    let words = word(rt.alloc(), "serve")?;
     let mut source = NotingSource {
         rest: two_events(),
         reads: 0,
@@ -294,7 +310,6 @@ fn a_reply_is_written_before_the_next_read(rt: HostRuntime) -> Result<(), Fail> 
         noted: 0,
     };
     let mut sink = CountingSink { taken: &taken };
-    let words = word(rt.alloc(), "serve")?;
     let status = serve(rt.alloc(), &words, &mut source, &mut sink);
     assert_eq!(rt; status, Status::Done);
     assert_eq!(rt; source.noted, 31);

@@ -2,11 +2,12 @@
 
 ghost use Rattle.krb_replay.specs.Book.{Follows, StandsFor, IsUnchanged, IsUnchanged-same, goes_on};
 
-use super::{acceptor, event};
-use krb_der::OutOfMemory;
+use super::{add_acceptors, add_events};
+use krb_der::{OutOfMemory, boxed};
 use krb_machine::{Event, Reply, Service, Stopped};
 use krb_replay::{Ask, ReplayBook, ReplayGate, Verdict};
 use std::alloc::{AllocError, Global};
+use std::process::Abort;
 use std::test::Fail;
 
 /// A replay book that has no memory at its third call, and has some again at the next.
@@ -50,31 +51,22 @@ impl ReplayGate for ScantGate {
     }
 }
 
-/// Two acceptors over such a gate.
-fn scant_service(alloc: Global) -> Result<Service<ScantGate>, Fail> {
+/// Connections over such a gate.
+fn scant_service(alloc: Global) -> Result<Box<Service<ScantGate>>, Fail> {
     let book = ReplayBook::new(alloc, 300)?;
-    let mut service = Service::new(alloc, ScantGate { book, calls: 0 });
-    service.add_acceptor(1, acceptor(alloc)?)?;
-    service.add_acceptor(2, acceptor(alloc)?)?;
-    Ok(service)
-}
-
-/// The token comes at a connection past the last moment.
-fn late_event(alloc: Global, connection: u32) -> Result<Event, Fail> {
-    let mut event = event(alloc, connection)?;
-    event.moment = 253_402_041_600_000_000;
-    Ok(event)
+    Ok(boxed(alloc, Service::new(alloc, ScantGate { book, calls: 0 }))?)
 }
 
 /// A token is admitted, does not reach the gate, comes again, comes a third time, and does not reach the gate.
-fn five_events(alloc: Global) -> Result<Vec<Event>, Fail> {
-    let mut events = Vec::new(alloc);
-    events.push(event(alloc, 2)?)?;
-    events.push(late_event(alloc, 2)?)?;
-    events.push(event(alloc, 1)?)?;
-    events.push(event(alloc, 1)?)?;
-    events.push(late_event(alloc, 1)?)?;
-    Ok(events)
+fn add_five_events(alloc: Global, events: &mut Vec<Event>) -> Result<(), Fail> {
+    add_events(alloc, events, &[2, 2, 1, 1, 1])?;
+    // These come past the last moment.
+    for late in [1, 4] {
+        if let Some(event) = events.get_mut(late) {
+            event.moment = 253_402_041_600_000_000;
+        }
+    }
+    Ok(())
 }
 
 /// The lines that tell these replies.
@@ -100,24 +92,61 @@ static FIRST_LINES: &str = "ok -\nrefused InvalidParameter Moment\nrefused Inval
 static ALL_LINES: &str = "ok -\nrefused InvalidParameter Moment\nrefused InvalidToken Replayed\n\
 refused InvalidToken Replayed\nrefused InvalidParameter Moment\n";
 
-#[test]
-fn a_run_stops_where_memory_ends_and_goes_on_behind(rt: HostRuntime) -> Result<(), Fail> {
-    let alloc = rt.alloc();
-    let mut service = scant_service(alloc)?;
-    let events = five_events(alloc)?;
-    let mut replies = Vec::new(alloc);
-    let ran = service.run(alloc, &events, &mut replies);
-    assert_eq!(rt; ran, Err(Stopped { taken: 3 }));
-    assert_eq!(rt; lines(alloc, &replies)?.as_str(), FIRST_LINES);
+/// A run over these events ends so behind these replies, and one record is kept.
+fn check_run(
+    rt: &(impl AllocGlobal + Abort),
+    service: &mut Service<ScantGate>,
+    events: &[Event],
+    replies: &mut Vec<Reply>,
+    wanted: (Result<(), Stopped>, &str),
+) -> Result<(), AllocError> {
+    let ran = service.run(rt.alloc(), events, replies);
+    let lines = lines(rt.alloc(), replies.as_slice())?;
+    assert_eq!(rt; ran, wanted.0);
+    assert_eq!(rt; lines.as_str(), wanted.1);
     assert_eq!(rt; service.gate().book.kept(), 1);
+    Ok(())
+}
+
+fn check_both_runs(
+    rt: &(impl AllocGlobal + Abort),
+    service: &mut Service<ScantGate>,
+    events: &[Event],
+    replies: &mut Vec<Reply>,
+) -> Result<(), AllocError> {
+    let stopped = (Err(Stopped { taken: 3 }), FIRST_LINES);
+    check_run(rt, service, events, replies, stopped)?;
     assert_eq!(rt;
-        (number_of(&service, 1), number_of(&service, 2)),
+        (number_of(service, 1), number_of(service, 2)),
         (Some(100), Some(41))
     );
     // The events that were not taken are answered as if memory had not run out.
-    let ran = service.run(alloc, &events[3..], &mut replies);
-    assert_eq!(rt; ran, Ok(()));
-    assert_eq!(rt; lines(alloc, &replies)?.as_str(), ALL_LINES);
-    assert_eq!(rt; service.gate().book.kept(), 1);
-    Ok(())
+    let rest = events.get(3..).unwrap_or(&[]);
+    check_run(rt, service, rest, replies, (Ok(()), ALL_LINES))
+}
+
+fn check_five_events(
+    rt: &(impl AllocGlobal + Abort),
+    service: &mut Service<ScantGate>,
+    events: &mut Vec<Event>,
+    replies: &mut Vec<Reply>,
+) -> Result<(), Fail> {
+    add_acceptors(rt.alloc(), service)?;
+    add_five_events(rt.alloc(), events)?;
+    Ok(check_both_runs(rt, service, events.as_slice(), replies)?)
+}
+
+fn check_service(
+    rt: &(impl AllocGlobal + Abort),
+    service: &mut Service<ScantGate>,
+) -> Result<(), Fail> {
+    let mut events = Vec::new(rt.alloc());
+    let mut replies = Vec::new(rt.alloc());
+    check_five_events(rt, service, &mut events, &mut replies)
+}
+
+#[test]
+fn a_run_stops_where_memory_ends_and_goes_on_behind(rt: HostRuntime) -> Result<(), Fail> {
+    let mut service = scant_service(rt.alloc())?;
+    check_service(&rt, &mut service)
 }
