@@ -107,6 +107,137 @@ static void good(const conversation *c) {
     CHECK(acceptor.count == 0);
 }
 
+/* The two halves: a copy of the acceptor judges, and the one book admits once. */
+static void halves(const conversation *c) {
+    mk_acceptor book = MK_EMPTY, keys = MK_EMPTY;
+    mk_judged judged = MK_EMPTY, again = MK_EMPTY;
+    mk_session session = MK_EMPTY;
+    uint8_t out[64];
+    mk_times times;
+    mk_reply reply;
+    CHECK(mk_session_times(&session, &times).status == MK_HANDLE);
+    CHECK(mk_session_client(&session, out, sizeof out).status == MK_HANDLE);
+    CHECK(mk_acceptor_copy(&book, &keys).status == MK_HANDLE);
+    CHECK(make(c, &book).status == MK_OK);
+    CHECK(mk_acceptor_copy(&book, &keys).status == MK_OK);
+    CHECK(mk_acceptor_copy(&book, &keys).status == MK_HANDLE);
+    CHECK(mk_admit(&book, &judged, &session).status == MK_HANDLE);
+    CHECK(is_refused(mk_judge(&keys, &judged, c->key.at, c->key.length, &c->moment), MK_CAUSE_SHAPE));
+    CHECK(mk_judge(&keys, &judged, c->token.at, c->token.length, &c->moment).status == MK_OK);
+    CHECK(mk_judge(&keys, &judged, c->token.at, c->token.length, &c->moment).status == MK_HANDLE);
+    CHECK(mk_judge(&keys, &again, c->token.at, c->token.length, &c->moment).status == MK_OK);
+    CHECK(mk_acceptor_kept(&book) == 0 && mk_acceptor_kept(&keys) == 0);
+    reply = mk_admit(&book, &judged, &session);
+    CHECK(reply.status == MK_OK && reply.length == 0 && judged.count == 0);
+    CHECK(mk_acceptor_kept(&book) == 1);
+    CHECK(mk_admit(&book, &again, &session).status == MK_HANDLE && again.count == 1);
+    reply = mk_session_peer(&session, out, sizeof out);
+    CHECK(reply.status == MK_OK && reply.length == 17 && memcmp(out, "alice@example.com", 17) == 0);
+    reply = mk_session_client(&session, out, sizeof out);
+    CHECK(reply.status == MK_OK && reply.length == 17 && memcmp(out, "alice@EXAMPLE.COM", 17) == 0);
+    reply = mk_session_client(&session, out, 3);
+    CHECK(reply.status == MK_ROOM && reply.length == 17);
+    CHECK(mk_session_times(&session, &times).status == MK_OK && times.authtime <= times.starttime && times.starttime < times.endtime);
+    mk_session_free(&session);
+    CHECK(is_refused(mk_admit(&book, &again, &session), MK_CAUSE_REPLAYED) && again.count == 0);
+    CHECK(mk_judge(&keys, &judged, c->token.at, c->token.length, &c->moment).status == MK_OK);
+    mk_judged_free(&judged);
+    mk_judged_free(&judged);
+    mk_acceptor_free(&keys);
+    mk_acceptor_free(&book);
+}
+
+/* What a judged token tells, and an admission by what a store has answered: once where it had no record. */
+static void told(const conversation *c) {
+    static const char service[] = "host/server.example.com@EXAMPLE.COM";
+    mk_acceptor keys = MK_EMPTY;
+    mk_judged judged = MK_EMPTY, again = MK_EMPTY;
+    mk_session session = MK_EMPTY;
+    uint8_t out[128], other[128], key[32];
+    const uint64_t moment = c->moment.moment;
+    CHECK(mk_judged_record(&judged, out, sizeof out).status == MK_HANDLE);
+    CHECK(mk_admit_told(&judged, &session, 300, moment, 0).status == MK_HANDLE);
+    CHECK(make(c, &keys).status == MK_OK);
+    CHECK(mk_judge(&keys, &judged, c->token.at, c->token.length, &c->moment).status == MK_OK);
+    CHECK(mk_judge(&keys, &again, c->token.at, c->token.length, &c->moment).status == MK_OK);
+    mk_reply reply = mk_judged_client(&judged, out, sizeof out);
+    CHECK(reply.status == MK_OK && reply.length == 17 && memcmp(out, "alice@EXAMPLE.COM", 17) == 0);
+    reply = mk_judged_service(&judged, out, sizeof out);
+    CHECK(reply.status == MK_OK && reply.length == sizeof service - 1 && memcmp(out, service, reply.length) == 0);
+    reply = mk_judged_record(&judged, out, sizeof out);
+    CHECK(reply.status == MK_OK && reply.length > 33 && memcmp(out + 14, "Zalice@EXAMPLE.COM", 19) == 0);
+    CHECK(mk_judged_record(&again, other, sizeof other).length == reply.length && memcmp(out, other, reply.length) == 0);
+    CHECK(mk_judged_record(&judged, out, 20).status == MK_ROOM && judged.count == 1);
+    CHECK(is_refused(mk_admit_told(&again, &session, 300, moment, 1), MK_CAUSE_REPLAYED) && again.count == 0);
+    CHECK(mk_judge(&keys, &again, c->token.at, c->token.length, &c->moment).status == MK_OK);
+    CHECK(is_refused(mk_admit_told(&again, &session, 300, moment + 302000000, 0), MK_CAUSE_SKEW) && session.count == 0);
+    reply = mk_admit_told(&judged, &session, 300, moment, 0);
+    CHECK(reply.status == MK_OK && reply.length == 0 && judged.count == 0 && session.count == 1);
+    reply = mk_session_client(&session, out, sizeof out);
+    CHECK(reply.status == MK_OK && reply.length == 17 && memcmp(out, "alice@EXAMPLE.COM", 17) == 0);
+    CHECK(mk_session_key(&session, key, 31).status == MK_ROOM);
+    reply = mk_session_key(&session, key, sizeof key);
+    CHECK(reply.status == MK_OK && reply.length == 32);
+    CHECK(mk_acceptor_kept(&keys) == 0);
+    mk_session_free(&session);
+    CHECK(mk_session_key(&session, key, sizeof key).status == MK_HANDLE);
+    mk_acceptor_free(&keys);
+}
+
+static void put(octets *o, const void *from, size_t length) {
+    memcpy(o->at + o->length, from, length);
+    o->length += length;
+}
+
+static void put_counted(octets *o, const char *text) {
+    const uint8_t length[2] = {0, (uint8_t)strlen(text)};
+    put(o, length, 2);
+    put(o, text, strlen(text));
+}
+
+/* A keytab with one entry of host/server.example.com in EXAMPLE.COM: the version 05 02, and the entry behind its size. */
+static octets keytab_of(const octets *key, uint8_t version) {
+    octets entry = {{0}, 0}, file = {{0}, 0};
+    const uint8_t two[2] = {0, 2}, type_and_time[8] = {0, 0, 0, 3, 0, 0, 0, 1}, suite_and_size[4] = {0, 18, 0, 32};
+    put(&entry, two, 2);
+    put_counted(&entry, "EXAMPLE.COM");
+    put_counted(&entry, "host");
+    put_counted(&entry, "server.example.com");
+    put(&entry, type_and_time, 8);
+    put(&entry, &version, 1);
+    put(&entry, suite_and_size, 4);
+    put(&entry, key->at, 32);
+    const uint8_t head[6] = {5, 2, 0, 0, 0, (uint8_t)entry.length};
+    put(&file, head, 6);
+    put(&file, entry.at, entry.length);
+    return file;
+}
+
+/* An acceptor of a keytab's services: of two keys of one name the newer is its key. */
+static void keytabs(const conversation *c) {
+    const uint8_t *realm = (const uint8_t *)"EXAMPLE.COM";
+    mk_acceptor acceptor = MK_EMPTY;
+    mk_session session = MK_EMPTY;
+    const octets other = {{1, 2, 3}, 32};
+    octets file = keytab_of(&c->key, 2), newer = keytab_of(&other, 3);
+    CHECK(is_refused(mk_acceptor_keytab(&acceptor, file.at, 1, realm, 11, 300), MK_CAUSE_SHAPE));
+    CHECK(is_refused(mk_acceptor_keytab(&acceptor, file.at, file.length - 1, realm, 11, 300), MK_CAUSE_SHAPE));
+    CHECK(is_refused(mk_acceptor_keytab(&acceptor, file.at, file.length, realm, 7, 300), MK_CAUSE_NO_SERVICE_KEY));
+    CHECK(mk_acceptor_keytab(&acceptor, file.at, file.length, (const uint8_t *)"\xff", 1, 300).status == MK_ARGUMENT);
+    CHECK(acceptor.count == 0);
+    mk_reply reply = mk_acceptor_keytab(&acceptor, file.at, file.length, realm, 11, 300);
+    CHECK(reply.status == MK_OK && reply.length == 1);
+    CHECK(mk_acceptor_keytab(&acceptor, file.at, file.length, realm, 11, 300).status == MK_HANDLE);
+    CHECK(mk_accept(&acceptor, &session, c->token.at, c->token.length, &c->moment).status == MK_OK);
+    mk_session_free(&session);
+    mk_acceptor_free(&acceptor);
+    put(&file, newer.at + 2, newer.length - 2);
+    reply = mk_acceptor_keytab(&acceptor, file.at, file.length, realm, 11, 300);
+    CHECK(reply.status == MK_OK && reply.length == 1);
+    CHECK(is_refused(mk_accept(&acceptor, &session, c->token.at, c->token.length, &c->moment), MK_CAUSE_ALTERED));
+    mk_acceptor_free(&acceptor);
+}
+
 /* Whatever is not done leaves all as it was. */
 static void bad(const conversation *c) {
     mk_acceptor acceptor = MK_EMPTY, none = MK_EMPTY;
@@ -217,6 +348,9 @@ int main(int count, char **words) {
     once(&c);
     for (int i = 0; i < rounds; i++) {
         good(&c);
+        halves(&c);
+        told(&c);
+        keytabs(&c);
         bad(&c);
     }
     printf("%d rounds; %.2f microseconds for a wrap of 64 octets\n", rounds, seconds_of(&c, 10000) * 100);

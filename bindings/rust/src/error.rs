@@ -39,6 +39,8 @@ pub struct Cause(pub u32);
 impl Cause {
     /// There is no key for the service that the ticket names.
     pub const NO_SERVICE_KEY: Cause = Cause(7);
+    /// A key does not have the length of its encryption type.
+    pub const KEY_LENGTH: Cause = Cause(9);
     /// The authenticator is too far from the clock.
     pub const SKEW: Cause = Cause(14);
     /// The ticket has expired.
@@ -115,6 +117,14 @@ impl From<io::Error> for Error {
 }
 
 impl Error {
+    /// Whether another key may open the ticket: there is none of this name, it has another length, or it does not open it.
+    pub(crate) fn is_of_key(&self) -> bool {
+        matches!(
+            self.cause(),
+            Some(Cause::NO_SERVICE_KEY | Cause::KEY_LENGTH | Cause::ALTERED)
+        )
+    }
+
     /// The cause of a refusal.
     pub fn cause(&self) -> Option<Cause> {
         match self {

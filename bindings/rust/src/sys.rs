@@ -39,6 +39,15 @@ pub struct Moment {
     pub random: [u8; 64],
 }
 
+#[repr(C)]
+#[derive(Clone, Copy, Default)]
+pub struct Times {
+    pub authtime: i64,
+    pub starttime: i64,
+    pub endtime: i64,
+    pub renew_till: i64,
+}
+
 unsafe extern "C" {
     pub fn mk_version(out: *mut u8, room: usize) -> Reply;
     pub fn mk_kind_name(kind: u32, out: *mut u8, room: usize) -> Reply;
@@ -58,18 +67,42 @@ unsafe extern "C" {
         key: *const u8,
         key_length: usize,
     ) -> Reply;
+    pub fn mk_acceptor_keytab(
+        to: *mut Handle,
+        file: *const u8,
+        file_length: usize,
+        realm: *const u8,
+        realm_length: usize,
+        skew: u32,
+    ) -> Reply;
+    pub fn mk_acceptor_copy(acceptor: *mut Handle, to: *mut Handle) -> Reply;
     pub fn mk_acceptor_reserve(acceptor: *mut Handle, records: usize) -> Reply;
     pub fn mk_acceptor_kept(acceptor: *mut Handle) -> u64;
     pub fn mk_acceptor_free(acceptor: *mut Handle);
-    pub fn mk_accept(
-        acceptor: *mut Handle,
+    pub fn mk_judge(
+        keys: *mut Handle,
         to: *mut Handle,
         token: *const u8,
         token_length: usize,
         moment: *const Moment,
     ) -> Reply;
+    pub fn mk_admit(book: *mut Handle, judged: *mut Handle, to: *mut Handle) -> Reply;
+    pub fn mk_judged_client(judged: *mut Handle, out: *mut u8, room: usize) -> Reply;
+    pub fn mk_judged_service(judged: *mut Handle, out: *mut u8, room: usize) -> Reply;
+    pub fn mk_judged_record(judged: *mut Handle, out: *mut u8, room: usize) -> Reply;
+    pub fn mk_admit_told(
+        judged: *mut Handle,
+        to: *mut Handle,
+        skew: u32,
+        moment: u64,
+        seen: u32,
+    ) -> Reply;
+    pub fn mk_judged_free(judged: *mut Handle);
     pub fn mk_session_answer(session: *mut Handle, out: *mut u8, room: usize) -> Reply;
     pub fn mk_session_peer(session: *mut Handle, out: *mut u8, room: usize) -> Reply;
+    pub fn mk_session_client(session: *mut Handle, out: *mut u8, room: usize) -> Reply;
+    pub fn mk_session_times(session: *mut Handle, out: *mut Times) -> Reply;
+    pub fn mk_session_key(session: *mut Handle, out: *mut u8, room: usize) -> Reply;
     pub fn mk_session_free(session: *mut Handle);
     pub fn mk_wrap(
         session: *mut Handle,

@@ -1,7 +1,7 @@
 //! Calls through the whole library, over a conversation with a client of MIT's that was recorded.
 
-use menolavuri::{Acceptor, Cause, Error, Session, version};
-use std::time::{Duration, UNIX_EPOCH};
+use menolavuri::{Acceptor, Cause, Error, Judged, Session, version};
+use std::time::{Duration, SystemTime, UNIX_EPOCH};
 
 /// The conversation of `crates/krb_gateway/stdin`.
 const CONVERSATION: &str = include_str!("../../../crates/krb_gateway/stdin");
@@ -25,12 +25,16 @@ fn acceptor() -> Acceptor {
     Acceptor::new(service[1], &octets(service[2]), Duration::from_secs(300)).unwrap()
 }
 
+/// The time of the conversation.
+fn now() -> SystemTime {
+    UNIX_EPOCH + Duration::from_micros(lines("client")[0][1].parse().unwrap())
+}
+
 fn accept(acceptor: &Acceptor) -> Result<Session, Error> {
     let client = &lines("client")[0];
-    let moment = UNIX_EPOCH + Duration::from_micros(client[1].parse().unwrap());
     acceptor.accept_at(
         &octets(client[3]),
-        moment,
+        now(),
         octets(client[2]).try_into().unwrap(),
     )
 }
@@ -45,6 +49,82 @@ fn a_client_is_admitted_once() {
     let error = accept(&acceptor).err().unwrap();
     assert_eq!(error.to_string(), "refused: InvalidToken Replayed");
     assert_eq!(error.cause(), Some(Cause::REPLAYED));
+}
+
+fn judge(acceptor: &Acceptor) -> Judged {
+    let client = &lines("client")[0];
+    acceptor
+        .judge_at(
+            &octets(client[3]),
+            now(),
+            octets(client[2]).try_into().unwrap(),
+        )
+        .unwrap()
+}
+
+#[test]
+fn a_store_is_asked_in_the_place_of_a_book() {
+    let acceptor = acceptor();
+    let (mut judged, mut again) = (judge(&acceptor), judge(&acceptor));
+    assert_eq!(judged.client().unwrap(), "alice@EXAMPLE.COM");
+    assert_eq!(
+        judged.service().unwrap(),
+        "host/server.example.com@EXAMPLE.COM"
+    );
+    assert_eq!(judged.record().unwrap(), again.record().unwrap());
+    let mut session = acceptor.admit_told(judged, now(), false).unwrap();
+    assert_eq!(session.client(), "alice@EXAMPLE.COM");
+    assert_eq!(session.key().unwrap().len(), 32);
+    let error = acceptor.admit_told(again, now(), true).err().unwrap();
+    assert_eq!(error.cause(), Some(Cause::REPLAYED));
+    assert_eq!(acceptor.kept(), 0);
+}
+
+/// A keytab with one entry of host/server.example.com.
+fn keytab(realm: &str, key: &[u8]) -> Vec<u8> {
+    let mut entry = vec![0, 2];
+    for part in [realm, "host", "server.example.com"] {
+        entry.extend((part.len() as u16).to_be_bytes());
+        entry.extend(part.bytes());
+    }
+    entry.extend([0, 0, 0, 3, 0, 0, 0, 1, 2, 0, 18, 0, key.len() as u8]);
+    entry.extend(key);
+    [
+        &[5, 2][..],
+        &(entry.len() as u32).to_be_bytes(),
+        entry.as_slice(),
+    ]
+    .concat()
+}
+
+#[test]
+fn a_keytab_has_the_keys_of_a_realm() {
+    let file = keytab("EXAMPLE.COM", &octets(lines("service")[0][2]));
+    let skew = Duration::from_secs(300);
+    let acceptor = Acceptor::with_keytab(&file, "EXAMPLE.COM", skew).unwrap();
+    assert_eq!(accept(&acceptor).unwrap().peer(), "alice@example.com");
+    let other = Acceptor::with_keytab(&file, "B.COM", skew).err().unwrap();
+    assert_eq!(other.cause(), Some(Cause::NO_SERVICE_KEY));
+    let broken = Acceptor::with_keytab(&file[1..], "EXAMPLE.COM", skew);
+    assert_eq!(
+        broken.err().unwrap().to_string(),
+        "refused: InvalidToken Shape"
+    );
+}
+
+#[test]
+fn older_keys_open_what_the_newest_does_not() {
+    let skew = Duration::from_secs(300);
+    let newest = || Acceptor::new("host/server.example.com", &[1; 32], skew).unwrap();
+    let error = accept(&newest()).err().unwrap();
+    assert_eq!(error.cause(), Some(Cause::ALTERED));
+    let both = newest().with_older(acceptor());
+    assert_eq!(accept(&both).unwrap().peer(), "alice@example.com");
+    assert_eq!(accept(&both).err().unwrap().cause(), Some(Cause::REPLAYED));
+    assert_eq!(both.kept(), 1);
+    let neither = newest().with_older(newest());
+    let error = accept(&neither).err().unwrap();
+    assert_eq!(error.cause(), Some(Cause::ALTERED));
 }
 
 #[test]

@@ -1,4 +1,5 @@
 mod AcceptorBox
+mod JudgementBox
 mod Places
 mod Served
 mod SessionBox

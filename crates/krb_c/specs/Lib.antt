@@ -1,4 +1,9 @@
 pub mod Calls
 pub mod Codes
+pub mod Copies
+pub mod Halves
+pub mod Keytabs
 pub mod Places
 pub mod Replies
+pub mod Tells
+pub mod Told

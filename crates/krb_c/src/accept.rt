@@ -13,8 +13,9 @@ ghost use Rattle.krb_c.specs.Calls.{AdmitsTo, Turns, draw_of};
 
 use crate::handles::{Acceptor, Connection};
 use crate::reply::{Failure, Reply, reply_of};
+use crate::texts::draw_of;
 use krb_der::boxed;
-use krb_entrance::{Draw, Error, MAX_MOMENT, Service, Session};
+use krb_entrance::{Draw, Error, Service, Session};
 use std::alloc::Global;
 
 /// What one admission may use: microseconds since 1970-01-01T00:00:00Z, and 64 fresh random octets.
@@ -89,13 +90,7 @@ fn accept(
     ensures turns { IfErr result (Turns token.now (draw_of moment.now) acceptor.old.place.value acceptor.new.place.value) }
     ensures stays { OnErr result (to.new.place.value ≡ to.old.place.value) }
 {
-    if MAX_MOMENT < moment.moment {
-        return Err(Failure::Argument);
-    }
-    let draw = Draw {
-        moment: moment.moment,
-        random: moment.random,
-    };
+    let draw = draw_of(moment)?;
     accept_at(alloc, acceptor, to, token, &draw)
 }
 

@@ -1,8 +1,10 @@
 //! The handles that C keeps.
 
 mod acceptor;
+mod judgement;
 mod parts;
 mod session;
 
 pub use acceptor::Acceptor;
+pub use judgement::Judgement;
 pub use session::Connection;

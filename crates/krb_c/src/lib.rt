@@ -7,12 +7,20 @@
 mod accept;
 mod acceptor;
 mod codes;
+mod copies;
 mod handles;
+mod judge;
+mod keytab;
 mod messages;
 mod names;
 mod reply;
+mod session_key;
+mod shows;
+mod tells;
 mod texts;
+mod told;
 
 pub use accept::Moment;
-pub use handles::{Acceptor, Connection};
+pub use handles::{Acceptor, Connection, Judgement};
 pub use reply::{Failure, Reply};
+pub use tells::Times;

@@ -4,10 +4,11 @@ ghost use Rattle.std.specs.Prelude.{◌≡◌, IfOk, IfErr};
 ghost use Rattle.sspi_core.specs.Kinds.{error_of};
 ghost use Rattle.sspi_core.specs.declared.cause.Cause.TheVariants as causes;
 ghost use Rattle.krb_c.specs.declared.reply.Failure.TheVariants as failures;
-ghost use Rattle.krb_c.specs.Calls.{RefusedAs};
+ghost use Rattle.krb_c.specs.Calls.{RefusedAs, draw_of};
 
+use crate::accept::Moment;
 use crate::reply::Failure;
-use krb_entrance::{Error, Octets};
+use krb_entrance::{Draw, Error, MAX_MOMENT, Octets};
 use std::alloc::Global;
 
 /// The octets as text.
@@ -46,4 +47,18 @@ pub(crate) fn confounder_of(octets: &[u8]) -> Result<[u8; 16], Failure>
     let mut confounder = [0; 16];
     confounder.copy_from_slice(octets);
     Ok(confounder)
+}
+
+/// A moment as the library has it, where it is in range.
+pub(crate) fn draw_of(moment: &Moment) -> Result<Draw, Failure>
+    ensures same { IfOk result (λ draw. draw ≡ draw_of moment.now) }
+    ensures failure { IfErr result (λ failure. failure ≡ failures.Argument) }
+{
+    if MAX_MOMENT < moment.moment {
+        return Err(Failure::Argument);
+    }
+    Ok(Draw {
+        moment: moment.moment,
+        random: moment.random,
+    })
 }

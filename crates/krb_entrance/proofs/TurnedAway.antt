@@ -6,7 +6,10 @@ use Rattle.krb_context.specs.Refusals.{Refuses}
 use Rattle.krb_context.specs.declared.context.Kerberos.{Kerberos}
 use Rattle.krb_entrance.specs.Candidates.{TurnsAway}
 use Rattle.krb_entrance.specs.declared.candidate.Candidate.{Candidate}
+use Rattle.krb_entrance.specs.Told.{IsToldAway}
 use Rattle.krb_replay.specs.Book.{Book, Follows, StandsFor}
+use Rattle.krb_replay.specs.Telling.{AdmitsAsTold}
+use Rattle.krb_replay.specs.declared.telling.TellingGate.{TellingGate}
 use Rattle.sspi_core.specs.Checks.{told}
 use Rattle.sspi_core.specs.Kinds.{error_at, error_of}
 use Rattle.sspi_core.specs.declared.cause.Cause.{Cause}
@@ -33,4 +36,11 @@ pub turned_away : (candidate : Candidate) (left : Kerberos) (old new : Book) (er
     → Refuses Elsewhere (TurnsAway candidate old new) error
 turned_away candidate left old new error refuses = record {
   so = λ ne. let there = refuses.so ne in (there.0, there.1, record { left = left; admits = there.2 });
+}
+
+pub told_away : (candidate : Candidate) (left : Kerberos) (gate behind : TellingGate) (error : Error)
+    → Refuses Elsewhere (λ (answer : Result Answer Cause). AdmitsPrepared AdmitsAsTold candidate.judged candidate.connection gate answer left behind) error
+    → Refuses Elsewhere (IsToldAway candidate gate) error
+told_away candidate left gate behind error refuses = record {
+  so = λ ne. let there = refuses.so ne in (there.0, there.1, record { left = left; behind = behind; admits = there.2 });
 }

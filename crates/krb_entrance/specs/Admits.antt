@@ -1,5 +1,5 @@
 -- What a service admits.
-use Rattle.std.specs.Prelude.{◌≡◌, ℕ, List, [], Option, Some, false, Result, Ok, Err}
+use Rattle.std.specs.Prelude.{◌≡◌, ℕ, List, [], Some, false, Result, Ok, Err}
 use Rattle.krb_conf.specs.declared.config.KerberosConfig.{KerberosConfig}
 use Rattle.krb_conf.specs.declared.env.Env.{Env}
 use Rattle.krb_context.specs.declared.context.Kerberos.{Kerberos}

@@ -1,5 +1,5 @@
 -- The halves of an admission at a connection of the service that waited for its client's token.
-use Rattle.std.specs.Prelude.{◌≡◌, ℕ, List, Option, Some, None, false, Result, Ok, Err}
+use Rattle.std.specs.Prelude.{◌≡◌, ℕ, List, Some, false, Result, Ok}
 use Rattle.krb_admission.specs.Halves.{Prepared, Prepares, JudgesApReq, AdmitsPrepared}
 use Rattle.krb_admission.specs.declared.admission.Answer.{Answer}
 use Rattle.krb_context.specs.declared.context.Kerberos.{Kerberos}

@@ -1,3 +1,5 @@
 pub mod Admits
 pub mod Candidates
 pub mod Services
+pub mod Told
+pub mod Turns

@@ -9,12 +9,16 @@
 #![tactic(auto)]
 
 mod candidate;
+mod in_turn;
 pub mod laws;
 mod service;
+mod told;
 
 pub use candidate::{Candidate, admit, judge};
+pub use in_turn::judge_in_turn;
 pub use service::Service;
+pub use told::{admit_told, stored_record};
 
 // What a caller names beside.
 pub use krb_server::{Cause, Draw, Error, ErrorKind, Judged, MAX_MOMENT, Octets, OutOfMemory};
-pub use krb_sessions::{Client, Fault, Session, put};
+pub use krb_sessions::{Client, Fault, Session, principal, put};

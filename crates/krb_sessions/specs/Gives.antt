@@ -3,6 +3,7 @@ use Rattle.std.specs.Prelude.{◌≡◌, ℕ, ◌+◌, ◌<◌, List, [], ◌∷
 use Rattle.krb_context.specs.declared.context.Kerberos.{Kerberos}
 use Rattle.krb_context.specs.Contexts.{next_number}
 use Rattle.krb_context.specs.Mics.{ChecksMic}
+use Rattle.krb_context.specs.Params.{key_of}
 use Rattle.krb_context.specs.Queries.{name_of}
 use Rattle.krb_context.specs.Refusals.{Refuses}
 use Rattle.krb_context.specs.Spelled.{part_octets}
@@ -50,6 +51,10 @@ pub record IsNamed (context : Kerberos) (text : List ℕ) : Type 0 where
   pub name : UserName
   pub known : name_of context ≡ Ok name
   pub written : text ≡ name_text name
+
+-- the key of the context's messages
+abbrev pub IsKey : Kerberos → List ℕ → Type 0
+IsKey context octets = key_of context.encryption_params ≡ Some octets
 
 -- a message that came whole, and an empty buffer for its text
 abbrev pub whole_message : List ℕ → List Buffer

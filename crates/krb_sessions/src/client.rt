@@ -101,15 +101,22 @@ fn push_components(text: &mut Vec<u8>, parts: &[Name]) -> Result<(), OutOfMemory
     }
 }
 
+/// A whole name as text, as `alice/admin@EXAMPLE.COM`: a `/` between two components and a `@` before the realm, with a `\`
+/// before those of these marks that stand in a component or the realm (RFC 1964, section 2.1.1).
+pub fn principal(alloc: Global, name: &PrincipalName, realm: &Name) -> Result<Octets, OutOfMemory>
+    ensures { IfOk result (λ text. text ≡ principal_text name.now.name_string realm.now) }
+{
+    let mut text = Vec::new(alloc);
+    push_components(&mut text, name.name_string.as_slice())?;
+    push_behind(&mut text, b'@', realm.as_slice())?;
+    Ok(Octets::new(text))
+}
+
 impl Client {
-    /// The whole name as text, as `alice/admin@EXAMPLE.COM`: a `/` between two components and a `@` before the realm, with a `\`
-    /// before those of these marks that stand in a component or the realm (RFC 1964, section 2.1.1).
+    /// Its whole name as text, as [`principal`](crate::principal) writes it.
     pub fn principal(&self, alloc: Global) -> Result<Octets, OutOfMemory>
         ensures { IfOk result (λ text. text ≡ principal_text self.now.name.name_string self.now.realm) }
     {
-        let mut text = Vec::new(alloc);
-        push_components(&mut text, self.name.name_string.as_slice())?;
-        push_behind(&mut text, b'@', self.realm.as_slice())?;
-        Ok(Octets::new(text))
+        principal(alloc, &self.name, &self.realm)
     }
 }

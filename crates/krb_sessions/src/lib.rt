@@ -16,7 +16,7 @@ mod name;
 mod room;
 mod session;
 
-pub use client::Client;
+pub use client::{Client, principal};
 pub use fault::Fault;
 pub use room::put;
 pub use session::Session;

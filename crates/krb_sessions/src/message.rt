@@ -1,6 +1,6 @@
 //! A message as its context takes it, and what is made of one.
 
-ghost use Rattle.std.specs.Prelude.{◌≡◌, ◌++◌, List, IfOk, IfErr, OnOk, OnErr, Ok};
+ghost use Rattle.std.specs.Prelude.{◌≡◌, IfOk, IfErr, OnOk, OnErr, Ok};
 ghost use Rattle.sspi_core.specs.declared.error.Place.TheVariants as places;
 ghost use Rattle.sspi_core.specs.declared.buffer.Part.TheVariants as parts;
 ghost use Rattle.sspi_core.specs.Kinds.{error_of};
@@ -9,10 +9,10 @@ ghost use Rattle.krb_context.specs.Spelled.{part_octets};
 ghost use Rattle.krb_context.specs.Refusals.{Refuses};
 ghost use Rattle.krb_context.specs.Wraps.{Wraps};
 ghost use Rattle.krb_context.specs.Unwraps.{Unwraps};
-ghost use Rattle.krb_sessions.specs.Gives.{whole_message, text_message, IsWrapped, after_making, after_opening};
+ghost use Rattle.krb_sessions.specs.Gives.{whole_message, text_message, after_making, after_opening};
 
 use krb_context::Kerberos;
-use krb_der::{Items, Octets, OutOfMemory};
+use krb_der::{Items, Octets};
 use sspi_core::{Error, Message, Part, SecurityBufferRef};
 use std::alloc::Global;
 
@@ -42,7 +42,7 @@ fn text_message(alloc: Global, filler: u16, text: &[u8]) -> Result<Message, Erro
     Message::new(Items::new(buffers))
 }
 
-fn part_octets(message: &Message, part: Part) -> &[u8]
+pub(crate) fn part_octets(message: &Message, part: Part) -> &[u8]
     ensures { result.now ≡ part_octets part message.now }
 {
     match message.find(part) {
@@ -51,54 +51,35 @@ fn part_octets(message: &Message, part: Part) -> &[u8]
     }
 }
 
-/// The token and the data of a message, as they go out.
-fn joined(alloc: Global, message: &Message) -> Result<Octets, OutOfMemory>
-    ensures { IfOk result (λ octets. octets ≡ part_octets parts.Token message.now ++ part_octets parts.Plain message.now) }
-{
-    let mut octets = Vec::from_slice(alloc, part_octets(message, Part::Token))?;
-    octets.extend_from_slice(part_octets(message, Part::Plain))?;
-    Ok(Octets::new(octets))
-}
-
 /// Seals a text into a message. A refusal leaves the context.
-pub(crate) fn wrap_sealed(
+pub(crate) fn sealed_message(
     alloc: Global,
     context: &mut Kerberos,
     text: &[u8],
     confounder: [u8; 16],
-) -> Result<Octets, Error>
-    ensures wrapped { IfOk result (IsWrapped context.old confounder text.now) }
+) -> Result<Message, Error>
+    ensures wrapped { IfOk result (λ message. Wraps context.old confounder (text_message context.old.encryption_params.ec text.now) (Ok message)) }
     ensures after { OnOk result (context.new ≡ after_making context.old) }
     ensures refused { IfErr result (Refuses places.Elsewhere (Wraps context.old confounder (text_message context.old.encryption_params.ec text.now))) }
     ensures stays { OnErr result (context.new ≡ context.old) }
 {
     let mut message = text_message(alloc, context.encryption_params.ec, text)?;
-    let number = context.seq_number;
     context.encrypt_message(alloc, &mut message, confounder)?;
-    match joined(alloc, &message) {
-        Ok(token) => Ok(token),
-        Err(error) => {
-            context.seq_number = number;
-            Err(Error::from(error))
-        }
-    }
+    Ok(message)
 }
 
 /// Opens a message that came whole. A refusal leaves the context.
-pub(crate) fn unwrap(alloc: Global, context: &mut Kerberos, sealed: &[u8]) -> Result<Octets, Error>
-    ensures opened { IfOk result (λ text. Unwraps context.old (whole_message sealed.now) (Ok text)) }
+pub(crate) fn opened_message(
+    alloc: Global,
+    context: &mut Kerberos,
+    sealed: &[u8],
+) -> Result<Message, Error>
+    ensures opened { IfOk result (λ message. Unwraps context.old (whole_message sealed.now) (Ok (part_octets parts.Plain message))) }
     ensures after { OnOk result (context.new ≡ after_opening sealed.now context.old) }
     ensures refused { IfErr result (Refuses places.Elsewhere (Unwraps context.old (whole_message sealed.now))) }
     ensures stays { OnErr result (context.new ≡ context.old) }
 {
     let mut message = whole_message(alloc, sealed)?;
-    let window = context.window;
     context.decrypt_message(alloc, &mut message)?;
-    match Octets::from_slice(alloc, part_octets(&message, Part::Plain)) {
-        Ok(text) => Ok(text),
-        Err(error) => {
-            context.window = window;
-            Err(Error::from(error))
-        }
-    }
+    Ok(message)
 }

@@ -1,22 +1,26 @@
 //! A client that was admitted, and its messages.
 
 ghost use Rattle.std.specs.Prelude.{◌≡◌, length, Ok, IfOk, IfErr, OnOk, OnErr};
+ghost use Rattle.sspi_core.specs.Checks.{Takes};
+ghost use Rattle.sspi_core.specs.declared.cause.Cause.TheVariants as causes;
 ghost use Rattle.sspi_core.specs.declared.error.Place.TheVariants as places;
+ghost use Rattle.krb_crypto.specs.Suite.{suite_number};
 ghost use Rattle.krb_context.specs.ClearWraps.{WrapsClear};
 ghost use Rattle.krb_context.specs.Mics.{MakesMic, ChecksMic};
+ghost use Rattle.krb_context.specs.Params.{key_of, suite_of};
 ghost use Rattle.krb_context.specs.Queries.{name_of};
 ghost use Rattle.krb_context.specs.Wraps.{Wraps};
 ghost use Rattle.krb_context.specs.Unwraps.{Unwraps};
-ghost use Rattle.krb_sessions.specs.Gives.{Delivers, Faults, RefusesMic, IsNamed, IsWrapped, text_message, whole_message, after_making, after_opening};
+ghost use Rattle.krb_sessions.specs.Gives.{Delivers, Faults, RefusesMic, IsKey, IsNamed, IsWrapped, text_message, whole_message, after_making, after_opening};
 
 use crate::client::Client;
 use crate::fault::Fault;
-use crate::message::{unwrap, wrap_sealed};
+use crate::message::{opened_message, part_octets, sealed_message};
 use crate::name::name_text;
-use crate::room::put;
+use crate::room::{put, put_both};
 use krb_context::Kerberos;
 use krb_der::Octets;
-use sspi_core::Error;
+use sspi_core::{Cause, Error, Part};
 use std::alloc::Global;
 
 /// A client's connection, from its first token on.
@@ -56,6 +60,30 @@ impl Session {
         }
     }
 
+    /// The key of the session's messages: the one that an end chose, and else the ticket's. Refused as OutOfSequence Sequence before
+    /// there is one.
+    pub fn key(&self, out: &mut [u8]) -> Result<usize, Fault>
+        ensures gives { IfOk result (λ count. Delivers (IsKey self.now.connection) out.old count out.new) }
+        ensures refused { IfErr result (Faults places.Elsewhere (Takes causes.Sequence (key_of self.now.connection.encryption_params))
+            (IsKey self.now.connection) (length out.old)) }
+        ensures stays { OnErr result (out.new ≡ out.old) }
+    {
+        let Some(key) = self.connection.encryption_params.key() else {
+            return Err(Fault::Refused(Error::from(Cause::Sequence)));
+        };
+        match put(out, key.as_slice()) {
+            Ok(count) => Ok(count),
+            Err(fault) => Err(fault),
+        }
+    }
+
+    /// The encryption type of that key: 17 or 18 (RFC 3962, section 7).
+    pub fn key_type(&self) -> u8
+        ensures { result ≡ suite_number (suite_of self.now.connection.encryption_params) }
+    {
+        self.connection.encryption_params.suite().number()
+    }
+
     /// Seals a text into a message for the client. The confounder is 16 random octets.
     pub fn wrap(
         &mut self,
@@ -73,8 +101,12 @@ impl Session {
         ensures room { OnErr result (out.new ≡ out.old) }
     {
         let number = self.connection.seq_number;
-        let token = wrap_sealed(alloc, &mut self.connection, text, confounder)?;
-        match put(out, token.as_slice()) {
+        let message = sealed_message(alloc, &mut self.connection, text, confounder)?;
+        match put_both(
+            out,
+            part_octets(&message, Part::Token),
+            part_octets(&message, Part::Plain),
+        ) {
             Ok(count) => Ok(count),
             Err(fault) => {
                 self.connection.seq_number = number;
@@ -118,8 +150,8 @@ impl Session {
         ensures room { OnErr result (out.new ≡ out.old) }
     {
         let window = self.connection.window;
-        let text = unwrap(alloc, &mut self.connection, sealed)?;
-        match put(out, text.as_slice()) {
+        let message = opened_message(alloc, &mut self.connection, sealed)?;
+        match put(out, part_octets(&message, Part::Plain)) {
             Ok(count) => Ok(count),
             Err(fault) => {
                 self.connection.window = window;

@@ -1,0 +1,75 @@
+//! As `gss_server`, for a service of several machines, or of several processes on one. They share a Redis, which remembers who was
+//! let in, and so a token that one of them let in is refused by the others:
+//!
+//!     redis-server --save ''
+//!     cargo run --offline --example shared_server 127.0.0.1:4444 host/server.example.com key 300 127.0.0.1:6379
+//!     cargo run --offline --example shared_server 127.0.0.1:4445 host/server.example.com key 300 127.0.0.1:6379
+//!
+//! Where the store does not answer, nobody is let in. The clocks of all these machines have to agree within the skew.
+
+#[path = "parts/connections.rs"]
+mod connections;
+#[path = "parts/frames.rs"]
+mod frames;
+#[path = "parts/redis.rs"]
+mod redis;
+#[path = "parts/samples.rs"]
+mod samples;
+
+use menolavuri::{Acceptor, Session};
+use redis::Store;
+use std::sync::{Mutex, PoisonError};
+use std::{env, error::Error, io, time::Duration, time::SystemTime};
+
+type Answer<T> = Result<T, Box<dyn Error + Send + Sync>>;
+
+/// A store, and its connection while that is good.
+struct Shared {
+    address: String,
+    skew: Duration,
+    connection: Mutex<Option<Store>>,
+}
+
+impl Shared {
+    /// The store's time, and whether a record was there before. A connection that fails is made anew for the next record.
+    fn ask(&self, record: &[u8]) -> io::Result<(SystemTime, bool)> {
+        let mut connection = self
+            .connection
+            .lock()
+            .unwrap_or_else(PoisonError::into_inner);
+        let mut store = match connection.take() {
+            Some(store) => store,
+            None => Store::connect(&self.address, self.skew)?,
+        };
+        let now = store.now()?;
+        // A client's clock may be ahead by the skew, and its token is good for the skew behind that.
+        let seen = store.was_there(record, 3 * self.skew)?;
+        *connection = Some(store);
+        Ok((now, seen))
+    }
+
+    fn admit(&self, acceptor: &Acceptor, token: &[u8]) -> Answer<Session> {
+        let mut judged = acceptor.judge(token)?;
+        let (now, seen) = self
+            .ask(&judged.record()?)
+            .map_err(|error| format!("nobody is let in: {error}"))?;
+        Ok(acceptor.admit_told(judged, now, seen)?)
+    }
+}
+
+fn main() -> Answer<()> {
+    let arguments: Vec<String> = env::args().skip(1).collect();
+    let [address, service, key, skew, store] = arguments.as_slice() else {
+        return Err("usage: shared_server ADDRESS SERVICE KEY_FILE SKEW STORE".into());
+    };
+    let skew = Duration::from_secs(skew.parse()?);
+    let acceptor = Acceptor::new(service, &connections::key(key)?, skew)?;
+    let shared = Shared {
+        address: store.clone(),
+        skew,
+        connection: Mutex::new(None),
+    };
+    connections::serve_all(address, |stream| {
+        samples::serve(stream, |token| shared.admit(&acceptor, token))
+    })
+}

@@ -1,0 +1,21 @@
+-- Acceptors with the same services and keys, for threads.
+use Rattle.std.specs.Prelude.{◌≡◌, ℕ, Option, Some, None}
+use Rattle.krb_entrance.specs.declared.service.Service.{Service}
+use Rattle.krb_replay.specs.Book.{StandsFor}
+use Rattle.krb_replay.specs.History.{no_history}
+
+-- an acceptor with the same services and keys, whose book was asked nothing
+pub record IsTwin (service twin : Service) : Type 0 where
+  pub properties : twin.properties ≡ service.properties
+  pub skew_is : twin.book.skew ≡ service.properties.max_time_skew
+  pub book : StandsFor twin.book no_history
+
+-- the twin that is made, where the handle was empty
+pub record Copies (acceptor to : Option Service) (count : ℕ) (made : Option Service) : Type 0 where
+  pub service : Service
+  pub twin : Service
+  pub was : acceptor ≡ Some service
+  pub was_empty : to ≡ None
+  pub made_is : made ≡ Some twin
+  pub is_twin : IsTwin service twin
+  pub none_written : count ≡ 0

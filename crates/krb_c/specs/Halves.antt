@@ -1,0 +1,83 @@
+-- The halves of an admission, by what their calls answer: the checks before the book, and the book's question.
+use Rattle.std.specs.Prelude.{◌≡◌, ℕ, List, length, Option, Some, None, Result, Ok}
+use Rattle.krb_c.specs.declared.reply.Failure.{Failure}
+use Rattle.krb_c.specs.declared.reply.Failure.TheVariants.{Refused, Room, Handle}
+use Rattle.krb_context.specs.declared.server.ServerProperties.{ServerProperties}
+use Rattle.krb_context.specs.Refusals.{Refuses}
+use Rattle.krb_entrance.specs.declared.candidate.Candidate.{Candidate}
+use Rattle.krb_entrance.specs.declared.service.Service.{Service}
+use Rattle.krb_entrance.specs.Candidates.{Passes, Stops, IsLetIn, TurnsAway, client_told}
+use Rattle.krb_replay.specs.Book.{IsUnchanged}
+use Rattle.krb_sessions.specs.declared.session.Session.{Session}
+use Rattle.krb_sessions.specs.Gives.{Delivers, IsShort}
+use Rattle.sspi_core.specs.declared.cause.Cause.TheVariants.{Memory}
+use Rattle.sspi_core.specs.declared.draw.Draw.{Draw}
+use Rattle.sspi_core.specs.declared.error.Error.{Error}
+use Rattle.sspi_core.specs.declared.error.Place.TheVariants.{Elsewhere}
+use Rattle.sspi_core.specs.Kinds.{error_of}
+
+-- a client whose token passed every check before the book, with what the ticket says of it
+pub record IsCandidate (service : ServerProperties) (token : List ℕ) (draw : Draw) (candidate : Candidate) : Type 0 where
+  pub passes : Passes service token draw candidate.judged candidate.connection
+  pub client : candidate.client.value ≡ client_told candidate.judged.request.part
+
+-- the candidate of a token, in a handle that was empty
+pub record JudgesTo (token : List ℕ) (draw : Draw) (acceptor : Option Service) (to : Option Candidate) (count : ℕ) (made : Option Candidate) : Type 0 where
+  pub service : Service
+  pub candidate : Candidate
+  pub was : acceptor ≡ Some service
+  pub was_empty : to ≡ None
+  pub made_is : made ≡ Some candidate
+  pub is_candidate : IsCandidate service.properties token draw candidate
+  pub none_written : count ≡ 0
+
+-- a check before the book refuses the token, the first that fails
+pub record StopsToken (token : List ℕ) (draw : Draw) (acceptor : Option Service) (error : Error) : Type 0 where
+  pub service : Service
+  pub was : acceptor ≡ Some service
+  pub refuses : Refuses Elsewhere (Stops service.properties token draw) error
+
+-- why a token has no candidate
+abbrev pub JudgesNot : List ℕ → Draw → Option Service → Failure → Type 0
+JudgesNot token draw acceptor (Refused error) = StopsToken token draw acceptor error
+JudgesNot token draw acceptor _ = Unit {0}
+
+-- the candidate is admitted: the book says so, and no check behind it refuses
+pub record LetsInTo (old : Option Service) (judged : Option Candidate) (to : Option Session) (count : ℕ) (new : Option Service)
+    (spent : Option Candidate) (session : Option Session) : Type 0 where
+  pub before : Service
+  pub after : Service
+  pub candidate : Candidate
+  pub guest : Session
+  pub was : old ≡ Some before
+  pub now : new ≡ Some after
+  pub was_judged : judged ≡ Some candidate
+  pub is_spent : spent ≡ None
+  pub was_empty : to ≡ None
+  pub session_is : session ≡ Some guest
+  pub is_let_in : IsLetIn candidate before.book guest after.book
+  pub properties : after.properties ≡ before.properties
+  pub counted : count ≡ length guest.answer
+
+-- it is turned away, by the book or a check behind it, and the book is as that check leaves it
+pub record TurnsCandidate (old : Option Service) (judged : Option Candidate) (new : Option Service) (spent : Option Candidate) (error : Error) : Type 0 where
+  pub before : Service
+  pub after : Service
+  pub candidate : Candidate
+  pub was : old ≡ Some before
+  pub now : new ≡ Some after
+  pub was_judged : judged ≡ Some candidate
+  pub is_spent : spent ≡ None
+  pub refuses : Refuses Elsewhere (TurnsAway candidate before.book after.book) error
+  pub memory : error ≡ error_of Memory → IsUnchanged before.book after.book
+  pub properties : after.properties ≡ before.properties
+
+-- nothing was asked
+pub record IsUnasked (old : Option Service) (judged : Option Candidate) (new : Option Service) (spent : Option Candidate) : Type 0 where
+  pub acceptor : new ≡ old
+  pub candidate : spent ≡ judged
+
+-- why a candidate is not admitted
+abbrev pub LetsInNot : Option Service → Option Candidate → Option Service → Option Candidate → Failure → Type 0
+LetsInNot old judged new spent (Refused error) = TurnsCandidate old judged new spent error
+LetsInNot old judged new spent _ = IsUnasked old judged new spent

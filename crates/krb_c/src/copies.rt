@@ -1,0 +1,64 @@
+//! Copies of an acceptor, for threads that judge tokens.
+
+ghost use Rattle.std.specs.Prelude.{◌≡◌, ℕ, Result, IfOk, IfErr, OnErr};
+ghost use Rattle.sspi_core.specs.Kinds.{error_of};
+ghost use Rattle.sspi_core.specs.declared.cause.Cause.TheVariants as causes;
+ghost use Rattle.krb_c.specs.declared.reply.Failure.{Failure};
+ghost use Rattle.krb_c.specs.Replies.{reply_of};
+ghost use Rattle.krb_c.specs.Calls.{RefusedAs};
+ghost use Rattle.krb_c.specs.Copies.{IsTwin, Copies};
+
+use crate::handles::Acceptor;
+use crate::reply::{Failure, Reply, reply_of};
+use krb_der::{TryCopy, boxed};
+use krb_entrance::{Error, OutOfMemory, Service};
+use krb_replay::ReplayBook;
+use std::alloc::Global;
+
+fn twin_of(alloc: Global, service: &Service) -> Result<Box<Service>, OutOfMemory>
+    ensures { IfOk result (λ twin. IsTwin service.now twin.value) }
+{
+    let properties = service.properties.copy(alloc)?;
+    let book = ReplayBook::new(alloc, properties.max_time_skew)?;
+    boxed(alloc, Service { properties, book })
+}
+
+fn copy(alloc: Global, acceptor: &mut Acceptor, to: &mut Acceptor) -> Result<usize, Failure>
+    ensures copied { IfOk result (λ count. Copies acceptor.old.place.value to.old.place.value count to.new.place.value) }
+    ensures memory { IfErr result (RefusedAs (λ error. error ≡ error_of causes.Memory)) }
+    ensures stays { acceptor.new.place.value ≡ acceptor.old.place.value }
+    ensures empty { OnErr result (to.new.place.value ≡ to.old.place.value) }
+{
+    if !to.is_empty() {
+        return Err(Failure::Handle);
+    }
+    let Some(service) = acceptor.take(alloc) else {
+        return Err(Failure::Handle);
+    };
+    let twin = twin_of(alloc, &service);
+    acceptor.put(service);
+    match twin {
+        Ok(twin) => {
+            to.put(twin);
+            Ok(0)
+        }
+        Err(error) => Err(Failure::Refused(Error::from(error))),
+    }
+}
+
+/// Makes in an empty handle an acceptor with the same services and keys, whose book was asked nothing: for another thread that
+/// calls `mk_judge`. **`mk_accept` and `mk_admit` are for one of them alone**: what one book has admitted the other admits again.
+#[unsafe(no_mangle)]
+pub extern "C" fn mk_acceptor_copy(
+    alloc: Global,
+    acceptor: &mut Acceptor,
+    to: &mut Acceptor,
+) -> Reply
+    ensures told { (answer : Result ℕ Failure) × (result ≡ reply_of answer)
+        × IfOk answer (λ count. Copies acceptor.old.place.value to.old.place.value count to.new.place.value)
+        × IfErr answer (RefusedAs (λ error. error ≡ error_of causes.Memory))
+        × OnErr answer (to.new.place.value ≡ to.old.place.value) }
+    ensures stays { acceptor.new.place.value ≡ acceptor.old.place.value }
+{
+    reply_of(copy(alloc, acceptor, to))
+}

@@ -1,0 +1,201 @@
+//! Acceptors of the services of a keytab.
+
+ghost use Rattle.std.specs.Prelude.{◌≡◌, ◌-◌, ◌^◌, ℕ, [], length, min, None, Result, IfOk, IfErr, OnErr};
+ghost use Rattle.sspi_core.specs.Kinds.{error_of};
+ghost use Rattle.sspi_core.specs.declared.cause.Cause.TheVariants as causes;
+ghost use Rattle.krb_context.specs.ServiceKeys.{new_properties};
+ghost use Rattle.krb_keytab.specs.Format.{Spells};
+ghost use Rattle.krb_keytab.specs.Installing.{keys_of, with_keys};
+ghost use Rattle.krb_replay.specs.Book.{StandsFor};
+ghost use Rattle.krb_replay.specs.History.{no_history};
+ghost use Rattle.krb_c.specs.declared.reply.Failure.{Failure};
+ghost use Rattle.krb_c.specs.Replies.{reply_of};
+ghost use Rattle.krb_c.specs.Calls.{RefusedAs};
+ghost use Rattle.krb_c.specs.Keytabs.{IsOfKeytab, MakesOfKeytab, IsNoKeytab, RefusesKeytab, fault_error};
+
+use crate::handles::Acceptor;
+use crate::reply::{Failure, Reply, reply_of};
+use krb_context::ServerProperties;
+use krb_der::{Name, boxed};
+use krb_entrance::{Cause, Error, OutOfMemory, Service};
+use krb_keytab::{Keytab, KeytabError};
+use krb_replay::ReplayBook;
+use std::alloc::Global;
+
+/// A realm's name, where it is ASCII.
+fn realm_of(alloc: Global, realm: &[u8]) -> Result<Name, Failure>
+    ensures realm { IfOk result (λ name. name ≡ realm.now) }
+    ensures failure { IfErr result (RefusedAs (λ error. error ≡ error_of causes.Memory)) }
+{
+    match Vec::from_slice(alloc, realm) {
+        Ok(octets) => match Name::new(octets) {
+            Some(name) => Ok(name),
+            None => Err(Failure::Argument),
+        },
+        Err(error) => Err(Failure::Refused(Error::from(error))),
+    }
+}
+
+fn fault_error(fault: KeytabError) -> Error
+    ensures { result ≡ fault_error fault }
+{
+    match fault {
+        KeytabError::Version => Error::from(Cause::Shape),
+        KeytabError::Entry { .. } => Error::from(Cause::Shape),
+        KeytabError::OutOfMemory => Error::from(Cause::Memory),
+    }
+}
+
+fn keytab_of(alloc: Global, file: &[u8]) -> Result<Keytab, Error>
+    ensures read { IfOk result (λ keytab. Spells keytab.entries file.now) }
+    ensures refused { IfErr result (IsNoKeytab file.now) }
+{
+    match Keytab::read(alloc, file) {
+        Ok(keytab) => Ok(keytab),
+        Err(fault) => Err(fault_error(fault)),
+    }
+}
+
+/// Properties with no key of their own.
+fn without_keys(alloc: Global, skew: u32) -> Result<ServerProperties, Error>
+    ensures made { IfOk result (λ properties. properties ≡ new_properties [] None skew None) }
+    ensures memory { IfErr result (λ error. error ≡ error_of causes.Memory) }
+{
+    let name: [&str; 0] = [];
+    match ServerProperties::new(alloc, &name, None, skew, None) {
+        Ok(properties) => Ok(properties),
+        Err(error) => Err(error),
+    }
+}
+
+/// Puts the keys of the realm into properties that have none, and tells how many they are.
+fn install(
+    alloc: Global,
+    keytab: &Keytab,
+    realm: &Name,
+    properties: &mut ServerProperties,
+) -> Result<u32, Error>
+    ensures installed { IfOk result (λ count. properties.new ≡ with_keys properties.old (keys_of realm.now keytab.now.entries)) }
+    ensures count { IfOk result (λ count. count ≡ min (length (keys_of realm.now keytab.now.entries)) (2 ^ 32 - 1)) }
+    ensures memory { IfErr result (λ error. error ≡ error_of causes.Memory) }
+{
+    match keytab.install(alloc, realm, properties) {
+        Ok(count) => Ok(count),
+        Err(error) => Err(Error::from(error)),
+    }
+}
+
+/// A service whose book was asked nothing.
+fn blank(alloc: Global, skew: u32) -> Result<Box<Service>, Error>
+    ensures properties { IfOk result (λ service. service.value.properties ≡ new_properties [] None skew None) }
+    ensures skew { IfOk result (λ service. service.value.book.skew ≡ skew) }
+    ensures book { IfOk result (λ service. StandsFor service.value.book no_history) }
+    ensures memory { IfErr result (λ error. error ≡ error_of causes.Memory) }
+{
+    let properties = without_keys(alloc, skew)?;
+    match boxed_service(alloc, properties, skew) {
+        Ok(service) => Ok(service),
+        Err(error) => Err(Error::from(error)),
+    }
+}
+
+fn boxed_service(
+    alloc: Global,
+    properties: ServerProperties,
+    skew: u32,
+) -> Result<Box<Service>, OutOfMemory>
+    ensures properties { IfOk result (λ service. service.value.properties ≡ properties) }
+    ensures skew { IfOk result (λ service. service.value.book.skew ≡ skew) }
+    ensures book { IfOk result (λ service. StandsFor service.value.book no_history) }
+{
+    let book = ReplayBook::new(alloc, skew)?;
+    boxed(alloc, Service { properties, book })
+}
+
+/// The services of the realm that have a key in the keytab, and how many they are.
+fn services_of(
+    alloc: Global,
+    keytab: &Keytab,
+    realm: &Name,
+    skew: u32,
+) -> Result<(Box<Service>, u32), Error>
+    ensures properties { IfOk result (λ made. made.0.value.properties ≡ with_keys (new_properties [] None skew None) (keys_of realm.now keytab.now.entries)) }
+    ensures skew { IfOk result (λ made. made.0.value.book.skew ≡ skew) }
+    ensures book { IfOk result (λ made. StandsFor made.0.value.book no_history) }
+    ensures count { IfOk result (λ made. made.1 ≡ min (length (keys_of realm.now keytab.now.entries)) (2 ^ 32 - 1)) }
+    ensures memory { IfErr result (λ error. error ≡ error_of causes.Memory) }
+{
+    let mut service = blank(alloc, skew)?;
+    match install(alloc, keytab, realm, &mut service.properties) {
+        Ok(count) => Ok((service, count)),
+        Err(error) => Err(error),
+    }
+}
+
+/// The services of the realm that have a key in the file.
+fn services_in(
+    alloc: Global,
+    file: &[u8],
+    realm: &Name,
+    skew: u32,
+) -> Result<(Box<Service>, u32), Error>
+    ensures made { IfOk result (λ made. IsOfKeytab realm.now file.now skew made.0.value made.1) }
+    ensures refused { IfErr result (RefusesKeytab realm.now file.now) }
+{
+    let keytab = keytab_of(alloc, file)?;
+    match services_of(alloc, &keytab, realm, skew) {
+        Ok((service, count)) => {
+            if count == 0 {
+                Err(Error::from(Cause::NoServiceKey))
+            } else {
+                Ok((service, count))
+            }
+        }
+        Err(error) => Err(error),
+    }
+}
+
+fn make(
+    alloc: Global,
+    to: &mut Acceptor,
+    file: &[u8],
+    realm: &[u8],
+    skew: u32,
+) -> Result<usize, Failure>
+    ensures made { IfOk result (λ count. MakesOfKeytab realm.now file.now skew to.old.place.value count to.new.place.value) }
+    ensures refused { IfErr result (RefusedAs (RefusesKeytab realm.now file.now)) }
+    ensures stays { OnErr result (to.new.place.value ≡ to.old.place.value) }
+{
+    if !to.is_empty() {
+        return Err(Failure::Handle);
+    }
+    let realm = realm_of(alloc, realm)?;
+    match services_in(alloc, file, &realm, skew) {
+        Ok((service, count)) => {
+            to.put(service);
+            Ok(count as usize)
+        }
+        Err(error) => Err(Failure::Refused(error)),
+    }
+}
+
+/// Makes an acceptor in an empty handle: all services of this realm that have a key in the octets of a keytab file, each with one
+/// key: of type 18, else 17, and of several the one of the greatest version. The length says how many they are.
+///
+/// REFUSED as InvalidToken Shape where the octets are no keytab of the format 0502, and as InvalidToken NoServiceKey where no service of
+/// the realm has a key. ARGUMENT where the realm is past ASCII; HANDLE where the handle is not empty. It stays empty then.
+#[unsafe(no_mangle)]
+pub extern "C" fn mk_acceptor_keytab(
+    alloc: Global,
+    to: &mut Acceptor,
+    file: &[u8],
+    realm: &[u8],
+    skew: u32,
+) -> Reply
+    ensures { (answer : Result ℕ Failure) × (result ≡ reply_of answer)
+        × IfOk answer (λ count. MakesOfKeytab realm.now file.now skew to.old.place.value count to.new.place.value)
+        × IfErr answer (RefusedAs (RefusesKeytab realm.now file.now))
+        × OnErr answer (to.new.place.value ≡ to.old.place.value) }
+{
+    reply_of(make(alloc, to, file, realm, skew))
+}

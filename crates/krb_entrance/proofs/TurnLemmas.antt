@@ -1,0 +1,61 @@
+-- Keys that are tried in turn.
+use Rattle.std.proofs.Common.{◌≡◌, ℕ, suc, zero, ◌+◌, ◌<◌, List, [], ◌∷◌, ◌++◌, length, take, drop, get_or, Bool, true, false, Err, refl, sym, ap, ◌∙◌, subst, inl, inr, arith, add-one, drop-cons}
+use Rattle.std.specs.Prelude.{All, slice_index_or, ◌⊎◌}
+use Rattle.std.proofs.lemmas.List.{take-append-drop, take_all}
+use Rattle.krb_context.specs.declared.server.ServerProperties.{ServerProperties}
+use Rattle.krb_context.specs.Refusals.{Refuses}
+use Rattle.krb_entrance.specs.declared.candidate.Candidate.{Candidate}
+use Rattle.krb_entrance.specs.Candidates.{Stops, Passes}
+use Rattle.krb_entrance.specs.Turns.{leads_on, IsClosed, Opens, Ends, AllClosed, NoneOpens, EndsBehind, EndsInTurn}
+use Rattle.sspi_core.specs.Kinds.{error_of}
+use Rattle.sspi_core.specs.declared.cause.Cause.TheVariants.{Memory}
+use Rattle.sspi_core.specs.declared.draw.Draw.{Draw}
+use Rattle.sspi_core.specs.declared.error.Error.{Error}
+use Rattle.sspi_core.specs.declared.error.Place.TheVariants.{Elsewhere}
+
+module _ (token : List ℕ) (draw : Draw) where
+  -- a refusal that another key may mend closes the acceptor
+  pub closed_by : (service : ServerProperties) (error : Error) → Refuses Elsewhere (Stops service token draw) error → leads_on error.cause ≡ true
+      → IsClosed token draw service
+  closed_by service error refuses leads =
+      let L : Error → Bool = λ e. leads_on e.cause in
+      let no : error ≡ error_of Memory → ⊥ = λ e. absurd cc (sym leads ∙ ap L e) in
+      let there = refuses.so no in
+      record { cause = there.0; another = sym (ap L there.1) ∙ leads; stops = there.2 }
+
+  pub All-front : (service : ServerProperties) (services : List ServerProperties) → IsClosed token draw service → All (IsClosed token draw) services
+      → All (IsClosed token draw) (service ∷ services)
+  All-front service services here there zero d l = here
+  All-front service services here there (suc k) d l = there k d (omega arith)
+
+  pub opens_behind : (newest : ServerProperties) (older : List ServerProperties) (candidate : Candidate) → IsClosed token draw newest
+      → Opens older token draw candidate → Opens (newest ∷ older) token draw candidate
+  opens_behind newest older candidate here opens = record {
+    front = newest ∷ opens.front;
+    service = opens.service;
+    behind = opens.behind;
+    parts = ap (λ (s : List ServerProperties). newest ∷ s) opens.parts;
+    closed = All-front newest opens.front here opens.closed;
+    passes = opens.passes;
+  }
+
+  pub ends_in_turn : (newest : ServerProperties) (older : List ServerProperties) (kept error : Error) → IsClosed token draw newest
+      → Refuses Elsewhere (Stops newest token draw) kept → EndsBehind older token draw kept error → EndsInTurn newest older token draw error
+  ends_in_turn newest older kept error here refuses (inl ends) = inl (record {
+    front = newest ∷ ends.front;
+    service = ends.service;
+    behind = ends.behind;
+    parts = ap (λ (s : List ServerProperties). newest ∷ s) ends.parts;
+    closed = All-front newest ends.front here ends.closed;
+    refuses = ends.refuses;
+  })
+  ends_in_turn newest older kept error here refuses (inr all) = inr (record {
+    refuses = subst (Refuses Elsewhere (Stops newest token draw)) (sym all.is_kept) refuses;
+    closed = All-front newest older here all.closed;
+  })
+
+-- a list around one of its elements
+pub parts_at : {X : Type 0} (xs : List X) (i : ℕ) (x : X) → i < length xs → x ≡ get_or xs i x → xs ≡ take i xs ++ x ∷ drop (i + 1) xs
+parts_at {X} xs i x lt is =
+    let e : drop i xs ≡ x ∷ drop (i + 1) xs = rw (add-one, drop-cons xs i x) (ap (λ (y : X). y ∷ drop (suc i) xs) (sym is)) in
+    sym (take-append-drop i xs) ∙ ap (λ (ys : List X). take i xs ++ ys) e

@@ -1,0 +1,71 @@
+//! Several keys of a service, tried in turn.
+
+ghost use Rattle.std.specs.Prelude.{◌≡◌, ◌∷◌, true, false, IfOk, IfErr};
+ghost use Rattle.krb_entrance.specs.Candidates.{client_told};
+ghost use Rattle.krb_entrance.specs.Turns.{leads_on, Opens, EndsBehind, EndsInTurn};
+
+use crate::candidate::{Candidate, judge};
+use krb_server::{Cause, Draw, Error, ServerProperties};
+use std::alloc::Global;
+
+/// Whether another key may be the right one.
+fn leads_on(cause: Cause) -> bool
+    ensures { result ≡ leads_on cause }
+{
+    match cause {
+        Cause::NoServiceKey | Cause::KeyLength | Cause::Altered => true,
+        _ => false,
+    }
+}
+
+/// The older keys in their order, behind a refusal of the newest.
+fn judge_older(
+    alloc: Global,
+    older: &[ServerProperties],
+    token: &[u8],
+    draw: &Draw,
+    kept: Error,
+) -> Result<Candidate, Error>
+    ensures opens { IfOk result (Opens older.now token.now draw.now) }
+    ensures client { IfOk result (λ candidate. candidate.client.value ≡ client_told candidate.judged.request.part) }
+    ensures refused { IfErr result (EndsBehind older.now token.now draw.now kept) }
+{
+    for properties in older {
+        match judge(alloc, properties, token, draw) {
+            Ok(candidate) => return Ok(candidate),
+            Err(error) => {
+                if !leads_on(error.cause) {
+                    return Err(error);
+                }
+            }
+        }
+    }
+    Err(kept)
+}
+
+/// Judges a token by the newest keys, and by the older ones in their order where those before do not open the ticket: after a
+/// change of keys, tickets under the older ones live on. Each try is that of [`judge`](crate::judge), which changes nothing.
+///
+/// The refusal is that of the newest keys where none opens the ticket, and else of those that opened it.
+pub fn judge_in_turn(
+    alloc: Global,
+    newest: &ServerProperties,
+    older: &[ServerProperties],
+    token: &[u8],
+    draw: &Draw,
+) -> Result<Candidate, Error>
+    ensures opens { IfOk result (Opens (newest.now ∷ older.now) token.now draw.now) }
+    ensures client { IfOk result (λ candidate. candidate.client.value ≡ client_told candidate.judged.request.part) }
+    ensures refused { IfErr result (EndsInTurn newest.now older.now token.now draw.now) }
+{
+    match judge(alloc, newest, token, draw) {
+        Ok(candidate) => Ok(candidate),
+        Err(error) => {
+            if leads_on(error.cause) {
+                judge_older(alloc, older, token, draw, error)
+            } else {
+                Err(error)
+            }
+        }
+    }
+}
