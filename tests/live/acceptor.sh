@@ -23,13 +23,26 @@ is_answered() {
 
 # Four clients at the same time, each with ten connections of three messages.
 crowd() {
-    local clients=() status=0
-    for _ in 1 2 3 4; do
-        verifies 30 "$acceptor_port" -ccount 10 -mcount 3 hello > /dev/null &
+    local clients=() status=0 i
+    for i in 1 2 3 4; do
+        verifies 30 "$acceptor_port" -ccount 10 -mcount 3 hello > "$room/crowd-$i" &
         clients+=($!)
     done
     for client in "${clients[@]}"; do wait "$client" || status=1; done
+    [ $status -eq 0 ] || { tail -n 3 "$room"/crowd-*; grep -v -e '^admitted' -e octets "$room/acceptor.log" | tail -n 3; }
     return $status
+}
+
+# Two processes of one client may make authenticators of one microsecond. The second is refused as Replayed (RFC 4120, section 3.2.3),
+# and its client has to come again. Nothing else lets the crowd come again.
+crowd_soon() {
+    local before _
+    for _ in 1 2 3; do
+        before=$(wc -l < "$room/acceptor.log")
+        crowd && return 0
+        tail -n "+$((before + 1))" "$room/acceptor.log" | grep -q 'refused: .*Replayed' || return 1
+    done
+    return 1
 }
 
 # Whether what a relay kept gets no answer at a port: is_unanswered PORT FILE
@@ -88,7 +101,7 @@ try_acceptor() {
     check "-f: a file of $(wc -c < "$room/file") octets" verifies 1 "$acceptor_port" -f "$room/file"
     check "-na: a client that does not log in is refused" is_refused acceptor 'does not log in' -na 127.0.0.1 host@server.example.com hello
     check "a ticket for another service is refused" is_refused acceptor 'NoServiceKey' 127.0.0.1 imap@server.example.com hello
-    check "four clients at once, 120 messages" crowd
+    check "four clients at once, 120 messages" crowd_soon
     check "a token that comes again is refused" comes_again
     check "200 tokens with one octet changed are refused" changed_comes
     check "what is no token is refused" noise_comes
