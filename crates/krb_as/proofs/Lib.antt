@@ -1,5 +1,6 @@
 mod Chains
 mod Early
+mod Grants
 mod OwnSuite
 mod ProxyLengths
 mod Quiet

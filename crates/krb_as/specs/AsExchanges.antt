@@ -1,12 +1,15 @@
 -- The AS exchange as a task of its own, which ends with the AS-REP.
-use Rattle.std.specs.Prelude.{◌≡◌, ℕ, ◌≤◌, ◌^◌, List, length, Result}
+use Rattle.std.specs.Prelude.{◌≡◌, ℕ, ◌≤◌, ◌^◌, List, length, Result, Ok, Err}
 use Rattle.krb_exchange.specs.declared.kdc_rep.AsRep.{AsRep}
 use Rattle.krb_exchange.specs.Layouts.{as_rep_layout, kdc_req_body_layout}
 use Rattle.sspi_core.specs.declared.protocol.NetworkProtocol.{NetworkProtocol}
 use Rattle.sspi_core.specs.declared.draw.Draw.{Draw}
 use Rattle.sspi_core.specs.declared.error.Error.{Error}
 use Rattle.sspi_core.specs.declared.cause.Cause.{Cause}
-use Rattle.sspi_core.specs.Checks.{Gives, ◌>>=◌}
+use Rattle.sspi_core.specs.declared.cause.Cause.TheVariants.{EarlyAsRep}
+use Rattle.sspi_core.specs.Checks.{Holds, Gives, ◌>>=◌, ◌>>◌}
+use Rattle.krb_context.specs.declared.interoperability.Interoperability.{Interoperability}
+use Rattle.krb_context.specs.Interoperability.{allows, no_preauthentication}
 use Rattle.sspi_generator.specs.declared.network.NetworkRequest.{NetworkRequest}
 use Rattle.sspi_generator.specs.declared.network.NetFault.{NetFault}
 use Rattle.sspi_generator.specs.declared.task.GeneratorState.{GeneratorState}
@@ -24,6 +27,17 @@ use Rattle.krb_as.specs.Askers.{default_salt}
 use Rattle.krb_as.specs.Replied.{TakesFirst, Grants}
 use Rattle.krb_as.specs.AsPhases as as_phases
 use Rattle.krb_as.specs.AsPhases.{BeginsWithin, AsksSecond}
+
+-- the end with an AS-REP, where there is a salt
+abbrev pub end_in : AsRep → Result (List ℕ) Cause → Result (Turn ExchangePhase AsDone) Cause
+end_in as_rep (Ok salt) = Ok (Ends (record { as_rep = as_rep; salt = salt }))
+end_in as_rep (Err cause) = Err cause
+
+-- the salt of an AS-REP that came at once, where it may
+unfoldable pub LeavesEarly : Interoperability → List ℕ → Result (List ℕ) Cause → Type 0
+LeavesEarly options default = do
+  Holds EarlyAsRep (allows options no_preauthentication)
+  Gives default
 
 -- the AS-REP ends it, with the salt of the key that the time was sealed under
 abbrev pub EndsWith : List ℕ → AsRep → Result (Turn ExchangePhase AsDone) Cause → Type 0

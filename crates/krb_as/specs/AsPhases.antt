@@ -1,7 +1,7 @@
 -- The AS exchange (RFC 4120, section 3.1), step by step, as each run contains it: one request without pre-authentication, whose error may
 -- name the salt, and one with the time sealed under the client's key, whose reply brings a ticket and its session key. Where it is allowed,
 -- the first reply may bring the ticket.
-use Rattle.std.specs.Prelude.{◌≡◌, ℕ, ◌≤◌, ◌^◌, List, length, Result}
+use Rattle.std.specs.Prelude.{◌≡◌, ℕ, ◌≤◌, ◌^◌, List, length, Result, Ok, Err}
 use Rattle.krb_exchange.specs.declared.kdc_rep.AsRep.{AsRep}
 use Rattle.krb_exchange.specs.declared.kdc_req.KdcReqBody.{KdcReqBody}
 use Rattle.krb_exchange.specs.declared.krb_error.KrbError.{KrbError}
@@ -16,6 +16,7 @@ use Rattle.sspi_core.specs.Checks.{Takes, Gives, ◌>>=◌}
 use Rattle.sspi_generator.specs.declared.network.NetworkRequest.{NetworkRequest}
 use Rattle.sspi_generator.specs.declared.network.NetFault.{NetFault}
 use Rattle.krb_requests.specs.Pieces.{Fits}
+use Rattle.krb_replies.specs.declared.keys.ReplyKey.{ReplyKey}
 use Rattle.krb_as.specs.declared.asker.Asker.{Asker}
 use Rattle.krb_as.specs.declared.as_phase.AsPhase.{AsPhase}
 use Rattle.krb_as.specs.declared.as_phase.AsPhase.TheVariants.{AwaitsError, AwaitsAsRep}
@@ -56,6 +57,11 @@ unfoldable pub AsksSecond : {P O : Type 0} → (AsPhase → P) → Asker → Kdc
 AsksSecond within asker kdc body draw error = do
   sent ← SealsTime asker kdc body draw error
   Gives (Asks sent.0 (within (AwaitsAsRep sent.1)))
+
+-- the ticket of an AS-REP, where its key was taken
+abbrev pub grant_in : AsRep → Result ReplyKey Cause → Result (Turn AsPhase Grant) Cause
+grant_in as_rep (Ok taken) = Ok (Ends (record { suite = taken.suite; key = taken.key; rep = as_rep.0 }))
+grant_in as_rep (Err cause) = Err cause
 
 -- an AS-REP brings a ticket, and the key that is sealed in it under that of the credentials; used is the salt of the request
 unfoldable pub BringsGrant : Asker → List ℕ → AsRep → Result (Turn AsPhase Grant) Cause → Type 0

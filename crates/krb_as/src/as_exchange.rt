@@ -12,7 +12,7 @@ ghost use Rattle.krb_as.specs.Askers.{asker_of, default_salt};
 ghost use Rattle.krb_as.specs.Replied.{TakesEarly, TakesEither, TakesFirst};
 ghost use Rattle.krb_as.specs.Turns.{is_want, GoesDown};
 ghost use Rattle.krb_as.specs.AsPhases.{BeginsWithin, AsksSecond};
-ghost use Rattle.krb_as.specs.AsExchanges.{EndsWith, EndsWithAsRep, Starts, Next, IsNewPhase, IsAwaiting, turns_left, IsNew, StartsAt, ResumesAt};
+ghost use Rattle.krb_as.specs.AsExchanges.{end_in, EndsWith, LeavesEarly, EndsWithAsRep, Starts, Next, IsNewPhase, IsAwaiting, turns_left, IsNew, StartsAt, ResumesAt};
 
 use crate::as_phase::{AsPhase, begin_exchange, seal_time};
 use crate::asker::{Asker, default_salt};
@@ -137,29 +137,27 @@ fn ask_second(
     Ok(Turn::Asks(request, ExchangePhase::InAsExchange(phase)))
 }
 
-fn end(alloc: Global, as_rep: AsRep, salt: &Text) -> Result<Turn<ExchangePhase, AsDone>, Cause>
-    ensures step { Answers (EndsWith salt.now as_rep) result }
+/// The end with an AS-REP, where there is a salt.
+fn end_in(salt: Result<Text, Cause>, as_rep: AsRep) -> Result<Turn<ExchangePhase, AsDone>, Cause>
+    ensures step { result ≡ end_in as_rep salt }
     ensures down { (asker : Asker) (turns : ℕ) → IfOk result (λ turn. GoesDown (IsAwaiting asker) turns_left turns turn) }
 {
-    let salt = salt.copy(alloc)?;
-    Ok(Turn::Ends(AsDone { as_rep, salt }))
+    match salt {
+        Ok(salt) => Ok(Turn::Ends(AsDone { as_rep, salt })),
+        Err(cause) => Err(cause),
+    }
 }
 
-/// The end with the salt of the credentials, since none was used.
-fn end_unsalted(
-    alloc: Global,
-    asker: &Asker,
-    as_rep: AsRep,
-) -> Result<Turn<ExchangePhase, AsDone>, Cause>
-    ensures step { Answers (EndsWith (default_salt asker.now.credentials) as_rep) result }
-    ensures down { IfOk result (λ turn. GoesDown (IsAwaiting asker.now) turns_left 1 turn) }
+/// The salt of the credentials, since none was used, where an AS-REP may come at once.
+#[tactic(auto, unfolding(crate::specs::AsExchanges::LeavesEarly))]
+fn early_salt(alloc: Global, asker: &Asker) -> Result<Text, Cause>
+    ensures { Answers (LeavesEarly asker.now.interoperability (default_salt asker.now.credentials)) result }
 {
-    let salt = default_salt(alloc, &asker.credentials)?;
-    end(alloc, as_rep, &salt)
+    check_early(asker.interoperability)?;
+    Ok(default_salt(alloc, &asker.credentials)?)
 }
 
 /// The end with an AS-REP that came at once.
-#[tactic(auto, unfolding(crate::specs::Replied::TakesEarly))]
 fn end_early(
     alloc: Global,
     asker: &Asker,
@@ -168,8 +166,8 @@ fn end_early(
     ensures step { Answers (TakesEarly asker.now.interoperability (EndsWith (default_salt asker.now.credentials)) as_rep) result }
     ensures down { IfOk result (λ turn. GoesDown (IsAwaiting asker.now) turns_left 1 turn) }
 {
-    check_early(asker.interoperability)?;
-    end_unsalted(alloc, asker, as_rep)
+    let salt = early_salt(alloc, asker);
+    end_in(salt, as_rep)
 }
 
 /// What follows an error, or an AS-REP in its place.
@@ -225,8 +223,9 @@ fn take_as_rep(
     ensures step { Answers (EndsWithAsRep sealed.now.kdc.protocol sealed.now.salt reply) result }
     ensures down { (asker : Asker) (turns : ℕ) → IfOk result (λ turn. GoesDown (IsAwaiting asker) turns_left turns turn) }
 {
+    let salt = sealed.salt.copy(alloc)?;
     let as_rep = granted_as_rep(alloc, sealed.kdc.protocol, reply)?;
-    end(alloc, as_rep, &sealed.salt)
+    Ok(Turn::Ends(AsDone { as_rep, salt }))
 }
 
 /// What an answer leads to in a phase that awaits one.

@@ -1,6 +1,6 @@
 //! The AS exchange (RFC 4120, section 3.1), as each run contains it.
 
-ghost use Rattle.std.specs.Prelude.{◌≡◌, ◌≤◌, ◌^◌, IfOk, length};
+ghost use Rattle.std.specs.Prelude.{◌≡◌, ℕ, ◌≤◌, ◌^◌, IfOk, length};
 ghost use Rattle.krb_crypto.specs.Suite.{key_size};
 ghost use Rattle.sspi_core.specs.Moments.{last_moment};
 ghost use Rattle.sspi_core.specs.Checks.{Answers, Gives};
@@ -13,7 +13,22 @@ ghost use Rattle.krb_as.specs.Asked.{first_request, second_request};
 ghost use Rattle.krb_as.specs.Granted.{IsSendable, IsSendableReply};
 ghost use Rattle.krb_as.specs.Replied.{TakesEarly, TakesEither, TakesFirst};
 ghost use Rattle.krb_as.specs.Turns.{GoesDown};
-ghost use Rattle.krb_as.specs.AsPhases.{IsSealed, IsAwaiting, turns_left, kdc_of, EndsSendable, sealed_time, BeginsExchange, SealsTime, AsksSecond, BringsGrant, TakesAsRep, TakesReply};
+ghost use Rattle.krb_as.specs.AsPhases.{
+  IsSealed,
+  IsAwaiting,
+  turns_left,
+  kdc_of,
+  EndsSendable,
+  sealed_time,
+  BeginsExchange,
+  SealsTime,
+  AsksSecond,
+  grant_in,
+  BringsGrant,
+  TakesAsRep,
+  TakesReply,
+};
+ghost use Rattle.krb_as.specs.ReplyKeys.{TakesReplyKey};
 
 use crate::asker::{Asker, default_salt, sized_key};
 use crate::kdc::{Kdc, find_kdc};
@@ -24,6 +39,7 @@ use crate::turn::Turn;
 use krb_crypto::CipherSuite;
 use krb_der::{Octets, Text, TryCopy};
 use krb_exchange::{AsRep, KdcReqBody, KrbError, KrbResult};
+use krb_replies::ReplyKey;
 use sspi_core::{Cause, Draw, Secret};
 use sspi_generator::{NetFault, NetworkRequest};
 use std::alloc::Global;
@@ -170,47 +186,50 @@ fn ask_second(
     Ok(Turn::Asks(request, AsPhase::AwaitsAsRep(sealed)))
 }
 
-/// The ticket of an AS-REP that came at once, with this salt where it tells none.
-#[tactic(auto, unfolding(crate::specs::AsPhases::BringsGrant))]
-fn salted_grant(
-    alloc: Global,
-    asker: &Asker,
-    salt: &Text,
-    as_rep: AsRep,
-) -> Result<Turn<AsPhase, Grant>, Cause>
-    requires sendable { IsSendable as_rep.0 }
-    ensures step { Answers (BringsGrant asker.now salt.now as_rep) result }
-    ensures down { IfOk result (λ turn. GoesDown (IsAwaiting asker.now) turns_left 1 turn) }
+/// The end with the ticket of an AS-REP, where its key was taken.
+fn grant_in(taken: Result<ReplyKey, Cause>, as_rep: AsRep) -> Result<Turn<AsPhase, Grant>, Cause>
+    requires { IsSendable as_rep.0 }
+    ensures step { result ≡ grant_in as_rep taken }
+    ensures down { (asker : Asker) (turns : ℕ) → IfOk result (λ turn. GoesDown (IsAwaiting asker) turns_left turns turn) }
     ensures sendable { IfOk result (λ turn. EndsSendable turn) }
 {
-    let taken = reply_key(alloc, asker, salt, &as_rep)?;
-    Ok(Turn::Ends(Grant {
-        suite: taken.suite,
-        key: taken.key,
-        rep: as_rep.0,
-    }))
+    match taken {
+        Ok(taken) => Ok(Turn::Ends(Grant {
+            suite: taken.suite,
+            key: taken.key,
+            rep: as_rep.0,
+        })),
+        Err(cause) => Err(cause),
+    }
 }
 
-/// The same with the salt of the credentials, since none was used.
-fn early_grant(alloc: Global, asker: &Asker, as_rep: AsRep) -> Result<Turn<AsPhase, Grant>, Cause>
-    requires sendable { IsSendable as_rep.0 }
-    ensures step { Answers (BringsGrant asker.now (default_salt asker.now.credentials) as_rep) result }
-    ensures down { IfOk result (λ turn. GoesDown (IsAwaiting asker.now) turns_left 1 turn) }
-    ensures sendable { IfOk result (λ turn. EndsSendable turn) }
+/// The key of an AS-REP that came at once, with the salt of the credentials where it tells none, since none was used.
+fn unsalted_key(alloc: Global, asker: &Asker, as_rep: &AsRep) -> Result<ReplyKey, Cause>
+    ensures { Answers (TakesReplyKey asker.now.interoperability asker.now.credentials (default_salt asker.now.credentials) as_rep.now) result }
 {
     let salt = default_salt(alloc, &asker.credentials)?;
-    salted_grant(alloc, asker, &salt, as_rep)
+    reply_key(alloc, asker, &salt, as_rep)
 }
 
+/// That key, where the AS-REP may come at once.
 #[tactic(auto, unfolding(crate::specs::Replied::TakesEarly))]
-fn take_early(alloc: Global, asker: &Asker, as_rep: AsRep) -> Result<Turn<AsPhase, Grant>, Cause>
+fn early_key(alloc: Global, asker: &Asker, as_rep: &AsRep) -> Result<ReplyKey, Cause>
+    ensures { Answers (TakesEarly asker.now.interoperability
+        (TakesReplyKey asker.now.interoperability asker.now.credentials (default_salt asker.now.credentials)) as_rep.now) result }
+{
+    check_early(asker.interoperability)?;
+    unsalted_key(alloc, asker, as_rep)
+}
+
+/// The ticket of an AS-REP that came at once, where it may.
+fn early_grant(alloc: Global, asker: &Asker, as_rep: AsRep) -> Result<Turn<AsPhase, Grant>, Cause>
     requires sendable { IsSendable as_rep.0 }
     ensures step { Answers (TakesEarly asker.now.interoperability (BringsGrant asker.now (default_salt asker.now.credentials)) as_rep) result }
     ensures down { IfOk result (λ turn. GoesDown (IsAwaiting asker.now) turns_left 1 turn) }
     ensures sendable { IfOk result (λ turn. EndsSendable turn) }
 {
-    check_early(asker.interoperability)?;
-    early_grant(alloc, asker, as_rep)
+    let taken = early_key(alloc, asker, &as_rep);
+    grant_in(taken, as_rep)
 }
 
 /// What follows an error, or an AS-REP in its place.
@@ -233,7 +252,7 @@ fn take_either(
 {
     match first {
         KrbResult::Err(error) => ask_second(alloc, asker, kdc, body, &error, draw),
-        KrbResult::Ok(as_rep) => take_early(alloc, asker, as_rep),
+        KrbResult::Ok(as_rep) => early_grant(alloc, asker, as_rep),
     }
 }
 
@@ -259,8 +278,25 @@ fn take_first(
     take_either(alloc, asker, kdc, body, first, draw)
 }
 
+/// The ticket of the second reply.
+fn kept_grant(
+    alloc: Global,
+    asker: &Asker,
+    sealed: &SealedTime,
+    as_rep: AsRep,
+) -> Result<Turn<AsPhase, Grant>, Cause>
+    requires sealed { IsSealed asker.now sealed.now }
+    requires sendable { IsSendable as_rep.0 }
+    ensures step { Answers (BringsGrant asker.now sealed.now.salt as_rep) result }
+    ensures down { IfOk result (λ turn. GoesDown (IsAwaiting asker.now) turns_left 0 turn) }
+    ensures sendable { IfOk result (λ turn. EndsSendable turn) }
+{
+    let taken = kept_reply_key(alloc, asker, sealed, &as_rep);
+    grant_in(taken, as_rep)
+}
+
 /// What follows the second reply.
-#[tactic(auto, unfolding(crate::specs::AsPhases::TakesAsRep, crate::specs::AsPhases::BringsGrant))]
+#[tactic(auto, unfolding(crate::specs::AsPhases::TakesAsRep))]
 fn take_as_rep(
     alloc: Global,
     asker: &Asker,
@@ -273,12 +309,7 @@ fn take_as_rep(
     ensures sendable { IfOk result (λ turn. EndsSendable turn) }
 {
     let as_rep = granted_as_rep(alloc, sealed.kdc.protocol, reply)?;
-    let taken = kept_reply_key(alloc, asker, sealed, &as_rep)?;
-    Ok(Turn::Ends(Grant {
-        suite: taken.suite,
-        key: taken.key,
-        rep: as_rep.0,
-    }))
+    kept_grant(alloc, asker, sealed, as_rep)
 }
 
 /// What a reply leads to: the second request behind the first reply, and behind the second one the ticket that it brings. Where the

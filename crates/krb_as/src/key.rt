@@ -80,7 +80,8 @@ fn told_key(
     hint: &(u8, Text),
     as_rep: &AsRep,
 ) -> Result<ReplyKey, Cause>
-    ensures { Answers (BringsFirst asker.now.interoperability (suite_of_etype hint.now.0) (client_key (suite_of_etype hint.now.0) hint.now.1 asker.now.credentials) as_rep.now) result }
+    ensures { Answers (BringsFirst asker.now.interoperability (suite_of_etype hint.now.0)
+        (client_key (suite_of_etype hint.now.0) hint.now.1 asker.now.credentials) as_rep.now) result }
 {
     brought_key(
         alloc,
@@ -129,7 +130,8 @@ fn kept_or_told_key(
     as_rep: &AsRep,
 ) -> Result<ReplyKey, Cause>
     requires { sealed.now.key ≡ client_key sealed.now.suite sealed.now.salt asker.now.credentials }
-    ensures { Answers (BringsFirst asker.now.interoperability (suite_of_etype hint.now.0) (client_key (suite_of_etype hint.now.0) hint.now.1 asker.now.credentials) as_rep.now) result }
+    ensures { Answers (BringsFirst asker.now.interoperability (suite_of_etype hint.now.0)
+        (client_key (suite_of_etype hint.now.0) hint.now.1 asker.now.credentials) as_rep.now) result }
 {
     if is_kept(sealed, hint) {
         let key = sealed.key.as_ref().as_slice();
