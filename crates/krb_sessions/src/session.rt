@@ -18,7 +18,7 @@ use crate::fault::Fault;
 use crate::message::{opened_message, part_octets, sealed_message};
 use crate::name::name_text;
 use crate::room::{put, put_both};
-use krb_context::Kerberos;
+use krb_context::{Interoperability, Kerberos};
 use krb_der::Octets;
 use sspi_core::{Cause, Error, Part};
 use std::alloc::Global;
@@ -82,6 +82,13 @@ impl Session {
         ensures { result ≡ suite_number (suite_of self.now.connection.encryption_params) }
     {
         self.connection.encryption_params.suite().number()
+    }
+
+    /// What the context does beyond its own rules from now on: these options, and no others.
+    pub fn allow(&mut self, options: Interoperability)
+        ensures { self.new ≡ record self.old { connection = record self.old.connection { interoperability = options } } }
+    {
+        self.connection.interoperability = options;
     }
 
     /// Seals a text into a message for the client. The confounder is 16 random octets.
