@@ -1,0 +1,108 @@
+-- What a dialogue is about.
+use Rattle.std.specs.Prelude.{◌≡◌, ℕ, ◌==◌, ◌||◌, List, [], ◌∷◌, ◌++◌, Some, None, Result, if◌then◌else◌}
+use Rattle.krb_conf.specs.Kdc.{url_of, with_protocol}
+use Rattle.krb_context.specs.Contexts.{new_context}
+use Rattle.krb_context.specs.Params.{default_params}
+use Rattle.krb_context.specs.declared.context.Kerberos.{Kerberos}
+use Rattle.krb_context.specs.declared.interoperability.Interoperability.{Interoperability}
+use Rattle.krb_initiator.specs.declared.options.InitOptions.{InitOptions}
+use Rattle.sspi_core.specs.declared.bindings.ChannelBindings.{ChannelBindings}
+use Rattle.sspi_core.specs.declared.flags.ClientRequestFlags.{ClientRequestFlags}
+use Rattle.sspi_core.specs.declared.identity.CredentialsBuffers.{CredentialsBuffers}
+use Rattle.sspi_core.specs.declared.identity.CredentialsBuffers.TheVariants.{AuthIdentity as Password, Keytab as Key}
+use Rattle.sspi_core.specs.declared.identity.KeytabIdentity.{KeytabIdentity}
+use Rattle.sspi_core.specs.declared.cause.Cause.{Cause}
+use Rattle.sspi_core.specs.declared.cause.Cause.TheVariants.{Etype, BadUser, Bindings}
+use Rattle.sspi_core.specs.Bindings.{is_bindings, bindings}
+use Rattle.sspi_core.specs.Checks.{Holds, Takes, ◌>>◌}
+use Rattle.sspi_core.specs.Usernames.{UserName, parsed}
+use Rattle.krb_dialogue.specs.declared.dialogue.Dialogue.{Dialogue}
+use Rattle.krb_dialogue.specs.declared.dialogue.Turn.TheVariants.{Rests}
+
+-- an initiator at this machine, with no KDC of its own, before its exchange
+abbrev pub first_context : List ℕ → ℕ → Kerberos
+first_context machine number = new_context (default_params 24 22) (record { kdc_url = None; client_computer_name = machine }) None number
+
+-- the service alone is asked for: by nobody, with no channel below, and with no variable and no file
+abbrev pub first_options : List ℕ → ClientRequestFlags → InitOptions
+first_options target flags = record {
+  flags = flags;
+  target = Some target;
+  token = [];
+  credentials = None;
+  channel_bindings = None;
+  env = record { vars = []; files = [] };
+}
+
+-- a new dialogue, with no token
+pub record IsNew (target machine : List ℕ) (flags : ClientRequestFlags) (number : ℕ) (dialogue : Dialogue) : Type 0 where
+  pub options : dialogue.options ≡ first_options target flags
+  pub context : dialogue.session.connection ≡ first_context machine number
+  pub token : dialogue.session.answer ≡ []
+  pub turn : dialogue.turn ≡ Rests
+
+-- with other options
+abbrev pub with_credentials : CredentialsBuffers → Dialogue → Dialogue
+with_credentials credentials dialogue = record dialogue { options = record dialogue.options { credentials = Some credentials } }
+
+abbrev pub with_bindings : ChannelBindings → Dialogue → Dialogue
+with_bindings bindings dialogue = record dialogue { options = record dialogue.options { channel_bindings = Some bindings } }
+
+-- one more variable, or file, behind those that are there
+abbrev pub with_variable : List ℕ → List ℕ → Dialogue → Dialogue
+with_variable name value dialogue =
+    record dialogue { options = record dialogue.options { env = record dialogue.options.env { vars = dialogue.options.env.vars ++ (name, value) ∷ [] } } }
+
+abbrev pub with_file : List ℕ → List ℕ → Dialogue → Dialogue
+with_file path text dialogue =
+    record dialogue { options = record dialogue.options { env = record dialogue.options.env { files = dialogue.options.env.files ++ (path, text) ∷ [] } } }
+
+-- the KDC at this address, if it is one
+abbrev pub with_kdc : List ℕ → Dialogue → Dialogue
+with_kdc address dialogue =
+    record dialogue {
+      session = record dialogue.session {
+        connection = record dialogue.session.connection {
+          config = record dialogue.session.connection.config { kdc_url = url_of (with_protocol address) };
+        };
+      };
+    }
+
+-- what the context may do beyond its own rules
+abbrev pub with_options : Interoperability → Dialogue → Dialogue
+with_options options dialogue =
+    record dialogue { session = record dialogue.session { connection = record dialogue.session.connection { interoperability = options } } }
+
+-- a user with a password, and one with a key
+abbrev pub password_of : List ℕ → List ℕ → List ℕ → CredentialsBuffers
+password_of user domain password = Password (record { user = user; domain = domain; password = password })
+
+-- bindings to the application's data alone (as a TLS channel's, RFC 5929)
+abbrev pub data_bindings : List ℕ → ChannelBindings
+data_bindings octets = record {
+  initiator_addr_type = 0;
+  initiator = [];
+  acceptor_addr_type = 0;
+  acceptor = [];
+  application_data = octets;
+}
+
+-- the user that the text names, with a key of this type
+pub record SetsKey (principal : List ℕ) (etype : ℕ) (key : List ℕ) (old new : Dialogue) : Type 0 where
+  pub user : UserName
+  pub named : parsed principal ≡ Some user
+  pub identity : KeytabIdentity
+  pub is_user : identity.principal ≡ user
+  pub is_type : identity.key_enctype ≡ etype
+  pub is_key : identity.key ≡ key
+  pub set : new ≡ with_credentials (Key identity) old
+
+-- the type is one of AES (RFC 3962, section 7), and the text names a user
+unfoldable pub NamesKey : List ℕ → ℕ → Result UserName Cause → Type 0
+NamesKey principal etype = do
+  Holds Etype (etype == 17 || etype == 18)
+  Takes BadUser (parsed principal)
+
+-- the octets are bindings
+abbrev pub AreBindings : List ℕ → Result ChannelBindings Cause → Type 0
+AreBindings octets = Takes Bindings (if is_bindings octets then Some (bindings octets) else None)

@@ -1,0 +1,305 @@
+//! The steps of a dialogue.
+
+ghost use Rattle.std.specs.Prelude.{◌≡◌, ◌≤◌, IfOk, OnOk};
+ghost use Rattle.sspi_core.specs.Moments.{last_moment};
+ghost use Rattle.krb_dialogue.specs.Dialogues.{options_with};
+ghost use Rattle.krb_dialogue.specs.Steps.{in_time, in_turn, next_of};
+
+use crate::dialogue::{Dialogue, Next, Turn};
+use crate::exchange::{Exchange, Outcome, begin_exchange, continue_exchange};
+use krb_as::InitDone;
+use krb_conf::Env;
+use krb_der::{Copier, Octets, OutOfMemory};
+use krb_initiator::{InitOptions, InitRun, initialize_security_context};
+use sspi_core::{Cause, Draw, Error, MAX_MOMENT, SecurityStatus};
+use sspi_generator::{NetFault, NetworkRequest};
+use std::alloc::Global;
+use std::mem;
+
+/// Whether a step's moment lies in its range. Refused as `Moment` past the end of 9999-12-28.
+fn in_time(draw: &Draw) -> Result<(), Cause>
+    ensures same { result ≡ in_time draw.now }
+    ensures moment { OnOk result (draw.now.moment ≤ last_moment) }
+{
+    if draw.moment <= MAX_MOMENT {
+        Ok(())
+    } else {
+        Err(Cause::Moment)
+    }
+}
+
+/// Whether a step comes in its turn. Refused as `Sequence` where it does not.
+fn in_turn(may_come: bool) -> Result<(), Cause>
+    ensures { result ≡ in_turn may_come }
+{
+    if may_come {
+        Ok(())
+    } else {
+        Err(Cause::Sequence)
+    }
+}
+
+/// What follows an exchange that is over.
+fn next_of(status: SecurityStatus) -> Next
+    ensures { result ≡ next_of status }
+{
+    match status {
+        SecurityStatus::Ok => Next::Established,
+        SecurityStatus::ContinueNeeded => Next::SendToken,
+    }
+}
+
+/// What is asked for, with what the service sent: all is copied, since the run keeps it.
+fn options_with(
+    alloc: Global,
+    options: &InitOptions,
+    token: &[u8],
+) -> Result<InitOptions, OutOfMemory>
+    ensures { IfOk result (λ copy. copy ≡ options_with options.now token.now) }
+{
+    let token = Octets::from_slice(alloc, token)?;
+    let mut copier = Copier::new(alloc);
+    let copy = InitOptions {
+        flags: options.flags,
+        target: copier.copy(&options.target),
+        token,
+        credentials: copier.copy(&options.credentials),
+        channel_bindings: copier.copy(&options.channel_bindings),
+        env: Env {
+            vars: copier.copy(&options.env.vars),
+            files: copier.copy(&options.env.files),
+        },
+    };
+    copier.finish(copy)
+}
+
+impl Dialogue {
+    ghost use Rattle.std.specs.Prelude.{◌≡◌, ◌≤◌, ◌<◌, Ok, Err, [], IfOk, IfErr};
+    ghost use Rattle.sspi_core.specs.Kinds.{error_of};
+    ghost use Rattle.sspi_core.specs.Moments.{last_moment};
+    ghost use Rattle.sspi_core.specs.declared.cause.Cause.TheVariants as causes;
+    ghost use Rattle.sspi_generator.specs.Steps.{IsFailure};
+    ghost use Rattle.sspi_generator.specs.declared.network.NetFault.TheVariants as net_faults;
+    ghost use Rattle.krb_dialogue.specs.Outcomes.{IsNetwork};
+    ghost use Rattle.krb_initiator.specs.InitRuns.{IsNew, turns_left};
+    ghost use Rattle.krb_dialogue.specs.Dialogues.{is_asking, can_start, can_hear, requests_left, options_with};
+    ghost use Rattle.krb_dialogue.specs.declared.exchange.Outcome.TheVariants as outcomes;
+    ghost use Rattle.krb_dialogue.specs.Steps.{LeadsTo, Opens, Continues, Undertakes, TakesReply, Allows, in_turn, Starts, Hears, Takes, Steps};
+
+    /// Whether it may begin.
+    fn can_start(&self) -> bool
+        ensures { result ≡ can_start self.now }
+    {
+        !self.is_asking() && self.session.session.connection.state.is_waiting()
+    }
+
+    /// An exchange is over: the context takes its change, and the token stays.
+    fn end(&mut self, done: InitDone) -> Next
+        ensures { LeadsTo self.old (outcomes.Ends done) (Ok result) self.new }
+    {
+        let InitDone {
+            status,
+            token,
+            change,
+        } = done;
+        let session = &mut self.session.session;
+        session.connection.settle(change);
+        session.answer = token;
+        self.turn = Turn::Shows;
+        next_of(status)
+    }
+
+    /// Takes what a step of its exchange led to.
+    fn take_outcome(&mut self, outcome: Outcome) -> Result<Next, Error>
+        ensures leads { LeadsTo self.old outcome result self.new }
+    {
+        match outcome {
+            Outcome::Asks(request, exchange) => {
+                self.turn = Turn::Asks(request, exchange);
+                Ok(Next::AskKdc)
+            }
+            Outcome::Ends(done) => Ok(self.end(done)),
+            Outcome::Refused(error) => Err(error),
+        }
+    }
+
+    /// An exchange begins. Where memory runs out it does not.
+    #[tactic(auto, using(crate::proofs::Led::led_down, crate::proofs::Led::led_refused, crate::proofs::Led::led_back))]
+    fn open(&mut self, alloc: Global, run: InitRun, draw: &Draw) -> Result<Next, Error>
+        requires new { IsNew run }
+        requires moment { draw.now.moment ≤ last_moment }
+        ensures opens { Steps (Opens self.old run draw.now) result self.new }
+        ensures want { result ≡ Err (error_of causes.Memory) → self.new ≡ self.old }
+        ensures turns { result ≡ Ok Next.AskKdc → requests_left self.new.turn < turns_left run.phase }
+        ensures fault { IfErr result (λ error. IsNetwork error → ⊥) }
+    {
+        let outcome = begin_exchange(alloc, run, draw)?;
+        self.take_outcome(outcome)
+    }
+
+    /// It does what its state and these options tell. Where memory runs out it does not.
+    #[tactic(auto, using(crate::proofs::Led::undertakes, crate::proofs::Led::undertakes_not))]
+    fn set_out(&mut self, alloc: Global, options: InitOptions, draw: &Draw) -> Result<Next, Error>
+        requires moment { draw.now.moment ≤ last_moment }
+        ensures undertakes { Steps (Undertakes self.old options draw.now) result self.new }
+        ensures want { result ≡ Err (error_of causes.Memory) → self.new ≡ self.old }
+        ensures turns { result ≡ Ok Next.AskKdc → requests_left self.new.turn < 12 }
+        ensures fault { IfErr result (λ error. IsNetwork error → ⊥) }
+    {
+        match initialize_security_context(alloc, &self.session.session.connection, options) {
+            Ok(run) => self.open(alloc, run, draw),
+            Err(error) => Err(error),
+        }
+    }
+
+    /// It does what its state, its options and this token tell. Where memory runs out it does not.
+    fn undertake(&mut self, alloc: Global, token: &[u8], draw: &Draw) -> Result<Next, Error>
+        requires moment { draw.now.moment ≤ last_moment }
+        ensures undertakes { Steps (Undertakes self.old (options_with self.old.options token.now) draw.now) result self.new }
+        ensures want { result ≡ Err (error_of causes.Memory) → self.new ≡ self.old }
+        ensures turns { result ≡ Ok Next.AskKdc → requests_left self.new.turn < 12 }
+        ensures fault { IfErr result (λ error. IsNetwork error → ⊥) }
+    {
+        let options = options_with(alloc, &self.options, token)?;
+        self.set_out(alloc, options, draw)
+    }
+
+    /// Its exchange, which was taken out of it, goes on. Where memory runs out the answer is awaited as before.
+    #[tactic(auto, using(crate::proofs::Led::led_down, crate::proofs::Led::led_refused, crate::proofs::Led::never_wants))]
+    fn go_on(
+        &mut self,
+        request: NetworkRequest,
+        exchange: Exchange,
+        reply: Result<Octets, NetFault>,
+        draw: &Draw,
+    ) -> Result<Next, Error>
+        requires moment { draw.now.moment ≤ last_moment }
+        ensures goes_on { Steps (Continues self.old exchange reply draw.now) result self.new }
+        ensures want { result ≡ Err (error_of causes.Memory) → self.new ≡ record self.old { turn = Turn.Asks request exchange } }
+        ensures turns { result ≡ Ok Next.AskKdc → requests_left self.new.turn < turns_left exchange.phase }
+        ensures fault { IfErr result (λ error. IsNetwork error → IsFailure reply) }
+    {
+        match continue_exchange(exchange, reply, draw) {
+            Ok(outcome) => self.take_outcome(outcome),
+            Err(exchange) => {
+                self.turn = Turn::Asks(request, exchange);
+                Err(Error::from(Cause::Memory))
+            }
+        }
+    }
+
+    /// Takes what the network brought, where it is awaited.
+    fn take_reply(&mut self, reply: Result<Octets, NetFault>, draw: &Draw) -> Result<Next, Error>
+        requires moment { draw.now.moment ≤ last_moment }
+        ensures takes { Steps (TakesReply self.old.turn self.old reply draw.now) result self.new }
+        ensures want { result ≡ Err (error_of causes.Memory) → self.new ≡ self.old }
+        ensures turns { result ≡ Ok Next.AskKdc → requests_left self.new.turn < requests_left self.old.turn }
+        ensures fault { IfErr result (λ error. IsNetwork error → IsFailure reply) }
+    {
+        match mem::replace(&mut self.turn, Turn::Rests) {
+            Turn::Asks(request, exchange) => self.go_on(request, exchange, reply, draw),
+            Turn::Rests => Err(Error::from(Cause::Sequence)),
+            Turn::Shows => {
+                self.turn = Turn::Shows;
+                Err(Error::from(Cause::Sequence))
+            }
+        }
+    }
+
+    /// The start, at a moment in its range.
+    fn start_in_time(&mut self, alloc: Global, draw: &Draw) -> Result<Next, Error>
+        requires moment { draw.now.moment ≤ last_moment }
+        ensures step { Steps (Allows (in_turn (can_start self.old)) (Undertakes self.old (options_with self.old.options []) draw.now) self.old) result self.new }
+        ensures want { result ≡ Err (error_of causes.Memory) → self.new ≡ self.old }
+        ensures turns { result ≡ Ok Next.AskKdc → requests_left self.new.turn < 12 }
+        ensures fault { IfErr result (λ error. IsNetwork error → ⊥) }
+    {
+        match in_turn(self.can_start()) {
+            Ok(()) => self.undertake(alloc, &[], draw),
+            Err(cause) => Err(Error::from(cause)),
+        }
+    }
+
+    /// The service is heard, at a moment in its range.
+    fn hear_in_time(&mut self, alloc: Global, token: &[u8], draw: &Draw) -> Result<Next, Error>
+        requires moment { draw.now.moment ≤ last_moment }
+        ensures step { Steps (Allows (in_turn (can_hear self.old)) (Undertakes self.old (options_with self.old.options token.now) draw.now) self.old) result self.new }
+        ensures want { result ≡ Err (error_of causes.Memory) → self.new ≡ self.old }
+        ensures turns { result ≡ Ok Next.AskKdc → requests_left self.new.turn < 12 }
+        ensures fault { IfErr result (λ error. IsNetwork error → ⊥) }
+    {
+        match in_turn(!self.is_asking()) {
+            Ok(()) => self.undertake(alloc, token, draw),
+            Err(cause) => Err(Error::from(cause)),
+        }
+    }
+
+    /// Begins: the service's ticket is asked for, or with `USE_SESSION_KEY` the service is asked for its own.
+    ///
+    /// Refused as Moment where the moment is past the end of 9999-12-28, as Sequence where a KDC's answer is awaited or the service
+    /// was shown a ticket, and else as `initialize_security_context` refuses, or the first step of its run. A refusal changes nothing.
+    pub fn start(&mut self, alloc: Global, draw: &Draw) -> Result<Next, Error>
+        ensures step { Steps (Starts self.old draw.now) result self.new }
+        // Where memory runs out, the step can be taken again.
+        ensures want { result ≡ Err (error_of causes.Memory) → self.new ≡ self.old }
+        // A KDC is asked at most twelve times.
+        ensures turns { result ≡ Ok Next.AskKdc → requests_left self.new.turn < 12 }
+        // No refusal is told as a failure of the network.
+        ensures fault { IfErr result (λ error. IsNetwork error → ⊥) }
+    {
+        match in_time(draw) {
+            Ok(()) => self.start_in_time(alloc, draw),
+            Err(cause) => Err(Error::from(cause)),
+        }
+    }
+
+    /// Hears what the service sent: its answer to a ticket, or its own ticket.
+    ///
+    /// Refused as Moment where the moment is past the end of 9999-12-28, as Sequence where a KDC's answer is awaited or the context
+    /// is established, and else as `initialize_security_context` refuses, or the first step of its run. A refusal changes nothing.
+    pub fn hear(&mut self, alloc: Global, token: &[u8], draw: &Draw) -> Result<Next, Error>
+        ensures step { Steps (Hears self.old token.now draw.now) result self.new }
+        ensures want { result ≡ Err (error_of causes.Memory) → self.new ≡ self.old }
+        ensures turns { result ≡ Ok Next.AskKdc → requests_left self.new.turn < 12 }
+        ensures fault { IfErr result (λ error. IsNetwork error → ⊥) }
+    {
+        match in_time(draw) {
+            Ok(()) => self.hear_in_time(alloc, token, draw),
+            Err(cause) => Err(Error::from(cause)),
+        }
+    }
+
+    /// Takes what the KDC answered, with the four octets in front that its protocol brings.
+    ///
+    /// Refused as Moment where the moment is past the end of 9999-12-28, as Sequence where no answer is awaited, and nothing is changed
+    /// then. Else as the step of the run refuses; that ends the exchange, and the context is as it was before.
+    pub fn answer(&mut self, alloc: Global, octets: &[u8], draw: &Draw) -> Result<Next, Error>
+        ensures step { Steps (Takes self.old (Ok octets.now) draw.now) result self.new }
+        ensures want { result ≡ Err (error_of causes.Memory) → self.new ≡ self.old }
+        ensures turns { result ≡ Ok Next.AskKdc → requests_left self.new.turn < requests_left self.old.turn }
+        ensures fault { IfErr result (λ error. IsNetwork error → ⊥) }
+    {
+        match in_time(draw) {
+            Ok(()) => {
+                let octets = Octets::from_slice(alloc, octets)?;
+                self.take_reply(Ok(octets), draw)
+            }
+            Err(cause) => Err(Error::from(cause)),
+        }
+    }
+
+    /// Takes that there is no answer of the KDC, with a code of the caller's. It is refused with that code, which ends the exchange.
+    ///
+    /// Refused as Moment where the moment is past the end of 9999-12-28, as Sequence where no answer is awaited, and nothing is changed
+    /// then.
+    pub fn fault(&mut self, code: u32, draw: &Draw) -> Result<Next, Error>
+        ensures step { Steps (Takes self.old (Err (net_faults.Failed code)) draw.now) result self.new }
+        ensures want { result ≡ Err (error_of causes.Memory) → self.new ≡ self.old }
+        ensures turns { result ≡ Ok Next.AskKdc → requests_left self.new.turn < requests_left self.old.turn }
+    {
+        match in_time(draw) {
+            Ok(()) => self.take_reply(Err(NetFault::Failed(code)), draw),
+            Err(cause) => Err(Error::from(cause)),
+        }
+    }
+}
