@@ -1,4 +1,6 @@
 mod AcceptorBox
+mod DialogueBox
+mod Given
 mod JudgementBox
 mod Places
 mod Served

@@ -1,9 +1,12 @@
+pub mod Allows
 pub mod Calls
 pub mod Codes
 pub mod Copies
+pub mod Dialogues
 pub mod Halves
 pub mod Keytabs
 pub mod Places
 pub mod Replies
+pub mod Steps
 pub mod Tells
 pub mod Told

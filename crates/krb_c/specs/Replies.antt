@@ -4,6 +4,8 @@ use Rattle.krb_c.specs.Codes.{kind_code, cause_code, number_of}
 use Rattle.krb_c.specs.declared.reply.Reply.{Reply}
 use Rattle.krb_c.specs.declared.reply.Failure.{Failure}
 use Rattle.krb_c.specs.declared.reply.Failure.TheVariants.{Refused, Room, Argument, Handle}
+use Rattle.krb_dialogue.specs.declared.dialogue.Next.{Next}
+use Rattle.krb_dialogue.specs.declared.dialogue.Next.TheVariants.{AskKdc, SendToken, Established}
 use Rattle.krb_sessions.specs.declared.fault.Fault.{Fault}
 use Rattle.krb_sessions.specs.declared.fault.Fault.TheVariants.{Refused as RefusedFault, Room as RoomFault}
 use Rattle.sspi_core.specs.declared.cause.Cause.{Cause}
@@ -41,3 +43,14 @@ reply_of (Err (Refused error)) = reply_to error
 reply_of (Err (Room length)) = plain_reply 3 length
 reply_of (Err Argument) = plain_reply 4 0
 reply_of (Err Handle) = plain_reply 5 0
+
+-- what comes next, as a number of C's
+abbrev pub next_code : Next → ℕ
+next_code AskKdc = 0
+next_code SendToken = 1
+next_code Established = 2
+
+-- the reply to a step of an initiator
+abbrev pub step_reply : Result Next Failure → Reply
+step_reply (Ok next) = record { status = 0; kind = 0; cause = 0; number = next_code next; length = 0 }
+step_reply (Err failure) = reply_of (Err failure)

@@ -1,4 +1,4 @@
-//! The acceptor for programs in C and in Rust: the exports of a static library.
+//! The acceptor and the initiator for programs in C and in Rust: the exports of a static library.
 //!
 //! A program keeps handles, each of 16 octets that are 0 at first, and hands them to one call at a time. Nothing is required of
 //! a call beyond what its types say: each tests what it is given. What crosses is written in `menolavuri.h`.
@@ -6,21 +6,26 @@
 
 mod accept;
 mod acceptor;
+mod allows;
 mod codes;
 mod copies;
+mod handed;
 mod handles;
+mod initiator;
 mod judge;
 mod keytab;
 mod messages;
 mod names;
 mod reply;
 mod session_key;
+mod settings;
 mod shows;
+mod steps;
 mod tells;
 mod texts;
 mod told;
 
 pub use accept::Moment;
-pub use handles::{Acceptor, Connection, Judgement};
+pub use handles::{Acceptor, Connection, Initiator, Judgement};
 pub use reply::{Failure, Reply};
 pub use tells::Times;

@@ -1,9 +1,10 @@
 //! What a call answers.
 
 ghost use Rattle.std.specs.Prelude.{◌≡◌};
-ghost use Rattle.krb_c.specs.Replies.{reply_of, reply_to, plain_reply};
+ghost use Rattle.krb_c.specs.Replies.{reply_of, reply_to, plain_reply, next_code, step_reply};
 
 use crate::codes::{cause_code, kind_code, number_of};
+use krb_dialogue::Next;
 use krb_entrance::{Cause, Error, Fault};
 
 /// What a call answers: a status, of a refusal its kind and cause, and the length of what was written or is wanted.
@@ -109,5 +110,32 @@ pub(crate) fn reply_of(answer: Result<usize, Failure>) -> Reply
         Err(Failure::Room(length)) => plain_reply(ROOM, length),
         Err(Failure::Argument) => plain_reply(ARGUMENT, 0),
         Err(Failure::Handle) => plain_reply(HANDLE, 0),
+    }
+}
+
+/// What comes next, as C has it.
+fn next_code(next: Next) -> u32
+    ensures { result ≡ next_code next }
+{
+    match next {
+        Next::AskKdc => 0,
+        Next::SendToken => 1,
+        Next::Established => 2,
+    }
+}
+
+/// The answer to a step as C has it.
+pub(crate) fn step_reply(answer: Result<Next, Failure>) -> Reply
+    ensures { result ≡ step_reply answer }
+{
+    match answer {
+        Ok(next) => Reply {
+            status: DONE,
+            kind: 0,
+            cause: 0,
+            number: next_code(next),
+            length: 0,
+        },
+        Err(failure) => reply_of(Err(failure)),
     }
 }

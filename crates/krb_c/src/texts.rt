@@ -1,10 +1,11 @@
 //! Arguments that have to be of a form.
 
-ghost use Rattle.std.specs.Prelude.{◌≡◌, IfOk, IfErr};
+ghost use Rattle.std.specs.Prelude.{◌≡◌, ◌≢◌, ◌<◌, length, IfOk, IfErr, OnErr};
 ghost use Rattle.sspi_core.specs.Kinds.{error_of};
 ghost use Rattle.sspi_core.specs.declared.cause.Cause.TheVariants as causes;
 ghost use Rattle.krb_c.specs.declared.reply.Failure.TheVariants as failures;
 ghost use Rattle.krb_c.specs.Calls.{RefusedAs, draw_of};
+ghost use Rattle.krb_c.specs.Dialogues.{IsNoText};
 
 use crate::accept::Moment;
 use crate::reply::Failure;
@@ -15,6 +16,7 @@ use std::alloc::Global;
 pub(crate) fn text_of(octets: &[u8]) -> Result<&str, Failure>
     ensures text { IfOk result (λ text. text.now ≡ octets.now) }
     ensures failure { IfErr result (λ failure. failure ≡ failures.Argument) }
+    ensures unfit { OnErr result (IsNoText octets.now) }
 {
     match std::str::from_utf8(octets) {
         Ok(text) => Ok(text),
@@ -49,6 +51,32 @@ pub(crate) fn confounder_of(octets: &[u8]) -> Result<[u8; 16], Failure>
     Ok(confounder)
 }
 
+/// A first sequence number, where it has 4 octets.
+pub(crate) fn number_of(octets: &[u8]) -> Result<[u8; 4], Failure>
+    ensures same { IfOk result (λ number. number ≡ octets.now) }
+    ensures failure { IfErr result (λ failure. failure ≡ failures.Argument) }
+    ensures unfit { OnErr result (length octets.now ≢ 4) }
+{
+    if octets.len() != 4 {
+        return Err(Failure::Argument);
+    }
+    let mut number = [0; 4];
+    number.copy_from_slice(octets);
+    Ok(number)
+}
+
+/// An encryption type, where it is at most 255.
+pub(crate) fn etype_of(etype: u32) -> Result<u8, Failure>
+    ensures same { IfOk result (λ small. small ≡ etype) }
+    ensures failure { IfErr result (λ failure. failure ≡ failures.Argument) }
+    ensures unfit { OnErr result (255 < etype) }
+{
+    if 255 < etype {
+        return Err(Failure::Argument);
+    }
+    Ok(etype as u8)
+}
+
 /// A moment as the library has it, where it is in range.
 pub(crate) fn draw_of(moment: &Moment) -> Result<Draw, Failure>
     ensures same { IfOk result (λ draw. draw ≡ draw_of moment.now) }
@@ -61,4 +89,14 @@ pub(crate) fn draw_of(moment: &Moment) -> Result<Draw, Failure>
         moment: moment.moment,
         random: moment.random,
     })
+}
+
+/// A moment as the library has it, for a call that looks itself whether it is in range.
+pub(crate) fn any_draw(moment: &Moment) -> Draw
+    ensures { result ≡ draw_of moment.now }
+{
+    Draw {
+        moment: moment.moment,
+        random: moment.random,
+    }
 }

@@ -1,0 +1,179 @@
+//! The steps of an initiator.
+
+ghost use Rattle.std.specs.Prelude.{◌≡◌, ℕ, Result, Ok, Err, IfOk, IfErr};
+ghost use Rattle.sspi_generator.specs.declared.network.NetFault.TheVariants as net_faults;
+ghost use Rattle.krb_dialogue.specs.declared.dialogue.Next.{Next};
+ghost use Rattle.krb_dialogue.specs.Outcomes.{IsNetwork};
+ghost use Rattle.krb_dialogue.specs.Steps.{Starts, Hears, Takes};
+ghost use Rattle.krb_c.specs.declared.reply.Failure.{Failure};
+ghost use Rattle.krb_c.specs.Calls.{RefusedAs, draw_of};
+ghost use Rattle.krb_c.specs.Replies.{step_reply};
+ghost use Rattle.krb_c.specs.Steps.{StepsTo, StepsNot, twelve, those_left};
+
+use crate::accept::Moment;
+use crate::handles::Initiator;
+use crate::reply::{Failure, Reply, step_reply};
+use crate::texts::any_draw;
+use krb_dialogue::Next;
+use std::alloc::Global;
+
+fn start(alloc: Global, initiator: &mut Initiator, moment: &Moment) -> Result<Next, Failure>
+    ensures step { IfOk result (StepsTo (λ dialogue. Starts dialogue (draw_of moment.now)) twelve
+        initiator.old.place.value initiator.new.place.value) }
+    ensures fails { IfErr result (StepsNot (λ dialogue. Starts dialogue (draw_of moment.now))
+        initiator.old.place.value initiator.new.place.value) }
+    ensures fault { IfErr result (RefusedAs (λ error. IsNetwork error → ⊥)) }
+{
+    let Some(mut dialogue) = initiator.take(alloc) else {
+        return Err(Failure::Handle);
+    };
+    let answer = dialogue.start(alloc, &any_draw(moment));
+    initiator.put(dialogue);
+    match answer {
+        Ok(next) => Ok(next),
+        Err(error) => Err(Failure::Refused(error)),
+    }
+}
+
+/// Begins: the service's ticket is asked for, or with `USE_SESSION_KEY` the service is asked for its own. The number of a reply that is
+/// OK says what comes next: 0, a KDC is to be asked; 1, a token is to be sent to the service; 2, the context is established.
+///
+/// A step out of its turn is refused as OutOfSequence Sequence, and one past the end of 9999-12-28 as InvalidParameter Moment. A start
+/// that is refused changes nothing. Where memory runs out the same step may come again.
+#[unsafe(no_mangle)]
+pub extern "C" fn mk_initiator_start(
+    alloc: Global,
+    initiator: &mut Initiator,
+    moment: &Moment,
+) -> Reply
+    ensures { (answer : Result Next Failure) × (result ≡ step_reply answer)
+        × IfOk answer (StepsTo (λ dialogue. Starts dialogue (draw_of moment.now)) twelve
+        initiator.old.place.value initiator.new.place.value)
+        × IfErr answer (StepsNot (λ dialogue. Starts dialogue (draw_of moment.now))
+        initiator.old.place.value initiator.new.place.value)
+        × IfErr answer (RefusedAs (λ error. IsNetwork error → ⊥)) }
+{
+    step_reply(start(alloc, initiator, moment))
+}
+
+fn hear(
+    alloc: Global,
+    initiator: &mut Initiator,
+    token: &[u8],
+    moment: &Moment,
+) -> Result<Next, Failure>
+    ensures step { IfOk result (StepsTo (λ dialogue. Hears dialogue token.now (draw_of moment.now)) twelve
+        initiator.old.place.value initiator.new.place.value) }
+    ensures fails { IfErr result (StepsNot (λ dialogue. Hears dialogue token.now (draw_of moment.now))
+        initiator.old.place.value initiator.new.place.value) }
+    ensures fault { IfErr result (RefusedAs (λ error. IsNetwork error → ⊥)) }
+{
+    let Some(mut dialogue) = initiator.take(alloc) else {
+        return Err(Failure::Handle);
+    };
+    let answer = dialogue.hear(alloc, token, &any_draw(moment));
+    initiator.put(dialogue);
+    match answer {
+        Ok(next) => Ok(next),
+        Err(error) => Err(Failure::Refused(error)),
+    }
+}
+
+/// Hears what the service sent: its answer to a ticket, or its own ticket. What is refused changes nothing.
+#[unsafe(no_mangle)]
+pub extern "C" fn mk_initiator_hear(
+    alloc: Global,
+    initiator: &mut Initiator,
+    token: &[u8],
+    moment: &Moment,
+) -> Reply
+    ensures { (answer : Result Next Failure) × (result ≡ step_reply answer)
+        × IfOk answer (StepsTo (λ dialogue. Hears dialogue token.now (draw_of moment.now)) twelve
+        initiator.old.place.value initiator.new.place.value)
+        × IfErr answer (StepsNot (λ dialogue. Hears dialogue token.now (draw_of moment.now))
+        initiator.old.place.value initiator.new.place.value)
+        × IfErr answer (RefusedAs (λ error. IsNetwork error → ⊥)) }
+{
+    step_reply(hear(alloc, initiator, token, moment))
+}
+
+fn answer(
+    alloc: Global,
+    initiator: &mut Initiator,
+    octets: &[u8],
+    moment: &Moment,
+) -> Result<Next, Failure>
+    ensures step { IfOk result (StepsTo (λ dialogue. Takes dialogue (Ok octets.now) (draw_of moment.now)) those_left
+        initiator.old.place.value initiator.new.place.value) }
+    ensures fails { IfErr result (StepsNot (λ dialogue. Takes dialogue (Ok octets.now) (draw_of moment.now))
+        initiator.old.place.value initiator.new.place.value) }
+    ensures fault { IfErr result (RefusedAs (λ error. IsNetwork error → ⊥)) }
+{
+    let Some(mut dialogue) = initiator.take(alloc) else {
+        return Err(Failure::Handle);
+    };
+    let answer = dialogue.answer(alloc, octets, &any_draw(moment));
+    initiator.put(dialogue);
+    match answer {
+        Ok(next) => Ok(next),
+        Err(error) => Err(Failure::Refused(error)),
+    }
+}
+
+/// Takes what the KDC answered, with the four octets in front that its protocol brings. An answer that is refused ends the exchange: the
+/// context is as before it, and another may begin.
+#[unsafe(no_mangle)]
+pub extern "C" fn mk_initiator_answer(
+    alloc: Global,
+    initiator: &mut Initiator,
+    octets: &[u8],
+    moment: &Moment,
+) -> Reply
+    ensures { (answer : Result Next Failure) × (result ≡ step_reply answer)
+        × IfOk answer (StepsTo (λ dialogue. Takes dialogue (Ok octets.now) (draw_of moment.now)) those_left
+        initiator.old.place.value initiator.new.place.value)
+        × IfErr answer (StepsNot (λ dialogue. Takes dialogue (Ok octets.now) (draw_of moment.now))
+        initiator.old.place.value initiator.new.place.value)
+        × IfErr answer (RefusedAs (λ error. IsNetwork error → ⊥)) }
+{
+    step_reply(answer(alloc, initiator, octets, moment))
+}
+
+fn fault(
+    alloc: Global,
+    initiator: &mut Initiator,
+    code: u32,
+    moment: &Moment,
+) -> Result<Next, Failure>
+    ensures step { IfOk result (StepsTo (λ dialogue. Takes dialogue (Err (net_faults.Failed code)) (draw_of moment.now)) those_left
+        initiator.old.place.value initiator.new.place.value) }
+    ensures fails { IfErr result (StepsNot (λ dialogue. Takes dialogue (Err (net_faults.Failed code)) (draw_of moment.now))
+        initiator.old.place.value initiator.new.place.value) }
+{
+    let Some(mut dialogue) = initiator.take(alloc) else {
+        return Err(Failure::Handle);
+    };
+    let answer = dialogue.fault(code, &any_draw(moment));
+    initiator.put(dialogue);
+    match answer {
+        Ok(next) => Ok(next),
+        Err(error) => Err(Failure::Refused(error)),
+    }
+}
+
+/// Takes that the KDC gave no answer, with a code of the caller's. It is refused with that code, which ends the exchange.
+#[unsafe(no_mangle)]
+pub extern "C" fn mk_initiator_fault(
+    alloc: Global,
+    initiator: &mut Initiator,
+    code: u32,
+    moment: &Moment,
+) -> Reply
+    ensures { (answer : Result Next Failure) × (result ≡ step_reply answer)
+        × IfOk answer (StepsTo (λ dialogue. Takes dialogue (Err (net_faults.Failed code)) (draw_of moment.now)) those_left
+        initiator.old.place.value initiator.new.place.value)
+        × IfErr answer (StepsNot (λ dialogue. Takes dialogue (Err (net_faults.Failed code)) (draw_of moment.now))
+        initiator.old.place.value initiator.new.place.value) }
+{
+    step_reply(fault(alloc, initiator, code, moment))
+}
