@@ -1,6 +1,6 @@
-/* test_calls CONVERSATION ROUNDS: every call of menolavuri.h, over a conversation with a client of MIT's that was recorded: what is
- * done, bad input, and so many rounds of both. Prints 'N passed, M failed' and how long a call took. */
-#include "menolavuri.h"
+/* test_calls CONVERSATION LOGIN ANSWERS ROUNDS: every call of menolavuri.h, over a conversation with a client of MIT's and a log-in
+ * that were recorded: what is done, bad input, and so many rounds of both. Prints 'N passed, M failed' and how long a call took. */
+#include "checks.h"
 
 #include <stdio.h>
 #include <stdlib.h>
@@ -9,20 +9,13 @@
 
 static unsigned long passed, failed;
 
-#define CHECK(test) check((test) != 0, #test, __LINE__)
-
-static void check(int test, const char *text, int line) {
+void check(int test, const char *text, const char *file, int line) {
     if (test) {
         passed++;
     } else if (failed++ < 20) {
-        printf("line %d: not so: %s\n", line, text);
+        printf("%s, line %d: not so: %s\n", file, line, text);
     }
 }
-
-typedef struct {
-    uint8_t at[4096];
-    size_t length;
-} octets;
 
 typedef struct {
     char name[256];
@@ -33,7 +26,7 @@ typedef struct {
     size_t count;
 } conversation;
 
-static octets from_hex(const char *hex) {
+octets from_hex(const char *hex) {
     octets o = {{0}, 0};
     unsigned octet;
     while (o.length < sizeof o.at && sscanf(hex, "%2x", &octet) == 1) {
@@ -70,7 +63,7 @@ static mk_reply make(const conversation *c, mk_acceptor *to) {
     return mk_acceptor_new(to, (const uint8_t *)c->name, strlen(c->name), c->key.at, c->key.length, 300);
 }
 
-static int is_refused(mk_reply reply, uint32_t cause) { return reply.status == MK_REFUSED && reply.cause == cause; }
+int is_refused(mk_reply reply, uint32_t cause) { return reply.status == MK_REFUSED && reply.cause == cause; }
 
 /* A client is admitted once, and each message of its is opened once. */
 static void good(const conversation *c) {
@@ -100,6 +93,11 @@ static void good(const conversation *c) {
     reply = mk_mic(&session, (const uint8_t *)"text", 4, mic, sizeof mic);
     CHECK(reply.status == MK_OK && reply.length == 28);
     CHECK(is_refused(mk_verify(&session, mic, sizeof mic, (const uint8_t *)"text", 4), MK_CAUSE_DIRECTION));
+    CHECK((mic[2] & 4) != 0);
+    CHECK(mk_session_allow(&session, 0x1000).status == MK_ARGUMENT);
+    CHECK(mk_session_allow(&session, MK_SUBKEY_FLAG_BY_ORIGIN).status == MK_OK);
+    CHECK(mk_mic(&session, (const uint8_t *)"text", 4, mic, sizeof mic).status == MK_OK);
+    CHECK((mic[2] & 4) == 0); /* no answer went to this client, so none brought a key */
     mk_session_free(&session);
     CHECK(session.count == 0);
     mk_session_free(&session);
@@ -340,13 +338,19 @@ static double seconds_of(const conversation *c, int rounds) {
 
 int main(int count, char **words) {
     static conversation c;
-    int rounds = count > 2 ? atoi(words[2]) : 1;
-    if (count < 2 || !read_conversation(words[1], &c)) {
-        fprintf(stderr, "usage: test_calls CONVERSATION [ROUNDS]\n");
+    static login l;
+    int rounds = count > 4 ? atoi(words[4]) : 1;
+    if (count < 4 || !read_conversation(words[1], &c) || !read_login(words[2], words[3], &l)) {
+        fprintf(stderr, "usage: test_calls CONVERSATION LOGIN ANSWERS [ROUNDS]\n");
         return 2;
     }
     once(&c);
+    for (int i = 0; i <= rounds / 1000; i++) {
+        log_in(&l); /* a password's key takes its time */
+        log_in_otherwise(&l);
+    }
     for (int i = 0; i < rounds; i++) {
+        refuse_initiators(&l);
         good(&c);
         halves(&c);
         told(&c);

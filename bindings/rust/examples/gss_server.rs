@@ -5,30 +5,37 @@
 //!
 //! `key` is a file with the service's key in hex, as `klist -k -K` prints it behind 0x. Clocks may be wrong by 300 seconds. The second
 //! 300 is for how long the server waits before it lets anybody in, as long as the first: a token that an earlier process admitted is
-//! too old by then. It may be 0 where no earlier process had this key.
+//! too old by then. It may be 0 where no earlier process had this key. Behind it are the options that its clients want, by name
+//! (docs/EMBEDDING.md), if there are any.
 
 #[path = "parts/connections.rs"]
 mod connections;
 #[path = "parts/frames.rs"]
 mod frames;
+#[path = "parts/options.rs"]
+mod options;
 #[path = "parts/samples.rs"]
 mod samples;
 
-use menolavuri::Acceptor;
+use menolavuri::{Acceptor, Session};
 use std::{env, error::Error, thread, time::Duration};
 
 type Answer<T> = Result<T, Box<dyn Error + Send + Sync>>;
 
 fn main() -> Answer<()> {
     let arguments: Vec<String> = env::args().skip(1).collect();
-    let [address, service, key, skew, wait] = arguments.as_slice() else {
-        return Err("usage: gss_server ADDRESS SERVICE KEY_FILE SKEW WAIT".into());
+    let [address, service, key, skew, wait, words @ ..] = arguments.as_slice() else {
+        return Err("usage: gss_server ADDRESS SERVICE KEY_FILE SKEW WAIT [OPTION ..]".into());
     };
+    let options = options::named(words)?;
     let skew = Duration::from_secs(skew.parse()?);
     // One acceptor, and so one replay book, serves all connections.
     let acceptor = Acceptor::new(service, &connections::key(key)?, skew)?;
     thread::sleep(Duration::from_secs(wait.parse()?));
-    connections::serve_all(address, |stream| {
-        samples::serve(stream, |token| Ok(acceptor.accept(token)?))
-    })
+    let admit = |token: &[u8]| -> Answer<Session> {
+        let mut session = acceptor.accept(token)?;
+        session.allow(options)?;
+        Ok(session)
+    };
+    connections::serve_all(address, |stream| samples::serve(stream, admit))
 }

@@ -10,8 +10,8 @@ pub enum Error {
     Refused(Refusal),
     /// Memory ran out. Nothing is changed, so the call can be made again.
     Memory,
-    /// An argument has a value that it may not have: a key of another length than 16 and 32 octets, or a moment that is past
-    /// the year 9999 or before 1970.
+    /// An argument has a value that it may not have: a key of a service of another length than 16 and 32 octets, or a moment that
+    /// is past the year 9999 or before 1970.
     Argument,
     /// The system gave no random octets.
     Random(io::Error),
@@ -37,10 +37,14 @@ pub struct Kind(pub u32);
 pub struct Cause(pub u32);
 
 impl Cause {
+    /// The call does not fit the state: a step of an initiator out of its turn.
+    pub const SEQUENCE: Cause = Cause(5);
     /// There is no key for the service that the ticket names.
     pub const NO_SERVICE_KEY: Cause = Cause(7);
     /// A key does not have the length of its encryption type.
     pub const KEY_LENGTH: Cause = Cause(9);
+    /// A checksum does not fit, or no plain text is sealed to these octets.
+    pub const ALTERED: Cause = Cause(11);
     /// The authenticator is too far from the clock.
     pub const SKEW: Cause = Cause(14);
     /// The ticket has expired.
@@ -51,8 +55,10 @@ impl Cause {
     pub const REPEATED: Cause = Cause(52);
     /// A message is too old to tell whether it was opened before.
     pub const OLD: Cause = Cause(51);
-    /// A checksum does not fit, or no plain text is sealed to these octets.
-    pub const ALTERED: Cause = Cause(11);
+    /// No KDC answered: the refusal's number is the caller's code.
+    pub const NETWORK: Cause = Cause(34);
+    /// A KDC answered a KRB-ERROR: the refusal's number is its code.
+    pub const KDC: Cause = Cause(37);
 }
 
 type NameCall = unsafe extern "C" fn(u32, *mut u8, usize) -> sys::Reply;

@@ -23,6 +23,13 @@ pub const REFUSED: u32 = 1;
 pub const MEMORY: u32 = 2;
 pub const ROOM: u32 = 3;
 
+pub const ASK_KDC: u32 = 0;
+pub const SEND_TOKEN: u32 = 1;
+pub const ESTABLISHED: u32 = 2;
+
+/// A call that puts octets into a room.
+pub type OutCall = unsafe extern "C" fn(*mut Handle, *mut u8, usize) -> Reply;
+
 #[repr(C)]
 #[derive(Clone, Copy, Debug)]
 pub struct Reply {
@@ -103,6 +110,7 @@ unsafe extern "C" {
     pub fn mk_session_client(session: *mut Handle, out: *mut u8, room: usize) -> Reply;
     pub fn mk_session_times(session: *mut Handle, out: *mut Times) -> Reply;
     pub fn mk_session_key(session: *mut Handle, out: *mut u8, room: usize) -> Reply;
+    pub fn mk_session_allow(session: *mut Handle, options: u32) -> Reply;
     pub fn mk_session_free(session: *mut Handle);
     pub fn mk_wrap(
         session: *mut Handle,
@@ -141,4 +149,72 @@ unsafe extern "C" {
         payload: *const u8,
         payload_length: usize,
     ) -> Reply;
+    pub fn mk_initiator_new(
+        to: *mut Handle,
+        target: *const u8,
+        target_length: usize,
+        machine: *const u8,
+        machine_length: usize,
+        flags: u32,
+        number: *const u8,
+        number_length: usize,
+    ) -> Reply;
+    pub fn mk_initiator_allow(initiator: *mut Handle, options: u32) -> Reply;
+    pub fn mk_initiator_kdc(
+        initiator: *mut Handle,
+        address: *const u8,
+        address_length: usize,
+    ) -> Reply;
+    pub fn mk_initiator_password(
+        initiator: *mut Handle,
+        user: *const u8,
+        user_length: usize,
+        realm: *const u8,
+        realm_length: usize,
+        password: *const u8,
+        password_length: usize,
+    ) -> Reply;
+    pub fn mk_initiator_key(
+        initiator: *mut Handle,
+        principal: *const u8,
+        principal_length: usize,
+        etype: u32,
+        key: *const u8,
+        key_length: usize,
+    ) -> Reply;
+    pub fn mk_initiator_variable(
+        initiator: *mut Handle,
+        name: *const u8,
+        name_length: usize,
+        value: *const u8,
+        value_length: usize,
+    ) -> Reply;
+    pub fn mk_initiator_file(
+        initiator: *mut Handle,
+        path: *const u8,
+        path_length: usize,
+        text: *const u8,
+        text_length: usize,
+    ) -> Reply;
+    pub fn mk_initiator_bind(initiator: *mut Handle, data: *const u8, data_length: usize) -> Reply;
+    pub fn mk_initiator_start(initiator: *mut Handle, moment: *const Moment) -> Reply;
+    pub fn mk_initiator_hear(
+        initiator: *mut Handle,
+        token: *const u8,
+        token_length: usize,
+        moment: *const Moment,
+    ) -> Reply;
+    pub fn mk_initiator_answer(
+        initiator: *mut Handle,
+        octets: *const u8,
+        octets_length: usize,
+        moment: *const Moment,
+    ) -> Reply;
+    pub fn mk_initiator_fault(initiator: *mut Handle, code: u32, moment: *const Moment) -> Reply;
+    pub fn mk_initiator_url(initiator: *mut Handle, out: *mut u8, room: usize) -> Reply;
+    pub fn mk_initiator_request(initiator: *mut Handle, out: *mut u8, room: usize) -> Reply;
+    pub fn mk_initiator_token(initiator: *mut Handle, out: *mut u8, room: usize) -> Reply;
+    pub fn mk_initiator_peer(initiator: *mut Handle, out: *mut u8, room: usize) -> Reply;
+    pub fn mk_initiator_session(initiator: *mut Handle, to: *mut Handle) -> Reply;
+    pub fn mk_initiator_free(initiator: *mut Handle);
 }

@@ -73,7 +73,7 @@ fn a_store_is_asked_in_the_place_of_a_book() {
     );
     assert_eq!(judged.record().unwrap(), again.record().unwrap());
     let mut session = acceptor.admit_told(judged, now(), false).unwrap();
-    assert_eq!(session.client(), "alice@EXAMPLE.COM");
+    assert_eq!(session.client(), Some("alice@EXAMPLE.COM"));
     assert_eq!(session.key().unwrap().len(), 32);
     let error = acceptor.admit_told(again, now(), true).err().unwrap();
     assert_eq!(error.cause(), Some(Cause::REPLAYED));

@@ -19,8 +19,11 @@ fn bring(acceptor: &Acceptor, tokens: &[Vec<u8>], thread: usize) -> (usize, usiz
         match acceptor.accept_at(token, moment, [thread as u8; 64]) {
             Ok(session) => {
                 assert_eq!(session.peer(), "alice@example.com");
-                assert_eq!(session.client(), "alice@EXAMPLE.COM");
-                assert_eq!(session.ends(), moment + Duration::from_secs(24 * 3600));
+                assert_eq!(session.client(), Some("alice@EXAMPLE.COM"));
+                assert_eq!(
+                    session.ends(),
+                    Some(moment + Duration::from_secs(24 * 3600))
+                );
                 admitted += 1;
             }
             Err(error) => {

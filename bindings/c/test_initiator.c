@@ -1,0 +1,302 @@
+/* The calls of an initiator, over a log-in at a KDC and a service that was recorded. */
+#include "checks.h"
+
+#include <stdio.h>
+#include <stdlib.h>
+#include <string.h>
+
+static const uint32_t ALL_FLAGS = MK_MUTUAL_AUTH | MK_REPLAY_DETECT | MK_SEQUENCE_DETECT | MK_CONFIDENTIALITY | MK_INTEGRITY;
+
+static void read_told(char *line, login *l) {
+    static char first[8192], second[8192], number[16];
+    if (sscanf(line, "user %63s %63s %63s %63s %63s %15s", l->user, l->realm, l->machine, l->url, l->password, number) == 6) {
+        memcpy(l->number, from_hex(number).at, 4);
+    } else if (l->step_count < 26 && sscanf(line, "step %8191s %8191s", first, second) == 2) {
+        mk_moment *moment = &l->steps[l->step_count++];
+        moment->moment = strtoull(first, NULL, 10);
+        memcpy(moment->random, from_hex(second).at, 64);
+    } else if (l->reply_count < 3 && sscanf(line, "reply %8191s", first) == 1) {
+        l->replies[l->reply_count++] = from_hex(first);
+    } else if (sscanf(line, "answer %63s %8191s", l->target, first) == 2) {
+        l->answer = from_hex(first);
+    } else if (sscanf(line, "seal %8191s %8191s", first, second) == 2) {
+        l->confounder = from_hex(first);
+        l->text = from_hex(second);
+    }
+}
+
+static void read_answered(char *line, login *l) {
+    static char first[8192], second[8192];
+    if (l->ask_count < 3 && sscanf(line, "ask %8191s %8191s", first, second) == 2) {
+        l->asks[l->ask_count++] = from_hex(second);
+    } else if (sscanf(line, "token %8191s", first) == 1) {
+        l->token = from_hex(first);
+    } else if (sscanf(line, "sealed %8191s", first) == 1) {
+        l->sealed = from_hex(first);
+    }
+}
+
+/* The lines of a file, up to the one that begins with a word. */
+static void read_lines(const char *path, const char *last, void (*take)(char *, login *), login *l) {
+    static char line[8192];
+    FILE *file = fopen(path, "r");
+    int goes_on = file != NULL;
+    while (goes_on && fgets(line, sizeof line, file) != NULL) {
+        take(line, l);
+        goes_on = strncmp(line, last, strlen(last)) != 0;
+    }
+    if (file != NULL) {
+        fclose(file);
+    }
+}
+
+int read_login(const char *told, const char *answered, login *l) {
+    read_lines(told, "seal ", read_told, l);
+    read_lines(answered, "sealed ", read_answered, l);
+    return l->step_count == 26 && l->reply_count == 3 && l->ask_count == 3 && l->answer.length > 0 && l->sealed.length > 0;
+}
+
+static const uint8_t *text(const char *words) { return (const uint8_t *)words; }
+
+static mk_reply make(const login *l, mk_initiator *to) {
+    return mk_initiator_new(to, text(l->target), strlen(l->target), text(l->machine), strlen(l->machine), ALL_FLAGS, l->number, 4);
+}
+
+static void set_password(const login *l, mk_initiator *initiator) {
+    CHECK(mk_initiator_password(initiator, text(l->user), strlen(l->user), text(l->realm), strlen(l->realm), text(l->password),
+                                strlen(l->password)).status == MK_OK);
+}
+
+/* An initiator of the recorded user at its KDC. */
+static void make_ready(const login *l, mk_initiator *to) {
+    CHECK(make(l, to).status == MK_OK);
+    CHECK(mk_initiator_kdc(to, text(l->url), strlen(l->url)).status == MK_OK);
+    set_password(l, to);
+}
+
+static int leads_to(mk_reply reply, uint32_t next) { return reply.status == MK_OK && reply.number == next; }
+
+static int gives(mk_reply reply, const uint8_t *out, const void *wanted, size_t length) {
+    return reply.status == MK_OK && reply.length == length && memcmp(out, wanted, length) == 0;
+}
+
+/* Whether it asks this KDC so. */
+static int asks(const login *l, mk_initiator *initiator, const octets *request) {
+    uint8_t url[64], out[4096];
+    return gives(mk_initiator_url(initiator, url, sizeof url), url, l->url, strlen(l->url)) &&
+           gives(mk_initiator_request(initiator, out, sizeof out), out, request->at, request->length);
+}
+
+/* Begins with these flags and options, and takes the three replies of the KDC. */
+static mk_reply ask_all(const login *l, mk_initiator *to, uint32_t flags, uint32_t options) {
+    CHECK(mk_initiator_new(to, text(l->target), strlen(l->target), text(l->machine), strlen(l->machine), flags, l->number, 4).status == MK_OK);
+    CHECK(mk_initiator_allow(to, options).status == MK_OK);
+    CHECK(mk_initiator_kdc(to, text(l->url), strlen(l->url)).status == MK_OK);
+    set_password(l, to);
+    mk_reply reply = mk_initiator_start(to, &l->steps[0]);
+    for (size_t i = 0; i < 3; i++) {
+        CHECK(leads_to(reply, MK_ASK_KDC));
+        reply = mk_initiator_answer(to, l->replies[i].at, l->replies[i].length, &l->steps[i + 1]);
+    }
+    return reply;
+}
+
+/* Whether its session seals with these flags of RFC 4121, section 4.2.2, and its first message has this as the end of its number. */
+static int seals_so(const login *l, mk_initiator *initiator, uint8_t flags, uint8_t number) {
+    mk_session session = MK_EMPTY;
+    uint8_t out[128] = {0};
+    CHECK(mk_initiator_session(initiator, &session).status == MK_OK);
+    CHECK(mk_wrap(&session, l->text.at, l->text.length, l->confounder.at, l->confounder.length, out, sizeof out).status == MK_OK);
+    mk_session_free(&session);
+    return out[2] == flags && out[15] == number;
+}
+
+void log_in_otherwise(const login *l) {
+    const uint32_t one_way = ALL_FLAGS & ~(uint32_t)MK_MUTUAL_AUTH;
+    mk_initiator initiator = MK_EMPTY;
+    mk_session session = MK_EMPTY;
+    uint8_t out[4096];
+    CHECK(leads_to(ask_all(l, &initiator, ALL_FLAGS, MK_FIRST_NUMBER_AS_SHOWN), MK_SEND_TOKEN));
+    CHECK(leads_to(mk_initiator_hear(&initiator, l->answer.at, l->answer.length, &l->steps[13]), MK_ESTABLISHED));
+    CHECK(seals_so(l, &initiator, 6, l->sealed.at[15] - 1));
+    CHECK(leads_to(ask_all(l, &initiator, one_way, 0), MK_SEND_TOKEN));
+    CHECK(is_refused(mk_initiator_session(&initiator, &session), MK_CAUSE_SEQUENCE));
+    mk_initiator_free(&initiator);
+    CHECK(leads_to(ask_all(l, &initiator, one_way, MK_ONE_WAY_IS_SETTLED), MK_ESTABLISHED));
+    mk_reply reply = mk_initiator_token(&initiator, out, sizeof out);
+    CHECK(reply.status == MK_OK && reply.length > 0);
+    CHECK(seals_so(l, &initiator, 6, l->sealed.at[15]));
+    CHECK(leads_to(ask_all(l, &initiator, one_way, 0x1ff), MK_ESTABLISHED));
+    CHECK(seals_so(l, &initiator, 2, l->sealed.at[15] - 1));
+}
+
+/* The session seals as it was recorded, and keeps what it is. */
+static void use_session(const login *l, mk_session *session) {
+    uint8_t out[4096];
+    mk_times times;
+    mk_reply reply = mk_session_answer(session, out, sizeof out);
+    CHECK(reply.status == MK_OK && reply.length == 0);
+    CHECK(is_refused(mk_session_peer(session, out, sizeof out), MK_CAUSE_NO_IDENTITY));
+    CHECK(mk_session_client(session, out, sizeof out).status == MK_HANDLE);
+    CHECK(mk_session_times(session, &times).status == MK_HANDLE);
+    reply = mk_session_key(session, out, sizeof out);
+    CHECK(reply.status == MK_OK && reply.length == 32);
+    reply = mk_wrap(session, l->text.at, l->text.length, l->confounder.at, l->confounder.length, out, sizeof out);
+    CHECK(gives(reply, out, l->sealed.at, l->sealed.length));
+    CHECK(is_refused(mk_unwrap(session, out, reply.length, out + 2048, 2048), MK_CAUSE_DIRECTION));
+    CHECK(mk_session_allow(session, 0x1ff).status == MK_OK);
+    CHECK(mk_session_allow(session, 0x200).status == MK_ARGUMENT);
+    CHECK(mk_session_allow(session, 0).status == MK_OK);
+}
+
+void log_in(const login *l) {
+    mk_initiator initiator = MK_EMPTY;
+    mk_session session = MK_EMPTY, taken = MK_EMPTY;
+    uint8_t out[4096];
+    make_ready(l, &initiator);
+    mk_reply reply = mk_initiator_start(&initiator, &l->steps[0]);
+    for (size_t i = 0; i < 3; i++) {
+        CHECK(leads_to(reply, MK_ASK_KDC) && asks(l, &initiator, &l->asks[i]));
+        CHECK(is_refused(mk_initiator_start(&initiator, &l->steps[0]), MK_CAUSE_SEQUENCE));
+        CHECK(is_refused(mk_initiator_hear(&initiator, l->answer.at, l->answer.length, &l->steps[0]), MK_CAUSE_SEQUENCE));
+        CHECK(is_refused(mk_initiator_token(&initiator, out, sizeof out), MK_CAUSE_SEQUENCE));
+        reply = mk_initiator_answer(&initiator, l->replies[i].at, l->replies[i].length, &l->steps[i + 1]);
+    }
+    CHECK(leads_to(reply, MK_SEND_TOKEN));
+    CHECK(is_refused(mk_initiator_request(&initiator, out, sizeof out), MK_CAUSE_SEQUENCE));
+    CHECK(is_refused(mk_initiator_url(&initiator, out, sizeof out), MK_CAUSE_SEQUENCE));
+    CHECK(is_refused(mk_initiator_start(&initiator, &l->steps[0]), MK_CAUSE_SEQUENCE));
+    CHECK(is_refused(mk_initiator_fault(&initiator, 1, &l->steps[0]), MK_CAUSE_SEQUENCE));
+    CHECK(is_refused(mk_initiator_session(&initiator, &session), MK_CAUSE_SEQUENCE) && initiator.count != 0 && session.count == 0);
+    CHECK(is_refused(mk_initiator_peer(&initiator, out, sizeof out), MK_CAUSE_SEQUENCE));
+    CHECK(is_refused(mk_initiator_hear(&initiator, l->token.at, l->token.length, &l->steps[13]), MK_CAUSE_SHAPE));
+    reply = mk_initiator_token(&initiator, out, l->token.length - 1);
+    CHECK(reply.status == MK_ROOM && reply.length == l->token.length);
+    CHECK(gives(mk_initiator_token(&initiator, out, sizeof out), out, l->token.at, l->token.length));
+    CHECK(leads_to(mk_initiator_hear(&initiator, l->answer.at, l->answer.length, &l->steps[13]), MK_ESTABLISHED));
+    reply = mk_initiator_token(&initiator, out, sizeof out);
+    CHECK(reply.status == MK_OK && reply.length == 0);
+    CHECK(gives(mk_initiator_peer(&initiator, out, sizeof out), out, l->target, strlen(l->target)));
+    CHECK(is_refused(mk_initiator_hear(&initiator, l->answer.at, l->answer.length, &l->steps[13]), MK_CAUSE_SEQUENCE));
+    CHECK(mk_initiator_session(&initiator, &session).status == MK_OK);
+    CHECK(initiator.count == 0 && session.count != 0);
+    CHECK(mk_initiator_session(&initiator, &taken).status == MK_HANDLE && taken.count == 0);
+    use_session(l, &session);
+    mk_initiator_free(&initiator);
+    mk_session_free(&session);
+    CHECK(session.count == 0);
+}
+
+/* No call is served by an empty handle, and none makes an initiator in a full one. */
+static void refuse_handles(const login *l, mk_initiator *full) {
+    mk_initiator empty = MK_EMPTY;
+    mk_session session = MK_EMPTY;
+    uint8_t out[64] = {0};
+    const uint8_t *a = text("a");
+    CHECK(make(l, full).status == MK_HANDLE && full->count != 0);
+    CHECK(mk_initiator_allow(&empty, 0).status == MK_HANDLE);
+    CHECK(mk_initiator_kdc(&empty, a, 1).status == MK_HANDLE);
+    CHECK(mk_initiator_password(&empty, a, 1, a, 1, a, 1).status == MK_HANDLE);
+    CHECK(mk_initiator_key(&empty, a, 1, 18, out, 32).status == MK_HANDLE);
+    CHECK(mk_initiator_variable(&empty, a, 1, a, 1).status == MK_HANDLE);
+    CHECK(mk_initiator_file(&empty, a, 1, a, 1).status == MK_HANDLE);
+    CHECK(mk_initiator_bind(&empty, a, 1).status == MK_HANDLE);
+    CHECK(mk_initiator_start(&empty, &l->steps[0]).status == MK_HANDLE);
+    CHECK(mk_initiator_hear(&empty, a, 1, &l->steps[0]).status == MK_HANDLE);
+    CHECK(mk_initiator_answer(&empty, a, 1, &l->steps[0]).status == MK_HANDLE);
+    CHECK(mk_initiator_fault(&empty, 1, &l->steps[0]).status == MK_HANDLE);
+    CHECK(mk_initiator_url(&empty, out, sizeof out).status == MK_HANDLE);
+    CHECK(mk_initiator_request(&empty, out, sizeof out).status == MK_HANDLE);
+    CHECK(mk_initiator_token(&empty, out, sizeof out).status == MK_HANDLE);
+    CHECK(mk_initiator_peer(&empty, out, sizeof out).status == MK_HANDLE);
+    CHECK(mk_initiator_session(&empty, &session).status == MK_HANDLE);
+    CHECK(mk_session_allow(&session, 0).status == MK_HANDLE);
+    mk_initiator_free(&empty);
+    CHECK(empty.count == 0 && empty.at == NULL && session.count == 0);
+}
+
+/* No text past UTF-8, no bit that names nothing, no number of another length. */
+static void refuse_arguments(const login *l, mk_initiator *initiator) {
+    mk_initiator none = MK_EMPTY;
+    uint8_t key[32] = {7};
+    const uint8_t *a = text("a"), *bad = text("\xff");
+    CHECK(mk_initiator_new(&none, bad, 1, a, 1, ALL_FLAGS, l->number, 4).status == MK_ARGUMENT);
+    CHECK(mk_initiator_new(&none, a, 1, bad, 1, ALL_FLAGS, l->number, 4).status == MK_ARGUMENT);
+    CHECK(mk_initiator_new(&none, a, 1, a, 1, ALL_FLAGS, l->number, 3).status == MK_ARGUMENT);
+    CHECK(mk_initiator_new(&none, a, 1, a, 1, ALL_FLAGS, key, 5).status == MK_ARGUMENT);
+    CHECK(is_refused(mk_initiator_new(&none, text("\xc3\xa4"), 2, a, 1, ALL_FLAGS, l->number, 4), MK_CAUSE_NOT_ASCII));
+    CHECK(none.count == 0 && none.at == NULL);
+    CHECK(mk_initiator_allow(initiator, 0x1ff).status == MK_OK);
+    CHECK(mk_initiator_allow(initiator, 0x200).status == MK_ARGUMENT);
+    CHECK(mk_initiator_allow(initiator, 0x80000000).status == MK_ARGUMENT);
+    CHECK(mk_initiator_allow(initiator, 0).status == MK_OK);
+    CHECK(mk_initiator_kdc(initiator, bad, 1).status == MK_ARGUMENT);
+    CHECK(mk_initiator_password(initiator, bad, 1, a, 1, a, 1).status == MK_ARGUMENT);
+    CHECK(mk_initiator_password(initiator, a, 1, bad, 1, a, 1).status == MK_ARGUMENT);
+    CHECK(mk_initiator_password(initiator, a, 1, a, 1, bad, 1).status == MK_ARGUMENT);
+    CHECK(mk_initiator_key(initiator, bad, 1, 18, key, 32).status == MK_ARGUMENT);
+    CHECK(mk_initiator_key(initiator, a, 1, 256 + 18, key, 32).status == MK_ARGUMENT);
+    CHECK(is_refused(mk_initiator_key(initiator, a, 1, 16, key, 32), MK_CAUSE_ETYPE));
+    CHECK(is_refused(mk_initiator_key(initiator, text("E\\a@b"), 5, 18, key, 32), MK_CAUSE_BAD_USER));
+    CHECK(mk_initiator_variable(initiator, bad, 1, a, 1).status == MK_ARGUMENT);
+    CHECK(mk_initiator_variable(initiator, a, 1, bad, 1).status == MK_ARGUMENT);
+    CHECK(mk_initiator_file(initiator, bad, 1, a, 1).status == MK_ARGUMENT);
+    CHECK(mk_initiator_file(initiator, a, 1, bad, 1).status == MK_ARGUMENT);
+}
+
+static int is_late(mk_reply reply) { return is_refused(reply, MK_CAUSE_MOMENT); }
+
+/* What begins and is not done leaves all as it was, and a fault or a refused answer ends the exchange: it may begin again. */
+static void refuse_steps(const login *l, mk_initiator *initiator) {
+    mk_moment late = l->steps[0];
+    uint8_t out[4096] = {0};
+    const octets *ask = &l->asks[0], *needs = &l->replies[0];
+    late.moment = UINT64_MAX;
+    CHECK(is_late(mk_initiator_start(initiator, &late)) && is_late(mk_initiator_hear(initiator, out, 0, &late)));
+    CHECK(is_late(mk_initiator_answer(initiator, out, 0, &late)) && is_late(mk_initiator_fault(initiator, 1, &late)));
+    CHECK(is_refused(mk_initiator_answer(initiator, needs->at, needs->length, &l->steps[0]), MK_CAUSE_SEQUENCE));
+    CHECK(is_refused(mk_initiator_fault(initiator, 1, &l->steps[0]), MK_CAUSE_SEQUENCE));
+    CHECK(is_refused(mk_initiator_start(initiator, &l->steps[0]), MK_CAUSE_NO_IDENTITY));
+    set_password(l, initiator);
+    CHECK(is_refused(mk_initiator_start(initiator, &l->steps[0]), MK_CAUSE_NO_KDC));
+    CHECK(mk_initiator_kdc(initiator, text(l->url), strlen(l->url)).status == MK_OK);
+    CHECK(leads_to(mk_initiator_start(initiator, &l->steps[0]), MK_ASK_KDC) && asks(l, initiator, ask));
+    CHECK(mk_initiator_url(initiator, out, 3).status == MK_ROOM);
+    mk_reply reply = mk_initiator_request(initiator, out, ask->length - 1);
+    CHECK(reply.status == MK_ROOM && reply.length == ask->length);
+    CHECK(is_late(mk_initiator_answer(initiator, needs->at, needs->length, &late)) && asks(l, initiator, ask));
+    reply = mk_initiator_fault(initiator, 77, &l->steps[0]);
+    CHECK(is_refused(reply, MK_CAUSE_NETWORK) && reply.number == 77);
+    CHECK(is_refused(mk_initiator_fault(initiator, 77, &l->steps[0]), MK_CAUSE_SEQUENCE));
+    CHECK(leads_to(mk_initiator_start(initiator, &l->steps[0]), MK_ASK_KDC) && asks(l, initiator, ask));
+    CHECK(is_refused(mk_initiator_answer(initiator, out, 3, &l->steps[1]), MK_CAUSE_REPLY_SHORT));
+    CHECK(leads_to(mk_initiator_start(initiator, &l->steps[0]), MK_ASK_KDC) && asks(l, initiator, ask));
+    CHECK(is_refused(mk_initiator_answer(initiator, l->replies[1].at, l->replies[1].length, &l->steps[1]), MK_CAUSE_EARLY_AS_REP));
+}
+
+/* A KDC that a file names, and a key in the place of a password. */
+static void ask_by_file(const login *l) {
+    static const char path[] = "/krb5.conf", file[] = "[realms]\nEXAMPLE.COM = {\nkdc = kdc.example.com:88\n}\n";
+    mk_initiator initiator = MK_EMPTY;
+    uint8_t out[64], key[32] = {7};
+    CHECK(make(l, &initiator).status == MK_OK);
+    CHECK(mk_initiator_key(&initiator, text("EXAMPLE.COM\\alice"), 17, 18, key, 32).status == MK_OK);
+    CHECK(mk_initiator_variable(&initiator, text("KRB5_CONFIG"), 11, text(path), strlen(path)).status == MK_OK);
+    CHECK(mk_initiator_file(&initiator, text(path), strlen(path), text(file), strlen(file)).status == MK_OK);
+    CHECK(mk_initiator_bind(&initiator, text("tls-server-end-point:"), 21).status == MK_OK);
+    CHECK(leads_to(mk_initiator_start(&initiator, &l->steps[0]), MK_ASK_KDC));
+    CHECK(gives(mk_initiator_url(&initiator, out, sizeof out), out, "tcp://kdc.example.com:88", 24));
+    mk_initiator_free(&initiator);
+    CHECK(initiator.count == 0);
+}
+
+void refuse_initiators(const login *l) {
+    mk_initiator initiator = MK_EMPTY;
+    CHECK(make(l, &initiator).status == MK_OK);
+    refuse_handles(l, &initiator);
+    refuse_arguments(l, &initiator);
+    refuse_steps(l, &initiator);
+    mk_initiator_free(&initiator);
+    mk_initiator_free(&initiator);
+    ask_by_file(l);
+}

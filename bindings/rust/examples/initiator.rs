@@ -1,0 +1,79 @@
+//! A client that logs in at a KDC, shows its ticket to a server of MIT's sample protocol (`gss-server`, or the example `gss_server`),
+//! and sends it messages:
+//!
+//!     cargo run --offline --example initiator 127.0.0.1:4444 host/server.example.com alice@EXAMPLE.COM - usual tcp://127.0.0.1:88 < password
+//!     cargo run --offline --example initiator 127.0.0.1:4444 host/server.example.com alice@EXAMPLE.COM keytab one-way udp://127.0.0.1:88 ALL
+//!
+//! Behind the user stands a keytab file with its key, or `-` where its password is to be read from the standard input. `usual` asks the
+//! server to show who it is, `one-way` does not, and with `dce-style` the client has the last word. The KDCs are asked in turn, with
+//! commas between them, until one answers. Behind them are the options that these peers want, by name (docs/EMBEDDING.md), or `ALL`.
+
+#[path = "parts/carrying.rs"]
+mod carrying;
+#[path = "parts/frames.rs"]
+mod frames;
+#[path = "parts/keytab.rs"]
+mod keytab;
+#[path = "parts/options.rs"]
+mod options;
+#[path = "parts/sample_client.rs"]
+mod sample_client;
+
+use menolavuri::{Flags, Initiator};
+use std::process::ExitCode;
+use std::{env, error::Error, fs, io};
+
+type Answer<T> = Result<T, Box<dyn Error + Send + Sync>>;
+
+/// What is asked of the server.
+fn flags(word: &str) -> Answer<Flags> {
+    match word {
+        "usual" => Ok(Flags::USUAL),
+        "one-way" => Ok(Flags::USUAL.without(Flags::MUTUAL_AUTH)),
+        "dce-style" => Ok(Flags::USUAL | Flags::USE_DCE_STYLE),
+        _ => Err("what is asked of the server is usual, one-way or dce-style".into()),
+    }
+}
+
+/// Tells the initiator who asks: by the key in a keytab, or by the password on the standard input.
+fn identify(initiator: &mut Initiator, user: &str, keytab: &str) -> Answer<()> {
+    let (name, realm) = user.rsplit_once('@').ok_or("the user has no realm")?;
+    if keytab != "-" {
+        let key = keytab::key(&fs::read(keytab)?, user);
+        let (etype, key) = key.ok_or("the keytab has no key of the user")?;
+        return Ok(initiator.key(name, realm, etype, &key)?);
+    }
+    let mut line = String::new();
+    io::stdin().read_line(&mut line)?;
+    let password = line.trim_end_matches(['\r', '\n']);
+    Ok(initiator.password(name, realm, password)?)
+}
+
+fn run(arguments: &[String]) -> Answer<()> {
+    let [address, service, user, keytab, asked, kdcs, words @ ..] = arguments else {
+        return Err("usage: initiator ADDRESS SERVICE USER KEYTAB|- usual|one-way|dce-style KDC[,KDC ..] [OPTION ..]".into());
+    };
+    let kdcs: Vec<&str> = kdcs.split(',').collect();
+    let mut initiator = Initiator::new(service, "desk", flags(asked)?)?;
+    initiator.allow(options::named(words)?)?;
+    initiator.kdc(kdcs[0])?;
+    identify(&mut initiator, user, keytab)?;
+    let (mut session, stream) = sample_client::log_in(initiator, &kdcs[1..], address)?;
+    println!("logged in: {}", session.peer());
+    for text in ["hello", "how late is it?", "good bye"] {
+        sample_client::say(&mut session, text.as_bytes(), &stream)?;
+        println!("{} octets are answered", text.len());
+    }
+    sample_client::take_leave(&stream)
+}
+
+fn main() -> ExitCode {
+    let arguments: Vec<String> = env::args().skip(1).collect();
+    match run(&arguments) {
+        Ok(()) => ExitCode::SUCCESS,
+        Err(error) => {
+            eprintln!("{error}");
+            ExitCode::FAILURE
+        }
+    }
+}

@@ -1,0 +1,175 @@
+//! A connection whose exchange is over, and its messages.
+
+use crate::error::{Error, done};
+use crate::options::Options;
+use crate::sys::{self, Handle, Times};
+use crate::{filled, random};
+use std::time::{Duration, SystemTime, UNIX_EPOCH};
+
+/// A connection whose exchange is over: at an acceptor's end with a client that was admitted, at an initiator's with its service.
+pub struct Session {
+    pub(crate) handle: Handle,
+    peer: String,
+    client: Option<String>,
+    ends: Option<SystemTime>,
+    answer: Vec<u8>,
+}
+
+// SAFETY: the library's handle of a session may go to another thread (`Send` is proved of it), and each call takes `&mut self`.
+unsafe impl Send for Session {}
+
+/// The text of a token that the other end made.
+#[derive(Clone, Debug, PartialEq, Eq)]
+pub struct Opened {
+    /// The text.
+    pub text: Vec<u8>,
+    /// Whether the token was sealed, and not in the clear.
+    pub sealed: bool,
+}
+
+impl Session {
+    pub(crate) fn empty() -> Session {
+        Session {
+            handle: Handle::EMPTY,
+            peer: String::new(),
+            client: None,
+            ends: None,
+            answer: Vec::new(),
+        }
+    }
+
+    /// Learns which service an initiator has reached, and what is still to be sent to it.
+    pub(crate) fn reach(&mut self, peer: String) -> Result<(), Error> {
+        self.peer = peer;
+        self.answer = self.octets(64, sys::mk_session_answer)?;
+        Ok(())
+    }
+
+    /// Learns what the ticket of an admitted client says. The answer to it has so many octets.
+    pub(crate) fn learn(&mut self, answer: usize) -> Result<(), Error> {
+        self.answer = self.octets(answer, sys::mk_session_answer)?;
+        self.peer = self.text(sys::mk_session_peer)?;
+        self.client = Some(self.text(sys::mk_session_client)?);
+        let mut times = Times::default();
+        // SAFETY: both are ours.
+        done(unsafe { sys::mk_session_times(&mut self.handle, &mut times) })?;
+        let ends = u64::try_from(times.endtime).unwrap_or(0);
+        self.ends = Some(UNIX_EPOCH + Duration::from_secs(ends));
+        Ok(())
+    }
+
+    fn text(&mut self, call: sys::OutCall) -> Result<String, Error> {
+        let octets = self.octets(64, call)?;
+        Ok(String::from_utf8_lossy(&octets).into_owned())
+    }
+
+    fn octets(&mut self, room: usize, call: sys::OutCall) -> Result<Vec<u8>, Error> {
+        let handle = &mut self.handle;
+        // SAFETY: the handle is ours, and the pointer and the length are those of one vector.
+        filled(room, |out, room| unsafe { call(handle, out, room) })
+    }
+
+    /// Who the other end is. A client is `alice@example.com`, the first component of its name and the realm in small letters, so
+    /// that `alice/admin` has the same name as `alice`. A service is its name as the initiator was given it.
+    pub fn peer(&self) -> &str {
+        &self.peer
+    }
+
+    /// Who the client is, whole: all components of its name and the realm, as `alice/admin@EXAMPLE.COM`. An initiator's session does
+    /// not tell it.
+    pub fn client(&self) -> Option<&str> {
+        self.client.as_deref()
+    }
+
+    /// Until when the client's ticket is valid. An initiator's session does not tell it.
+    pub fn ends(&self) -> Option<SystemTime> {
+        self.ends
+    }
+
+    /// The last token for the other end; empty where there is nothing to be sent.
+    pub fn answer(&self) -> &[u8] {
+        &self.answer
+    }
+
+    /// Allows it these options from now on, and no others.
+    pub fn allow(&mut self, options: Options) -> Result<(), Error> {
+        // SAFETY: the handle is ours.
+        done(unsafe { sys::mk_session_allow(&mut self.handle, options.0) })?;
+        Ok(())
+    }
+
+    /// The key of its messages, for what a program seals by itself: 32 octets where its encryption type is 18, and 16 where it is 17
+    /// (RFC 3962). **Whoever has it reads all messages of the session.**
+    pub fn key(&mut self) -> Result<Vec<u8>, Error> {
+        self.octets(32, sys::mk_session_key)
+    }
+
+    /// Seals a text, for the other end's `gss_unwrap`.
+    pub fn wrap(&mut self, text: &[u8]) -> Result<Vec<u8>, Error> {
+        let confounder: [u8; 16] = random()?;
+        let handle = &mut self.handle;
+        // SAFETY: the handle is ours, and each pointer and length are those of one slice or vector.
+        filled(text.len() + 60, |out, room| unsafe {
+            sys::mk_wrap(
+                handle,
+                text.as_ptr(),
+                text.len(),
+                confounder.as_ptr(),
+                confounder.len(),
+                out,
+                room,
+            )
+        })
+    }
+
+    /// A text in the clear with a checksum, for the other end's `gss_unwrap`.
+    pub fn wrap_in_clear(&mut self, text: &[u8]) -> Result<Vec<u8>, Error> {
+        let handle = &mut self.handle;
+        // SAFETY: as above.
+        filled(text.len() + 28, |out, room| unsafe {
+            sys::mk_wrap_in_clear(handle, text.as_ptr(), text.len(), out, room)
+        })
+    }
+
+    /// Opens a token that the other end's `gss_wrap` made. Each is opened once.
+    pub fn unwrap(&mut self, token: &[u8]) -> Result<Opened, Error> {
+        let handle = &mut self.handle;
+        // SAFETY: as above.
+        let text = filled(token.len(), |out, room| unsafe {
+            sys::mk_unwrap(handle, token.as_ptr(), token.len(), out, room)
+        })?;
+        let sealed = token.get(2).is_some_and(|flags| flags & 2 != 0);
+        Ok(Opened { text, sealed })
+    }
+
+    /// A MIC over a payload, for the other end's `gss_verify_mic`.
+    pub fn mic(&mut self, payload: &[u8]) -> Result<Vec<u8>, Error> {
+        let handle = &mut self.handle;
+        // SAFETY: as above.
+        filled(28, |out, room| unsafe {
+            sys::mk_mic(handle, payload.as_ptr(), payload.len(), out, room)
+        })
+    }
+
+    /// Whether the token is a MIC over this payload that the other end's `gss_get_mic` made.
+    pub fn verify(&mut self, mic: &[u8], payload: &[u8]) -> Result<(), Error> {
+        // SAFETY: the handle is ours, and each pointer and length are those of one slice.
+        done(unsafe {
+            sys::mk_verify(
+                &mut self.handle,
+                mic.as_ptr(),
+                mic.len(),
+                payload.as_ptr(),
+                payload.len(),
+            )
+        })?;
+        Ok(())
+    }
+}
+
+impl Drop for Session {
+    fn drop(&mut self) {
+        // SAFETY: the handle is ours.
+        unsafe { sys::mk_session_free(&mut self.handle) }
+    }
+}
