@@ -1,11 +1,11 @@
 # MIT's gss-client at the example gss_server.
 
-# Starts gss_server with the key of a service: start_acceptor NAME SERVICE KEY, and leaves its port in acceptor_port. The
+# Starts gss_server with the key of a service: start_acceptor NAME SERVICE KEY OPTION.., and leaves its port in acceptor_port. The
 # key is new, so it need not wait.
 start_acceptor() {
     acceptor_port=$(free_port)
     (umask 077 && echo "$3" > "$room/$1.key")
-    start "$1" "$examples/gss_server" "127.0.0.1:$acceptor_port" "$2" "$room/$1.key" 300 0
+    start "$1" "$examples/gss_server" "127.0.0.1:$acceptor_port" "$2" "$room/$1.key" 300 0 "${@:4}"
 }
 
 # Whether gss-client, with these options, gets no answer, and the server's log says why: is_refused NAME PATTERN OPTION..

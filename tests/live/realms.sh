@@ -1,11 +1,11 @@
 # A throw-away realm of MIT krb5 on 127.0.0.1, with everything in one folder. Sourced by tests/live/run, which sets `room`.
 # alice's password is `secret`, and `keytab` has the keys of its services.
 
-# A port of this machine that nobody listens at.
+# A port of this machine that nobody listens at, below those that the system gives to connections.
 free_port() {
     local port
     for _ in $(seq 100); do
-        port=$((20000 + RANDOM % 20000))
+        port=$((20000 + RANDOM % 12000))
         (exec 3<> "/dev/tcp/127.0.0.1/$port") 2> /dev/null || { echo "$port"; return; }
     done
     return 1
