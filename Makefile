@@ -1,7 +1,7 @@
 # `make run` runs an example with every check at run time and no proof, `make build` proves and builds the program, `make test` is the
 # merge gate, and `make bench` measures and reads the machine code. Another example: make run EXAMPLE=examples/real-client
 # `make bindings` proves and builds the library for C and Rust, and tests both.
-# `make live` lets real clients speak to the programs of bindings/rust/examples, in a throw-away realm (docs/LIVE.md).
+# `make live` lets real clients, KDCs and services speak to the programs of bindings/rust/examples, in throw-away realms (docs/LIVE.md).
 # `make realm` proves and builds `krb_run` and `krb_realm`, and goes from a password to a sealed message with them.
 EXAMPLE ?= examples/one-client
 PROGRAM = crates/krb_run/out/krb_run
