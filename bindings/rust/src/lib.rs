@@ -33,13 +33,15 @@ mod acceptor;
 mod error;
 mod initiator;
 mod options;
+mod sasl;
 mod session;
 mod sys;
 
 pub use acceptor::{Acceptor, Judged};
-pub use error::{Cause, Error, Kind, Refusal};
+pub use error::{Cause, Error, Kind, LayerRefusal, Refusal};
 pub use initiator::{Initiator, Next, Step};
 pub use options::{Flags, Options};
+pub use sasl::{Layers, SaslClient, SaslServer};
 pub use session::{Opened, Session};
 
 use error::done;
