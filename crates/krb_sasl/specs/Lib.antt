@@ -6,6 +6,7 @@ pub mod Ends
 pub mod Frames
 pub mod InContext
 pub mod Layers
+pub mod Rooms
 pub mod Servers
 pub mod Streams
 pub mod Texts

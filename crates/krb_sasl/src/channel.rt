@@ -1,6 +1,6 @@
 //! An end of a connection, and what goes through it once both ends agree.
 
-ghost use Rattle.std.specs.Prelude.{◌≡◌, ◌≤◌, ◌<◌, ◌^◌, length, IfOk, OnOk, OnErr};
+ghost use Rattle.std.specs.Prelude.{◌≡◌, ◌≤◌, ◌<◌, ◌^◌, length, Ok, IfOk, IfErr, OnOk, OnErr};
 ghost use Rattle.krb_sasl.specs.Answers.{Answers};
 ghost use Rattle.krb_sasl.specs.Channels.{
   MakesInLayer,
@@ -21,13 +21,17 @@ ghost use Rattle.krb_sasl.specs.declared.error.SaslError.TheVariants as refusals
 ghost use Rattle.sspi_core.specs.Checks.{Holds, Takes};
 ghost use Rattle.krb_sasl.specs.Frames.{unframed};
 ghost use Rattle.krb_sasl.specs.Layers.{message_size, takes_message};
+ghost use Rattle.krb_sasl.specs.Rooms.{Faults};
 ghost use Rattle.krb_sasl.specs.Servers.{new_channel};
+ghost use Rattle.krb_sessions.specs.Gives.{Delivers};
 
 use crate::checks::{hold, take};
 use crate::clear::wrap_plain;
 use crate::error::SaslError;
+use crate::fault::SaslFault;
 use crate::frame::unframed;
 use crate::layer::Layer;
+use crate::room::put;
 use crate::stream::{unwrap, wrap_sealed};
 use krb_context::Kerberos;
 use krb_der::Octets;
@@ -142,6 +146,31 @@ impl Channel {
         }
     }
 
+    /// Seals data into a frame in a room. Where the room is too short nothing is changed.
+    pub(crate) fn seal_to(
+        &mut self,
+        alloc: Global,
+        plain: &[u8],
+        confounder: [u8; 16],
+        out: &mut [u8],
+    ) -> Result<usize, SaslFault>
+        ensures gives { IfOk result (λ count. Delivers (λ frame. Seals self.old confounder plain.now (Ok frame)) out.old count out.new) }
+        ensures after { OnOk result (self.new ≡ sealed_by self.old) }
+        ensures refused { IfErr result (Faults (Seals self.old confounder plain.now) (λ frame. Seals self.old confounder plain.now (Ok frame)) (length out.old)) }
+        ensures stays { OnErr result (self.new ≡ self.old) }
+        ensures room { OnErr result (out.new ≡ out.old) }
+    {
+        let number = self.context.seq_number;
+        let frame = self.seal(alloc, plain, confounder)?;
+        match put(out, frame.as_slice()) {
+            Ok(count) => Ok(count),
+            Err(fault) => {
+                self.context.seq_number = number;
+                Err(fault)
+            }
+        }
+    }
+
     fn check_size(&self, layer: Layer, message: &[u8]) -> Result<(), SaslError>
         ensures { Holds refusals.TooLarge (takes_message layer self.now.size (length message.now)) result }
     {
@@ -170,6 +199,30 @@ impl Channel {
     {
         let (layer, message) = self.unframe(frame)?;
         self.open(alloc, layer, message)
+    }
+
+    /// Unseals the data of a frame into a room. Where the room is too short nothing is changed.
+    pub(crate) fn unseal_to(
+        &mut self,
+        alloc: Global,
+        frame: &[u8],
+        out: &mut [u8],
+    ) -> Result<usize, SaslFault>
+        ensures gives { IfOk result (λ count. Delivers (λ plain. Unseals self.old frame.now (Ok plain)) out.old count out.new) }
+        ensures after { OnOk result (self.new ≡ unsealed_by self.old frame.now) }
+        ensures refused { IfErr result (Faults (Unseals self.old frame.now) (λ plain. Unseals self.old frame.now (Ok plain)) (length out.old)) }
+        ensures stays { OnErr result (self.new ≡ self.old) }
+        ensures room { OnErr result (out.new ≡ out.old) }
+    {
+        let window = self.context.window;
+        let plain = self.unseal(alloc, frame)?;
+        match put(out, plain.as_slice()) {
+            Ok(count) => Ok(count),
+            Err(fault) => {
+                self.context.window = window;
+                Err(fault)
+            }
+        }
     }
 }
 

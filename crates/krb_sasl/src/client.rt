@@ -8,15 +8,19 @@ ghost use Rattle.krb_sasl.specs.Channels.{Seals, Unseals, sealed_by, unsealed_by
 ghost use Rattle.krb_sasl.specs.Clients.{MayWish, Wishes, Suits, Reads, AnswersOffer, answered_by, channel_of, with_channel};
 ghost use Rattle.krb_context.specs.ClearWraps.{WrapsClear};
 ghost use Rattle.krb_sasl.specs.InContext.{InContext};
+ghost use Rattle.krb_sasl.specs.Rooms.{Faults, AnswersWith, IsAnswerTo, kept_by};
 ghost use Rattle.krb_sasl.specs.Servers.{is_of_text, left_by};
 ghost use Rattle.krb_sasl.specs.Streams.{sent_from, received};
 ghost use Rattle.krb_sasl.specs.Texts.{answer_text};
+ghost use Rattle.krb_sessions.specs.Gives.{Delivers};
 
 use crate::channel::{Agreement, Channel};
 use crate::checks::hold;
 use crate::clear::wrap_plain;
 use crate::error::SaslError;
+use crate::fault::SaslFault;
 use crate::layer::{Layer, is_wish};
+use crate::room::put;
 use crate::stream::unwrap;
 use crate::texts::{answer_text, is_offer_text, offers_layer, size_in};
 use krb_context::Kerberos;
@@ -132,6 +136,34 @@ impl SaslClient {
         }
     }
 
+    /// The token of the answer to an offer, in the caller's room. The refusals are those of `answer`, and leave the client as there. Where
+    /// the room is too short it says how long the token is, and nothing is changed.
+    pub fn answer_to(
+        &mut self,
+        alloc: Global,
+        offer: &[u8],
+        out: &mut [u8],
+    ) -> Result<usize, SaslFault>
+        ensures gives { IfOk result (λ count. Delivers (λ token. AnswersWith self.old offer.now token self.new) out.old count out.new) }
+        ensures refused { IfErr result (Faults (AnswersOffer self.old offer.now) (IsAnswerTo self.old offer.now) (length out.old)) }
+        ensures left { IfErr result (λ fault. self.new ≡ with_channel self.old (kept_by fault (channel_of self.old) offer.now)) }
+        ensures room { OnErr result (out.new ≡ out.old) }
+    {
+        let number = self.channel.context.seq_number;
+        let window = self.channel.context.window;
+        let agreement = self.channel.agreement;
+        let token = self.answer(alloc, offer)?;
+        match put(out, token.as_slice()) {
+            Ok(count) => Ok(count),
+            Err(fault) => {
+                self.channel.context.seq_number = number;
+                self.channel.context.window = window;
+                self.channel.agreement = agreement;
+                Err(fault)
+            }
+        }
+    }
+
     /// The token of the answer, whatever was offered.
     fn write_answer(&mut self, alloc: Global) -> Result<Octets, SaslError>
         ensures written { Answers (InContext (WrapsClear self.old.channel.context
@@ -171,5 +203,42 @@ impl SaslClient {
         ensures stays { OnErr result (self.new ≡ self.old) }
     {
         self.channel.unseal(alloc, frame)
+    }
+
+    /// Seals data into a frame in the caller's room. The refusals are those of `seal`. Where the room is too short it says how long the
+    /// frame is, and nothing is changed.
+    pub fn seal_to(
+        &mut self,
+        alloc: Global,
+        plain: &[u8],
+        confounder: [u8; 16],
+        out: &mut [u8],
+    ) -> Result<usize, SaslFault>
+        ensures gives { IfOk result (λ count. Delivers (λ frame. Seals (channel_of self.old) confounder plain.now (Ok frame)) out.old count out.new) }
+        ensures after { OnOk result (self.new ≡ with_channel self.old (sealed_by (channel_of self.old))) }
+        ensures refused { IfErr result (Faults (Seals (channel_of self.old) confounder plain.now)
+            (λ frame. Seals (channel_of self.old) confounder plain.now (Ok frame)) (length out.old)) }
+        ensures stays { OnErr result (self.new ≡ self.old) }
+        ensures room { OnErr result (out.new ≡ out.old) }
+    {
+        self.channel.seal_to(alloc, plain, confounder, out)
+    }
+
+    /// Unseals the data of a frame into the caller's room. The refusals are those of `unseal`. Where the room is too short it says how
+    /// long the data are, and nothing is changed.
+    pub fn unseal_to(
+        &mut self,
+        alloc: Global,
+        frame: &[u8],
+        out: &mut [u8],
+    ) -> Result<usize, SaslFault>
+        ensures gives { IfOk result (λ count. Delivers (λ plain. Unseals (channel_of self.old) frame.now (Ok plain)) out.old count out.new) }
+        ensures after { OnOk result (self.new ≡ with_channel self.old (unsealed_by (channel_of self.old) frame.now)) }
+        ensures refused { IfErr result (Faults (Unseals (channel_of self.old) frame.now)
+            (λ plain. Unseals (channel_of self.old) frame.now (Ok plain)) (length out.old)) }
+        ensures stays { OnErr result (self.new ≡ self.old) }
+        ensures room { OnErr result (out.new ≡ out.old) }
+    {
+        self.channel.unseal_to(alloc, frame, out)
     }
 }

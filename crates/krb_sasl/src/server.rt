@@ -6,15 +6,19 @@ ghost use Rattle.krb_sasl.specs.declared.layer.Layer.{Layer};
 ghost use Rattle.krb_sasl.specs.Answers.{Answers, Refuses};
 ghost use Rattle.sspi_core.specs.Checks.{Holds};
 ghost use Rattle.krb_sasl.specs.Channels.{Seals, Unseals, sealed_by, unsealed_by};
+ghost use Rattle.krb_sasl.specs.Rooms.{Faults, Names, IsNameIn, kept_by};
 ghost use Rattle.krb_sasl.specs.Servers.{MayServe, Serves, Offers, offered_by, awaits_answer, channel_of, with_channel, Chooses, Accepts, accepted_by, is_of_text, left_by};
 ghost use Rattle.krb_sasl.specs.Streams.{received};
 ghost use Rattle.krb_sasl.specs.Texts.{name_in};
+ghost use Rattle.krb_sessions.specs.Gives.{Delivers};
 
 use crate::channel::{Agreement, Channel};
 use crate::checks::{hold, take};
 use crate::clear::wrap_plain;
 use crate::error::SaslError;
+use crate::fault::SaslFault;
 use crate::layer::{Layer, is_offer};
+use crate::room::put;
 use crate::stream::unwrap;
 use crate::texts::{chosen_layer, is_answer_text, name_of, offer_text, size_in};
 use krb_context::Kerberos;
@@ -84,6 +88,28 @@ impl SaslServer {
         Ok(token)
     }
 
+    /// The token of the offer, in the caller's room. The refusals are those of `offer`. Where the room is too short it says how long the
+    /// token is, and nothing is changed.
+    pub fn offer_to(&mut self, alloc: Global, out: &mut [u8]) -> Result<usize, SaslFault>
+        ensures gives { IfOk result (λ count. Delivers (λ token. Offers self.old (Ok token)) out.old count out.new) }
+        ensures after { OnOk result (self.new ≡ offered_by self.old) }
+        ensures refused { IfErr result (Faults (Offers self.old) (λ token. Offers self.old (Ok token)) (length out.old)) }
+        ensures stays { OnErr result (self.new ≡ self.old) }
+        ensures room { OnErr result (out.new ≡ out.old) }
+    {
+        let number = self.channel.context.seq_number;
+        let has_offered = self.has_offered;
+        let token = self.offer(alloc)?;
+        match put(out, token.as_slice()) {
+            Ok(count) => Ok(count),
+            Err(fault) => {
+                self.channel.context.seq_number = number;
+                self.has_offered = has_offered;
+                Err(fault)
+            }
+        }
+    }
+
     fn check_awaiting(&self) -> Result<(), SaslError>
         ensures { Holds refusals.State (awaits_answer self.now) result }
     {
@@ -126,6 +152,32 @@ impl SaslServer {
         Ok(name_of(text))
     }
 
+    /// Agrees on what an answer says, and puts the user's name into the caller's room. The refusals are those of `accept`, and leave the
+    /// server as there. Where the room is too short it says how long the name is, and nothing is changed.
+    pub fn accept_to(
+        &mut self,
+        alloc: Global,
+        token: &[u8],
+        out: &mut [u8],
+    ) -> Result<usize, SaslFault>
+        ensures gives { IfOk result (λ count. Delivers (λ name. Names self.old token.now name self.new) out.old count out.new) }
+        ensures refused { IfErr result (Faults (Accepts self.old token.now) (IsNameIn self.old token.now) (length out.old)) }
+        ensures left { IfErr result (λ fault. self.new ≡ with_channel self.old (kept_by fault (channel_of self.old) token.now)) }
+        ensures room { OnErr result (out.new ≡ out.old) }
+    {
+        let window = self.channel.context.window;
+        let agreement = self.channel.agreement;
+        let name = self.accept(alloc, token)?;
+        match put(out, name.as_slice()) {
+            Ok(count) => Ok(count),
+            Err(fault) => {
+                self.channel.context.window = window;
+                self.channel.agreement = agreement;
+                Err(fault)
+            }
+        }
+    }
+
     /// Seals data into a frame. The confounder is 16 random octets, which are used where the layer seals.
     ///
     /// The refusals, in their order: `State` before an answer was accepted; `TooLarge` where the message would be longer
@@ -154,5 +206,42 @@ impl SaslServer {
         ensures stays { OnErr result (self.new ≡ self.old) }
     {
         self.channel.unseal(alloc, frame)
+    }
+
+    /// Seals data into a frame in the caller's room. The refusals are those of `seal`. Where the room is too short it says how long the
+    /// frame is, and nothing is changed.
+    pub fn seal_to(
+        &mut self,
+        alloc: Global,
+        plain: &[u8],
+        confounder: [u8; 16],
+        out: &mut [u8],
+    ) -> Result<usize, SaslFault>
+        ensures gives { IfOk result (λ count. Delivers (λ frame. Seals (channel_of self.old) confounder plain.now (Ok frame)) out.old count out.new) }
+        ensures after { OnOk result (self.new ≡ with_channel self.old (sealed_by (channel_of self.old))) }
+        ensures refused { IfErr result (Faults (Seals (channel_of self.old) confounder plain.now)
+            (λ frame. Seals (channel_of self.old) confounder plain.now (Ok frame)) (length out.old)) }
+        ensures stays { OnErr result (self.new ≡ self.old) }
+        ensures room { OnErr result (out.new ≡ out.old) }
+    {
+        self.channel.seal_to(alloc, plain, confounder, out)
+    }
+
+    /// Unseals the data of a frame into the caller's room. The refusals are those of `unseal`. Where the room is too short it says how
+    /// long the data are, and nothing is changed.
+    pub fn unseal_to(
+        &mut self,
+        alloc: Global,
+        frame: &[u8],
+        out: &mut [u8],
+    ) -> Result<usize, SaslFault>
+        ensures gives { IfOk result (λ count. Delivers (λ plain. Unseals (channel_of self.old) frame.now (Ok plain)) out.old count out.new) }
+        ensures after { OnOk result (self.new ≡ with_channel self.old (unsealed_by (channel_of self.old) frame.now)) }
+        ensures refused { IfErr result (Faults (Unseals (channel_of self.old) frame.now)
+            (λ plain. Unseals (channel_of self.old) frame.now (Ok plain)) (length out.old)) }
+        ensures stays { OnErr result (self.new ≡ self.old) }
+        ensures room { OnErr result (out.new ≡ out.old) }
+    {
+        self.channel.unseal_to(alloc, frame, out)
     }
 }

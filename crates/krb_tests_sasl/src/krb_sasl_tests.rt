@@ -6,6 +6,7 @@ mod ends;
 mod new_ends;
 mod others;
 mod refusals;
+mod rooms;
 mod sequences;
 mod server_refusals;
 mod spelled;
@@ -20,7 +21,8 @@ use std::test::Fail;
 
 const CONFOUNDER: [u8; 16] = [0, 1, 2, 3, 4, 5, 6, 7, 8, 9, 10, 11, 12, 13, 14, 15];
 
-/// What is tried with a server: that it refuses to offer, a call, what it sends, and frames that are refused or have texts.
+/// What is tried with a server: that it refuses to offer, a call, what it sends, frames that are refused or have texts, rooms that
+/// are too short and then long enough, and what it refuses with no room.
 #[derive(Clone, Copy)]
 enum ServerCase {
     Offer(Wanted),
@@ -28,6 +30,8 @@ enum ServerCase {
     Spelled(&'static Row),
     Frames(&'static str, &'static [(&'static str, Option<Wanted>)]),
     Texts(&'static str, &'static [(&'static str, &'static str)]),
+    Rooms(&'static Row),
+    Refuses,
 }
 
 fn server_passes(alloc: Global, server: &mut SaslServer, case: ServerCase) -> Result<bool, Fail> {
@@ -37,6 +41,8 @@ fn server_passes(alloc: Global, server: &mut SaslServer, case: ServerCase) -> Re
         ServerCase::Spelled(row) => spelled::server_speaks(alloc, server, row),
         ServerCase::Frames(answer, frames) => sequences::takes_all(alloc, server, answer, frames),
         ServerCase::Texts(answer, frames) => others::takes_all(alloc, server, answer, frames),
+        ServerCase::Rooms(row) => rooms::server_fills_rooms(alloc, server, row),
+        ServerCase::Refuses => rooms::server_refuses_first(alloc, server),
     }
 }
 
@@ -52,17 +58,21 @@ fn new_server_passes(
     server_passes(alloc, &mut server, case)
 }
 
-/// What is tried with a client: a call, and what it sends.
+/// What is tried with a client: a call, what it sends, rooms, and what it refuses with none.
 #[derive(Clone, Copy)]
 enum ClientCase {
     Call(&'static ClientRow),
     Spelled(&'static Row),
+    Rooms(&'static Row),
+    Refuses,
 }
 
 fn client_passes(alloc: Global, client: &mut SaslClient, case: ClientCase) -> Result<bool, Fail> {
     match case {
         ClientCase::Call(row) => client_refusals::client_answers(alloc, client, row),
         ClientCase::Spelled(row) => spelled::client_speaks(alloc, client, row),
+        ClientCase::Rooms(row) => rooms::client_fills_rooms(alloc, client, row),
+        ClientCase::Refuses => rooms::client_refuses_first(alloc, client),
     }
 }
 

@@ -8,17 +8,17 @@ use std::alloc::Global;
 use std::test::Fail;
 
 /// The offer of a server with all layers, which receives messages of 65535 octets at most: a token of 32 octets.
-const OFFER: &str = "050405ff000c000000000000000000010700ffff90f6409b0f5d060e5d5b6f9c";
+pub const OFFER: &str = "050405ff000c000000000000000000010700ffff90f6409b0f5d060e5d5b6f9c";
 
 /// What a client wants, the name of its user, and then: its answer to that offer, the frame in which the server sends `abc`, and
 /// the one in which the client sends it.
 pub struct Row {
-    layer: Layer,
-    size: u32,
-    name: &'static str,
-    answer: &'static str,
-    frame: &'static str,
-    back: &'static str,
+    pub layer: Layer,
+    pub size: u32,
+    pub name: &'static str,
+    pub answer: &'static str,
+    pub frame: &'static str,
+    pub back: &'static str,
 }
 
 static ROWS: [Row; 5] = [
@@ -64,7 +64,7 @@ static ROWS: [Row; 5] = [
     },
 ];
 
-fn rows() -> &'static [Row] {
+pub fn rows() -> &'static [Row] {
     &ROWS
 }
 
