@@ -3,5 +3,7 @@ mod DialogueBox
 mod Given
 mod JudgementBox
 mod Places
+mod SaslBox
+mod SaslLemmas
 mod Served
 mod SessionBox

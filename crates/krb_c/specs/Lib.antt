@@ -7,6 +7,8 @@ pub mod Halves
 pub mod Keytabs
 pub mod Places
 pub mod Replies
+pub mod Sasl
+pub mod SaslReplies
 pub mod Steps
 pub mod Tells
 pub mod Told

@@ -4,9 +4,11 @@ mod acceptor;
 mod dialogue;
 mod judgement;
 mod parts;
+mod sasl;
 mod session;
 
 pub use acceptor::Acceptor;
 pub use dialogue::Initiator;
 pub use judgement::Judgement;
+pub use sasl::Sasl;
 pub use session::Connection;

@@ -232,8 +232,8 @@ pub extern "C" fn mk_initiator_file(
     reply_of(add_file(alloc, initiator, path, text))
 }
 
-fn bind_to(alloc: Global, initiator: &mut Initiator, data: &[u8]) -> Result<usize, Failure>
-    ensures set { IfOk result (λ count. Sets (λ before after. after ≡ with_bindings (data_bindings data.now) before)
+fn bind_to(alloc: Global, initiator: &mut Initiator, octets: &[u8]) -> Result<usize, Failure>
+    ensures set { IfOk result (λ count. Sets (λ before after. after ≡ with_bindings (data_bindings octets.now) before)
         initiator.old.place.value count initiator.new.place.value) }
     ensures fails { IfErr result (SetsNot ⊥ IsWant initiator.old.place.value) }
     ensures stays { OnErr result (initiator.new.place.value ≡ initiator.old.place.value) }
@@ -241,7 +241,7 @@ fn bind_to(alloc: Global, initiator: &mut Initiator, data: &[u8]) -> Result<usiz
     let Some(mut dialogue) = initiator.take(alloc) else {
         return Err(Failure::Handle);
     };
-    let set = dialogue.bind_to(alloc, data);
+    let set = dialogue.bind_to(alloc, octets);
     initiator.put(dialogue);
     match set {
         Ok(()) => Ok(0),
@@ -251,12 +251,16 @@ fn bind_to(alloc: Global, initiator: &mut Initiator, data: &[u8]) -> Result<usiz
 
 /// Binds the exchange to the channel below, by data of the application, as a TLS channel has them (RFC 5929).
 #[unsafe(no_mangle)]
-pub extern "C" fn mk_initiator_bind(alloc: Global, initiator: &mut Initiator, data: &[u8]) -> Reply
+pub extern "C" fn mk_initiator_bind(
+    alloc: Global,
+    initiator: &mut Initiator,
+    octets: &[u8],
+) -> Reply
     ensures { (answer : Result ℕ Failure) × (result ≡ reply_of answer)
-        × IfOk answer (λ count. Sets (λ before after. after ≡ with_bindings (data_bindings data.now) before)
+        × IfOk answer (λ count. Sets (λ before after. after ≡ with_bindings (data_bindings octets.now) before)
         initiator.old.place.value count initiator.new.place.value)
         × IfErr answer (SetsNot ⊥ IsWant initiator.old.place.value)
         × OnErr answer (initiator.new.place.value ≡ initiator.old.place.value) }
 {
-    reply_of(bind_to(alloc, initiator, data))
+    reply_of(bind_to(alloc, initiator, octets))
 }

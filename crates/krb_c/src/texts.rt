@@ -42,6 +42,7 @@ pub(crate) fn key_of(alloc: Global, key: &[u8]) -> Result<Octets, Failure>
 pub(crate) fn confounder_of(octets: &[u8]) -> Result<[u8; 16], Failure>
     ensures same { IfOk result (λ confounder. confounder ≡ octets.now) }
     ensures failure { IfErr result (λ failure. failure ≡ failures.Argument) }
+    ensures unfit { OnErr result (length octets.now ≢ 16) }
 {
     if octets.len() != 16 {
         return Err(Failure::Argument);

@@ -1,0 +1,77 @@
+//! What a call on an end with a security layer answers.
+
+ghost use Rattle.std.specs.Prelude.{◌≡◌};
+ghost use Rattle.krb_c.specs.SaslReplies.{layer_reply, refusal_reply, sasl_reply};
+
+use crate::reply::{Failure, Reply, reply_of};
+use krb_entrance::{Cause, Error};
+use krb_sasl::{SaslError, SaslFault};
+
+/// Why a call on an end was not done.
+#[derive(Clone, Copy, Debug, PartialEq, Eq)]
+pub enum SaslFailure {
+    /// The end refuses it.
+    Refused(SaslError),
+    /// The octets are so many, and the room is shorter.
+    Room(usize),
+    /// An argument has a value that it may not have.
+    Argument,
+    /// The handle has no end for the call, or holds something where the call wants an empty one.
+    Handle,
+}
+
+impl From<SaslFault> for SaslFailure {
+    ghost use Rattle.krb_c.specs.SaslReplies.{failure_of};
+
+    ghost from_gives = { λ fault failure. failure ≡ failure_of fault };
+
+    fn from(fault: SaslFault) -> SaslFailure {
+        match fault {
+            SaslFault::Refused(refusal) => SaslFailure::Refused(refusal),
+            SaslFault::Room(count) => SaslFailure::Room(count),
+        }
+    }
+}
+
+/// It is refused by the rules of the layers.
+const LAYERS: u32 = 6;
+
+fn layer_reply(number: u32) -> Reply
+    ensures { result ≡ layer_reply number }
+{
+    Reply {
+        status: LAYERS,
+        kind: 0,
+        cause: 0,
+        number,
+        length: 0,
+    }
+}
+
+fn refusal_reply(refusal: SaslError) -> Reply
+    ensures { result ≡ refusal_reply refusal }
+{
+    match refusal {
+        SaslError::Layers => layer_reply(1),
+        SaslError::State => layer_reply(2),
+        SaslError::Offer => layer_reply(3),
+        SaslError::Layer => layer_reply(4),
+        SaslError::TooLarge => layer_reply(5),
+        SaslError::Frame => layer_reply(6),
+        SaslError::Context(error) => reply_of(Err(Failure::Refused(error))),
+        SaslError::OutOfMemory => reply_of(Err(Failure::Refused(Error::from(Cause::Memory)))),
+    }
+}
+
+/// The answer as C has it.
+pub(crate) fn sasl_reply(answer: Result<usize, SaslFailure>) -> Reply
+    ensures { result ≡ sasl_reply answer }
+{
+    match answer {
+        Ok(length) => reply_of(Ok(length)),
+        Err(SaslFailure::Refused(refusal)) => refusal_reply(refusal),
+        Err(SaslFailure::Room(length)) => reply_of(Err(Failure::Room(length))),
+        Err(SaslFailure::Argument) => reply_of(Err(Failure::Argument)),
+        Err(SaslFailure::Handle) => reply_of(Err(Failure::Handle)),
+    }
+}
