@@ -8,6 +8,9 @@
 
 void check(int test, const char *text, const char *file, int line);
 
+/* Prints how many checks passed and failed: whether one failed. */
+int tell_checks(void);
+
 typedef struct {
     uint8_t at[4096];
     size_t length;
@@ -17,33 +20,7 @@ octets from_hex(const char *hex);
 
 int is_refused(mk_reply reply, uint32_t cause);
 
-/* A log-in at a KDC and a service that was recorded: what an initiator was told, and what it asked, showed and sealed. */
-typedef struct {
-    char user[64], realm[64], machine[64], url[64], password[64], target[64];
-    uint8_t number[4];
-    mk_moment steps[26]; /* those of the start and of replies, and from 13 on those of the service's answer */
-    size_t step_count;
-    octets replies[3];
-    size_t reply_count;
-    octets answer;
-    octets confounder;
-    octets text;
-    octets asks[3];
-    size_t ask_count;
-    octets token;
-    octets sealed;
-} login;
-
-/* Reads what crates/krb_login is told, and what it answers. */
-int read_login(const char *told, const char *answered, login *);
-
-/* The whole log-in, octet for octet. */
-void log_in(const login *);
-
-/* The same with options, and without mutual authentication. */
-void log_in_otherwise(const login *);
-
-/* Steps out of their turn, bad input and faults. */
-void refuse_initiators(const login *);
+/* The octets of a text in the program. */
+const uint8_t *text(const char *words);
 
 #endif

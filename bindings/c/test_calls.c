@@ -1,21 +1,11 @@
-/* test_calls CONVERSATION LOGIN ANSWERS ROUNDS: every call of menolavuri.h, over a conversation with a client of MIT's and a log-in
- * that were recorded: what is done, bad input, and so many rounds of both. Prints 'N passed, M failed' and how long a call took. */
+/* test_calls CONVERSATION [ROUNDS]: the calls of an acceptor and of a session, over a conversation with a client of MIT's that was
+ * recorded: what is done, bad input, and so many rounds of both. Prints how long a call took, and 'N passed, M failed'. */
 #include "checks.h"
 
 #include <stdio.h>
 #include <stdlib.h>
 #include <string.h>
 #include <time.h>
-
-static unsigned long passed, failed;
-
-void check(int test, const char *text, const char *file, int line) {
-    if (test) {
-        passed++;
-    } else if (failed++ < 20) {
-        printf("%s, line %d: not so: %s\n", file, line, text);
-    }
-}
 
 typedef struct {
     char name[256];
@@ -25,16 +15,6 @@ typedef struct {
     octets messages[4];
     size_t count;
 } conversation;
-
-octets from_hex(const char *hex) {
-    octets o = {{0}, 0};
-    unsigned octet;
-    while (o.length < sizeof o.at && sscanf(hex, "%2x", &octet) == 1) {
-        o.at[o.length++] = (uint8_t)octet;
-        hex += 2;
-    }
-    return o;
-}
 
 static int read_conversation(const char *path, conversation *c) {
     static char line[8192], first[8192], second[8192], third[8192];
@@ -62,8 +42,6 @@ static int read_conversation(const char *path, conversation *c) {
 static mk_reply make(const conversation *c, mk_acceptor *to) {
     return mk_acceptor_new(to, (const uint8_t *)c->name, strlen(c->name), c->key.at, c->key.length, 300);
 }
-
-int is_refused(mk_reply reply, uint32_t cause) { return reply.status == MK_REFUSED && reply.cause == cause; }
 
 /* A client is admitted once, and each message of its is opened once. */
 static void good(const conversation *c) {
@@ -338,19 +316,13 @@ static double seconds_of(const conversation *c, int rounds) {
 
 int main(int count, char **words) {
     static conversation c;
-    static login l;
-    int rounds = count > 4 ? atoi(words[4]) : 1;
-    if (count < 4 || !read_conversation(words[1], &c) || !read_login(words[2], words[3], &l)) {
-        fprintf(stderr, "usage: test_calls CONVERSATION LOGIN ANSWERS [ROUNDS]\n");
+    int rounds = count > 2 ? atoi(words[2]) : 1;
+    if (count < 2 || !read_conversation(words[1], &c)) {
+        fprintf(stderr, "usage: test_calls CONVERSATION [ROUNDS]\n");
         return 2;
     }
     once(&c);
-    for (int i = 0; i <= rounds / 1000; i++) {
-        log_in(&l); /* a password's key takes its time */
-        log_in_otherwise(&l);
-    }
     for (int i = 0; i < rounds; i++) {
-        refuse_initiators(&l);
         good(&c);
         halves(&c);
         told(&c);
@@ -358,6 +330,5 @@ int main(int count, char **words) {
         bad(&c);
     }
     printf("%d rounds; %.2f microseconds for a wrap of 64 octets\n", rounds, seconds_of(&c, 10000) * 100);
-    printf("%lu passed, %lu failed\n", passed, failed);
-    return failed != 0;
+    return tell_checks();
 }

@@ -1,9 +1,27 @@
-/* The calls of an initiator, over a log-in at a KDC and a service that was recorded. */
+/* test_initiator LOGIN ANSWERS [ROUNDS]: the calls of an initiator, over a log-in at a KDC and a service that was recorded: what is done,
+ * bad input, and so many rounds. A whole log-in, whose password's key takes its time, is in one round of a thousand. */
 #include "checks.h"
 
 #include <stdio.h>
 #include <stdlib.h>
 #include <string.h>
+
+/* What an initiator was told, as crates/krb_login reads it, and what it asked, showed and sealed. */
+typedef struct {
+    char user[64], realm[64], machine[64], url[64], password[64], target[64];
+    uint8_t number[4];
+    mk_moment steps[26]; /* those of the start and of replies, and from 13 on those of the service's answer */
+    size_t step_count;
+    octets replies[3];
+    size_t reply_count;
+    octets answer;
+    octets confounder;
+    octets text;
+    octets asks[3];
+    size_t ask_count;
+    octets token;
+    octets sealed;
+} login;
 
 static const uint32_t ALL_FLAGS = MK_MUTUAL_AUTH | MK_REPLAY_DETECT | MK_SEQUENCE_DETECT | MK_CONFIDENTIALITY | MK_INTEGRITY;
 
@@ -50,13 +68,11 @@ static void read_lines(const char *path, const char *last, void (*take)(char *, 
     }
 }
 
-int read_login(const char *told, const char *answered, login *l) {
+static int read_login(const char *told, const char *answered, login *l) {
     read_lines(told, "seal ", read_told, l);
     read_lines(answered, "sealed ", read_answered, l);
     return l->step_count == 26 && l->reply_count == 3 && l->ask_count == 3 && l->answer.length > 0 && l->sealed.length > 0;
 }
-
-static const uint8_t *text(const char *words) { return (const uint8_t *)words; }
 
 static mk_reply make(const login *l, mk_initiator *to) {
     return mk_initiator_new(to, text(l->target), strlen(l->target), text(l->machine), strlen(l->machine), ALL_FLAGS, l->number, 4);
@@ -111,7 +127,8 @@ static int seals_so(const login *l, mk_initiator *initiator, uint8_t flags, uint
     return out[2] == flags && out[15] == number;
 }
 
-void log_in_otherwise(const login *l) {
+/* The log-in with options, and without mutual authentication. */
+static void log_in_otherwise(const login *l) {
     const uint32_t one_way = ALL_FLAGS & ~(uint32_t)MK_MUTUAL_AUTH;
     mk_initiator initiator = MK_EMPTY;
     mk_session session = MK_EMPTY;
@@ -149,7 +166,8 @@ static void use_session(const login *l, mk_session *session) {
     CHECK(mk_session_allow(session, 0).status == MK_OK);
 }
 
-void log_in(const login *l) {
+/* The whole log-in, octet for octet. */
+static void log_in(const login *l) {
     mk_initiator initiator = MK_EMPTY;
     mk_session session = MK_EMPTY, taken = MK_EMPTY;
     uint8_t out[4096];
@@ -290,7 +308,8 @@ static void ask_by_file(const login *l) {
     CHECK(initiator.count == 0);
 }
 
-void refuse_initiators(const login *l) {
+/* Steps out of their turn, bad input and faults. */
+static void refuse_initiators(const login *l) {
     mk_initiator initiator = MK_EMPTY;
     CHECK(make(l, &initiator).status == MK_OK);
     refuse_handles(l, &initiator);
@@ -299,4 +318,22 @@ void refuse_initiators(const login *l) {
     mk_initiator_free(&initiator);
     mk_initiator_free(&initiator);
     ask_by_file(l);
+}
+
+int main(int count, char **words) {
+    static login l;
+    int rounds = count > 3 ? atoi(words[3]) : 1;
+    if (count < 3 || !read_login(words[1], words[2], &l)) {
+        fprintf(stderr, "usage: test_initiator LOGIN ANSWERS [ROUNDS]\n");
+        return 2;
+    }
+    for (int i = 0; i <= rounds / 1000; i++) {
+        log_in(&l);
+        log_in_otherwise(&l);
+    }
+    for (int i = 0; i < rounds; i++) {
+        refuse_initiators(&l);
+    }
+    printf("%d rounds\n", rounds);
+    return tell_checks();
 }

@@ -12,6 +12,8 @@
 mod carrying;
 #[path = "parts/frames.rs"]
 mod frames;
+#[path = "parts/kdcs.rs"]
+mod kdcs;
 #[path = "parts/keytab.rs"]
 mod keytab;
 #[path = "parts/options.rs"]
@@ -21,7 +23,7 @@ mod sample_client;
 
 use menolavuri::{Flags, Initiator};
 use std::process::ExitCode;
-use std::{env, error::Error, fs, io};
+use std::{env, error::Error};
 
 type Answer<T> = Result<T, Box<dyn Error + Send + Sync>>;
 
@@ -35,20 +37,6 @@ fn flags(word: &str) -> Answer<Flags> {
     }
 }
 
-/// Tells the initiator who asks: by the key in a keytab, or by the password on the standard input.
-fn identify(initiator: &mut Initiator, user: &str, keytab: &str) -> Answer<()> {
-    let (name, realm) = user.rsplit_once('@').ok_or("the user has no realm")?;
-    if keytab != "-" {
-        let key = keytab::key(&fs::read(keytab)?, user);
-        let (etype, key) = key.ok_or("the keytab has no key of the user")?;
-        return Ok(initiator.key(name, realm, etype, &key)?);
-    }
-    let mut line = String::new();
-    io::stdin().read_line(&mut line)?;
-    let password = line.trim_end_matches(['\r', '\n']);
-    Ok(initiator.password(name, realm, password)?)
-}
-
 fn run(arguments: &[String]) -> Answer<()> {
     let [address, service, user, keytab, asked, kdcs, words @ ..] = arguments else {
         return Err("usage: initiator ADDRESS SERVICE USER KEYTAB|- usual|one-way|dce-style KDC[,KDC ..] [OPTION ..]".into());
@@ -57,7 +45,7 @@ fn run(arguments: &[String]) -> Answer<()> {
     let mut initiator = Initiator::new(service, "desk", flags(asked)?)?;
     initiator.allow(options::named(words)?)?;
     initiator.kdc(kdcs[0])?;
-    identify(&mut initiator, user, keytab)?;
+    kdcs::identify(&mut initiator, user, keytab)?;
     let (mut session, stream) = sample_client::log_in(initiator, &kdcs[1..], address)?;
     println!("logged in: {}", session.peer());
     for text in ["hello", "how late is it?", "good bye"] {

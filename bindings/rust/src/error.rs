@@ -8,6 +8,8 @@ use std::{fmt, io};
 pub enum Error {
     /// The library refuses it. Write it to a log, and tell a client only that it was refused.
     Refused(Refusal),
+    /// The rules of the security layers refuse it.
+    Layer(LayerRefusal),
     /// Memory ran out. Nothing is changed, so the call can be made again.
     Memory,
     /// An argument has a value that it may not have: a key of a service of another length than 16 and 32 octets, or a moment that
@@ -26,6 +28,37 @@ pub struct Refusal {
     pub cause: Cause,
     /// The code that some causes have, and else 0.
     pub number: u32,
+}
+
+/// Why the rules of the security layers refuse, one of `mk_sasl_refusal` in `menolavuri.h`. It is printed in words.
+#[derive(Clone, Copy, Debug, PartialEq, Eq, Hash)]
+pub enum LayerRefusal {
+    /// There is no such size of messages, or a size without a layer.
+    Layers,
+    /// This step is not the next one, or no layer is agreed on yet.
+    State,
+    /// The text of an offer or an answer is too short, too long, or not in UTF-8.
+    Offer,
+    /// The layer is not offered, or there is a size without a layer.
+    Layer,
+    /// A message is longer than the other end, or this one, receives at most.
+    TooLarge,
+    /// The octets are not one frame, or the message in it is not of the layer.
+    Frame,
+}
+
+impl LayerRefusal {
+    fn of(number: u32) -> LayerRefusal {
+        match number {
+            1 => LayerRefusal::Layers,
+            2 => LayerRefusal::State,
+            3 => LayerRefusal::Offer,
+            4 => LayerRefusal::Layer,
+            5 => LayerRefusal::TooLarge,
+            6 => LayerRefusal::Frame,
+            number => unreachable!("no rule of the layers has the number {number}"),
+        }
+    }
 }
 
 /// The kind of a refusal, one of `mk_kind` in `menolavuri.h`. It is printed by its name.
@@ -96,10 +129,24 @@ impl fmt::Display for Refusal {
     }
 }
 
+impl fmt::Display for LayerRefusal {
+    fn fmt(&self, f: &mut fmt::Formatter<'_>) -> fmt::Result {
+        f.write_str(match self {
+            LayerRefusal::Layers => "there are no such layers, or no such size of messages",
+            LayerRefusal::State => "this step is not the next one",
+            LayerRefusal::Offer => "what is offered or answered is malformed",
+            LayerRefusal::Layer => "the layer is not offered",
+            LayerRefusal::TooLarge => "the message is too long",
+            LayerRefusal::Frame => "this is no frame of the layer",
+        })
+    }
+}
+
 impl fmt::Display for Error {
     fn fmt(&self, f: &mut fmt::Formatter<'_>) -> fmt::Result {
         match self {
             Error::Refused(refusal) => write!(f, "refused: {refusal}"),
+            Error::Layer(refusal) => write!(f, "refused by the security layers: {refusal}"),
             Error::Memory => f.write_str("memory ran out"),
             Error::Argument => f.write_str("an argument has a value that it may not have"),
             Error::Random(error) => write!(f, "no random octets: {error}"),
@@ -149,6 +196,7 @@ pub(crate) fn done(reply: sys::Reply) -> Result<usize, Error> {
             cause: Cause(reply.cause),
             number: reply.number,
         })),
+        sys::SASL => Err(Error::Layer(LayerRefusal::of(reply.number))),
         sys::MEMORY => Err(Error::Memory),
         _ => Err(Error::Argument),
     }

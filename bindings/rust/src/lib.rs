@@ -1,4 +1,4 @@
-//! A Kerberos acceptor, an [`Initiator`], and their messages, over a static library that is proved.
+//! A Kerberos acceptor, an [`Initiator`], their messages, and the security layers of SASL GSSAPI, over a static library that is proved.
 //!
 //! ```
 //! use menolavuri::{Acceptor, Error};
@@ -24,8 +24,8 @@
 //!
 //! The library's code is proved before it is compiled: `crates/krb_c` states what each call does. This crate is the thin part that is
 //! not: it declares the calls, passes slices as a pointer and a length, keeps each handle from two threads at once, and asks the
-//! system for the time and for random octets. An [`Acceptor`] is [`Send`] and [`Sync`], by a lock; a [`Session`] and an [`Initiator`] are
-//! [`Send`], which is proved of their handles, and not [`Sync`].
+//! system for the time and for random octets. An [`Acceptor`] is [`Send`] and [`Sync`], by a lock; a [`Session`], an [`Initiator`], a
+//! [`SaslServer`] and a [`SaslClient`] are [`Send`], which is proved of their handles, and not [`Sync`].
 
 #![warn(missing_docs)]
 
@@ -33,13 +33,15 @@ mod acceptor;
 mod error;
 mod initiator;
 mod options;
+mod sasl;
 mod session;
 mod sys;
 
 pub use acceptor::{Acceptor, Judged};
-pub use error::{Cause, Error, Kind, Refusal};
+pub use error::{Cause, Error, Kind, LayerRefusal, Refusal};
 pub use initiator::{Initiator, Next, Step};
 pub use options::{Flags, Options};
+pub use sasl::{Layer, Layers, SaslClient, SaslServer};
 pub use session::{Opened, Session};
 
 use error::done;

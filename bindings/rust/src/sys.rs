@@ -1,4 +1,4 @@
-//! The declarations of `menolavuri.h`. Nothing compares the two.
+//! The declarations of `menolavuri.h`. `bindings/check-names` compares both with the exports.
 
 use std::marker::{PhantomData, PhantomPinned};
 
@@ -22,6 +22,7 @@ pub const OK: u32 = 0;
 pub const REFUSED: u32 = 1;
 pub const MEMORY: u32 = 2;
 pub const ROOM: u32 = 3;
+pub const SASL: u32 = 6;
 
 pub const ASK_KDC: u32 = 0;
 pub const SEND_TOKEN: u32 = 1;
@@ -217,4 +218,45 @@ unsafe extern "C" {
     pub fn mk_initiator_peer(initiator: *mut Handle, out: *mut u8, room: usize) -> Reply;
     pub fn mk_initiator_session(initiator: *mut Handle, to: *mut Handle) -> Reply;
     pub fn mk_initiator_free(initiator: *mut Handle);
+    pub fn mk_sasl_server(from: *mut Handle, to: *mut Handle, layers: u32, most: u32) -> Reply;
+    pub fn mk_sasl_client(
+        from: *mut Handle,
+        to: *mut Handle,
+        layer: u32,
+        most: u32,
+        user: *const u8,
+        user_length: usize,
+    ) -> Reply;
+    pub fn mk_sasl_offer(sasl: *mut Handle, out: *mut u8, room: usize) -> Reply;
+    pub fn mk_sasl_answer(
+        sasl: *mut Handle,
+        offer: *const u8,
+        offer_length: usize,
+        out: *mut u8,
+        room: usize,
+    ) -> Reply;
+    pub fn mk_sasl_accept(
+        sasl: *mut Handle,
+        token: *const u8,
+        token_length: usize,
+        out: *mut u8,
+        room: usize,
+    ) -> Reply;
+    pub fn mk_sasl_seal(
+        sasl: *mut Handle,
+        plain: *const u8,
+        plain_length: usize,
+        confounder: *const u8,
+        confounder_length: usize,
+        out: *mut u8,
+        room: usize,
+    ) -> Reply;
+    pub fn mk_sasl_unseal(
+        sasl: *mut Handle,
+        frame: *const u8,
+        frame_length: usize,
+        out: *mut u8,
+        room: usize,
+    ) -> Reply;
+    pub fn mk_sasl_free(sasl: *mut Handle);
 }

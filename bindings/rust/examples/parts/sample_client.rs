@@ -1,27 +1,14 @@
 //! The protocol of MIT's sample programs `gss-client` and `gss-server`, from the client's end.
 
 use crate::Answer;
-use crate::carrying::carry;
 use crate::frames::*;
+use crate::kdcs::ask;
 use menolavuri::{Initiator, Next, Session};
 use std::net::TcpStream;
 use std::time::Duration;
 
 /// For how long a server may be silent.
 const PATIENCE: Duration = Duration::from_secs(10);
-
-/// Brings what the initiator asks to the KDC that it names, and else to the others, and takes the answer.
-fn ask(initiator: &mut Initiator, others: &[&str]) -> Answer<Next> {
-    let (url, request) = (initiator.url()?, initiator.request()?);
-    let urls = [url.as_str()].into_iter().chain(others.iter().copied());
-    match carry(urls, &request) {
-        Ok(answer) => Ok(initiator.answer(&answer)?),
-        Err(error) => {
-            eprintln!("{url}: {error}");
-            Ok(initiator.fault(1)?)
-        }
-    }
-}
 
 /// Shows a token to the server, and takes its answer.
 fn show(initiator: &mut Initiator, stream: &TcpStream) -> Answer<Next> {

@@ -1,0 +1,26 @@
+/* Two ends of the library that meet: an initiator that logs in at an acceptor. */
+#ifndef MEETING_H
+#define MEETING_H
+
+#include "checks.h"
+
+/* What both ends are told. */
+typedef struct {
+    char name[64], machine[64], target[64], url[64];
+    octets key;
+    octets user_key;
+    mk_moment moment;
+    octets replies[3];
+    size_t reply_count;
+} exchange;
+
+/* Reads the lines of examples/both-ends: the service's key, and what a KDC has answered. */
+int read_exchange(const char *path, exchange *);
+
+/* Both ends of a session, in empty handles: the initiator's, and the acceptor's. */
+void meet(const exchange *, mk_session *client, mk_session *server);
+
+/* From now on memory is refused once, behind so many growths; with -1 it is not. */
+void refuse_growth(long number);
+
+#endif

@@ -1,0 +1,152 @@
+//! A client that logs in at a KDC, and at a message server by the mechanism GSSAPI of SASL (RFC 4752), as POP3 speaks it (RFC 1939,
+//! RFC 5034), `sasl_server` or another. It asks for the number of its mails so many times:
+//!
+//!     cargo run --offline --example sasl_client 127.0.0.1:1110 pop/server.example.com alice@EXAMPLE.COM - 4 5 tcp://127.0.0.1:88 < password
+//!
+//! Behind the user stands a keytab file with its key, or `-` where its password is to be read from the standard input. 4 is the layer that
+//! it wants: 1 (none), 2 (integrity) or 4 (confidentiality), and 5 how many times it asks. The KDCs, and the options behind them, are those
+//! of `initiator`.
+
+#[path = "parts/base64.rs"]
+mod base64;
+#[path = "parts/carrying.rs"]
+mod carrying;
+#[path = "parts/kdcs.rs"]
+mod kdcs;
+#[path = "parts/keytab.rs"]
+mod keytab;
+#[path = "parts/layered.rs"]
+mod layered;
+#[path = "parts/options.rs"]
+mod options;
+
+use layered::{Connection, LONGEST_MESSAGE};
+use menolavuri::{Flags, Initiator, Layer, Next, SaslClient, Session};
+use std::net::TcpStream;
+use std::process::ExitCode;
+use std::time::Duration;
+use std::{env, error::Error};
+
+type Answer<T> = Result<T, Box<dyn Error + Send + Sync>>;
+
+/// For how long a server may be silent.
+const PATIENCE: Duration = Duration::from_secs(10);
+
+fn layer_of(word: &str) -> Answer<Layer> {
+    match word {
+        "1" => Ok(Layer::None),
+        "2" => Ok(Layer::Integrity),
+        "4" => Ok(Layer::Confidentiality),
+        _ => Err("the layer is 1, 2 or 4".into()),
+    }
+}
+
+/// A token for the server, and its challenge.
+fn show(connection: &mut Connection<SaslClient>, token: &[u8]) -> Answer<Vec<u8>> {
+    connection.say(&base64::encode(token))?;
+    connection.token("+")
+}
+
+/// The session, and the server's offer, which is its first challenge once the session is established.
+fn reach(
+    connection: &mut Connection<SaslClient>,
+    mut initiator: Initiator,
+    others: &[&str],
+) -> Answer<(Session, Vec<u8>)> {
+    let mut next = initiator.start()?;
+    while next == Next::AskKdc {
+        next = kdcs::ask(&mut initiator, others)?;
+    }
+    connection.say("AUTH GSSAPI")?;
+    if !connection.token("+")?.is_empty() {
+        return Err("the server says more than it may".into());
+    }
+    while next == Next::SendToken {
+        let challenge = show(connection, &initiator.token()?)?;
+        next = initiator.hear(&challenge)?;
+    }
+    let session = initiator.into_session()?;
+    let offer = show(connection, session.answer())?;
+    Ok((session, offer))
+}
+
+/// The line that answers one that was said, where it begins with `+OK`.
+fn ask(connection: &mut Connection<SaslClient>, line: &str) -> Answer<String> {
+    connection.say(line)?;
+    let answer = connection.line()?;
+    match answer.starts_with("+OK") {
+        true => Ok(answer),
+        false => Err(format!("{line:?} is answered {answer:?}").into()),
+    }
+}
+
+/// Logs in by the exchange of RFC 4752, section 3.1. From then on the connection is in the layer.
+fn log_in(
+    connection: &mut Connection<SaslClient>,
+    initiator: Initiator,
+    others: &[&str],
+    layer: Layer,
+) -> Answer<()> {
+    let (session, offer) = reach(connection, initiator, others)?;
+    let service = session.peer().to_owned();
+    // The size is that of a layer's messages.
+    let most = if layer == Layer::None {
+        0
+    } else {
+        LONGEST_MESSAGE
+    };
+    let mut client = SaslClient::new(session, layer, most, "")?;
+    let answer = client.answer(&offer)?;
+    ask(connection, &base64::encode(&answer))?;
+    connection.check_read()?;
+    println!("logged in: {service}, layer {:?}", client.layer()?);
+    if layer != Layer::None {
+        connection.begin(client);
+    }
+    Ok(())
+}
+
+fn run(arguments: &[String]) -> Answer<()> {
+    let [
+        address,
+        service,
+        user,
+        keytab,
+        layer,
+        count,
+        kdcs,
+        words @ ..,
+    ] = arguments
+    else {
+        return Err(
+            "usage: sasl_client ADDRESS SERVICE USER KEYTAB|- LAYER COUNT KDC[,KDC ..] [OPTION ..]"
+                .into(),
+        );
+    };
+    let kdcs: Vec<&str> = kdcs.split(',').collect();
+    let mut initiator = Initiator::new(service, "desk", Flags::USUAL)?;
+    initiator.allow(options::named(words)?)?;
+    initiator.kdc(kdcs[0])?;
+    kdcs::identify(&mut initiator, user, keytab)?;
+    let stream = TcpStream::connect(address)?;
+    stream.set_read_timeout(Some(PATIENCE))?;
+    let mut connection = Connection::new(&stream);
+    println!("{}", connection.line()?);
+    log_in(&mut connection, initiator, &kdcs[1..], layer_of(layer)?)?;
+    for _ in 0..count.parse()? {
+        println!("{}", ask(&mut connection, "STAT")?);
+    }
+    println!("{}", ask(&mut connection, "QUIT")?);
+    Ok(())
+}
+
+fn main() -> ExitCode {
+    let arguments: Vec<String> = env::args().skip(1).collect();
+    match run(&arguments) {
+        Ok(()) => ExitCode::SUCCESS,
+        Err(error) => {
+            eprintln!("{error}");
+            ExitCode::FAILURE
+        }
+    }
+}

@@ -1,0 +1,256 @@
+//! Security layers of SASL GSSAPI, between two ends of the library that meet over the replies of a KDC that were recorded. What frames and
+//! tokens are to be is that of RFC 4752, section 3, and of RFC 4121, section 4.2.
+
+use menolavuri::{
+    Acceptor, Cause, Error, Flags, Initiator, Layer, LayerRefusal, Layers, Next, SaslClient,
+    SaslServer, Session, Step,
+};
+use std::time::{Duration, SystemTime, UNIX_EPOCH};
+
+const EXCHANGE: &str = include_str!("../../../examples/both-ends");
+
+fn octets(hex: &str) -> Vec<u8> {
+    (0..hex.len() / 2)
+        .map(|i| u8::from_str_radix(&hex[2 * i..2 * i + 2], 16).unwrap())
+        .collect()
+}
+
+/// The lines of the exchange that begin with a word, in words.
+fn lines(word: &str) -> Vec<Vec<&'static str>> {
+    EXCHANGE
+        .lines()
+        .map(|line| line.split(' ').collect())
+        .filter(|words: &Vec<&str>| words[0] == word)
+        .collect()
+}
+
+/// The time of the exchange, and what was drawn.
+fn draw() -> (SystemTime, [u8; 64]) {
+    let event = &lines("event")[0];
+    let now = UNIX_EPOCH + Duration::from_micros(event[2].parse().unwrap());
+    (now, octets(event[3]).try_into().unwrap())
+}
+
+fn step(initiator: &mut Initiator, step: Step) -> Next {
+    let (now, random) = draw();
+    initiator.step_at(step, now, random).unwrap()
+}
+
+/// An initiator that the KDC's replies have brought to its token.
+fn asked() -> Initiator {
+    let password = &lines("password")[0];
+    let secret = String::from_utf8(octets(password[4])).unwrap();
+    let target = "host/server.example.com";
+    let mut initiator =
+        Initiator::with_number(target, "hostname", Flags::USUAL, [1, 2, 3, 4]).unwrap();
+    initiator.kdc(lines("kdc")[0][2]).unwrap();
+    initiator
+        .password(password[2], password[3], &secret)
+        .unwrap();
+    let mut next = step(&mut initiator, Step::Start);
+    for event in lines("event") {
+        if event[1] == "10" && event[5] == "reply" {
+            assert_eq!(next, Next::AskKdc);
+            next = step(&mut initiator, Step::Answer(&octets(event[6])));
+        }
+    }
+    assert_eq!(next, Next::SendToken);
+    initiator
+}
+
+/// Both ends of a session: the initiator's and the acceptor's.
+fn meet() -> (Session, Session) {
+    let key = &lines("key")[0];
+    let acceptor = Acceptor::new(key[2], &octets(key[3]), Duration::from_secs(300)).unwrap();
+    let mut initiator = asked();
+    let (now, random) = draw();
+    let token = initiator.token().unwrap();
+    let session = acceptor.accept_at(&token, now, random).unwrap();
+    let next = step(&mut initiator, Step::Hear(session.answer()));
+    assert_eq!(next, Next::Established);
+    (initiator.into_session().unwrap(), session)
+}
+
+/// Both ends of a layer.
+fn agree(layers: impl Into<Layers>, layer: Layer, user: &str) -> (SaslClient, SaslServer) {
+    let most = |none| if none { 0 } else { 65536 };
+    let (initiator, acceptor) = meet();
+    let layers = layers.into();
+    let mut server = SaslServer::new(acceptor, layers, most(layers == Layer::None.into())).unwrap();
+    let mut client = SaslClient::new(initiator, layer, most(layer == Layer::None), user).unwrap();
+    let offer = server.offer().unwrap();
+    let answer = client.answer(&offer).unwrap();
+    assert_eq!((offer.len(), answer.len()), (32, 32 + user.len()));
+    assert_eq!(server.accept(&answer).unwrap(), user);
+    (client, server)
+}
+
+fn is_refused<T>(answer: Result<T, Error>, refusal: LayerRefusal) -> bool {
+    matches!(answer, Err(Error::Layer(found)) if found == refusal)
+}
+
+fn is_caused<T>(answer: Result<T, Error>, cause: Cause) -> bool {
+    answer.is_err_and(|error| error.cause() == Some(cause))
+}
+
+#[test]
+fn data_go_both_ways_in_each_layer() {
+    for (layer, longer) in [
+        (Layer::None, 0),
+        (Layer::Integrity, 28),
+        (Layer::Confidentiality, 60),
+    ] {
+        let (mut client, mut server) = agree(Layers::ALL, layer, "bob");
+        assert_eq!(client.layer().unwrap(), layer);
+        assert_eq!(server.layer().unwrap(), layer);
+        for length in [0, 1, 1000] {
+            let data = vec![b'd'; length];
+            let frame = client.seal(&data).unwrap();
+            assert_eq!(frame[..4], (frame.len() as u32 - 4).to_be_bytes());
+            assert_eq!(frame.len(), 4 + length + longer);
+            assert_eq!(server.unseal(&frame).unwrap(), data);
+            let again = server.unseal(&frame);
+            assert!(layer == Layer::None || is_caused(again, Cause::REPEATED));
+            let frame = server.seal(&data).unwrap();
+            assert_eq!(client.unseal(&frame).unwrap(), data);
+        }
+    }
+}
+
+#[test]
+fn ends_know_their_peers() {
+    let (client, server) = agree(Layer::Confidentiality, Layer::Confidentiality, "");
+    assert_eq!(client.session().peer(), "host/server.example.com");
+    assert_eq!(server.session().peer(), "alice@example.com");
+    assert_eq!(server.session().client(), Some("alice@EXAMPLE.COM"));
+}
+
+#[test]
+fn only_sizes_that_there_are_can_be_received() {
+    for (layers, most) in [(1, 1), (4, 1 << 24), (7, u32::MAX)] {
+        let layers = Layers::from_sum(layers).unwrap();
+        let server = SaslServer::new(meet().1, layers, most);
+        assert!(is_refused(server, LayerRefusal::Layers));
+    }
+    for (layer, most) in [(Layer::None, 1), (Layer::Integrity, 1 << 24)] {
+        let client = SaslClient::new(meet().0, layer, most, "");
+        assert!(is_refused(client, LayerRefusal::Layers));
+    }
+}
+
+#[test]
+fn steps_have_their_turn() {
+    let (initiator, acceptor) = meet();
+    let mut server =
+        SaslServer::new(acceptor, Layer::Integrity | Layer::Confidentiality, 65536).unwrap();
+    let mut client = SaslClient::new(initiator, Layer::Integrity, 65536, "bob").unwrap();
+    assert!(is_refused(server.accept(b"token"), LayerRefusal::State));
+    assert!(is_refused(server.layer(), LayerRefusal::State));
+    assert!(is_refused(client.seal(b"early"), LayerRefusal::State));
+    let offer = server.offer().unwrap();
+    assert!(is_refused(server.offer(), LayerRefusal::State));
+    let answer = client.answer(&offer).unwrap();
+    assert!(is_refused(client.answer(&offer), LayerRefusal::State));
+    assert!(is_refused(server.seal(b"early"), LayerRefusal::State));
+    assert!(is_refused(server.unseal(b"early"), LayerRefusal::State));
+    assert_eq!(server.accept(&answer).unwrap(), "bob");
+    assert!(is_refused(server.accept(&answer), LayerRefusal::State));
+    assert_eq!(server.layer().unwrap(), Layer::Integrity);
+}
+
+#[test]
+fn what_was_not_offered_is_not_accepted() {
+    let (mut peer, acceptor) = meet();
+    let mut server = SaslServer::new(acceptor, Layer::Confidentiality, 65536).unwrap();
+    server.offer().unwrap();
+    let token = peer.wrap_in_clear(&[2, 0, 1, 0]).unwrap();
+    assert!(is_refused(server.accept(&token), LayerRefusal::Layer));
+    assert!(is_caused(server.accept(&token), Cause::REPEATED));
+    let token = peer.wrap_in_clear(&[4, 0, 1, 0, 0xff]).unwrap();
+    assert!(is_refused(server.accept(&token), LayerRefusal::Offer));
+    let mut token = peer.wrap_in_clear(b"\x04\x00\x01\x00bj\xc3\xb6rn").unwrap();
+    token[20] ^= 1;
+    assert!(is_caused(server.accept(&token), Cause::ALTERED));
+    token[20] ^= 1;
+    assert_eq!(server.accept(&token).unwrap(), "bj\u{f6}rn");
+}
+
+#[test]
+fn offers_without_the_layer_are_not_answered() {
+    let (initiator, mut peer) = meet();
+    let mut client = SaslClient::new(initiator, Layer::Integrity, 65536, "").unwrap();
+    let token = peer.wrap_in_clear(&[5, 0, 1, 0]).unwrap();
+    assert!(is_refused(client.answer(&token), LayerRefusal::Layer));
+    let token = peer.wrap_in_clear(&[2, 0, 1]).unwrap();
+    assert!(is_refused(client.answer(&token), LayerRefusal::Offer));
+    let token = peer.wrap_in_clear(&[3, 0, 1, 0]).unwrap();
+    assert_eq!(client.answer(&token).unwrap()[16..20], [2, 1, 0, 0]);
+}
+
+#[test]
+fn frames_are_whole_and_of_the_layer() {
+    let (mut peer, acceptor) = meet();
+    let mut server = SaslServer::new(acceptor, Layers::ALL, 100).unwrap();
+    server.offer().unwrap();
+    let token = peer.wrap_in_clear(&[4, 0, 0, 100]).unwrap();
+    assert_eq!(server.accept(&token).unwrap(), "");
+    assert_eq!(server.seal(&[7; 40]).unwrap().len(), 104);
+    assert!(is_refused(server.seal(&[7; 41]), LayerRefusal::TooLarge));
+    let mut frame = |text: &[u8], sealed: bool| {
+        let message = match sealed {
+            true => peer.wrap(text),
+            false => peer.wrap_in_clear(text),
+        };
+        let message = message.unwrap();
+        [&(message.len() as u32).to_be_bytes()[..], &message].concat()
+    };
+    let (clear, long, whole) = (frame(b"a", false), frame(&[7; 41], true), frame(b"a", true));
+    assert!(is_refused(server.unseal(&clear), LayerRefusal::Frame));
+    assert!(is_refused(server.unseal(&long), LayerRefusal::TooLarge));
+    for length in 0..whole.len() {
+        assert!(is_refused(
+            server.unseal(&whole[..length]),
+            LayerRefusal::Frame
+        ));
+    }
+    assert_eq!(server.unseal(&whole).unwrap(), b"a");
+}
+
+#[test]
+fn another_thread_goes_on() {
+    let (mut client, mut server) = agree(Layers::ALL, Layer::Confidentiality, "");
+    let frame = std::thread::spawn(move || client.seal(b"from a thread").unwrap())
+        .join()
+        .unwrap();
+    let data = std::thread::spawn(move || server.unseal(&frame).unwrap())
+        .join()
+        .unwrap();
+    assert_eq!(data, b"from a thread");
+}
+
+#[test]
+fn refusals_are_told_in_words() {
+    let refusals = [
+        LayerRefusal::Layers,
+        LayerRefusal::State,
+        LayerRefusal::Offer,
+        LayerRefusal::Layer,
+        LayerRefusal::TooLarge,
+        LayerRefusal::Frame,
+    ];
+    for refusal in refusals {
+        let words = Error::Layer(refusal).to_string();
+        assert_eq!(words, format!("refused by the security layers: {refusal}"));
+        assert_eq!(Error::Layer(refusal).cause(), None);
+    }
+}
+
+#[test]
+fn layers_are_sets() {
+    let layers = Layer::Integrity | Layer::Confidentiality;
+    assert_eq!(Layers::from_sum(6), Some(layers));
+    assert_eq!(layers | Layer::None, Layers::ALL);
+    assert!(layers.contains(Layer::Integrity) && !layers.contains(Layer::None));
+    assert_eq!(Layers::from_sum(0), None);
+    assert_eq!(Layers::from_sum(8), None);
+}
