@@ -7,8 +7,6 @@ mod help;
 mod key_lines;
 mod listing;
 mod names;
-#[cfg(test)]
-mod tests;
 mod version;
 
 use commands::{Command, read_command};
