@@ -1,5 +1,6 @@
 """The wrong bodies of edits/NAME/*.edit as texts: what each changes, in which function, and which can be tried together."""
 
+import glob
 import os
 import re
 
@@ -35,7 +36,7 @@ class Edit:
     def find_functions(self, crate, are_named):
         for at, (file, old, _) in enumerate(self.pairs):
             text = changed(crate, self.pairs[:at]).get(file) or text_of(f"{crate}/{file}")
-            found = function_at(file, text.split("\n"), text.partition(old)[0].count("\n"))
+            found = function_at(crate, file, text.split("\n"), text.partition(old)[0].count("\n"))
             self.is_alone = self.is_alone or not found
             if found and found not in self.functions and not are_named:
                 self.functions.append(found)
@@ -52,15 +53,25 @@ def changed(crate, pairs):
     return texts
 
 
-def function_at(file, lines, row):
+def function_at(crate, file, lines, row):
     """The function that a line of a file of src/ stands in, by the name that a check prints, without the crate's; None outside of one."""
     at = next((at for at in range(row, -1, -1) if FUNCTION.match(lines[at])), None)
     if at is None or not file.startswith("src/"):
         return None
     indent, name = FUNCTION.match(lines[at]).groups()
     types = [type_at(lines, at)] if indent else []
-    modules = [it for it in file[len("src/") : -len(".rt")].split("/") if it not in ("lib", "main")]
-    return None if f"{indent}}}" in lines[at:row] or None in types else "::".join([*modules, *types, name])
+    if f"{indent}}}" in lines[at:row] or None in types:
+        return None
+    home = home_of(crate, file, *types) if types else file
+    modules = [it for it in home[len("src/") : -len(".rt")].split("/") if it not in ("lib", "main")]
+    return "::".join([*modules, *types, name])
+
+
+def home_of(crate, file, name):
+    """The file that declares this type, by whose module the type's own methods are named wherever their impl stands; else the file."""
+    declared = re.compile(rf"^(?:pub(?:\([^)]*\))? )?(?:struct|enum) {re.escape(name)}\b", re.MULTILINE)
+    files = [file, *sorted(glob.glob("src/**/*.rt", root_dir=crate, recursive=True))]
+    return next((it for it in files if declared.search(text_of(f"{crate}/{it}"))), file)
 
 
 def type_at(lines, row):
