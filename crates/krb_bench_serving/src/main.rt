@@ -14,6 +14,8 @@ use anyhow::Result;
 use std::env;
 use std::env::Env;
 use std::rt::Clock;
+use std::sync::Wait;
+use std::thread::Threads;
 
 /// How many rounds `full` has on one thread and on two, in turn.
 const ROUNDS: u32 = 20;
@@ -53,16 +55,20 @@ fn one_thread(rt: &(impl Print + Eprint + Clock + AllocGlobal), full: bool) -> R
     starts::run(rt, full)
 }
 
+/// The measurements of one thread, and then so much by two.
+fn one_and_two<R: Print + Eprint + Clock + AllocGlobal + Threads + Wait + Sync>(
+    rt: &R,
+    full: bool,
+    amount: two_threads::Amount,
+) -> Result<()> {
+    one_thread(rt, full)?;
+    two_threads::run(rt, amount)
+}
+
 fn main(rt: HostRuntime) -> Result<()> {
     match read_words(&rt)? {
-        Asked::Trial => {
-            one_thread(&rt, false)?;
-            two_threads::run(&rt, two_threads::TRIAL)
-        }
-        Asked::Full => {
-            one_thread(&rt, true)?;
-            two_threads::run(&rt, two_threads::full(ROUNDS))
-        }
+        Asked::Trial => one_and_two(&rt, false, two_threads::TRIAL),
+        Asked::Full => one_and_two(&rt, true, two_threads::full(ROUNDS)),
         Asked::Threads(rounds) => two_threads::run(&rt, two_threads::full(rounds)),
     }
 }

@@ -5,7 +5,7 @@ use anyhow::{Context, Result};
 use krb_conf::KerberosConfig;
 use krb_context::{Kerberos, KerberosState};
 use krb_crypto::CipherSuite;
-use krb_der::{Items, Octets, Text};
+use krb_der::{Items, Octets, Text, boxed};
 use sspi_core::{Error, Message, Part, Secret, SecurityBufferRef};
 use std::alloc::Global;
 use std::rt::Clock;
@@ -32,15 +32,21 @@ fn plain_message(alloc: Global) -> Result<Message, Error> {
     Message::new(Items::new(buffers))
 }
 
-/// The client once it is admitted, with the same key at each connection.
-fn client(alloc: Global) -> Result<Kerberos, Error> {
-    let name = Text::from_str(alloc, "bench")?;
-    let config = KerberosConfig::new(alloc, "", name)?;
+/// The client is as once it is admitted, with the same key at each connection.
+fn establish(alloc: Global, client: &mut Kerberos) -> Result<(), Error> {
     let key = Octets::from_slice(alloc, &SESSION_KEY)?;
-    let mut client = Kerberos::new_client_from_config(config, [0; 4]);
     client.state = KerberosState::Final;
     client.encryption_params.encryption_type = Some(CipherSuite::Aes256CtsHmacSha196);
     client.encryption_params.session_key = Some(Secret::new(key));
+    Ok(())
+}
+
+/// The client once it is admitted.
+fn client(alloc: Global) -> Result<Box<Kerberos>, Error> {
+    let name = Text::from_str(alloc, "bench")?;
+    let config = KerberosConfig::new(alloc, "", name)?;
+    let mut client = boxed(alloc, Kerberos::new_client_from_config(config, [0; 4]))?;
+    establish(alloc, &mut client)?;
     Ok(client)
 }
 
@@ -65,6 +71,18 @@ fn event_line(alloc: Global, connection: u32, call: &str, message: &Message) -> 
     ).ok()
 }
 
+/// Puts an event with a message behind an input.
+fn put_event(
+    alloc: Global,
+    connection: u32,
+    call: &str,
+    message: &Message,
+    input: &mut Vec<u8>,
+) -> Option<()> {
+    let line = event_line(alloc, connection, call, message)?;
+    input.extend_from_slice(line.as_bytes()).ok()
+}
+
 /// An input of admissions, with room for so many messages behind them.
 fn admitted(alloc: Global, connections: u32, count: u32) -> Option<Vec<u8>> {
     let mut input = admissions(alloc, connections, false)?;
@@ -78,15 +96,25 @@ fn connection_of(k: u32, connections: u32) -> u32 {
     k.checked_rem(connections).unwrap_or(0).saturating_add(1)
 }
 
+/// Puts a message behind an input so many times, to be sealed, at the connections in turn.
+fn put_wraps(
+    alloc: Global,
+    connections: u32,
+    count: u32,
+    message: &Message,
+    input: &mut Vec<u8>,
+) -> Option<()> {
+    for k in 0..count {
+        put_event(alloc, connection_of(k, connections), "wrap", message, input)?;
+    }
+    Some(())
+}
+
 /// So many messages to seal, at the connections in turn.
 pub(crate) fn wraps(alloc: Global, connections: u32, count: u32) -> Option<Vec<u8>> {
     let mut input = admitted(alloc, connections, count)?;
     let message = plain_message(alloc).ok()?;
-    for k in 0..count {
-        let connection = connection_of(k, connections);
-        let line = event_line(alloc, connection, "wrap", &message)?;
-        input.extend_from_slice(line.as_bytes()).ok()?;
-    }
+    put_wraps(alloc, connections, count, &message, &mut input)?;
     Some(input)
 }
 
@@ -98,8 +126,7 @@ fn put_unwrap(
     input: &mut Vec<u8>,
 ) -> Option<()> {
     let message = sealed_message(alloc, client).ok()?;
-    let line = event_line(alloc, connection, "unwrap", &message)?;
-    input.extend_from_slice(line.as_bytes()).ok()
+    put_event(alloc, connection, "unwrap", &message, input)
 }
 
 /// Puts so many there, at the connections in turn.
@@ -143,6 +170,16 @@ fn measure_messages(
     measure(rt, &load)
 }
 
+/// Measures so many messages to open.
+fn measure_unwraps(
+    rt: &(impl Print + Eprint + Clock + AllocGlobal),
+    connections: u32,
+    events: u32,
+) -> Result<()> {
+    let input = unwraps(rt.alloc(), connections, events).context("out of memory")?;
+    measure_messages(rt, "unwrap", connections, events, input.as_slice())
+}
+
 /// Measures so many messages to seal, and so many to open.
 fn measure_both(
     rt: &(impl Print + Eprint + Clock + AllocGlobal),
@@ -151,8 +188,7 @@ fn measure_both(
 ) -> Result<()> {
     let input = wraps(rt.alloc(), connections, events).context("out of memory")?;
     measure_messages(rt, "wrap", connections, events, input.as_slice())?;
-    let input = unwraps(rt.alloc(), connections, events).context("out of memory")?;
-    measure_messages(rt, "unwrap", connections, events, input.as_slice())
+    measure_unwraps(rt, connections, events)
 }
 
 /// Measures 1,000, 10,000 and 100,000 messages at one connection, and 100,000 at 1,000 connections.

@@ -5,7 +5,7 @@ ghost use Rattle.std.specs.Prelude.{◌≤◌};
 
 use anyhow::{Context, Result};
 use krb_demo::{DemoClient, demonstration};
-use krb_der::Time;
+use krb_der::{OutOfMemory, Time, boxed};
 use krb_machine::{Calls, MemSink, MemSource, Words, serve};
 use std::alloc::Global;
 use std::rt::Clock;
@@ -72,22 +72,64 @@ fn sender_of(k: u32, repeats: bool) -> u32 {
     }
 }
 
+/// A client of the acceptors' service.
+fn new_client(alloc: Global) -> Result<Box<DemoClient>, OutOfMemory> {
+    boxed(alloc, DemoClient::new(alloc)?)
+}
+
+/// Puts an acceptor behind an input.
+fn put_acceptor(alloc: Global, k: u32, input: &mut Vec<u8>) -> Option<()> {
+    let lines = acceptor_lines(alloc, k)?;
+    input.extend_from_slice(lines.as_bytes()).ok()
+}
+
+/// Puts so many acceptors there.
+fn put_acceptors(alloc: Global, count: u32, input: &mut Vec<u8>) -> Option<()> {
+    for k in 1..count.saturating_add(1) {
+        put_acceptor(alloc, k, input)?;
+    }
+    Some(())
+}
+
+/// Puts the event of an acceptor behind an input.
+fn put_event(
+    alloc: Global,
+    client: &DemoClient,
+    k: u32,
+    sender: u32,
+    input: &mut Vec<u8>,
+) -> Option<()> {
+    let line = event_line(alloc, client, k, sender)?;
+    input.extend_from_slice(line.as_bytes()).ok()
+}
+
+/// Puts an event at each of so many acceptors there.
+fn put_events(
+    alloc: Global,
+    client: &DemoClient,
+    count: u32,
+    repeats: bool,
+    input: &mut Vec<u8>,
+) -> Option<()> {
+    for k in 1..count.saturating_add(1) {
+        put_event(alloc, client, k, sender_of(k, repeats), input)?;
+    }
+    Some(())
+}
+
+/// Puts so many acceptors behind an input, and an event at each.
+fn put_admissions(alloc: Global, count: u32, repeats: bool, input: &mut Vec<u8>) -> Option<()> {
+    put_acceptors(alloc, count, input)?;
+    let client = new_client(alloc).ok()?;
+    put_events(alloc, &client, count, repeats, input)
+}
+
 /// An input of so many acceptors, and an event at each, ten in a second.
 pub(crate) fn admissions(alloc: Global, count: u32, repeats: bool) -> Option<Vec<u8>> {
     let room = (count as usize).saturating_mul(OCTETS_A_CONNECTION);
     let mut input = Vec::with_capacity(alloc, room).ok()?;
     input.extend_from_slice(b"skew 300\n").ok()?;
-    let last = count.saturating_add(1);
-    for k in 1..last {
-        input
-            .extend_from_slice(acceptor_lines(alloc, k)?.as_bytes())
-            .ok()?;
-    }
-    let client = DemoClient::new(alloc).ok()?;
-    for k in 1..last {
-        let line = event_line(alloc, &client, k, sender_of(k, repeats))?;
-        input.extend_from_slice(line.as_bytes()).ok()?;
-    }
+    put_admissions(alloc, count, repeats, &mut input)?;
     Some(input)
 }
 
@@ -119,15 +161,26 @@ fn count_answers(output: &[u8], answer: &str) -> u32 {
     count
 }
 
+/// How long `serve` answers a source, and what it writes.
+fn time_serve(
+    rt: &(impl Clock + AllocGlobal),
+    words: &Words,
+    source: &mut MemSource,
+    sink: &mut MemSink,
+) -> Result<Duration> {
+    let alloc = rt.alloc();
+    let start = Instant::now(rt)?;
+    let _status = serve(alloc, words, source, sink);
+    Ok(start.elapsed(rt)?)
+}
+
 /// What `serve` writes for an input, and how long it takes.
 pub(crate) fn served(rt: &(impl Clock + AllocGlobal), input: &[u8]) -> Result<(MemSink, Duration)> {
     let alloc = rt.alloc();
     let words = command(alloc, "serve").context("out of memory")?;
     let mut source = MemSource::new(input, Calls::sound(alloc));
     let mut sink = MemSink::new(alloc, Calls::sound(alloc));
-    let start = Instant::now(rt)?;
-    let _status = serve(alloc, &words, &mut source, &mut sink);
-    let spent = start.elapsed(rt)?;
+    let spent = time_serve(rt, &words, &mut source, &mut sink)?;
     Ok((sink, spent))
 }
 
@@ -146,14 +199,19 @@ fn tell(rt: &impl Eprint, load: &Load, spent: u128) -> Result<()> {
     Ok(())
 }
 
+/// Prints how the events of an input were answered, and how long that took.
+fn report(rt: &(impl Print + Eprint), load: &Load, output: &[u8], spent: Duration) -> Result<()> {
+    let (name, events, answer) = (load.name, load.events, load.answer);
+    let count = count_answers(output, answer);
+    let end = last_line(output);
+    println!(rt; "serve: {name}, {events} events: {count} {answer}, {end}")?;
+    tell(rt, load, spent.as_nanos())
+}
+
 /// Serves an input, and prints how it was answered and how long that took.
 pub(crate) fn measure(rt: &(impl Print + Eprint + Clock + AllocGlobal), load: &Load) -> Result<()> {
     let (sink, spent) = served(rt, load.input)?;
-    let (name, events, answer) = (load.name, load.events, load.answer);
-    let count = count_answers(sink.bytes(), answer);
-    let end = last_line(sink.bytes());
-    println!(rt; "serve: {name}, {events} events: {count} {answer}, {end}")?;
-    tell(rt, load, spent.as_nanos())
+    report(rt, load, sink.bytes(), spent)
 }
 
 /// Measures an input of admissions.
