@@ -5,11 +5,10 @@ use super::{name, read};
 use bitflags::Flags;
 use krb_conf::{Env, KerberosConfig};
 use krb_context::{Kerberos, ServerProperties};
-use krb_der::{Items, Octets, Text};
-use krb_keytab::Keytab;
+use krb_der::{Items, Octets, Text, boxed};
 use krb_replay::ReplayBook;
 use krb_server::accept_security_context;
-use sspi_core::{Cause, Draw, Message, Part, SecurityBufferRef, ServerRequestFlags};
+use sspi_core::{Cause, Draw, Error, Message, Part, SecurityBufferRef, ServerRequestFlags};
 use std::alloc::{AllocError, Global};
 use std::test::Fail;
 
@@ -24,16 +23,19 @@ const SEALED_TOKEN: &str =
 const SEALED_DATA: &str = "cb080f";
 
 /// The service kafka/a without a key of its own.
-fn broker(alloc: Global) -> Result<ServerProperties, Fail> {
-    Ok(ServerProperties::new(alloc, &["kafka", "a"], None, 300, None)?)
+fn broker(alloc: Global) -> Result<Box<ServerProperties>, Fail> {
+    let properties = ServerProperties::new(alloc, &["kafka", "a"], None, 300, None)?;
+    Ok(boxed(alloc, properties)?)
 }
 
+/// Installs the keys that the file has of the realm, and answers how many they are.
 fn installed(
     alloc: Global,
-    keytab: &Keytab,
+    file: &str,
     realm: &str,
     properties: &mut ServerProperties,
 ) -> Result<u32, Fail> {
+    let keytab = read(alloc, file)?;
     let realm = name(alloc, realm)?;
     Ok(keytab.install(alloc, &realm, properties)?)
 }
@@ -54,9 +56,8 @@ fn rows() -> &'static [(&'static str, &'static str, u32)] {
 }
 
 fn count(alloc: Global, file: &str, realm: &str) -> Result<u32, Fail> {
-    let keytab = read(alloc, file)?;
     let mut properties = broker(alloc)?;
-    installed(alloc, &keytab, realm, &mut properties)
+    installed(alloc, file, realm, &mut properties)
 }
 
 #[test]
@@ -65,13 +66,6 @@ fn keys_of_the_realm_are_installed(rt: HostRuntime) -> Result<(), Fail> {
         assert_eq!(rt; count(rt.alloc(), file, realm)?, *wanted, "{realm}");
     }
     Ok(())
-}
-
-fn no_env(alloc: Global) -> Env {
-    Env {
-        vars: Items::new(Vec::new(alloc)),
-        files: Items::new(Vec::new(alloc)),
-    }
 }
 
 /// The octets 0 to 63, at 1700000000 s.
@@ -88,23 +82,43 @@ fn draw() -> Draw {
     }
 }
 
+fn config(alloc: Global) -> Result<KerberosConfig, Fail> {
+    let host = Text::from_str(alloc, "server")?;
+    Ok(KerberosConfig::new(alloc, "", host)?)
+}
+
 /// An acceptor with the number 100.
-fn acceptor(alloc: Global, properties: ServerProperties) -> Result<Kerberos, Fail> {
-    let host = Text::new(String::from_str(alloc, "server")?);
-    let config = KerberosConfig::new(alloc, "", host)?;
-    Ok(Kerberos::new_server_from_config(config, properties, 100u32.to_be_bytes())?)
+fn acceptor(alloc: Global, properties: Box<ServerProperties>) -> Result<Box<Kerberos>, Fail> {
+    let config = config(alloc)?;
+    let number = 100u32.to_be_bytes();
+    let server = Kerberos::new_server_from_config(config, Box::into_inner(properties), number)?;
+    Ok(boxed(alloc, server)?)
+}
+
+fn cause_of<T: Drop>(answer: Result<T, Error>) -> Option<Cause> {
+    match answer {
+        Ok(_) => None,
+        Err(error) => Some(error.cause),
+    }
+}
+
+/// Why the token is refused over the book, if it is.
+fn refusal_over(
+    alloc: Global,
+    server: &mut Kerberos,
+    book: &mut ReplayBook,
+    token: &[u8],
+) -> Option<Cause> {
+    let flags = ServerRequestFlags::empty();
+    let env = Env::new(alloc);
+    cause_of(accept_security_context(alloc, server, book, token, flags, &env, &draw()))
 }
 
 /// Why the client's token is refused, if it is.
 fn refusal(alloc: Global, server: &mut Kerberos) -> Result<Option<Cause>, Fail> {
     let token = hex::decode(alloc, TOKEN)?;
-    let mut book = ReplayBook::new(alloc, 300)?;
-    let env = no_env(alloc);
-    let flags = ServerRequestFlags::empty();
-    match accept_security_context(alloc, server, &mut book, &token, flags, &env, &draw()) {
-        Ok(_) => Ok(None),
-        Err(error) => Ok(Some(error.cause)),
-    }
+    let mut book = boxed(alloc, ReplayBook::new(alloc, 300)?)?;
+    Ok(refusal_over(alloc, server, &mut book, &token))
 }
 
 fn add(buffers: &mut Vec<SecurityBufferRef>, buffer: SecurityBufferRef) -> Result<(), AllocError> {
@@ -113,15 +127,13 @@ fn add(buffers: &mut Vec<SecurityBufferRef>, buffer: SecurityBufferRef) -> Resul
 }
 
 /// A token without octets, and the text `abc`.
-fn plain_message(alloc: Global) -> Result<Message, Fail> {
-    let text = Octets::from_slice(alloc, b"abc")?;
+fn plain_message(alloc: Global) -> Result<Box<Message>, Fail> {
     let mut buffers = Vec::new(alloc);
-    add(
-        &mut buffers,
-        SecurityBufferRef::token_buf(Octets::new(Vec::new(alloc)), 60),
-    )?;
+    let token = Octets::new(Vec::new(alloc));
+    add(&mut buffers, SecurityBufferRef::token_buf(token, 60))?;
+    let text = Octets::from_slice(alloc, b"abc")?;
     add(&mut buffers, SecurityBufferRef::data_buf(text, 3))?;
-    Ok(Message::new(Items::new(buffers))?)
+    Ok(boxed(alloc, Message::new(Items::new(buffers))?)?)
 }
 
 fn is_part(alloc: Global, message: &Message, part: Part, wanted: &str) -> Result<bool, Fail> {
@@ -153,21 +165,20 @@ fn admits_and_seals(alloc: Global, server: &mut Kerberos) -> Result<bool, Fail> 
 }
 
 /// The service with the keys of a file.
-fn broker_with(alloc: Global, file: &str) -> Result<ServerProperties, Fail> {
-    let keytab = read(alloc, file)?;
+fn broker_with(alloc: Global, file: &str) -> Result<Box<ServerProperties>, Fail> {
     let mut properties = broker(alloc)?;
-    installed(alloc, &keytab, "EXAMPLE.COM", &mut properties)?;
+    installed(alloc, file, "EXAMPLE.COM", &mut properties)?;
     Ok(properties)
 }
 
-fn acceptor_admits(alloc: Global, properties: ServerProperties) -> Result<bool, Fail> {
+fn acceptor_admits(alloc: Global, properties: Box<ServerProperties>) -> Result<bool, Fail> {
     let mut server = acceptor(alloc, properties)?;
     admits_and_seals(alloc, &mut server)
 }
 
 fn refusal_at_an_acceptor(
     alloc: Global,
-    properties: ServerProperties,
+    properties: Box<ServerProperties>,
 ) -> Result<Option<Cause>, Fail> {
     let mut server = acceptor(alloc, properties)?;
     refusal(alloc, &mut server)
