@@ -2,6 +2,7 @@
 
 mod early;
 mod exchanges;
+mod others;
 mod proxies;
 mod refusals;
 mod suites;
@@ -378,11 +379,11 @@ fn exchanges_bring_keys(rt: HostRuntime) {
 #[test]
 fn exchanges_with_other_kdcs_bring_keys(rt: HostRuntime) {
     let alloc = rt.alloc();
-    assert!(rt; brings_key(alloc, &exchanges::of_mit()));
-    assert!(rt; brings_key(alloc, &exchanges::of_mit_with_a_keytab()));
-    assert!(rt; brings_key(alloc, &exchanges::of_heimdal()));
-    assert!(rt; brings_key(alloc, &exchanges::of_heimdal_through_a_proxy()));
-    assert!(rt; brings_key(alloc, &exchanges::of_heimdal_by_another_name()));
+    assert!(rt; brings_key(alloc, &others::of_mit()));
+    assert!(rt; brings_key(alloc, &others::of_mit_with_a_keytab()));
+    assert!(rt; brings_key(alloc, &others::of_heimdal()));
+    assert!(rt; brings_key(alloc, &others::of_heimdal_through_a_proxy()));
+    assert!(rt; brings_key(alloc, &others::of_heimdal_by_another_name()));
 }
 
 #[test]
