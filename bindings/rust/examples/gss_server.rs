@@ -16,6 +16,8 @@ mod frames;
 mod options;
 #[path = "parts/samples.rs"]
 mod samples;
+#[path = "parts/until.rs"]
+mod until;
 
 use menolavuri::{Acceptor, Session};
 use std::{env, error::Error, thread, time::Duration};

@@ -19,6 +19,8 @@ mod keytab;
 mod layered;
 #[path = "parts/options.rs"]
 mod options;
+#[path = "parts/until.rs"]
+mod until;
 
 use layered::{Connection, LONGEST_MESSAGE};
 use menolavuri::{Flags, Initiator, Layer, Next, SaslClient, Session};
@@ -99,6 +101,7 @@ fn log_in(
     let answer = client.answer(&offer)?;
     ask(connection, &base64::encode(&answer))?;
     connection.check_read()?;
+    connection.is_in();
     println!("logged in: {service}, layer {:?}", client.layer()?);
     if layer != Layer::None {
         connection.begin(client);

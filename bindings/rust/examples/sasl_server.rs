@@ -12,6 +12,8 @@ mod base64;
 mod connections;
 #[path = "parts/layered.rs"]
 mod layered;
+#[path = "parts/until.rs"]
+mod until;
 
 use layered::{Connection, LONGEST_MESSAGE};
 use menolavuri::{Acceptor, Layer, Layers, SaslServer};
@@ -108,7 +110,11 @@ fn authenticate(
         }
     };
     connection.say("+OK")?;
-    println!("admitted: {}, layer {layer:?}", server.session().peer());
+    connection.is_in();
+    connections::log(&format!(
+        "admitted: {}, layer {layer:?}",
+        server.session().peer()
+    ));
     if layer != Layer::None {
         connection.begin(server);
     }

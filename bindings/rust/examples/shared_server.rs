@@ -15,6 +15,8 @@ mod frames;
 mod redis;
 #[path = "parts/samples.rs"]
 mod samples;
+#[path = "parts/until.rs"]
+mod until;
 
 use menolavuri::{Acceptor, Session};
 use redis::Store;

@@ -81,6 +81,15 @@ impl Session {
         self.client.as_deref()
     }
 
+    /// The user of this realm that the client is, to look up what it may do: its name of one component, where its realm is this one, octet
+    /// for octet, and no sign in the name has a meaning of its own. Not [`peer`](Session::peer): that is the same text for clients of other
+    /// realms too. None for a service as `host/server.example.com`, for `alice/admin`, and at an initiator's session.
+    pub fn user_of(&self, realm: &str) -> Option<&str> {
+        let user = self.client()?.strip_suffix(realm)?.strip_suffix('@')?;
+        let is_plain = |sign: char| sign.is_ascii_graphic() && !matches!(sign, '/' | '@' | '\\');
+        (!user.is_empty() && user.chars().all(is_plain)).then_some(user)
+    }
+
     /// Until when the client's ticket is valid. An initiator's session does not tell it.
     pub fn ends(&self) -> Option<SystemTime> {
         self.ends

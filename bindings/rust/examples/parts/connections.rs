@@ -1,6 +1,7 @@
-//! A thread for each connection, up to a limit, and keys from files.
+//! A thread for each connection, up to a limit, what is logged of it, and keys from files.
 
 use crate::Answer;
+use std::io::{self, Write};
 use std::net::{TcpListener, TcpStream};
 use std::sync::atomic::{AtomicUsize, Ordering};
 use std::{fs, thread, time::Duration};
@@ -8,6 +9,29 @@ use std::{fs, thread, time::Duration};
 /// How many clients are served at a time, and for how long one may be silent.
 const MOST: usize = 1000;
 const PATIENCE: Duration = Duration::from_secs(60);
+
+/// A client's place among those that are served, which is given back however its thread ends.
+struct Place<'a>(&'a AtomicUsize);
+
+impl Drop for Place<'_> {
+    fn drop(&mut self) {
+        self.0.fetch_sub(1, Ordering::SeqCst);
+    }
+}
+
+/// A line for the log, in which what a client chose can neither begin another line nor command a terminal. A log that takes nothing ends
+/// no connection.
+pub fn log(words: &str) {
+    let mut line: String = words
+        .chars()
+        .map(|sign| match sign {
+            sign if sign.is_control() => sign.escape_default().to_string(),
+            sign => sign.to_string(),
+        })
+        .collect();
+    line.push('\n');
+    let _ = io::stdout().write_all(line.as_bytes());
+}
 
 /// Serves each connection that comes in at this address, for ever. Why one ends early is for the log: the client sees that it ends.
 pub fn serve_all(address: &str, serve: impl Fn(&TcpStream) -> Answer<()> + Sync) -> Answer<()> {
@@ -20,16 +44,20 @@ pub fn serve_all(address: &str, serve: impl Fn(&TcpStream) -> Answer<()> + Sync)
                 thread::sleep(Duration::from_millis(10));
                 continue;
             };
+            let place = Place(served);
             if served.fetch_add(1, Ordering::SeqCst) >= MOST {
-                served.fetch_sub(1, Ordering::SeqCst);
                 continue;
             }
-            threads.spawn(move || {
+            // Where there is no other thread the client sees that its connection ends.
+            let started = thread::Builder::new().spawn_scoped(threads, move || {
+                let _place = place;
                 if let Err(error) = patient(&stream).and_then(|()| serve(&stream)) {
-                    println!("{error}");
+                    log(&error.to_string());
                 }
-                served.fetch_sub(1, Ordering::SeqCst);
             });
+            if let Err(error) = started {
+                log(&format!("no thread: {error}"));
+            }
         }
         Ok(())
     })

@@ -15,20 +15,22 @@ pub const WRAPPED: u8 = 0x20;
 pub const SEALED: u8 = 0x40;
 pub const WANTS_MIC: u8 = 0x80;
 
-/// The longest frame that is read.
-const LONGEST: u32 = 1 << 24;
+/// The longest frame that is read, and the longest of a client that is not let in: Windows makes no token of more octets.
+pub const LONGEST: u32 = 1 << 24;
+#[allow(dead_code)] // a client lets nobody in
+pub const LONGEST_TOKEN: u32 = 1 << 16;
 
 pub struct Frame {
     pub says: u8,
     pub octets: Vec<u8>,
 }
 
-pub fn read_frame(from: &mut impl Read) -> io::Result<Frame> {
+pub fn read_frame(from: &mut impl Read, longest: u32) -> io::Result<Frame> {
     let mut head = [0; 5];
     from.read_exact(&mut head)?;
     let [says, length @ ..] = head;
     let length = u32::from_be_bytes(length);
-    if length > LONGEST {
+    if length > longest {
         return Err(ErrorKind::InvalidData.into());
     }
     // Memory is taken as the octets come, and not as the length promises.

@@ -2,6 +2,7 @@
 
 use crate::Answer;
 use crate::base64;
+use crate::until::Until;
 use menolavuri::{Error, LayerRefusal, SaslClient, SaslServer};
 use std::io::{BufRead, BufReader, Read, Write};
 use std::net::TcpStream;
@@ -50,7 +51,7 @@ fn sealed(end: &mut impl End, data: &[u8]) -> Result<Vec<u8>, Error> {
 /// A connection, and its layer where one is agreed.
 pub struct Connection<'a, E> {
     stream: &'a TcpStream,
-    from: BufReader<&'a TcpStream>,
+    from: BufReader<Until<'a>>,
     /// What was opened, and not read yet.
     opened: Vec<u8>,
     layer: Option<E>,
@@ -60,10 +61,15 @@ impl<'a, E: End> Connection<'a, E> {
     pub fn new(stream: &'a TcpStream) -> Self {
         Connection {
             stream,
-            from: BufReader::new(stream),
+            from: BufReader::new(Until::new(stream)),
             opened: Vec::new(),
             layer: None,
         }
+    }
+
+    /// The log-in is over: the peer has as much time as it likes, while it is not silent.
+    pub fn is_in(&mut self) {
+        self.from.get_mut().lift();
     }
 
     /// From now on all goes through a layer.

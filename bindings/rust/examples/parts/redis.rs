@@ -136,9 +136,10 @@ impl Store {
             _ => None,
         });
         match numbers.collect::<Option<Vec<_>>>().as_deref() {
-            Some([seconds, micros]) => {
-                Ok(UNIX_EPOCH + Duration::from_secs(*seconds) + Duration::from_micros(*micros))
-            }
+            Some([seconds, micros]) => UNIX_EPOCH
+                .checked_add(Duration::from_secs(*seconds))
+                .and_then(|time| time.checked_add(Duration::from_micros(*micros)))
+                .ok_or_else(|| invalid("the store tells a time past all times")),
             _ => Err(invalid("the store does not tell its time")),
         }
     }

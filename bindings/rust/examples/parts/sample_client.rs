@@ -13,7 +13,7 @@ const PATIENCE: Duration = Duration::from_secs(10);
 /// Shows a token to the server, and takes its answer.
 fn show(initiator: &mut Initiator, stream: &TcpStream) -> Answer<Next> {
     write_frame(stream, CONTEXT, &initiator.token()?)?;
-    let answer = read_frame(&mut &*stream)?;
+    let answer = read_frame(&mut &*stream, LONGEST)?;
     Ok(initiator.hear(&answer.octets)?)
 }
 
@@ -44,7 +44,7 @@ pub fn log_in(
 pub fn say(session: &mut Session, text: &[u8], stream: &TcpStream) -> Answer<()> {
     let message = session.wrap(text)?;
     write_frame(stream, DATA | WRAPPED | SEALED | WANTS_MIC, &message)?;
-    let answer = read_frame(&mut &*stream)?;
+    let answer = read_frame(&mut &*stream, LONGEST)?;
     match answer.says {
         MIC => Ok(session.verify(&answer.octets, text)?),
         says if says & WRAPPED != 0 && session.unwrap(&answer.octets)?.text == text => Ok(()),

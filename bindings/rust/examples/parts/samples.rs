@@ -1,15 +1,17 @@
 //! The protocol of MIT's sample programs `gss-client` and `gss-server`, from the server's end.
 
 use crate::Answer;
+use crate::connections::log;
 use crate::frames::*;
+use crate::until::Until;
 use menolavuri::Session;
 use std::io::{BufReader, Read};
 use std::net::TcpStream;
 
 /// The client's first token, behind its greeting.
 fn first_token(from: &mut impl Read) -> Answer<Vec<u8>> {
-    match read_frame(from)?.says {
-        says if says == NO_OPERATION | CONTEXT_NEXT => Ok(read_frame(from)?.octets),
+    match read_frame(from, LONGEST_TOKEN)?.says {
+        says if says == NO_OPERATION | CONTEXT_NEXT => Ok(read_frame(from, LONGEST_TOKEN)?.octets),
         _ => Err("the client does not log in".into()),
     }
 }
@@ -29,14 +31,15 @@ fn open(session: &mut Session, message: Frame) -> Answer<(Vec<u8>, &'static str)
 
 /// Lets a client in by its first token, as `admit` does, and answers each of its messages until it takes leave.
 pub fn serve(stream: &TcpStream, admit: impl FnOnce(&[u8]) -> Answer<Session>) -> Answer<()> {
-    let mut from = BufReader::new(stream);
+    let mut from = BufReader::new(Until::new(stream));
     let mut session = admit(&first_token(&mut from)?)?;
-    println!("admitted: {}", session.peer());
+    from.get_mut().lift();
+    log(&format!("admitted: {}", session.peer()));
     if !session.answer().is_empty() {
         write_frame(stream, CONTEXT, session.answer())?;
     }
     loop {
-        let message = read_frame(&mut from)?;
+        let message = read_frame(&mut from, LONGEST)?;
         let says = message.says;
         match says & (NO_OPERATION | DATA) {
             DATA => (),
@@ -45,7 +48,7 @@ pub fn serve(stream: &TcpStream, admit: impl FnOnce(&[u8]) -> Answer<Session>) -
         }
         let (text, way) = open(&mut session, message)?;
         let start: String = String::from_utf8_lossy(&text).chars().take(60).collect();
-        println!("{} octets, {way}: {start:?}", text.len());
+        log(&format!("{} octets, {way}: {start:?}", text.len()));
         match says & WANTS_MIC {
             0 => write_frame(stream, NO_OPERATION, b"")?,
             _ => write_frame(stream, MIC, &session.mic(&text)?)?,
