@@ -1,9 +1,9 @@
 //! A message server that lets clients in by the mechanism GSSAPI of SASL (RFC 4752), as POP3 speaks it (RFC 1939, RFC 5034). Its
 //! mailboxes are empty. The layers are the library's: what is here carries lines and frames. A thread serves each connection:
 //!
-//!     cargo run --offline --example sasl_server 127.0.0.1:1110 pop/server.example.com key 300 300 7
+//!     cargo run --offline --example sasl_server 127.0.0.1:1110 pop/server.example.com key 300 600 7
 //!
-//! `key`, 300 and 300 are those of `gss_server`. 7 is the sum of the layers that are offered: 1 (none), 2 (integrity), 4
+//! `key`, 300 and 600 are those of `gss_server`. 7 is the sum of the layers that are offered: 1 (none), 2 (integrity), 4
 //! (confidentiality). In the first two a mail goes in the clear.
 
 #[path = "parts/base64.rs"]
