@@ -1,5 +1,5 @@
 //! An initiator over the replies of honest KDCs, an acceptor that holds the service's key, the tokens between them, and messages of
-//! each to the other: each law of `krb_ends` has values here that meet its premises, and calls whose answers it tells.
+//! each to the other: each law of `krb_laws_ends` has values here that meet its premises, and calls whose answers it tells.
 
 mod network;
 pub mod parties;

@@ -1,5 +1,5 @@
 //! Both ends at two connections of one service, with events of a third between: one list of events brings both to one context, as
-//! the laws of `krb_served` tell.
+//! the laws of `krb_laws_service` tell.
 
 use crate::krb_ends_tests::parties::{
     acceptor_of, add_initiator, client_draw, client_flags, env, octets, service_draw,

@@ -1,4 +1,4 @@
-//! The tests of both ends together, over public items: what the laws of `krb_ends`, `krb_origins` and `krb_served` speak of, with
+//! The tests of both ends together, over public items: what the laws of `krb_laws_ends`, `krb_laws_origin` and `krb_laws_service` speak of, with
 //! values that meet their premises. Nothing stands on them.
 //!
 //! The octets of replies and tokens are those of a second implementation.
