@@ -44,6 +44,7 @@ fn a_client_is_admitted_once() {
     let acceptor = acceptor();
     let session = accept(&acceptor).unwrap();
     assert_eq!(session.peer(), "alice@example.com");
+    assert_eq!(session.user_of("EXAMPLE.COM"), Some("alice"));
     assert!(session.answer().is_empty());
     assert_eq!(acceptor.kept(), 1);
     let error = accept(&acceptor).err().unwrap();
