@@ -1,4 +1,4 @@
-//! The tests of the acceptor, over its public items. Nothing stands on them.
+//! Tests of the acceptor: `krb_server`, and `krb_admission` through it.
 #![tactic(auto)]
 
 #[cfg(test)]

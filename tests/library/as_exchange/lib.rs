@@ -1,4 +1,4 @@
-//! Tests of the crates of a client's exchanges, each over the public items of the crate that it is named after.
+//! Tests of `krb_as` and `krb_replies`: AS exchanges over recorded replies.
 //!
 //! Expected values come from outside: the standards' own examples, and other implementations.
 #![tactic(auto)]

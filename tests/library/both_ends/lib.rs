@@ -1,5 +1,5 @@
-//! The tests of both ends together, over public items: what the laws of `krb_laws_ends`, `krb_laws_origin` and `krb_laws_service` speak of, with
-//! values that meet their premises. Nothing stands on them.
+//! Sessions of an initiator and an acceptor that meet the premises of the laws of `krb_laws_ends`, `krb_laws_origin` and
+//! `krb_laws_service`.
 //!
 //! The octets of replies and tokens are those of a second implementation.
 #![tactic(auto)]

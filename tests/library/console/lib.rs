@@ -1,4 +1,4 @@
-//! The tests of what the program says to a person. Nothing stands on them.
+//! Tests of `krb_console`: what the program says to a person.
 #![tactic(auto)]
 
 #[cfg(test)]

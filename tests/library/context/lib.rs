@@ -1,4 +1,4 @@
-//! The tests of a context: its messages, its calls, its queries, over its public items. Nothing stands on them.
+//! Tests of `krb_context`: the messages, the calls and the queries of a context.
 #![tactic(auto)]
 
 #[cfg(test)]

@@ -1,6 +1,6 @@
-//! The tests of dialogues, over the public items of `krb_dialogue`. Nothing stands on them.
+//! Tests of `krb_dialogue`.
 //!
-//! A conversation is written line by line: a step, with what it brings, what comes next, and what is handed out then. The octets are
+//! A conversation is written line by line: a step, with what it brings, what comes next, and what is returned then. The octets are
 //! those of a second implementation, or were recorded from KDCs and services of others.
 #![tactic(auto)]
 

@@ -1,4 +1,4 @@
-//! The tests of the library for programs that embed the acceptor, over its public items. Nothing stands on them.
+//! Tests of `krb_entrance`, the library for programs that embed the acceptor.
 #![tactic(auto)]
 
 #[cfg(test)]

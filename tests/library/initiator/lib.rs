@@ -1,5 +1,4 @@
-//! The tests of initializations and of changes of a password, whole, over the public items of `krb_initiator` and
-//! `krb_password_change`. Nothing stands on them.
+//! Tests of `krb_initiator`, and of `krb_tgs` and `krb_ap` through it, and of `krb_password_change`.
 //!
 //! The octets of requests, replies and tokens are those of a second implementation, or were recorded from clients, KDCs and
 //! services of others; an answer that was altered in one octet, and ten replies to changes of a password, were made for these

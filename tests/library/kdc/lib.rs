@@ -1,5 +1,4 @@
-//! The tests of the KDC, over public items: what it takes, what it answers to single requests, and initiators that fetch their
-//! tickets from it. Nothing stands on them.
+//! Tests of `krb_kdc`: what it accepts, what it replies to single requests, and initiators that get their tickets from it.
 //!
 //! The octets of requests, replies and tokens are those of a second implementation.
 #![tactic(auto)]

@@ -1,4 +1,4 @@
-//! Tests of the crates of the client, each over the public items of the crate that it is named after.
+//! Tests of `krb_exchange`.
 //!
 //! Expected values come from outside: the standards' own examples, and other implementations.
 #![tactic(auto)]
@@ -7,5 +7,3 @@
 mod krb_exchange_tests;
 #[cfg(test)]
 mod rows;
-#[cfg(test)]
-mod sspi_generator_tests;

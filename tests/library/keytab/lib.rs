@@ -1,5 +1,4 @@
-//! The tests of keytab files over public items: read and written, searched, and their keys at an acceptor. Nothing stands on
-//! them.
+//! Tests of `krb_keytab`: files read, written and searched, and their keys at an acceptor.
 #![tactic(auto)]
 
 #[cfg(test)]

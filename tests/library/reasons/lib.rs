@@ -1,4 +1,4 @@
-//! The tests of why lines are bad. Nothing stands on them.
+//! Tests of `krb_reasons`: why lines are bad.
 #![tactic(auto)]
 
 #[cfg(test)]

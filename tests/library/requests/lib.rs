@@ -1,4 +1,4 @@
-//! Tests of the crates that make a client's requests, each over the public items of the crate that it is named after.
+//! Tests of `krb_requests` and `krb_authenticators`, which make a client's requests.
 //!
 //! Expected values come from outside: the standards' own examples, and other implementations.
 #![tactic(auto)]

@@ -1,5 +1,4 @@
-//! The tests of the security layers, over their public items. Nothing stands on them. Each file is named after the crate that it
-//! tries.
+//! Tests of `krb_sasl`, and of `Kerberos::wrap_in_clear`.
 #![tactic(auto)]
 
 #[cfg(test)]

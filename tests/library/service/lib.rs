@@ -1,5 +1,4 @@
-//! The tests of lines of text and of the service, over their public items. Nothing stands on them. Each file is named after
-//! the crate that it tries.
+//! Tests of `krb_text` and `krb_machine`: lines of text, and the service.
 #![tactic(auto)]
 
 #[cfg(test)]

@@ -1,5 +1,4 @@
-//! The tests of the two workers over a shared replay book, and of a shared book behind their pauses, over public items. Nothing stands on them. Each file is named after
-//! the crate that it tries.
+//! Tests of `krb_threads`, and of a shared book of `krb_shared` under its pauses.
 #![tactic(auto)]
 
 #[cfg(test)]

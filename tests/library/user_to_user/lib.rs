@@ -1,5 +1,4 @@
-//! The tests of user-to-user at the acceptor, and of the acceptor whole, a file for each crate that they try, over public items.
-//! Nothing stands on them.
+//! Tests of user-to-user at the acceptor: `krb_as`, `krb_user_to_user` and `krb_server`.
 //!
 //! The octets of requests, replies and tokens are those of a second implementation.
 #![tactic(auto)]

@@ -1,4 +1,5 @@
-//! Tests of the crates of octets and of values, each over the public items of the crate that it is named after.
+//! Tests of octets and values: `krb_der`, `krb_aes`, `krb_crypto`, `sspi_core`, `krb_conf`, `krb_demo`, and the option sets of
+//! `krb_context`.
 //!
 //! Expected values come from outside: the standards' own examples, and other implementations.
 #![tactic(auto)]
