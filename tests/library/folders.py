@@ -12,6 +12,7 @@ import sys
 HERE = os.path.dirname(os.path.realpath(__file__))
 TOP = os.path.dirname(os.path.dirname(HERE))
 PREFIX = "krb_tests_"
+TEST = re.compile(r"^[ \t]*#\[test\]\n(?=(\s*#\[.*\]\n)*\s*(pub )?fn (?P<name>\w+))", re.M)
 
 
 def stop(why):
@@ -38,6 +39,8 @@ class Folder:
     def __init__(self, name, place, flags, libraries):
         self.name, self.place, self.flags, self.libraries = name, place, flags, libraries
         self.crate = PREFIX + name
+        # The names of the tests that are asked for, or none where all are.
+        self.only = []
 
     def files(self):
         """Each file of the crate by its place there, `src/lib.rt` or `proofs/Lib.antt`, with its place in the repository."""
@@ -48,14 +51,18 @@ class Folder:
                 yield place_in_crate(os.path.relpath(path, self.place)), path
 
     def sources(self):
-        """The files of `src`, by their place below it, as text."""
+        """The files of `src`, by their place below it, as text with the tests that are asked for."""
         for place, path in self.files():
             if place.startswith("src/"):
-                with open(path, encoding="utf-8") as text:
-                    yield place[len("src/") :], text.read()
+                with open(path, encoding="utf-8") as file:
+                    yield place[len("src/") :], TEST.sub(self.kept, file.read())
+
+    def kept(self, test):
+        """The attribute of a test, or nothing where that test is not asked for."""
+        return "" if self.only and test["name"] not in self.only else test[0]
 
     def count(self):
-        """How many tests there are."""
+        """How many tests there are that are asked for."""
         return sum(len(re.findall(r"^\s*#\[test\]", text, re.M)) for _, text in self.sources())
 
 
