@@ -41,6 +41,7 @@ try-live: library
 test:
 	rt ci
 
-bench:
-	cd crates/krb_bench && rt run -- full
-	tests/machine-code/run crates/krb_bench/out/krb_bench
+bench: library
+	bench/run
+	tests/live/measure
+	tests/machine-code/run
