@@ -5,10 +5,7 @@
 //! long enough to measure.
 #![tactic(auto)]
 
-mod admissions;
 mod books;
-mod halves;
-mod messages;
 mod replay;
 mod suites;
 mod timing;
@@ -30,9 +27,6 @@ fn is_full(rt: &(impl Env + AllocGlobal)) -> Result<bool> {
 fn main(rt: HostRuntime) -> Result<()> {
     let full = is_full(&rt)?;
     suites::run(&rt, full)?;
-    messages::run(&rt, full)?;
     replay::run(&rt, full)?;
-    books::run(&rt, full)?;
-    admissions::run(&rt, full)?;
-    halves::run(&rt, full)
+    books::run(&rt, full)
 }

@@ -60,7 +60,7 @@ impl Measurement<'_> {
     }
 
     /// Prints the checksum of the last result, and the time: so many nanoseconds for all repetitions.
-    pub fn report(&self, rt: &(impl Print + Eprint), checksum: u32, spent: u128) -> Result<()> {
+    fn report(&self, rt: &(impl Print + Eprint), checksum: u32, spent: u128) -> Result<()> {
         let subject = self.subject;
         let action = self.action;
         let octets = self.octets;
