@@ -101,7 +101,8 @@ pub fn token(alloc: Global, dialogue: &Dialogue) -> Result<Vec<u8>, Fault> {
     if let Err(Fault::Room(length)) = dialogue.token(&mut token) {
         token = room(alloc, length)?;
     }
-    dialogue.token(&mut token)?;
+    let length = dialogue.token(&mut token)?;
+    token.truncate(length);
     Ok(token)
 }
 
