@@ -18,7 +18,7 @@ use Rattle.krb_user_to_user.specs.declared.request.Beginning.{Beginning}
 use Rattle.sspi_core.specs.declared.cause.Cause.{Cause}
 use Rattle.sspi_core.specs.declared.cause.Cause.TheVariants.{Credentials}
 use Rattle.sspi_core.specs.declared.draw.Draw.{Draw}
-use Rattle.krb_gateway.specs.Admits.{Waits, no_env, answer_in, LetsIn, HasName}
+use Rattle.krb_entrance.specs.Admits.{Waits, no_env, answer_in, Judges, HasName}
 
 made_named : (params : EncryptionParams) (config : KerberosConfig) (service : ServerProperties) (number : ℕ)
     (outcome : Result Admission Cause) (answer : Answer) (connection : Kerberos)
@@ -51,5 +51,8 @@ module _ (service : ServerProperties) (waiting connection : Kerberos) (old new :
   whole_named (Some tgt_req) accepted made is = absurd (runs_not made.0.beginning accepted answer made.0.runs is)
   whole_named None accepted made is = judged_named made.judged made.accepts (is ∙ ap answer_in made.answer_is)
 
-  pub admitted_named : LetsIn waiting old token draw (Ok answer) connection new → HasName connection
-  admitted_named lets_in = whole_named lets_in.accepts.tgt_req lets_in.accepted lets_in.accepts.made lets_in.answer_is
+pub admitted_named : (service : ServerProperties) (old new : Book) (token : List ℕ) (draw : Draw) (answer : List ℕ) (connection : Kerberos)
+    → Judges service old token draw (Ok answer) connection new → HasName connection
+admitted_named service old new token draw answer connection judges =
+    let lets_in = judges.lets_in in
+    whole_named service judges.waiting connection old new token draw answer judges.waits lets_in.accepts.tgt_req lets_in.accepted lets_in.accepts.made lets_in.answer_is

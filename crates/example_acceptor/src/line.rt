@@ -1,9 +1,9 @@
-//! The lines that the gateway reads: words with one space between two of them.
+//! The lines that the acceptor reads: words with one space between two of them.
 
 /// One line, with its octets in hex.
 #[derive(Clone, Copy)]
 pub enum Line<'a> {
-    /// `service NAME KEY`: the service, as `host/server.example.com`.
+    /// `service NAME KEY`: the service, as `host/server.example.com`, and its key.
     Service {
         name: &'a str,
         key: &'a str,
@@ -22,7 +22,7 @@ pub enum Line<'a> {
 }
 
 impl<'a> Line<'a> {
-    /// None where the words are none of these.
+    /// None if the words are none of these.
     pub fn parse(line: &'a str) -> Option<Line<'a>> {
         let mut words = line.split(' ');
         let line = match words.next()? {
