@@ -1,11 +1,28 @@
 //! The lines before the last piece of an input, as far as they tell why a line is bad.
 
-ghost use Rattle.std.specs.Prelude.{◌≡◌};
+ghost use Rattle.std.specs.Prelude.{◌≡◌, ◌≤◌, ◌<◌, length, drop, IfSome};
+ghost use Rattle.krb_text.specs.Cutter.{first_end};
 ghost use Rattle.krb_reasons.specs.Kept.{is_event};
 
 use krb_text::{is_skipped, newline};
 use std::alloc::{AllocError, Global};
 use std::marker::Model;
+
+fn behind(text: &[u8], count: usize) -> &[u8]
+    requires { count ≤ length text.now }
+    ensures { result.now ≡ drop count text.now }
+{
+    &text[count..]
+}
+
+/// Where the first whole line ends.
+#[tactic(auto, using(crate::proofs::HeadLemmas::end_within))]
+fn first_end(text: &[u8]) -> Option<usize>
+    ensures end { result ≡ first_end text.now }
+    ensures within { IfSome result (λ end. end < length text.now) }
+{
+    newline(text)
+}
 
 /// Whether a line is an event's.
 fn is_event(line: &[u8]) -> bool
@@ -33,7 +50,7 @@ impl Model for Head {
 }
 
 impl Head {
-    ghost use Rattle.std.specs.Prelude.{◌≤◌, length, drop, IfOk, OnOk};
+    ghost use Rattle.std.specs.Prelude.{IfOk, OnOk};
     ghost use Rattle.krb_text.specs.Lines.{cut};
     ghost use Rattle.krb_reasons.specs.Kept.{no_head, with_line, with_lines};
 
@@ -92,10 +109,13 @@ impl Head {
         ensures taken { OnOk result (self.new ≡ with_lines self.old (cut text.now).whole) }
     {
         let mut done = 0;
-        'lines: while let Some(end) = newline(&text[done..]) {
-            self.take_line(&text[done..done + end])?;
+        'lines: loop {
+            let rest = behind(text, done);
+            let Some(end) = first_end(rest) else {
+                return Ok(done);
+            };
+            self.take_line(&rest[..end])?;
             done += end + 1;
         }
-        Ok(done)
     }
 }
