@@ -1,3 +1,4 @@
 mod Named
+mod AnswerLemmas
 mod TurnLemmas
 mod TurnedAway

@@ -39,9 +39,9 @@ fn components(alloc: Global, name: &str) -> Result<Vec<&str>, AllocError>
 fn answer_in(accepted: Accepted) -> Result<Octets, Cause>
     ensures { result ≡ answer_in (Ok accepted) }
 {
-    match accepted {
-        Accepted::Done { token, .. } => Ok(token),
-        Accepted::Run(_) => Err(Cause::Credentials),
+    match accepted.answer() {
+        Some(answer) => Ok(answer.token),
+        None => Err(Cause::Credentials),
     }
 }
 

@@ -3,6 +3,8 @@ use Rattle.std.proofs.Common.{◌≡◌, ℕ, Bool, true, List, Option, Some, No
 use Rattle.std.specs.Ordering.{nat_cmp}
 use Rattle.std.specs.BTreeMap.{is_at}
 use Rattle.std.specs.Map.{set_value}
+use Rattle.std.specs.Global.{Box}
+use Rattle.krb_server.proofs.Once.{IsSameAnswer}
 use Rattle.krb_server.specs.Whole.{accepted_as, answered_as, AcceptsToken, AcceptsWhole}
 use Rattle.krb_server.specs.declared.accept.Accepted.{Accepted}
 use Rattle.krb_server.specs.declared.accept.Accepted.TheVariants as taken
@@ -103,19 +105,32 @@ undertakes_not connection draw (Err cause) reply next h done = let z = ap admits
 
 pub settles_once : (draw : Draw) (connection : Connection) (answer : Result Accepted Error) (r s : Reply) (a b : Connection) → Settles draw connection answer r a → Settles draw connection answer s b → (r ≡ s) × (a ≡ b)
 settles_once draw connection (Ok (taken.Done status token admits)) r s a b h k = (h.0 ∙ sym k.0, h.1 ∙ sym k.1)
-settles_once draw connection (Ok (taken.Run run)) r s a b h k = opens_once connection (Accepts run) draw r s a b h k
+settles_once draw connection (Ok (taken.Run run)) r s a b h k = opens_once connection (Accepts run.value) draw r s a b h k
 settles_once draw connection (Err error) r s a b h k = (h.0 ∙ sym k.0, h.1 ∙ sym k.1)
 
-no_run_judged : (judged : Result Answer Cause) (run : AcceptRun) → ◌≡◌ {A = Result Accepted Cause} (Ok (taken.Run run)) (answered_as judged) → ⊥
+-- wherever its run is on the heap
+pub settles_same : (draw : Draw) (connection : Connection) (answer other : Result Accepted Cause) (reply : Reply) (next : Connection) → IsSameAnswer answer other
+    → Settles draw connection (told Elsewhere other) reply next → Settles draw connection (told Elsewhere answer) reply next
+settles_same draw connection (Ok (taken.Done status token admits)) (Ok other) reply next same h =
+    subst (λ (z : Accepted). Settles draw connection (Ok z) reply next) (sym same) h
+settles_same draw connection (Ok (taken.Done status token admits)) (Err cause) reply next same h = absurd same
+settles_same draw connection (Ok (taken.Run run)) (Ok (taken.Done status token admits)) reply next same h = absurd same
+settles_same draw connection (Ok (taken.Run run)) (Ok (taken.Run other)) reply next same h =
+    subst (λ (z : AcceptRun). OpensExchange connection (Accepts z) draw reply next) (sym same) h
+settles_same draw connection (Ok (taken.Run run)) (Err cause) reply next same h = absurd same
+settles_same draw connection (Err cause) other reply next same h =
+    subst (λ (z : Result Accepted Cause). Settles draw connection (told Elsewhere z) reply next) (sym same) h
+
+no_run_judged : (judged : Result Answer Cause) (run : Box AcceptRun) → ◌≡◌ {A = Result Accepted Cause} (Ok (taken.Run run)) (answered_as judged) → ⊥
 no_run_judged (Ok judged) run e = absurd (cc)
 no_run_judged (Err cause) run e = absurd (cc)
 
-run_told : (answer : Result Accepted Cause) (run : AcceptRun) → ◌≡◌ {A = Result Accepted Error} (Ok (taken.Run run)) (told Elsewhere answer) → answer ≡ Ok (taken.Run run)
+run_told : (answer : Result Accepted Cause) (run : Box AcceptRun) → ◌≡◌ {A = Result Accepted Error} (Ok (taken.Run run)) (told Elsewhere answer) → answer ≡ Ok (taken.Run run)
 run_told (Ok x) run e = cc
 run_told (Err cause) run e = absurd (cc)
 
 module _ {G : Type 0} (admits : G → Ask → Verdict → G → Type 0) (is_same : G → G → Type 0) (same : (g : G) → is_same g g) (server : Kerberos) (dce : Bool) (token : List ℕ) (env : Env) (draw : Draw) (old : G) (server' : Kerberos) (new : G) where
-  run_leaves : (found : Option TgtReq) (answer : Result Accepted Cause) (run : AcceptRun) → answer ≡ Ok (taken.Run run) → AcceptsToken admits server dce token env draw old found answer server' new → (server' ≡ server) × is_same old new
+  run_leaves : (found : Option TgtReq) (answer : Result Accepted Cause) (run : Box AcceptRun) → answer ≡ Ok (taken.Run run) → AcceptsToken admits server dce token env draw old found answer server' new → (server' ≡ server) × is_same old new
   run_leaves (Some tgt_req) answer run is made = (made.1, subst (λ (g : G). is_same old g) (sym made.2) (same old))
   run_leaves None answer run is made = absurd (no_run_judged made.judged run (sym is ∙ made.answer_is))
 

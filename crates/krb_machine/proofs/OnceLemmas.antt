@@ -10,7 +10,7 @@ use Rattle.krb_replay.specs.declared.ask.Verdict.{Verdict}
 use Rattle.krb_admission.proofs.Once.{begins_once, one_outcome_lem, concludes_once}
 use Rattle.krb_admission.specs.Accepts.{BeginsAdmission, FinishesAdmission, DecidesAdmission, Asks, MakesAnswer, Ends, Accepts, awaits_last_word, refusal, asks_dce_style}
 use Rattle.krb_admission.specs.declared.admission.Answer.{Answer}
-use Rattle.krb_server.proofs.Once.{found_once, tgt_req_once}
+use Rattle.krb_server.proofs.Once.{IsSameAnswer, same_of_equal, found_once, tgt_req_once}
 use Rattle.krb_server.specs.Whole.{answered_as, AcceptsWhole, AcceptsToken}
 use Rattle.krb_server.specs.declared.accept.Accepted.{Accepted}
 use Rattle.krb_conf.specs.declared.env.Env.{Env}
@@ -30,7 +30,7 @@ use Rattle.krb_machine.specs.Exchanges.{answer_of}
 use Rattle.krb_machine.specs.Policy.{State, Says, Settles, Judges, Behind, TakesPart, StepsOnward, StepsBy, Steps, Runs, reached, heard, ready, awaited, is_initiator, server_flags, draw_of}
 use Rattle.krb_machine.specs.MessageCalls.{is_call}
 use Rattle.krb_machine.proofs.CallLemmas.{call-once}
-use Rattle.krb_machine.proofs.ExchangeLemmas.{settles_once, answer-once, turn-once, same_state}
+use Rattle.krb_machine.proofs.ExchangeLemmas.{settles_once, settles_same, answer-once, turn-once, same_state}
 use Rattle.krb_machine.specs.Described.{Remembers, skew_of, service_of}
 use Rattle.krb_machine.specs.Reply.{replies_text}
 use Rattle.krb_machine.specs.Text.{IsText, last_line}
@@ -87,14 +87,14 @@ module _ {G : Type 0} (admits : G → Ask → Verdict → G → Type 0) (determi
       (made.0, made.1, same.1)
 
   makes_whole_once : (server : Kerberos) (dce : Bool) (token : List ℕ) (env : Env) (draw : Draw) (old : G) (found : Option TgtReq) (r s : Result Accepted Cause) (x y : Kerberos) (a b : G)
-      → AcceptsToken admits server dce token env draw old found r x a → AcceptsToken admits server dce token env draw old found s y b → (r ≡ s) × (x ≡ y) × (a ≡ b)
+      → AcceptsToken admits server dce token env draw old found r x a → AcceptsToken admits server dce token env draw old found s y b → IsSameAnswer r s × (x ≡ y) × (a ≡ b)
   makes_whole_once server dce token env draw old (Some tgt_req) r s x y a b h k = (tgt_req_once server tgt_req dce env r s h.0 k.0, h.1 ∙ sym k.1, h.2 ∙ sym k.2)
   makes_whole_once server dce token env draw old None r s x y a b h k =
       let same = accepts_once server dce token draw old h.judged k.judged x y a b h.accepts k.accepts in
-      (h.answer_is ∙ ap answered_as same.0 ∙ sym k.answer_is, same.1, same.2)
+      (same_of_equal r s (h.answer_is ∙ ap answered_as same.0 ∙ sym k.answer_is), same.1, same.2)
 
   whole_once : (server : Kerberos) (dce : Bool) (token : List ℕ) (env : Env) (draw : Draw) (old : G) (r s : Result Accepted Cause) (x y : Kerberos) (a b : G)
-      → AcceptsWhole admits server dce token env draw old r x a → AcceptsWhole admits server dce token env draw old s y b → (r ≡ s) × (x ≡ y) × (a ≡ b)
+      → AcceptsWhole admits server dce token env draw old r x a → AcceptsWhole admits server dce token env draw old s y b → IsSameAnswer r s × (x ≡ y) × (a ≡ b)
   whole_once server dce token env draw old r s x y a b h k =
       let M : Option TgtReq → Type 0 = λ f. AcceptsToken admits server dce token env draw old f s y b in
       makes_whole_once server dce token env draw old h.tgt_req r s x y a b h.made (subst M (sym (found_once dce server.state token h.tgt_req k.tgt_req h.found k.found)) k.made)
@@ -104,8 +104,8 @@ module _ {G : Type 0} (admits : G → Ask → Verdict → G → Type 0) (determi
   judges_once state event connection token r s a b h k =
       let draw = draw_of event in
       let same = whole_once connection.context (asks_dce_style (server_flags event.flags)) token state.env draw state.gate h.answer k.answer h.server k.server a.gate b.gate h.accepts k.accepts in
-      let S : Result Accepted Cause → Kerberos → Type 0 = λ answer server. Settles draw (record connection { context = server }) (told Elsewhere answer) s k.next in
-      let moved : S h.answer h.server = subst (λ answer. S answer h.server) (sym same.0) (subst (λ server. S k.answer server) (sym same.1) k.settles) in
+      let S : Kerberos → Type 0 = λ server. Settles draw (record connection { context = server }) (told Elsewhere k.answer) s k.next in
+      let moved = settles_same draw (record connection { context = h.server }) h.answer k.answer s k.next same.0 (subst S (sym same.1) k.settles) in
       let settled = settles_once draw (record connection { context = h.server }) (told Elsewhere h.answer) r s h.next k.next h.settles moved in
       let put : Connection → List (ℕ × Connection) = λ next. set_value (is_at (nat_cmp event.connection)) state.connections next in
       (settled.0, same_state a b (h.connections ∙ ap put settled.1 ∙ sym k.connections) (h.env ∙ sym k.env) same.2)

@@ -132,7 +132,7 @@ reply_of (Err cause) = Refused (error_of cause)
 -- what an acceptor's answer to a token leads to: its reply; or an exchange with a KDC begins, at a TGT-REQ
 abbrev pub Settles : Draw → Connection → Result Accepted Error → Reply → Connection → Type 0
 Settles draw connection (Ok (taken.Done status token admits)) reply next = (reply ≡ Done status token admits) × (next ≡ connection)
-Settles draw connection (Ok (taken.Run run)) reply next = OpensExchange connection (Accepts run) draw reply next
+Settles draw connection (Ok (taken.Run run)) reply next = OpensExchange connection (Accepts run.value) draw reply next
 Settles draw connection (Err error) reply next = (reply ≡ Refused error) × (next ≡ connection)
 
 -- the number has a connection

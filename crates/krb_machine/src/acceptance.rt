@@ -58,7 +58,9 @@ impl Connection {
                 token,
                 admits,
             }),
-            Ok(Accepted::Run(run)) => self.begin_exchange(alloc, Run::Accepts(run), draw),
+            Ok(Accepted::Run(run)) => {
+                self.begin_exchange(alloc, Run::Accepts(Box::into_inner(run)), draw)
+            }
             Err(error) if is_memory(&error) => Err(OutOfMemory),
             Err(error) => Ok(Reply::Refused(error)),
         }

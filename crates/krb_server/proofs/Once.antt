@@ -25,7 +25,7 @@ use Rattle.krb_user_to_user.proofs.Once.{requests_tgt_once}
 use Rattle.krb_user_to_user.specs.declared.accept_run.AcceptRun.{AcceptRun}
 use Rattle.krb_user_to_user.specs.declared.request.Beginning.{Beginning}
 use Rattle.krb_server.specs.declared.accept.Accepted.{Accepted}
-use Rattle.krb_server.specs.declared.accept.Accepted.TheVariants.{Run}
+use Rattle.krb_server.specs.declared.accept.Accepted.TheVariants.{Done, Run}
 use Rattle.krb_server.specs.TgtReqs.{Found, IsTgtReq, BeginsUserToUser}
 use Rattle.krb_server.specs.Whole.{Checks, RunsAs, TakesTgtReq}
 
@@ -84,13 +84,33 @@ checks_once : (server : Kerberos) (tgt_req : TgtReq) (dce : Bool) (env : Env) �
 unfolding Checks
 checks_once server tgt_req dce env = then_once _ _ (takes_once _ _) (λ user. requests_tgt_once server user tgt_req dce env)
 
-runs_once : (beginning : Result Beginning Cause) (r s : Result Accepted Cause) → RunsAs beginning r → RunsAs beginning s → r ≡ s
-runs_once (Ok beginning) r s h k =
-    let same = same_run h.0 k.0 (h.2 ∙ sym k.2) (h.3 ∙ sym k.3) in
-    h.1 ∙ ap (λ (run : AcceptRun). Ok (Run run)) same ∙ sym k.1
-runs_once (Err cause) r s h k = h ∙ sym k
+-- the same answer, wherever a run is on the heap
+abbrev pub IsSame : Accepted → Accepted → Type 0
+IsSame (Done status token admits) other = Done status token admits ≡ other
+IsSame (Run run) (Done status token admits) = ⊥
+IsSame (Run run) (Run other) = run.value ≡ other.value
 
-pub tgt_req_once : (server : Kerberos) (tgt_req : TgtReq) (dce : Bool) (env : Env) (r s : Result Accepted Cause) → TakesTgtReq server tgt_req dce env r → TakesTgtReq server tgt_req dce env s → r ≡ s
+abbrev pub IsSameAnswer : Result Accepted Cause → Result Accepted Cause → Type 0
+IsSameAnswer (Ok accepted) (Ok other) = IsSame accepted other
+IsSameAnswer (Ok accepted) (Err cause) = ⊥
+IsSameAnswer (Err cause) other = Err cause ≡ other
+
+same_as_itself : (answer : Result Accepted Cause) → IsSameAnswer answer answer
+same_as_itself (Ok (Done status token admits)) = refl
+same_as_itself (Ok (Run run)) = refl
+same_as_itself (Err cause) = refl
+
+pub same_of_equal : (r s : Result Accepted Cause) → r ≡ s → IsSameAnswer r s
+same_of_equal r s e = subst (λ z. IsSameAnswer r z) e (same_as_itself r)
+
+runs_once : (beginning : Result Beginning Cause) (r s : Result Accepted Cause) → RunsAs beginning r → RunsAs beginning s → IsSameAnswer r s
+runs_once (Ok beginning) r s h k =
+    let same = same_run h.0.value k.0.value (h.2 ∙ sym k.2) (h.3 ∙ sym k.3) in
+    subst (λ z. IsSameAnswer z s) (sym h.1) (subst (λ z. IsSameAnswer (Ok (Run h.0)) z) (sym k.1) same)
+runs_once (Err cause) r s h k = same_of_equal r s (h ∙ sym k)
+
+-- but for where its run is on the heap
+pub tgt_req_once : (server : Kerberos) (tgt_req : TgtReq) (dce : Bool) (env : Env) (r s : Result Accepted Cause) → TakesTgtReq server tgt_req dce env r → TakesTgtReq server tgt_req dce env s → IsSameAnswer r s
 tgt_req_once server tgt_req dce env r s h k =
     let same = (checks_once server tgt_req dce env).same h.beginning k.beginning h.checked k.checked in
     let P : Result Beginning Cause → Type 0 = λ b. RunsAs b s in

@@ -1,5 +1,6 @@
 -- What an acceptor makes of a token: a TGT-REQ begins user-to-user, and all else is judged as an AP-REQ or the last word.
 use Rattle.std.specs.Prelude.{◌≡◌, ℕ, Bool, List, Option, Some, None, Result, Ok, Err, option_and_then}
+use Rattle.std.specs.Global.{Box}
 use Rattle.krb_conf.specs.declared.env.Env.{Env}
 use Rattle.krb_exchange.specs.declared.user_to_user.TgtReq.{TgtReq}
 use Rattle.krb_context.specs.declared.context.Kerberos.{Kerberos}
@@ -35,7 +36,7 @@ Checks server tgt_req dce env = do
 
 -- a run that is not started, or the refusal
 abbrev pub RunsAs : Result Beginning Cause → Result Accepted Cause → Type 0
-RunsAs (Ok beginning) answer = (run : AcceptRun) × (answer ≡ Ok (Run run)) × (run.acceptor ≡ beginning.acceptor) × (run.phase ≡ New beginning.client)
+RunsAs (Ok beginning) answer = (run : Box AcceptRun) × (answer ≡ Ok (Run run)) × (run.value.acceptor ≡ beginning.acceptor) × (run.value.phase ≡ New beginning.client)
 RunsAs (Err cause) answer = answer ≡ Err cause
 
 pub record TakesTgtReq (server : Kerberos) (tgt_req : TgtReq) (dce : Bool) (env : Env) (answer : Result Accepted Cause) : Type 0 where
@@ -81,4 +82,9 @@ pub record AcceptsWhole {G : Type 0} (admits : G → Ask → Verdict → G → T
 -- an exchange that begins is not started yet, and what it is to send can be sent
 abbrev pub CanStart : Accepted → Type 0
 CanStart (Done status token admits) = Unit {0}
-CanStart (Run run) = IsNew run
+CanStart (Run run) = IsNew run.value
+
+-- the answer, where a token has one at once
+abbrev pub answer_at_once : Accepted → Option Answer
+answer_at_once (Done status token admits) = Some (record { status = status; token = token; admits = admits })
+answer_at_once (Run run) = None

@@ -10,14 +10,14 @@ ghost use Rattle.sspi_core.specs.Checks.{Answers, Takes, told};
 ghost use Rattle.krb_admission.specs.Accepts.{asks_dce_style};
 ghost use Rattle.krb_user_to_user.specs.TgtRequests.{CanBegin};
 ghost use Rattle.krb_server.specs.declared.accept.Accepted.{Accepted};
-ghost use Rattle.krb_server.specs.Whole.{user_of, Checks, TakesTgtReq, accepted_as, JudgesOther, AcceptsWhole, CanStart};
+ghost use Rattle.krb_server.specs.Whole.{user_of, Checks, TakesTgtReq, accepted_as, JudgesOther, AcceptsWhole, CanStart, answer_at_once};
 
 use crate::tgt_req::tgt_req_in;
 use bitflags::Flags;
 use krb_admission::{Answer, judge_token};
 use krb_conf::Env;
 use krb_context::Kerberos;
-use krb_der::{Octets, OutOfMemory};
+use krb_der::{Octets, OutOfMemory, boxed};
 use krb_exchange::TgtReq;
 use krb_replay::ReplayGate;
 use krb_user_to_user::{AcceptRun, Beginning, begin_accept};
@@ -36,7 +36,28 @@ pub enum Accepted {
         admits: bool,
     },
     /// It was a TGT-REQ: the exchange that fetches the service's ticket, and ends with the answer.
-    Run(AcceptRun),
+    Run(Box<AcceptRun>),
+}
+
+impl Accepted {
+    /// The answer, where the token has one at once. Who has no credentials for an exchange, or runs none, asks this in place of
+    /// a `match`: no exchange is then dropped in the caller's own crate, and the caller proves nothing of that.
+    pub fn answer(self) -> Option<Answer>
+        ensures { result ≡ answer_at_once self }
+    {
+        match self {
+            Accepted::Done {
+                status,
+                token,
+                admits,
+            } => Some(Answer {
+                status,
+                token,
+                admits,
+            }),
+            Accepted::Run(_) => None,
+        }
+    }
 }
 
 fn user_of(server: &Kerberos) -> Result<&CredentialsBuffers, Cause>
@@ -78,10 +99,9 @@ fn take_tgt_req(
     ensures step { Answers (TakesTgtReq server.now tgt_req.now dce env.now) result }
     ensures ready { IfOk result CanStart }
 {
-    match check_tgt_req(alloc, server, tgt_req, dce, env) {
-        Ok(beginning) => Ok(Accepted::Run(AcceptRun::new(alloc, beginning))),
-        Err(cause) => Err(cause),
-    }
+    let beginning = check_tgt_req(alloc, server, tgt_req, dce, env)?;
+    let run = boxed(alloc, AcceptRun::new(alloc, beginning))?;
+    Ok(Accepted::Run(run))
 }
 
 fn accepted_as(answer: Answer) -> Accepted

@@ -11,7 +11,7 @@
 //! let flags = ServerRequestFlags::empty();
 //! match accept_security_context(alloc, &mut context, &mut book, token, flags, &env, &draw)? {
 //!     Accepted::Done { token, .. } => token, // goes back to the client; `context` knows who it is, and opens its messages
-//!     Accepted::Run(run) => ..,              // asks a KDC, by way of `Generator::new(run)`
+//!     Accepted::Run(run) => ..,              // asks a KDC, by way of `Generator::new(Box::into_inner(run))`
 //! }
 //! ```
 //!
