@@ -31,6 +31,7 @@ mod paused_gate;
 mod reading;
 mod seats;
 mod text;
+mod work;
 mod workers;
 
 pub use both::run_two;

@@ -1,7 +1,7 @@
 use Rattle.std.proofs.Common.{ap, sym, refl, ◌∙◌, ◌+◌}
 use Rattle.krb_machine.specs.Text.{bad_line, long_line, stopped_line}
 use Rattle.krb_threads.proofs.ClosingLemmas.{closed-answered, closed-short, closed-bad, closed-long, closed-memory}
-use Rattle.krb_threads.proofs.command.threads.Goals as goal
+use Rattle.krb_threads.proofs.command.read_and_answer.Goals as goal
 
 pub returns-in-Whole-clause-text : goal.returns-in-Whole-clause-text
 returns-in-Whole-clause-text g c =
