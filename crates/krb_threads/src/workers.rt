@@ -110,13 +110,9 @@ fn answers_as<L: Calls + Send + Sync, R: Threads + Wait + Sync, P: Pause + Send,
             journal,
             receipts,
         }),
-        Err(_) => run_at_desk(
-            alloc,
-            described,
-            Box::into_inner(one).events,
-            Box::into_inner(two).events,
-            first,
-            second,
-        ),
+        Err(_) => {
+            let (low, high) = (Box::into_inner(one).events, Box::into_inner(two).events);
+            run_at_desk(alloc, described, low, high, first, second)
+        }
     }
 }
