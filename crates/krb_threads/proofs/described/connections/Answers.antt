@@ -6,7 +6,8 @@ use Rattle.std.proofs.lemmas.List.{map-append}
 use Rattle.std.proofs.lemmas.Bool.Decides.{nat_tests}
 use Rattle.std.proofs.lemmas.Map.Iter.{rest_so_far, btree_map_turn}
 use Rattle.krb_machine.specs.Described.{connections_with}
-use Rattle.krb_threads.specs.Journaled.{is_of, connections_of}
+use Rattle.krb_input.specs.Parted.{is_of}
+use Rattle.krb_threads.specs.Journaled.{connections_of}
 use Rattle.krb_threads.proofs.ConnectionsLemmas.{below-turn, put-own, put-other}
 use Rattle.krb_threads.proofs.described.connections.Goals as goal
 
