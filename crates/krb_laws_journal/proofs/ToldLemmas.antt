@@ -17,7 +17,8 @@ use Rattle.krb_machine.specs.Reply.{admissions}
 use Rattle.krb_machine.specs.declared.connection.Connection.{Connection}
 use Rattle.krb_machine.specs.declared.reply.Reply.{Reply}
 use Rattle.krb_machine.proofs.OnceLemmas.{IsDetermined, runs-once}
-use Rattle.krb_threads.specs.Journaled.{Rest, Reads, RunsBy, is_of, events_of, numbers_of, connections_of, entries_of}
+use Rattle.krb_input.specs.Parted.{is_of, events_of, numbers_of}
+use Rattle.krb_threads.specs.Journaled.{Rest, Reads, RunsBy, connections_of, entries_of}
 use Rattle.krb_threads.specs.Answers.{AreAnswers, IsAnswer, worker_text, entries_text}
 use Rattle.krb_laws_journal.proofs.HeardLemmas.{Paced, RunPaced, run-paced}
 use Rattle.krb_laws_journal.proofs.LineLemmas.{AreAlike, told_of, before-end, told-alike}

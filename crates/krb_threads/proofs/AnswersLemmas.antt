@@ -16,10 +16,11 @@ use Rattle.krb_machine.specs.declared.connection.Connection.{Connection}
 use Rattle.krb_machine.specs.declared.reply.Reply.{Reply}
 use Rattle.krb_machine.proofs.PolicyLemmas.{Runs-length}
 use Rattle.krb_conf.specs.declared.env.Env.{Env}
-use Rattle.krb_threads.specs.Journaled.{events_of, numbers_of, entries_of, connections_of, Reads, RunsBy}
+use Rattle.krb_input.specs.Parted.{events_of, numbers_of}
+use Rattle.krb_threads.specs.Journaled.{entries_of, connections_of, Reads, RunsBy}
 use Rattle.krb_threads.specs.Answers.{AreAnswers}
 use Rattle.krb_threads.specs.Worked.{log_of, WorksAt, AreOf, WorksThere}
-use Rattle.krb_threads.proofs.PartingLemmas.{numbers-length}
+use Rattle.krb_input.proofs.PartingLemmas.{numbers-length}
 
 placed_one : (b : Bool) (entry : Entry) (place : ℕ) (receipts : List Receipt) (entries : List Entry) → map (λ (r : Receipt). r.entry) receipts ≡ entries
     → map (λ (r : Receipt). r.entry) (if b then record { entry = entry; place = place } ∷ receipts else receipts) ≡ cond b (entry ∷ entries) entries

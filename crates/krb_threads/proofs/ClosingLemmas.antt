@@ -7,10 +7,11 @@ use Rattle.krb_script.specs.Script.{Declared, Reading, reading_of}
 use Rattle.krb_script.specs.declared.stop.Stop.TheVariants.{Whole as WholeStop, Bad as BadStop, Long as LongStop}
 use Rattle.krb_text.specs.declared.status.Status.{Status}
 use Rattle.krb_text.specs.declared.status.Status.TheVariants.{Done, BadWords, BadLine, TooLong, ReadFault, WriteFault, OutOfMemory}
-use Rattle.krb_machine.specs.Serve.{IsTaken, status_of, end_of}
+use Rattle.krb_input.specs.Taken.{IsTaken}
+use Rattle.krb_machine.specs.Serve.{status_of, end_of}
 use Rattle.krb_machine.specs.Text.{bad_line, long_line, stopped_line}
-use Rattle.krb_threads.specs.Known.{Known, Ends}
-use Rattle.krb_threads.specs.declared.ending.Ending.TheVariants.{Whole, Bad, Long, OutOfMemory as NoMemory}
+use Rattle.krb_input.specs.Known.{Known, Ends}
+use Rattle.krb_input.specs.declared.ending.Ending.TheVariants.{Whole, Bad, Long, OutOfMemory as NoMemory}
 use Rattle.krb_threads.specs.Answers.{IsAnswer}
 use Rattle.krb_threads.specs.Threads.{IsText, IsTextAt, Written, Runs, Answers}
 

@@ -10,8 +10,9 @@ use Rattle.krb_script.specs.declared.endpoint.Endpoint.{Endpoint}
 use Rattle.krb_machine.specs.Described.{connection_of, connections_with}
 use Rattle.krb_machine.specs.declared.connection.Connection.{Connection}
 use Rattle.krb_machine.proofs.OrderLemmas.{AreBelow, put-last}
-use Rattle.krb_threads.specs.Journaled.{is_of, connections_of}
-use Rattle.krb_threads.proofs.PartingLemmas.{filter-in, filter-out}
+use Rattle.krb_input.specs.Parted.{is_of}
+use Rattle.krb_threads.specs.Journaled.{connections_of}
+use Rattle.krb_input.proofs.PartingLemmas.{filter-in, filter-out}
 
 less : (x y : ℕ) → nat_cmp x y ≡ Less → x < y
 less x y e = let P : Ordering → Type 0 = λ o. MatchOrdering o (x < y) (x ≡ y) (y < x) in subst P e (ranked x y (nat_cmp x y) refl)

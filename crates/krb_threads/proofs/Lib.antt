@@ -1,5 +1,3 @@
-pub mod ReadingLemmas
-pub mod PartingLemmas
 pub mod ConnectionsLemmas
 pub mod TextLemmas
 pub mod WorkedLemmas

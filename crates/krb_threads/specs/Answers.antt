@@ -14,7 +14,8 @@ use Rattle.krb_machine.specs.Reply.{reply_line, admissions}
 use Rattle.krb_machine.specs.Text.{end_line}
 use Rattle.krb_machine.specs.declared.connection.Connection.{Connection}
 use Rattle.krb_machine.specs.declared.reply.Reply.{Reply}
-use Rattle.krb_threads.specs.Journaled.{events_of, numbers_of, connections_of, entries_of, RunsBy}
+use Rattle.krb_input.specs.Parted.{events_of, numbers_of}
+use Rattle.krb_threads.specs.Journaled.{connections_of, entries_of, RunsBy}
 
 -- the journal is that of one book, asked one call after another, and has the calls of the two workers alone; each worker has
 -- run its events over its connections by its own entries

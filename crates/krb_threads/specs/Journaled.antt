@@ -1,32 +1,15 @@
--- The two workers, and a run by the entries of a journal.
-use Rattle.std.specs.Prelude.{◌≡◌, ℕ, ◌+◌, ◌%◌, ◌==◌, Bool, if◌then◌else◌, List, [], ◌∷◌}
+-- The connections of a worker, and a run by the entries of a journal.
+use Rattle.std.specs.Prelude.{◌≡◌, ℕ, ◌+◌, ◌==◌, List, [], ◌∷◌}
 use Rattle.std.specs.List.{filter}
 use Rattle.krb_replay.specs.declared.ask.Ask.{Ask}
 use Rattle.krb_replay.specs.declared.ask.Verdict.{Verdict}
 use Rattle.krb_shared.specs.declared.entry.Entry.{Entry}
 use Rattle.krb_script.specs.declared.item.Event.{Event}
+use Rattle.krb_input.specs.Parted.{is_of}
 use Rattle.krb_conf.specs.declared.env.Env.{Env}
 use Rattle.krb_machine.specs.Policy.{State, Runs}
 use Rattle.krb_machine.specs.declared.connection.Connection.{Connection}
 use Rattle.krb_machine.specs.declared.reply.Reply.{Reply}
-
--- whether a connection of this number is the worker's
-abbrev pub is_of : ℕ → ℕ → Bool
-is_of worker id = id % 2 == worker
-
--- the events that a worker takes, in order
-abbrev pub events_of : ℕ → List Event → List Event
-events_of worker events = filter (λ (event : Event). is_of worker event.connection) events
-
--- their numbers, where the first event of the list has this number
-abbrev pub numbers_from : ℕ → ℕ → List Event → List ℕ
-numbers_from n worker [] = []
-numbers_from n worker (event ∷ events) =
-    if is_of worker event.connection then n ∷ numbers_from (n + 1) worker events else numbers_from (n + 1) worker events
-
--- the numbers of a worker's events in the input, counted from 1
-abbrev pub numbers_of : ℕ → List Event → List ℕ
-numbers_of worker events = numbers_from 1 worker events
 
 -- the connections that a worker has
 abbrev pub connections_of : ℕ → List (ℕ × Connection) → List (ℕ × Connection)

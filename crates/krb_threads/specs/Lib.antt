@@ -1,6 +1,3 @@
-pub mod Known
-pub mod Ahead
-pub mod Taking
 pub mod Journaled
 pub mod Described
 pub mod Answers

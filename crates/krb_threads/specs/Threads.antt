@@ -5,7 +5,8 @@ use Rattle.krb_text.specs.Output.{IsFront, AppendsFront}
 use Rattle.krb_script.specs.Script.{Declared, reading_of}
 use Rattle.krb_text.specs.declared.status.Status.{Status}
 use Rattle.krb_text.specs.declared.status.Status.TheVariants.{Done, BadWords, BadLine, TooLong, ReadFault, WriteFault, OutOfMemory}
-use Rattle.krb_machine.specs.Serve.{IsSound, IsTaken, end_of}
+use Rattle.krb_input.specs.Taken.{IsSound, IsTaken}
+use Rattle.krb_machine.specs.Serve.{end_of}
 use Rattle.krb_machine.specs.Text.{bad_line, long_line, stopped_line}
 use Rattle.krb_threads.specs.Answers.{IsAnswer}
 

@@ -4,50 +4,83 @@ ghost use Rattle.std.specs.Prelude.{◌≡◌, ◌≢◌, ◌≤◌, ◌↔◌, 
 ghost use Rattle.std.specs.Io.KnownBytes.{Appends};
 ghost use Rattle.krb_text.specs.Causes.{Rose};
 ghost use Rattle.krb_text.specs.Output.{AppendsFront};
+ghost use Rattle.krb_machine.specs.Described.{skew_of};
 ghost use Rattle.krb_machine.specs.Text.{stopped_line};
 ghost use Rattle.krb_threads.specs.Answers.{IsAnswer};
+ghost use Rattle.krb_input.specs.Parted.{numbers_of};
+ghost use Rattle.krb_input.specs.Known.{nothing_known};
 ghost use Rattle.krb_threads.specs.Threads.{Answers, Runs};
 
 use crate::described::Described;
-use crate::ending::Ending;
 use crate::going::drop_all;
-use crate::known::Known;
-use crate::parting::{numbers, parted};
 use crate::pause::Pause;
-use crate::reading::read_all;
 use crate::text::text_of;
 use crate::workers::answers_of;
-use krb_der::OutOfMemory;
+use krb_der::{OutOfMemory, boxed};
+use krb_input::{Ending, Known, numbers, parted, read_all};
 use krb_machine::numbered_line;
+use krb_script::Script;
 use krb_text::{Sink, Source, Status, Words, write_line};
 use std::alloc::Global;
+use std::mem;
 use std::sync::Wait;
 use std::thread::Threads;
 
-/// The text that answers what was declared.
-fn answer_text<R: Threads + Wait + Sync, P: Pause + Send, Q: Pause + Send>(
+/// The ends that the lines declare, the environment and the skew, taken out of what is known.
+fn take_described(alloc: Global, known: &mut Known) -> Result<Box<Described>, OutOfMemory>
+    ensures skew { IfOk result (λ described. described.value.skew ≡ skew_of known.old.so_far.setup) }
+    ensures env { IfOk result (λ described. described.value.env ≡ known.old.so_far.setup.env) }
+    ensures endpoints { IfOk result (λ described. described.value.endpoints.entries ≡ known.old.so_far.setup.endpoints) }
+    ensures events { known.new.so_far.events ≡ known.old.so_far.events }
+{
+    let script = mem::replace(&mut known.script, Script::new(alloc));
+    let (skew, env, endpoints) = script.into_parts();
+    boxed(
+        alloc,
+        Described {
+            skew,
+            env,
+            endpoints,
+        },
+    )
+}
+
+/// The text that answers what was declared, where these are the numbers of each worker's events.
+fn numbered_text<R: Threads + Wait + Sync, P: Pause + Send, Q: Pause + Send>(
     rt: &R,
     alloc: Global,
-    known: Known,
+    known: &mut Known,
+    low: &[u64],
+    high: &[u64],
     first: &mut P,
     second: &mut Q,
 ) -> Result<String, OutOfMemory>
-    ensures { IfOk result (λ text. IsAnswer known.so_far (string_bytes text)) }
+    requires low { low.now ≡ numbers_of 0 known.old.so_far.events }
+    requires high { high.now ≡ numbers_of 1 known.old.so_far.events }
+    ensures { IfOk result (λ text. IsAnswer known.old.so_far (string_bytes text)) }
 {
-    let Known { script, events, .. } = known;
-    let low = numbers(alloc, &events, 0)?;
-    let high = numbers(alloc, &events, 1)?;
-    let (skew, env, endpoints) = script.into_parts();
-    let described = Described {
-        skew,
-        env,
-        endpoints,
-    };
+    let described = take_described(alloc, known)?;
+    let events = mem::replace(&mut known.events, Vec::new(alloc));
     let (one, two) = parted(alloc, events)?;
     let answers = answers_of(rt, alloc, &described, one, two, first, second)?;
-    let text = text_of(rt, alloc, &low, &high, &answers);
+    let text = text_of(rt, alloc, low, high, &answers);
     drop_all(rt, described, answers);
     text
+}
+
+/// The text that answers what was declared, which is taken out of what is known.
+fn answer_text<R: Threads + Wait + Sync, P: Pause + Send, Q: Pause + Send>(
+    rt: &R,
+    alloc: Global,
+    known: &mut Known,
+    first: &mut P,
+    second: &mut Q,
+) -> Result<String, OutOfMemory>
+    ensures { IfOk result (λ text. IsAnswer known.old.so_far (string_bytes text)) }
+{
+    let low = numbers(alloc, &known.events, 0)?;
+    let high = numbers(alloc, &known.events, 1)?;
+    numbered_text(rt, alloc, known, &low, &high, first, second)
 }
 
 /// Writes a text, which goes with this status.
@@ -93,18 +126,46 @@ fn write_stopped<K: Sink>(sink: &mut K) -> Status
 fn answer<R: Threads + Wait + Sync, P: Pause + Send, Q: Pause + Send, K: Sink>(
     rt: &R,
     alloc: Global,
-    known: Known,
+    known: &mut Known,
     sink: &mut K,
     first: &mut P,
     second: &mut Q,
 ) -> Status
-    ensures text { Answers known.so_far (K.taken sink.old) (K.taken sink.new) result }
+    ensures text { Answers known.old.so_far (K.taken sink.old) (K.taken sink.new) result }
     ensures fault { result ≡ Status.WriteFault → Rose (K.faults sink.old) (K.faults sink.new) }
     ensures still { result ≢ Status.WriteFault → K.faults sink.new ≡ K.faults sink.old }
 {
     match answer_text(rt, alloc, known, first, second) {
         Ok(text) => write(sink, text.as_str().as_bytes(), Status::Done),
         Err(_) => write_stopped(sink),
+    }
+}
+
+/// Reads all lines, and answers their events, or writes why it does not.
+fn read_and_answer<R: Threads + Wait + Sync, P: Pause + Send, Q: Pause + Send, S: Source, K: Sink>(
+    rt: &R,
+    alloc: Global,
+    known: &mut Known,
+    source: &mut S,
+    sink: &mut K,
+    first: &mut P,
+    second: &mut Q,
+) -> Status
+    requires { known.old ≡ nothing_known }
+    ensures words { result ≢ Status.BadWords }
+    ensures read { result ≡ Status.ReadFault → Rose (S.faults source.old) (S.faults source.new) }
+    ensures write { result ≡ Status.WriteFault → Rose (K.faults sink.old) (K.faults sink.new) }
+    ensures read_still { result ≢ Status.ReadFault → S.faults source.new ≡ S.faults source.old }
+    ensures write_still { result ≢ Status.WriteFault → K.faults sink.new ≡ K.faults sink.old }
+    ensures text { Runs (S.left source.old) (S.left source.new) (K.taken sink.old) (K.taken sink.new) result }
+{
+    match read_all(rt, alloc, known, source) {
+        Ending::Whole if known.has_begun() => answer(rt, alloc, known, sink, first, second),
+        Ending::Whole => write_numbered(sink, "bad line ", known.lines() + 1, Status::BadLine),
+        Ending::Bad => write_numbered(sink, "bad line ", known.lines() + 1, Status::BadLine),
+        Ending::Long => write_numbered(sink, "long line ", known.lines() + 1, Status::TooLong),
+        Ending::Fault => Status::ReadFault,
+        Ending::OutOfMemory => write_stopped(sink),
     }
 }
 
@@ -139,12 +200,5 @@ pub fn threads<R: Threads + Wait + Sync, P: Pause + Send, Q: Pause + Send, S: So
         return Status::BadWords;
     }
     let mut known = Known::new(alloc);
-    match read_all(rt, alloc, &mut known, source) {
-        Ending::Whole if known.has_begun() => answer(rt, alloc, known, sink, first, second),
-        Ending::Whole => write_numbered(sink, "bad line ", known.lines() + 1, Status::BadLine),
-        Ending::Bad => write_numbered(sink, "bad line ", known.lines() + 1, Status::BadLine),
-        Ending::Long => write_numbered(sink, "long line ", known.lines() + 1, Status::TooLong),
-        Ending::Fault => Status::ReadFault,
-        Ending::OutOfMemory => write_stopped(sink),
-    }
+    read_and_answer(rt, alloc, &mut known, source, sink, first, second)
 }

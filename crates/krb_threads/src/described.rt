@@ -3,12 +3,12 @@
 ghost use Rattle.std.specs.Prelude.{◌≡◌, IfOk, OnOk};
 ghost use Rattle.std.specs.Ordering.{nat_cmp};
 ghost use Rattle.std.specs.BTreeMap.{insert_entry};
-ghost use Rattle.krb_machine.specs.Described.{connections_with};
+ghost use Rattle.krb_machine.specs.Described.{connection_of, connections_with};
 ghost use Rattle.krb_threads.specs.Described.{AreEnds};
 ghost use Rattle.krb_threads.specs.Journaled.{connections_of};
 
 use krb_conf::Env;
-use krb_der::{OutOfMemory, TryCopy};
+use krb_der::{OutOfMemory, TryCopy, boxed};
 use krb_machine::{HeldConnection, Service, connection_of};
 use krb_replay::ReplayGate;
 use krb_script::Endpoint;
@@ -22,6 +22,17 @@ pub struct Described {
     pub skew: u32,
     pub env: Env,
     pub endpoints: BTreeMap<u32, Endpoint>,
+}
+
+/// The connection of an end that the lines declare, on the heap.
+fn held_connection(
+    alloc: Global,
+    skew: u32,
+    endpoint: &Endpoint,
+) -> Result<HeldConnection, OutOfMemory>
+    ensures { IfOk result (λ held. held ≡ connection_of skew endpoint.now) }
+{
+    HeldConnection::new(alloc, connection_of(alloc, skew, endpoint)?)
 }
 
 /// Puts a connection where its number stands, in the place of one that has it.
@@ -48,8 +59,8 @@ fn connections(
     let mut made = BTreeMap::new(alloc);
     for (id, endpoint) in described.endpoints.iter() {
         if *id % 2 == worker {
-            let connection = connection_of(alloc, described.skew, endpoint)?;
-            put(&mut made, *id, HeldConnection::new(alloc, connection)?)?;
+            let connection = held_connection(alloc, described.skew, endpoint)?;
+            put(&mut made, *id, connection)?;
         }
     }
     Ok(made)
@@ -63,14 +74,12 @@ pub struct Ends {
 }
 
 /// What one worker has of what the lines declare.
-pub fn ends_of(alloc: Global, described: &Described, worker: u32) -> Result<Ends, OutOfMemory>
-    ensures { IfOk result (AreEnds described.now worker) }
+pub fn ends_of(alloc: Global, described: &Described, worker: u32) -> Result<Box<Ends>, OutOfMemory>
+    ensures { IfOk result (λ ends. AreEnds described.now worker ends.value) }
 {
+    let connections = connections(alloc, described, worker)?;
     let env = described.env.copy(alloc)?;
-    Ok(Ends {
-        env,
-        connections: connections(alloc, described, worker)?,
-    })
+    boxed(alloc, Ends { env, connections })
 }
 
 /// What both have, each made in a thread of its own.
@@ -78,30 +87,21 @@ pub fn ends_in_threads<R: Threads>(
     rt: &R,
     alloc: Global,
     described: &Described,
-) -> Result<(Ends, Ends), OutOfMemory>
-    ensures first { IfOk result (λ both. AreEnds described.now 0 both.0) }
-    ensures second { IfOk result (λ both. AreEnds described.now 1 both.1) }
+) -> Result<(Box<Ends>, Box<Ends>), OutOfMemory>
+    ensures first { IfOk result (λ both. AreEnds described.now 0 both.0.value) }
+    ensures second { IfOk result (λ both. AreEnds described.now 1 both.1.value) }
 {
     let (low, high) = join(
         rt,
-        || -> Result<Ends, OutOfMemory>
-            ensures { IfOk result (AreEnds described.entry.now 0) }
+        || -> Result<Box<Ends>, OutOfMemory>
+            ensures { IfOk result (λ ends. AreEnds described.entry.now 0 ends.value) }
         { ends_of(alloc, described, 0) },
-        || -> Result<Ends, OutOfMemory>
-            ensures { IfOk result (AreEnds described.entry.now 1) }
+        || -> Result<Box<Ends>, OutOfMemory>
+            ensures { IfOk result (λ ends. AreEnds described.entry.now 1 ends.value) }
         { ends_of(alloc, described, 1) },
     );
     let low = low?;
     Ok((low, high?))
-}
-
-/// What both have, made in this thread.
-pub fn ends_of_both(alloc: Global, described: &Described) -> Result<(Ends, Ends), OutOfMemory>
-    ensures first { IfOk result (λ both. AreEnds described.now 0 both.0) }
-    ensures second { IfOk result (λ both. AreEnds described.now 1 both.1) }
-{
-    let low = ends_of(alloc, described, 0)?;
-    Ok((low, ends_of(alloc, described, 1)?))
 }
 
 /// A service of the environment and the connections of a worker over a gate.

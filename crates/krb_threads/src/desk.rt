@@ -5,13 +5,14 @@ ghost use Rattle.krb_threads.specs.Answers.{AreAnswers};
 ghost use Rattle.krb_threads.specs.Described.{all_connections};
 ghost use Rattle.krb_threads.specs.Worked.{WorksThere};
 
-use crate::described::{Described, Ends, ends_of_both, service_of};
+use crate::described::{Described, ends_of};
 use crate::part::Part;
 use crate::pause::Pause;
 use crate::paused_gate::PausedGate;
+use crate::work::{Done, Work, begun, ended};
 use crate::workers::Answers;
-use krb_der::OutOfMemory;
-use krb_machine::{Event, Reply, Service};
+use krb_der::{OutOfMemory, boxed};
+use krb_machine::Event;
 use krb_shared::{Desk, DeskGate};
 use std::alloc::Global;
 
@@ -35,40 +36,22 @@ fn run_gate<'a, P: Pause>(
 /// Runs one worker's events over its connections, at the desk.
 fn run_at<'a, P: Pause>(
     alloc: Global,
-    ends: Ends,
+    work: Work,
     desk: &'a mut Desk,
     seat: u32,
     pause: &'a mut P,
-    events: Vec<Event>,
-) -> Result<Vec<Reply>, OutOfMemory>
-    ensures { IfOk result (λ replies. WorksThere desk.old 1 seat ends.env ends.connections.entries events.items replies.items desk.new) }
+) -> Result<Box<Done>, OutOfMemory>
+    ensures { IfOk result (λ done.
+        WorksThere desk.old 1 seat work.ends.value.env work.ends.value.connections.entries work.events.items done.value.replies.items desk.new) }
 {
-    let at_desk = DeskGate::new(desk, seat);
-    let paused = PausedGate {
-        pause,
-        gate: at_desk,
-    };
-    let mut part = Part {
-        service: service_of(alloc, ends, paused),
-        events,
-        replies: Vec::new(alloc),
-    };
-    run_gate(alloc, &mut part)?;
-    let Part {
-        service: Service {
-            connections: _connections,
-            env: _env,
-            gate: PausedGate {
-                pause: _pause,
-                gate: at_desk,
-            },
-            alloc: _alloc,
-        },
-        events: _events,
-        replies,
-    } = part;
+    let mut part = begun(alloc, work, pause, DeskGate::new(desk, seat));
+    let run = run_gate(alloc, &mut part);
+    let (at_desk, done) = ended(part);
     at_desk.into_desk();
-    Ok(replies)
+    match run {
+        Ok(()) => boxed(alloc, done),
+        Err(error) => Err(error),
+    }
 }
 
 /// Runs the events of worker 0 and then those of worker 1, over one new desk.
@@ -82,16 +65,23 @@ pub fn run_at_desk<P: Pause, Q: Pause>(
 ) -> Result<Answers, OutOfMemory>
     ensures { IfOk result (λ answers.
         AreAnswers described.now.skew described.now.env (all_connections described.now)
-        low.items high.items answers.first.items answers.second.items answers.journal) }
+        low.items high.items answers.one.value.replies.items answers.two.value.replies.items answers.journal) }
 {
-    let mut desk = Desk::new(alloc, described.skew)?;
-    let (low_ends, high_ends) = ends_of_both(alloc, described)?;
-    let first = run_at(alloc, low_ends, &mut desk, 0, first, low)?;
-    let second = run_at(alloc, high_ends, &mut desk, 1, second, high)?;
+    let mut desk = boxed(alloc, Desk::new(alloc, described.skew)?)?;
+    let work = Work {
+        ends: ends_of(alloc, described, 0)?,
+        events: low,
+    };
+    let one = run_at(alloc, work, &mut desk, 0, first)?;
+    let work = Work {
+        ends: ends_of(alloc, described, 1)?,
+        events: high,
+    };
+    let two = run_at(alloc, work, &mut desk, 1, second)?;
     Ok(Answers {
-        first,
-        second,
-        journal: desk.into_journal(),
-        left: None,
+        one,
+        two,
+        journal: Box::into_inner(desk).into_journal(),
+        receipts: Vec::new(alloc),
     })
 }

@@ -1,7 +1,7 @@
 //! What is dropped beside other work.
 
 use crate::described::Described;
-use crate::workers::{Answers, Left};
+use crate::workers::Answers;
 use std::thread::{JoinHandle, Threads, spawn};
 
 /// A thread that drops a value, or none where none could be made.
@@ -34,27 +34,18 @@ impl Going {
 
 /// Drops all that was needed for the answers. Each of two threads gives back what it took itself, since the C library's
 /// allocator has one lock for all that a thread has taken; what both took is given back last.
-pub fn drop_all<R: Threads>(rt: &R, described: Described, answers: Answers) {
+pub fn drop_all<R: Threads>(rt: &R, described: Box<Described>, answers: Answers) {
     let Answers {
-        first,
-        second,
+        one,
+        two,
         journal,
-        left,
+        mut receipts,
     } = answers;
-    if let Some(
-        Left {
-            low,
-            high,
-            mut receipts,
-        },
-    ) = left
+    let high_receipts = receipts.pop();
+    let going = Going::start(rt, (one, receipts));
     {
-        let high_receipts = receipts.pop();
-        let going = Going::start(rt, (first, low, receipts));
-        {
-            let _gone = (second, high, high_receipts);
-        }
-        going.wait(rt);
+        let _gone = (two, high_receipts);
     }
+    going.wait(rt);
     let _gone = (described, journal);
 }

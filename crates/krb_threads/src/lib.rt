@@ -15,22 +15,18 @@
 //! says that both workers run at once, or that a worker gets on.
 #![tactic(auto)]
 
-mod ahead;
 mod both;
 mod command;
 mod described;
 mod desk;
-mod ending;
 mod going;
-mod known;
 pub mod laws;
 mod part;
-mod parting;
 mod pause;
 mod paused_gate;
-mod reading;
 mod seats;
 mod text;
+mod work;
 mod workers;
 
 pub use both::run_two;

@@ -4,32 +4,16 @@ ghost use Rattle.std.specs.Prelude.{◌≡◌, [], IfOk, OnOk, IsSomeAnd, slice_
 ghost use Rattle.krb_threads.specs.Worked.{WorksAt};
 
 use crate::both::run_two;
-use crate::described::{Ends, service_of};
 use crate::part::Part;
 use crate::pause::Pause;
 use crate::paused_gate::PausedGate;
-use krb_der::OutOfMemory;
-use krb_machine::{Event, HeldConnection, Reply, Service, Stopped};
+use crate::work::{Done, Work, begun, ended};
+use krb_der::{OutOfMemory, boxed};
+use krb_machine::Stopped;
 use krb_shared::{Calls, Seat, SeatGate, SharedBook};
 use std::alloc::Global;
-use std::collections::BTreeMap;
 use std::sync::Wait;
 use std::thread::Threads;
-
-/// What one worker is to do, and what is left of it.
-#[derive(Drop)]
-pub struct Work {
-    pub ends: Ends,
-    pub events: Vec<Event>,
-}
-
-/// The replies of one worker, its events, and its connections as they are then.
-#[derive(Drop)]
-pub struct Done {
-    pub replies: Vec<Reply>,
-    pub events: Vec<Event>,
-    pub connections: BTreeMap<u32, HeldConnection>,
-}
 
 /// Runs both parts, each behind its pause and at its seat.
 fn run_gates<
@@ -59,6 +43,15 @@ fn run_gates<
     run_two(rt, alloc, first, second)
 }
 
+/// What both have done, each on the heap.
+fn both_boxed(alloc: Global, low: Done, high: Done) -> Result<(Box<Done>, Box<Done>), OutOfMemory>
+    ensures first { IfOk result (λ both. both.0.value ≡ low) }
+    ensures second { IfOk result (λ both. both.1.value ≡ high) }
+{
+    let low = boxed(alloc, low)?;
+    Ok((low, boxed(alloc, high)?))
+}
+
 /// Runs both workers, each at its seat of the book and behind its pause.
 pub fn run_seats<
     'a,
@@ -79,71 +72,23 @@ pub fn run_seats<
     second: &'b mut Q,
     one: Work,
     two: Work,
-) -> Result<(Done, Done), OutOfMemory>
-    ensures first { IfOk result (λ done. WorksAt low.old one.ends.env one.ends.connections.entries one.events.items done.0.replies.items low.new) }
-    ensures second { IfOk result (λ done. WorksAt high.old two.ends.env two.ends.connections.entries two.events.items done.1.replies.items high.new) }
-    ensures first_events { IfOk result (λ done. done.0.events ≡ one.events) }
-    ensures second_events { IfOk result (λ done. done.1.events ≡ two.events) }
+) -> Result<(Box<Done>, Box<Done>), OutOfMemory>
+    ensures first { IfOk result (λ done.
+        WorksAt low.old one.ends.value.env one.ends.value.connections.entries one.events.items done.0.value.replies.items low.new) }
+    ensures second { IfOk result (λ done.
+        WorksAt high.old two.ends.value.env two.ends.value.connections.entries two.events.items done.1.value.replies.items high.new) }
+    ensures first_events { IfOk result (λ done. done.0.value.events ≡ one.events) }
+    ensures second_events { IfOk result (λ done. done.1.value.events ≡ two.events) }
 {
-    let low_gate = PausedGate {
-        pause: first,
-        gate: SeatGate::new(low_rt, low_book, low),
-    };
-    let mut one = Part {
-        service: service_of(alloc, one.ends, low_gate),
-        events: one.events,
-        replies: Vec::new(alloc),
-    };
-    let high_gate = PausedGate {
-        pause: second,
-        gate: SeatGate::new(high_rt, high_book, high),
-    };
-    let mut two = Part {
-        service: service_of(alloc, two.ends, high_gate),
-        events: two.events,
-        replies: Vec::new(alloc),
-    };
-    let [Ok(()), Ok(())] = run_gates(low_rt, alloc, &mut one, &mut two) else {
-        return Err(OutOfMemory);
-    };
-    let Part {
-        service: Service {
-            connections: low_connections,
-            env: _env,
-            gate: PausedGate {
-                pause: _pause,
-                gate: low_gate,
-            },
-            alloc: _alloc,
-        },
-        events: low_events,
-        replies: low_replies,
-    } = one;
-    let Part {
-        service: Service {
-            connections: high_connections,
-            env: _other_env,
-            gate: PausedGate {
-                pause: _other_pause,
-                gate: high_gate,
-            },
-            alloc: _other_alloc,
-        },
-        events: high_events,
-        replies: high_replies,
-    } = two;
+    let mut low_part = begun(alloc, one, first, SeatGate::new(low_rt, low_book, low));
+    let mut high_part = begun(alloc, two, second, SeatGate::new(high_rt, high_book, high));
+    let runs = run_gates(low_rt, alloc, &mut low_part, &mut high_part);
+    let (low_gate, low_done) = ended(low_part);
+    let (high_gate, high_done) = ended(high_part);
     low_gate.into_seat();
     high_gate.into_seat();
-    Ok((
-        Done {
-            replies: low_replies,
-            events: low_events,
-            connections: low_connections,
-        },
-        Done {
-            replies: high_replies,
-            events: high_events,
-            connections: high_connections,
-        },
-    ))
+    match runs {
+        [Ok(()), Ok(())] => both_boxed(alloc, low_done, high_done),
+        _ => Err(OutOfMemory),
+    }
 }

@@ -81,21 +81,21 @@ fn texts_in_threads<R: Threads>(
     high: &[u64],
     answers: &Answers,
 ) -> Result<(String, String), OutOfMemory>
-    requires low { length low.now ≡ length answers.now.first.items }
-    requires high { length high.now ≡ length answers.now.second.items }
-    ensures first { IfOk result (λ texts. string_bytes texts.0 ≡ worker_text 0 low.now answers.now.first.items) }
-    ensures second { IfOk result (λ texts. string_bytes texts.1 ≡ worker_text 1 high.now answers.now.second.items) }
+    requires low { length low.now ≡ length answers.now.one.value.replies.items }
+    requires high { length high.now ≡ length answers.now.two.value.replies.items }
+    ensures first { IfOk result (λ texts. string_bytes texts.0 ≡ worker_text 0 low.now answers.now.one.value.replies.items) }
+    ensures second { IfOk result (λ texts. string_bytes texts.1 ≡ worker_text 1 high.now answers.now.two.value.replies.items) }
 {
     let (first, second) = join(
         rt,
         || -> Result<String, OutOfMemory>
-            requires { length low.now ≡ length answers.now.first.items }
-            ensures { IfOk result (λ text. string_bytes text ≡ worker_text 0 low.entry.now answers.entry.now.first.items) }
-        { replies_text(alloc, 0, low, &answers.first) },
+            requires { length low.now ≡ length answers.now.one.value.replies.items }
+            ensures { IfOk result (λ text. string_bytes text ≡ worker_text 0 low.entry.now answers.entry.now.one.value.replies.items) }
+        { replies_text(alloc, 0, low, &answers.one.replies) },
         || -> Result<String, OutOfMemory>
-            requires { length high.now ≡ length answers.now.second.items }
-            ensures { IfOk result (λ text. string_bytes text ≡ worker_text 1 high.entry.now answers.entry.now.second.items) }
-        { replies_text(alloc, 1, high, &answers.second) },
+            requires { length high.now ≡ length answers.now.two.value.replies.items }
+            ensures { IfOk result (λ text. string_bytes text ≡ worker_text 1 high.entry.now answers.entry.now.two.value.replies.items) }
+        { replies_text(alloc, 1, high, &answers.two.replies) },
     );
     let first = first?;
     Ok((first, second?))
@@ -145,16 +145,16 @@ pub fn text_of<R: Threads>(
     high: &[u64],
     answers: &Answers,
 ) -> Result<String, OutOfMemory>
-    requires low { length low.now ≡ length answers.now.first.items }
-    requires high { length high.now ≡ length answers.now.second.items }
+    requires low { length low.now ≡ length answers.now.one.value.replies.items }
+    requires high { length high.now ≡ length answers.now.two.value.replies.items }
     ensures { IfOk result (λ text. string_bytes text
-        ≡ worker_text 0 low.now answers.now.first.items ++ worker_text 1 high.now answers.now.second.items ++ entries_text 1 answers.now.journal.entries
-        ++ end_line (admissions answers.now.first.items + admissions answers.now.second.items) answers.now.journal.kept) }
+        ≡ worker_text 0 low.now answers.now.one.value.replies.items ++ worker_text 1 high.now answers.now.two.value.replies.items ++ entries_text 1 answers.now.journal.entries
+        ++ end_line (admissions answers.now.one.value.replies.items + admissions answers.now.two.value.replies.items) answers.now.journal.kept) }
 {
     let (mut text, second) = texts_in_threads(rt, alloc, low, high, answers)?;
     text.push_str(&second)?;
     put_entries(alloc, &mut text, answers.journal.entries.as_slice())?;
-    let admitted = admissions(&answers.first) + admissions(&answers.second);
+    let admitted = admissions(&answers.one.replies) + admissions(&answers.two.replies);
     text.push_str(end_line(admitted, answers.journal.kept).as_str())?;
     Ok(text)
 }

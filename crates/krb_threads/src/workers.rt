@@ -7,39 +7,24 @@ ghost use Rattle.krb_threads.specs.Described.{all_connections};
 use crate::described::{Described, ends_in_threads};
 use crate::desk::run_at_desk;
 use crate::pause::Pause;
-use crate::seats::{Work, run_seats};
+use crate::seats::run_seats;
+use crate::work::{Done, Work};
 use krb_der::{Items, OutOfMemory};
-use krb_machine::{Event, HeldConnection, Reply};
+use krb_machine::Event;
 use krb_shared::{Calls, Journal, Receipt, SharedBook};
 use std::alloc::Global;
-use std::collections::BTreeMap;
 use std::marker::Brand;
 use std::sync::Wait;
 use std::sync::ledger::Blank;
 use std::thread::Threads;
 
-/// What one worker had, and needs no longer.
-#[derive(Drop)]
-pub struct Had {
-    pub events: Vec<Event>,
-    pub connections: BTreeMap<u32, HeldConnection>,
-}
-
-/// What both had, and the receipts of their seats.
-#[derive(Drop)]
-pub struct Left {
-    pub low: Had,
-    pub high: Had,
-    pub receipts: Vec<Vec<Receipt>>,
-}
-
-/// The replies of both workers, the journal of the book on which they stood, and what is left of their run.
+/// What both workers have done, the journal of the book on which they stood, and the receipts of their seats.
 #[derive(Drop)]
 pub struct Answers {
-    pub first: Vec<Reply>,
-    pub second: Vec<Reply>,
+    pub one: Box<Done>,
+    pub two: Box<Done>,
     pub journal: Journal,
-    pub left: Option<Left>,
+    pub receipts: Vec<Vec<Receipt>>,
 }
 
 /// Runs both workers.
@@ -54,7 +39,7 @@ pub fn answers_of<R: Threads + Wait + Sync, P: Pause + Send, Q: Pause + Send>(
 ) -> Result<Answers, OutOfMemory>
     ensures { IfOk result (λ answers.
         AreAnswers described.now.skew described.now.env (all_connections described.now)
-        low.items high.items answers.first.items answers.second.items answers.journal) }
+        low.items high.items answers.one.value.replies.items answers.two.value.replies.items answers.journal) }
 {
     answers_as::<Brand, R, P, Q>(
         rt,
@@ -89,7 +74,7 @@ fn answers_as<L: Calls + Send + Sync, R: Threads + Wait + Sync, P: Pause + Send,
     requires own_skew { described.now.skew ≡ skew }
     ensures { IfOk result (λ answers.
         AreAnswers described.now.skew described.now.env (all_connections described.now)
-        low.items high.items answers.first.items answers.second.items answers.journal) }
+        low.items high.items answers.one.value.replies.items answers.two.value.replies.items answers.journal) }
 {
     let mut receipts = Vec::new(alloc);
     let (book, all) = blank.open::<L>();
@@ -120,21 +105,14 @@ fn answers_as<L: Calls + Send + Sync, R: Threads + Wait + Sync, P: Pause + Send,
     )?;
     match shared.close_into(Items::new(seats), &mut receipts) {
         Ok(journal) => Ok(Answers {
-            first: one.replies,
-            second: two.replies,
+            one,
+            two,
             journal,
-            left: Some(Left {
-                low: Had {
-                    events: one.events,
-                    connections: one.connections,
-                },
-                high: Had {
-                    events: two.events,
-                    connections: two.connections,
-                },
-                receipts,
-            }),
+            receipts,
         }),
-        Err(_) => run_at_desk(alloc, described, one.events, two.events, first, second),
+        Err(_) => {
+            let (low, high) = (Box::into_inner(one).events, Box::into_inner(two).events);
+            run_at_desk(alloc, described, low, high, first, second)
+        }
     }
 }

@@ -14,14 +14,14 @@ returns-in-Ok-clause-text g c =
     let after = g.K.Sink.taken c.write.new.sink in
     let text = c.as_bytes.result.now in
     let is : text ≡ string_bytes c.in-Ok.text = cc in
-    let P : List ℕ → Type 0 = λ t. IsAnswer c.args.known.so_far t in
-    let answer : IsAnswer c.args.known.so_far text = subst P (sym is) c.in-Ok.ensures in
-    by-write (λ s. Answers c.args.known.so_far before after s) (Appends before after text) (AppendsFront before after text) c.write.result Done c.write.ensures.whole c.write.ensures.cut
+    let P : List ℕ → Type 0 = λ t. IsAnswer c.args.known.now.so_far t in
+    let answer : IsAnswer c.args.known.now.so_far text = subst P (sym is) c.in-Ok.ensures in
+    by-write (λ s. Answers c.args.known.now.so_far before after s) (Appends before after text) (AppendsFront before after text) c.write.result Done c.write.ensures.whole c.write.ensures.cut
     (λ a. (text, answer, a)) (λ f. (text, inl answer, f))
 
 pub returns-in-Err-clause-text : goal.returns-in-Err-clause-text
 returns-in-Err-clause-text g c =
     let before = g.K.Sink.taken c.args.sink.now in
     let after = g.K.Sink.taken c.write_stopped.new.sink in
-    by-write (λ s. Answers c.args.known.so_far before after s) (Appends before after _) (AppendsFront before after _) c.write_stopped.result OutOfMemory c.write_stopped.ensures.whole c.write_stopped.ensures.cut
+    by-write (λ s. Answers c.args.known.now.so_far before after s) (Appends before after _) (AppendsFront before after _) c.write_stopped.result OutOfMemory c.write_stopped.ensures.whole c.write_stopped.ensures.cut
     (λ a. a) (λ f. (_, inr refl, f))

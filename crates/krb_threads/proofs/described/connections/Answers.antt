@@ -6,7 +6,8 @@ use Rattle.std.proofs.lemmas.List.{map-append}
 use Rattle.std.proofs.lemmas.Bool.Decides.{nat_tests}
 use Rattle.std.proofs.lemmas.Map.Iter.{rest_so_far, btree_map_turn}
 use Rattle.krb_machine.specs.Described.{connections_with}
-use Rattle.krb_threads.specs.Journaled.{is_of, connections_of}
+use Rattle.krb_input.specs.Parted.{is_of}
+use Rattle.krb_threads.specs.Journaled.{connections_of}
 use Rattle.krb_threads.proofs.ConnectionsLemmas.{below-turn, put-own, put-other}
 use Rattle.krb_threads.proofs.described.connections.Goals as goal
 
@@ -22,7 +23,7 @@ loop-id-preserved-in_ok-put c =
     let split = sym began ∙ rest_so_far deref_pair c.loop-id.yielded c.into_iter-id-iterator.result c.loop-id.id-iterator c.loop-id.yielded_by in
     let below = below-turn d.endpoints.entries front c.loop-id.id-iterator id split (λ i e lt. turn.2 i e (omega (arith, lt, length-map c.loop-id.yielded deref_pair))) in
     let is : is_of c.args.worker id ≡ true = let e = c.if-id-worker.true in grind (arith, nat_tests) in
-    put-own c.args.worker d.skew front id endpoint c.in_ok-new.field-0 c.loop-id.made.entries c.put.new.made.entries c.loop-id.invariant is (c.in_ok-new.ensures ∙ c.in_ok-connection.ensures) below c.in_ok-put.ensures
+    put-own c.args.worker d.skew front id endpoint c.in_ok-connection.connection c.loop-id.made.entries c.put.new.made.entries c.loop-id.invariant is c.in_ok-connection.ensures below c.in_ok-put.ensures
     ∙ ap (λ es. connections_of c.args.worker (connections_with d.skew es)) (sym (map-append deref_pair c.loop-id.yielded ((c.in-Some.id, c.in-Some.endpoint) ∷ [])))
 
 pub loop-id-preserved : goal.loop-id-preserved

@@ -1,0 +1,3 @@
+pub mod ShortLemmas
+pub mod ReadingLemmas
+pub mod PartingLemmas

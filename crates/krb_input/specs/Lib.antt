@@ -1,0 +1,5 @@
+pub mod Taken
+pub mod Known
+pub mod Ahead
+pub mod Taking
+pub mod Parted

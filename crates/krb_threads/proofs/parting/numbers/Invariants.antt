@@ -1,6 +1,0 @@
-use Rattle.std.proofs.Common.{◌≡◌, take}
-use Rattle.krb_threads.specs.Journaled.{numbers_of}
-use Rattle.krb_threads.proofs.parting.numbers.Given as goal
-
-abbrev pub invariant-loop-index : goal.invariant-loop-index
-invariant-loop-index l = l.numbers.items ≡ numbers_of l.worker (take l.index l.events)

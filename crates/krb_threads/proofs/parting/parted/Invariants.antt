@@ -1,6 +1,0 @@
-use Rattle.std.specs.Prelude.{◌≡◌}
-use Rattle.krb_threads.specs.Journaled.{events_of}
-use Rattle.krb_threads.proofs.parting.parted.Given as goal
-
-abbrev pub invariant-loop-event : goal.invariant-loop-event
-invariant-loop-event l = (l.low.items ≡ events_of 0 l.yielded) × (l.high.items ≡ events_of 1 l.yielded)
