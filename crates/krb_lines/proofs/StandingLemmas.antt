@@ -61,7 +61,7 @@ short-line total at line l t = rw (le-ltb max_line (length line) l, le-ltb max_i
 -- one whole line more is answered
 pub standing-line : {T : Type 0} (rules : Rules T) (new : T) (left front before between now after_front : Option (List ℕ)) (old reader : Reader) (a b : Option (List ℕ)) (taker after : T) (line written : List ℕ)
     → front ≡ ahead old a → after_front ≡ ahead reader b → Standing rules new left front before between old.cutting.taken taker → TakesLine old reader a b line
-    → rules.takes taker line written after → rules.lines after ≡ rules.lines taker + 1 → Appends between now written → Standing rules new left after_front before now reader.cutting.taken after
+    → rules.takes taker line written after → rules.lines after ≤ rules.lines taker + 1 → Appends between now written → Standing rules new left after_front before now reader.cutting.taken after
 standing-line rules new left front before between now after_front old reader a b taker after line written front_is after_is s t takes counts wrote =
     let ended = line ++ 10 ∷ [] in
     let ended_len : length ended ≡ length line + 1 = length-append line (10 ∷ []) in

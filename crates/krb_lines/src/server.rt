@@ -1,6 +1,6 @@
 //! Takes an input line by line, and writes the reply to each line before it reads on.
 
-ghost use Rattle.std.specs.Prelude.{◌≡◌, ◌≢◌, ◌<◌, ◌^◌, List, ℕ, OnOk, Err};
+ghost use Rattle.std.specs.Prelude.{◌≡◌, ◌≢◌, ◌<◌, ◌≤◌, ◌+◌, ◌^◌, List, ℕ, OnOk, Err};
 ghost use Rattle.std.specs.Io.KnownBytes.{Appends};
 ghost use Rattle.krb_text.specs.Causes.{Rose};
 ghost use Rattle.krb_text.specs.Output.{AppendsFront};
@@ -31,6 +31,8 @@ fn answer_line<T: LineTaker, K: Sink>(
     ensures write { result ≡ Err Halt.WriteFault
         → (text : List ℕ) × T.rules.takes taker.old line.now text taker.new × AppendsFront (K.taken sink.old) (K.taken sink.new) text }
     ensures own { (result ≢ Err Halt.End) × (result ≢ Err Halt.LongLine) × (result ≢ Err Halt.ReadFault) }
+    ensures lines { T.rules.lines taker.new ≤ T.rules.lines taker.old + 1 }
+    ensures again { OnOk result (T.is_ready taker.new) }
     ensures fault { result ≡ Err Halt.WriteFault → Rose (K.faults sink.old) (K.faults sink.new) }
     ensures still { result ≢ Err Halt.WriteFault → K.faults sink.new ≡ K.faults sink.old }
 {

@@ -1,6 +1,6 @@
 //! What takes lines.
 
-ghost use Rattle.std.specs.Prelude.{◌≡◌, ◌<◌, ◌+◌, ◌^◌, List, ℕ, MatchResult, OnErr, string_bytes};
+ghost use Rattle.std.specs.Prelude.{◌≡◌, ◌<◌, ◌≤◌, ◌+◌, ◌^◌, MatchResult, OnOk, OnErr, string_bytes};
 ghost use Rattle.krb_lines.specs.Rules.{Rules, AreCountsOf};
 
 use arrayvec::ArrayString;
@@ -33,7 +33,9 @@ pub trait LineTaker {
         ensures turn { MatchResult result
             (λ text. rules.takes self.old line.now (string_bytes text) self.new)
             (λ e. e ≡ LineError.Bad → rules.refuses self.old line.now) }
-        ensures err { OnErr result (AreCountsOf rules self.old self.new) };
+        ensures err { OnErr result (AreCountsOf rules self.old self.new) }
+        ensures lines { rules.lines self.new ≤ rules.lines self.old + 1 }
+        ensures again { OnOk result (is_ready self.new) };
 
     /// How many lines were taken.
     fn lines(&self) -> u64
@@ -50,10 +52,4 @@ pub trait LineTaker {
     /// The last line where the input ends here.
     fn end_line(&self) -> ArrayString<ROOM>
         ensures { result.bytes ≡ rules.end_line self.now };
-
-    /// A line that is taken is counted.
-    ghost counts: { (old new : Self) (line text : List ℕ) → rules.takes old line text new → rules.lines new ≡ rules.lines old + 1 };
-
-    /// The next line can be taken.
-    ghost goes_on: { (old new : Self) (line text : List ℕ) → is_ready old → rules.takes old line text new → is_ready new };
 }

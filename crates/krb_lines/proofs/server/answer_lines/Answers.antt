@@ -68,15 +68,14 @@ lines-preserved g c =
     let P : Reader → Type 0 = λ r. Standing rules c.args.taker.now left (ahead r b) before last r.cutting.taken c.answer_line.new.taker in
     let Q : Reader → Type 0 = λ r. IsBetweenLines r in
     let taken_is : c.next_line.new.self.cutting.taken ≡ c.lines.reader.cutting.taken + (length c.line.result.now + 1) = ap (λ k. k.taken) t.ready in
-    let counts = g.met.T.LineTaker.counts c.lines.taker c.answer_line.new.taker c.line.result.now turn.0 turn.1 in
     let within = t.within in let bound = t.bound in (
       subst P (sym c.drop_line.ensures)
           (standing-line rules c.args.taker.now left (ahead c.lines.reader a) before now last (ahead c.next_line.new.self b) c.lines.reader c.next_line.new.self a b c.lines.taker
-          c.answer_line.new.taker c.line.result.now turn.0 refl refl c.lines.invariant.0 t turn.1 counts turn.2),
+          c.answer_line.new.taker c.line.result.now turn.0 refl refl c.lines.invariant.0 t turn.1 c.answer_line.ensures.lines turn.2),
       subst Q (sym c.drop_line.ensures) (refl, refl, omega arith, omega arith),
       c.in-Ok-true.ensures.still (λ e. cc) ∙ c.lines.invariant.2,
       c.in-Ok.ensures.still (λ e. cc) ∙ c.lines.invariant.3,
-      g.met.T.LineTaker.goes_on c.lines.taker c.answer_line.new.taker c.line.result.now turn.0 c.lines.invariant.4 turn.1,
+      c.in-Ok.ensures.again,
     )
 
 pub returns-then-is_empty-clause-text : goal.returns-then-is_empty-clause-text
