@@ -7,10 +7,10 @@ pub mod CallLemmas
 pub mod PolicyLemmas
 pub mod HistoryLemmas
 pub mod GrowthLemmas
+pub mod Following
 pub mod ProgressLemmas
 pub mod OrderLemmas
-pub mod StandingLemmas
-pub mod ExitLemmas
+pub mod ReadingLemmas
 pub mod CloseLemmas
 pub mod DemoLemmas
 pub mod OnceLemmas

@@ -20,7 +20,7 @@ use Rattle.krb_machine.specs.Described.{Remembers, skew_of, connections_of, serv
 use Rattle.krb_machine.specs.Reply.{reply_line, replies_text, admits_peer}
 use Rattle.krb_machine.specs.Text.{Answered, first_events}
 use Rattle.krb_machine.specs.Progress.{Progress, IsNew, BeginsService, CannotBegin, one_if_admits, Answers, prepare, prepare_by, Prepares, TakesItem, RefusesItem, TakesContent, counted, Takes, Refuses}
-use Rattle.krb_machine.specs.Halts.{IsBefore, IsAmid, Follows}
+use Rattle.krb_machine.proofs.Following.{IsBefore, IsAmid, Follows}
 use Rattle.krb_machine.proofs.PolicyLemmas.{Runs-push}
 use Rattle.krb_machine.proofs.HistoryLemmas.{step-remembered}
 use Rattle.krb_machine.proofs.GrowthLemmas.{Grows}
@@ -33,7 +33,6 @@ pub record Made (progress : Progress) (so_far : Declared) (replies : List Reply)
   pub follows : Follows after next all
   pub text_is : replies_text all ≡ replies_text replies ++ text
   pub lines_are : after.lines ≡ lines
-  pub few : length next.events ≤ length so_far.events + 1
 
 -- what an event needs of a session: a skew, and the service behind the events so far
 record IsReady (so_far : Declared) (replies : List Reply) (before : State Book) : Type 0 where
@@ -83,9 +82,6 @@ ready progress so_far replies before (inr m) begins = ready_amid progress so_far
 replies-push : (replies : List Reply) (reply : Reply) (text : List ℕ) → text ≡ reply_line reply → replies_text (replies ++ reply ∷ []) ≡ replies_text replies ++ text
 replies-push replies reply text is = flat_map-append reply_line replies (reply ∷ []) ∙ ap (λ l. replies_text replies ++ l) (append-nil (reply_line reply) ∙ sym is)
 
-one_at_most : (reply : Reply) → one_if_admits reply ≤ 1
-one_at_most reply = elim (admits_peer reply) as (λ b. (if b then 1 else 0) ≤ 1) [ true ↦ omega arith | false ↦ omega arith ]
-
 event_made : (progress : Progress) (so_far : Declared) (replies : List Reply) (event : Event) (text : List ℕ) (after : Progress) → Follows progress so_far replies → Answers progress event text after
     → Made progress so_far replies (declare so_far (EventItem event)) text progress.lines after
 event_made progress so_far replies event text after f a =
@@ -96,8 +92,6 @@ event_made progress so_far replies event text after f a =
     let answered = f.answered in
     let answered_is = a.answered_is in
     let admitted_is = a.admitted_is in
-    let few = one_at_most a.reply in
-    let modest = f.modest in
     record {
       next = record { setup = so_far.setup; events = so_far.events ++ event ∷ [] };
       is = rw r.skew refl;
@@ -105,7 +99,6 @@ event_made progress so_far replies event text after f a =
       follows = record {
         answered = omega arith;
         admitted = a.admitted_is ∙ ap (λ n. n + one_if_admits a.reply) f.admitted ∙ sym (sum_by_push (λ reply. one_if_admits reply) replies a.reply);
-        modest = omega arith;
         state = inr (record {
           after = a.next;
           history = m.after;
@@ -119,7 +112,6 @@ event_made progress so_far replies event text after f a =
       };
       text_is = replies-push replies a.reply text a.text_is;
       lines_are = a.lines_are;
-      few = omega arith;
     }
 
 prepared : (progress after : Progress) (o : Option Setup) → option_map (λ setup. record progress { setup = setup }) o ≡ Some after → (setup : Setup) × (o ≡ Some setup) × (after ≡ record progress { setup = setup })
@@ -134,7 +126,6 @@ setup_made progress so_far replies item text after f (inl b) p =
     let none : length so_far.events ≡ 0 = ap length b.events in
     let answered_is : after.answered ≡ progress.answered = ap (λ (q : Progress). q.answered) made.2 in
     let admitted_is : after.admitted ≡ progress.admitted = ap (λ (q : Progress). q.admitted) made.2 in
-    let modest = f.modest in
     let answered = f.answered in
     record {
       next = record { setup = made.0; events = [] };
@@ -143,7 +134,6 @@ setup_made progress so_far replies item text after f (inl b) p =
       follows = record {
         answered = omega arith;
         admitted = admitted_is ∙ f.admitted;
-        modest = omega arith;
         state = inl (record {
           setup = ap (λ (q : Progress). q.setup) made.2;
           service = ap (λ (q : Progress). q.service) made.2 ∙ b.service;
@@ -153,7 +143,6 @@ setup_made progress so_far replies item text after f (inl b) p =
       };
       text_is = sym (append-nil (replies_text replies)) ∙ ap (λ l. replies_text replies ++ l) (sym p.text_is);
       lines_are = ap (λ (q : Progress). q.lines) made.2;
-      few = omega arith;
     }
 setup_made progress so_far replies item text after f (inr m) p =
     let none : prepare progress item ≡ None = ap (λ o. prepare_by o progress item) m.service in
@@ -176,7 +165,6 @@ line_made progress so_far replies line text after true f m =
       follows = subst P (sym m.1) f;
       text_is = sym (append-nil (replies_text replies)) ∙ ap (λ l. replies_text replies ++ l) (sym m.0);
       lines_are = ap (λ (p : Progress). p.lines) m.1;
-      few = omega arith;
     }
 line_made progress so_far replies line text after false f m =
     let O : Option Declared → Type 0 = λ d. Made progress so_far replies d text progress.lines after in
@@ -199,10 +187,9 @@ line-made progress so_far replies line text after f t =
       next = m.next;
       is = m.is;
       all = m.all;
-      follows = subst P (sym t.after_is) (record { answered = m.follows.answered; admitted = m.follows.admitted; modest = m.follows.modest; state = counted_state t.last m.next m.all m.follows.state });
+      follows = subst P (sym t.after_is) (record { answered = m.follows.answered; admitted = m.follows.admitted; state = counted_state t.last m.next m.all m.follows.state });
       text_is = m.text_is;
       lines_are = ap (λ (p : Progress). p.lines) t.after_is ∙ ap (λ n. n + 1) lines_are;
-      few = m.few;
     }
 
 event_refused : (progress : Progress) (so_far : Declared) (replies : List Reply) (event : Event) → IsBefore progress so_far replies ⊎ IsAmid progress so_far replies → CannotBegin progress

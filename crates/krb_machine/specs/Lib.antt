@@ -13,7 +13,6 @@ pub mod Left
 pub mod Admitted
 pub mod Text
 pub mod Progress
-pub mod Closing
+pub mod LineRules
 pub mod Serve
-pub mod Halts
 pub mod Demo

@@ -1,6 +1,7 @@
 -- What is written for an input.
 use Rattle.std.specs.Prelude.{◌≡◌, ◌≤◌, ℕ, List, ◌++◌, codes, length, take, is_some, if◌then◌else◌}
 use Rattle.std.specs.Fmt.{decimal}
+pub use Rattle.krb_lines.specs.Text.{bad_line, long_line, stopped_line}
 use Rattle.krb_script.specs.Script.{Setup, Declared, reading_of}
 use Rattle.krb_script.specs.declared.stop.Stop.{Stop}
 use Rattle.krb_script.specs.declared.stop.Stop.TheVariants.{Whole, Bad, Long}
@@ -10,18 +11,9 @@ use Rattle.krb_machine.specs.Described.{Remembers, skew_of, service_of}
 use Rattle.krb_machine.specs.Reply.{replies_text, admissions}
 use Rattle.krb_machine.specs.declared.reply.Reply.{Reply}
 
--- the last lines
+-- the last line of a whole input
 abbrev pub end_line : ℕ → ℕ → List ℕ
 end_line admissions records = codes "end " ++ decimal admissions ++ codes " " ++ decimal records ++ codes "\n"
-
-abbrev pub bad_line : ℕ → List ℕ
-bad_line n = codes "bad line " ++ decimal n ++ codes "\n"
-
-abbrev pub long_line : ℕ → List ℕ
-long_line n = codes "long line " ++ decimal n ++ codes "\n"
-
-abbrev pub stopped_line : ℕ → List ℕ
-stopped_line t = codes "stopped " ++ decimal t ++ codes "\n"
 
 -- behind these replies, where this is the history afterwards: how many events admitted their peer, and how many records are
 -- in the window. Where no line told the skew, the line behind the last is bad

@@ -3,13 +3,11 @@ ghost use Rattle.std.specs.Prelude.{◌≡◌, ◌≢◌, ◌≤◌, ◌↔◌, 
 ghost use Rattle.krb_text.specs.Causes.{Rose};
 ghost use Rattle.krb_machine.specs.Demo.{event_count, demo_number, demo_line, Counts, Demonstrates};
 
-use crate::closing::ROOM;
-use crate::command::answer_lines;
-use crate::halt::Halt;
 use crate::session::Session;
 use arrayvec::ArrayString;
 use itoa::Buffer;
 use krb_demo::demonstration;
+use krb_lines::{Halt, LineTaker, ROOM, answer_lines};
 use krb_text::{LineReader, Sink, Status, SureSink, SureSource, Words, write_line};
 use std::alloc::Global;
 
@@ -64,7 +62,7 @@ fn demonstrate(alloc: Global, n: u64) -> Option<ArrayString<ROOM>>
     let mut reader = LineReader::new(alloc);
     let mut session = Session::new(alloc);
     match answer_lines(alloc, &mut reader, &mut session, &mut source, &mut SureSink) {
-        Halt::End if session.has_begun() => Some(demo_line(n, session.admitted(), session.kept())),
+        Halt::End if session.can_end() => Some(demo_line(n, session.admitted(), session.kept())),
         // Each line of the input is good, and this source and this sink do not fail: memory ran out.
         _ => None,
     }

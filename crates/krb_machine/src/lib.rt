@@ -26,7 +26,6 @@ mod connection_exchange;
 mod demonstration;
 mod described;
 mod exchange;
-mod halt;
 mod initiation;
 pub mod laws;
 mod message_calls;
@@ -35,12 +34,13 @@ mod run;
 mod service;
 mod session;
 
-pub use closing::{ROOM, end_line, numbered_line};
+pub use closing::end_line;
 pub use command::serve;
 pub use connection::{Connection, HeldConnection};
 pub use demonstration::demo;
 pub use described::connection_of;
 pub use exchange::{Exchange, Step, begin_exchange, continue_exchange, is_memory};
+pub use krb_lines::{ROOM, numbered_line};
 pub use krb_script::{Event, Input};
 pub use krb_text::{
     Calls, CutFault, Failed, LineCutter, MemSink, MemSource, Sink, Source, Status, StdSink,

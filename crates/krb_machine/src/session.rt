@@ -1,8 +1,11 @@
 //! A session: it takes one line after another, and answers each event as it comes.
+use crate::closing::end_line;
 use crate::described::service_of;
 use crate::reply::Reply;
 use crate::service::Service;
+use arrayvec::ArrayString;
 use krb_der::OutOfMemory;
+use krb_lines::{LineError, LineTaker, ROOM};
 use krb_replay::ReplayBook;
 use krb_script::{Declaration, Event, FieldError, Item, Script, parse_item};
 use krb_text::is_skipped;
@@ -31,8 +34,8 @@ impl Model for Session {
 impl Session {
     ghost use Rattle.std.specs.Prelude.{◌≡◌, ◌<◌, ◌≤◌, ◌^◌, ◌+◌, Some, None, OnOk, OnErr, MatchOption, MatchResult, string_bytes};
     ghost use Rattle.krb_script.specs.declared.fields.FieldError.TheVariants.{Bad};
-    ghost use Rattle.krb_machine.specs.Progress.{new_progress, BeginsService, CannotBegin, one_if_admits, Answers, prepare, Prepares, TakesContent, RefusesContent, Takes, Refuses};
-    ghost use Rattle.krb_machine.specs.Closing.{has_begun, kept_by};
+    ghost use Rattle.krb_machine.specs.Progress.{new_progress, BeginsService, CannotBegin, one_if_admits, Answers, prepare, Prepares, TakesContent, RefusesContent};
+    ghost use Rattle.krb_machine.specs.LineRules.{kept_by};
 
     pub fn new(alloc: Global) -> Session
         ensures { result ≡ new_progress }
@@ -44,27 +47,6 @@ impl Session {
             answered: 0,
             admitted: 0,
         }
-    }
-
-    /// How many lines were taken.
-    pub fn lines(&self) -> u64
-        ensures { result ≡ self.now.lines }
-    {
-        self.lines
-    }
-
-    /// How many events were answered.
-    pub fn answered(&self) -> u64
-        ensures { result ≡ self.now.answered }
-    {
-        self.answered
-    }
-
-    /// Whether there was a line with the skew.
-    pub fn has_begun(&self) -> bool
-        ensures { result ≡ has_begun self.now }
-    {
-        self.service.is_some() || self.script.has_begun()
     }
 
     /// How many events admitted their peer.
@@ -119,6 +101,8 @@ impl Session {
             (λ e. e ≡ Bad → CannotBegin self.old × (self.new ≡ self.old)) }
         ensures err { OnErr result (self.new.answered ≡ self.old.answered) }
         ensures lines { self.new.lines ≡ self.old.lines }
+        ensures few { self.new.answered ≤ self.old.answered + 1 }
+        ensures modest { self.old.admitted ≤ self.old.answered → self.new.admitted ≤ self.new.answered }
     {
         self.make_service(alloc)?;
         let Some(service) = &mut self.service else {
@@ -137,6 +121,8 @@ impl Session {
             (λ e. e ≡ Bad → (prepare self.old declaration ≡ None) × (self.new ≡ self.old)) }
         ensures err { OnErr result (self.new ≡ self.old) }
         ensures lines { self.new.lines ≡ self.old.lines }
+        ensures few { self.new.answered ≤ self.old.answered + 1 }
+        ensures modest { self.old.admitted ≤ self.old.answered → self.new.admitted ≤ self.new.answered }
     {
         if self.service.is_some() {
             drop(declaration);
@@ -155,30 +141,52 @@ impl Session {
             (λ e. e ≡ Bad → RefusesContent self.old line.now × (self.new ≡ self.old)) }
         ensures err { OnErr result (self.new.answered ≡ self.old.answered) }
         ensures lines { self.new.lines ≡ self.old.lines }
+        ensures few { self.new.answered ≤ self.old.answered + 1 }
+        ensures modest { self.old.admitted ≤ self.old.answered → self.new.admitted ≤ self.new.answered }
     {
         match parse_item(alloc, line)? {
             Item::Event(event) => self.answer(alloc, &event),
             Item::Declaration(declaration) => self.prepare(alloc, declaration),
         }
     }
+}
 
-    /// One line more, and the line that is written for it. At `Bad` it stays as it was.
-    pub fn take_line(&mut self, alloc: Global, line: &[u8]) -> Result<String, FieldError>
-        requires lines { self.old.lines < 2 ^ 32 }
-        requires answered { self.old.answered < 2 ^ 32 }
-        requires admitted { self.old.admitted < 2 ^ 32 }
-        ensures turn { MatchResult result
-            (λ text. Takes self.old line.now (string_bytes text) self.new)
-            (λ e. e ≡ Bad → Refuses self.old line.now × (self.new ≡ self.old)) }
-        ensures err { OnErr result (self.new.answered ≡ self.old.answered) }
-        ensures lines { self.new.lines ≤ self.old.lines + 1 }
-    {
+impl LineTaker for Session {
+    ghost use Rattle.krb_machine.specs.LineRules.{line_rules, IsModest};
+
+    ghost rules = { line_rules };
+
+    ghost is_ready = { IsModest };
+
+    fn take_line(&mut self, alloc: Global, line: &[u8]) -> Result<String, LineError> {
         let text = if is_skipped(line) {
             String::new(alloc)
         } else {
-            self.take_content(alloc, line)?
+            match self.take_content(alloc, line) {
+                Ok(text) => text,
+                Err(FieldError::Bad) => return Err(LineError::Bad),
+                Err(FieldError::OutOfMemory) => return Err(LineError::OutOfMemory),
+            }
         };
         self.lines += 1;
         Ok(text)
+    }
+
+    fn lines(&self) -> u64 {
+        self.lines
+    }
+
+    /// How many events were answered.
+    fn answered(&self) -> u64 {
+        self.answered
+    }
+
+    /// Whether there was a line with the skew.
+    fn can_end(&self) -> bool {
+        self.service.is_some() || self.script.has_begun()
+    }
+
+    fn end_line(&self) -> ArrayString<ROOM> {
+        end_line(self.admitted(), self.kept())
     }
 }

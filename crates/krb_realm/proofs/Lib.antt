@@ -1,6 +1,2 @@
 mod NameLemmas
 mod RealmLemmas
-mod RunLemmas
-mod StandingLemmas
-mod ExitLemmas
-mod CloseLemmas

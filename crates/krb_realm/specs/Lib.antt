@@ -4,4 +4,3 @@ pub mod Text
 pub mod Realms
 pub mod Progress
 pub mod Answering
-pub mod Halts

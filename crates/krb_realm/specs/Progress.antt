@@ -1,5 +1,5 @@
 -- What is known behind some lines, and what one line more does.
-use Rattle.std.specs.Prelude.{◌≡◌, ℕ, ◌+◌, false, ◌&&◌, List, [], ◌∷◌, ◌++◌, Option, Some, None, is_some, is_none, IfSome, MatchBool}
+use Rattle.std.specs.Prelude.{◌≡◌, ℕ, ◌+◌, false, ◌&&◌, List, [], Option, Some, None, is_some, is_none, IfSome, MatchBool}
 use Rattle.krb_text.specs.Lines.{is_skipped}
 use Rattle.krb_realm.specs.Items.{item_of}
 use Rattle.krb_realm.specs.Realms.{can_begin, BeginsRealm, can_add, addition_of, EntersRealm, is_moment, TellsReply}
@@ -18,11 +18,6 @@ pub record Progress : Type 0 where
 
 abbrev pub new_progress : Progress
 new_progress = record { realm = None; lines = 0; answered = 0 }
-
--- the same counts
-pub record AreCountsOf (old new : Progress) : Type 0 where
-  pub lines_are : new.lines ≡ old.lines
-  pub answered_are : new.answered ≡ old.answered
 
 -- no line named the realm before; nothing is written
 pub record NamesRealm (progress : Progress) (line : RealmLine) (text : List ℕ) (after : Progress) : Type 0 where
@@ -83,17 +78,3 @@ pub record Takes (progress : Progress) (line text : List ℕ) (after : Progress)
 pub record Refuses (progress : Progress) (line : List ℕ) : Type 0 where
   pub content : is_skipped line ≡ false
   pub refuses : RefusesContent progress line
-
--- one line, and then those behind it
-pub record FirstThen (line : List ℕ) (rest : Progress → List ℕ → Type 0) (progress : Progress) (text : List ℕ) : Type 0 where
-  pub own : List ℕ
-  pub next : Progress
-  pub takes : Takes progress line own next
-  pub later : List ℕ
-  pub follows : rest next later
-  pub text_is : text ≡ own ++ later
-
--- lines are taken in their order: this text is written, and this is known then
-abbrev pub Runs : Progress → List (List ℕ) → List ℕ → Progress → Type 0
-Runs progress [] text after = (text ≡ []) × (after ≡ progress)
-Runs progress (line ∷ lines) text after = FirstThen line (λ next later. Runs next lines later after) progress text

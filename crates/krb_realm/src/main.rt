@@ -1,10 +1,8 @@
 //! A KDC for tests over standard input and output.
 #![tactic(auto)]
 
-mod closing;
 mod command;
 mod fields;
-mod halt;
 mod help;
 mod item;
 mod realm;

@@ -2,6 +2,8 @@
 
 use crate::item::{Entry, Item, RealmLine, Request, parse_item};
 use crate::realm::Realm;
+use arrayvec::ArrayString;
+use krb_lines::{LineError, LineTaker, ROOM, numbered_line};
 use krb_script::FieldError;
 use krb_text::is_skipped;
 use std::alloc::Global;
@@ -24,9 +26,9 @@ impl Model for Session {
 }
 
 impl Session {
-    ghost use Rattle.std.specs.Prelude.{◌≡◌, ◌<◌, ◌^◌, ◌+◌, ◌≤◌, OnErr, MatchResult, is_some, string_bytes};
+    ghost use Rattle.std.specs.Prelude.{◌≡◌, ◌<◌, ◌≤◌, ◌^◌, ◌+◌, OnErr, MatchResult, string_bytes};
     ghost use Rattle.krb_script.specs.declared.fields.FieldError.TheVariants.{Bad};
-    ghost use Rattle.krb_realm.specs.Progress.{new_progress, TakesItem, RefusesItem, TakesContent, RefusesContent, Takes, Refuses, AreCountsOf};
+    ghost use Rattle.krb_realm.specs.Progress.{new_progress, TakesItem, RefusesItem, TakesContent, RefusesContent};
     ghost use Rattle.krb_realm.specs.declared.item.Item.TheVariants as items;
 
     pub fn new() -> Session
@@ -39,33 +41,14 @@ impl Session {
         }
     }
 
-    /// How many lines were taken.
-    pub fn lines(&self) -> u64
-        ensures { result ≡ self.now.lines }
-    {
-        self.lines
-    }
-
-    /// How many requests were answered.
-    pub fn answered(&self) -> u64
-        ensures { result ≡ self.now.answered }
-    {
-        self.answered
-    }
-
-    /// Whether a line named the realm.
-    pub fn has_realm(&self) -> bool
-        ensures { result ≡ is_some self.now.realm }
-    {
-        self.realm.is_some()
-    }
-
     /// The line that names the realm.
     fn begin(&mut self, alloc: Global, line: RealmLine) -> Result<String, FieldError>
         ensures turn { MatchResult result
             (λ text. TakesItem self.old (items.Realm line) (string_bytes text) self.new)
             (λ e. e ≡ Bad → RefusesItem self.old (items.Realm line)) }
-        ensures err { OnErr result (AreCountsOf self.old self.new) }
+        ensures err { OnErr result (self.new.answered ≡ self.old.answered) }
+        ensures lines { self.new.lines ≡ self.old.lines }
+        ensures few { self.new.answered ≤ self.old.answered + 1 }
     {
         if self.realm.is_some() {
             return Err(FieldError::Bad);
@@ -79,7 +62,9 @@ impl Session {
         ensures turn { MatchResult result
             (λ text. TakesItem self.old (items.Entry entry) (string_bytes text) self.new)
             (λ e. e ≡ Bad → RefusesItem self.old (items.Entry entry)) }
-        ensures err { OnErr result (AreCountsOf self.old self.new) }
+        ensures err { OnErr result (self.new.answered ≡ self.old.answered) }
+        ensures lines { self.new.lines ≡ self.old.lines }
+        ensures few { self.new.answered ≤ self.old.answered + 1 }
     {
         let Some(realm) = &mut self.realm else {
             return Err(FieldError::Bad);
@@ -94,7 +79,9 @@ impl Session {
         ensures turn { MatchResult result
             (λ text. TakesItem self.old (items.Request request.now) (string_bytes text) self.new)
             (λ e. e ≡ Bad → RefusesItem self.old (items.Request request.now)) }
-        ensures err { OnErr result (AreCountsOf self.old self.new) }
+        ensures err { OnErr result (self.new.answered ≡ self.old.answered) }
+        ensures lines { self.new.lines ≡ self.old.lines }
+        ensures few { self.new.answered ≤ self.old.answered + 1 }
     {
         let Some(realm) = &self.realm else {
             return Err(FieldError::Bad);
@@ -109,7 +96,9 @@ impl Session {
         ensures turn { MatchResult result
             (λ text. TakesContent self.old line.now (string_bytes text) self.new)
             (λ e. e ≡ Bad → RefusesContent self.old line.now) }
-        ensures err { OnErr result (AreCountsOf self.old self.new) }
+        ensures err { OnErr result (self.new.answered ≡ self.old.answered) }
+        ensures lines { self.new.lines ≡ self.old.lines }
+        ensures few { self.new.answered ≤ self.old.answered + 1 }
     {
         match parse_item(alloc, line)? {
             Item::Realm(first) => self.begin(alloc, first),
@@ -117,23 +106,45 @@ impl Session {
             Item::Request(request) => self.answer(alloc, &request),
         }
     }
+}
 
-    /// One line more, and the text that is written for it. At an error the counts stay as they were.
-    pub fn take_line(&mut self, alloc: Global, line: &[u8]) -> Result<String, FieldError>
-        requires lines { self.old.lines < 2 ^ 32 }
-        requires answered { self.old.answered < 2 ^ 32 }
-        ensures turn { MatchResult result
-            (λ text. Takes self.old line.now (string_bytes text) self.new)
-            (λ e. e ≡ Bad → Refuses self.old line.now) }
-        ensures err { OnErr result (AreCountsOf self.old self.new) }
-        ensures lines { self.new.lines ≤ self.old.lines + 1 }
-    {
+impl LineTaker for Session {
+    ghost use Rattle.std.specs.Prelude.{◌≤◌};
+    ghost use Rattle.krb_realm.specs.Answering.{line_rules};
+
+    ghost rules = { line_rules };
+
+    ghost is_ready = { λ progress. progress.answered ≤ progress.lines };
+
+    fn take_line(&mut self, alloc: Global, line: &[u8]) -> Result<String, LineError> {
         let text = if is_skipped(line) {
             String::new(alloc)
         } else {
-            self.take_content(alloc, line)?
+            match self.take_content(alloc, line) {
+                Ok(text) => text,
+                Err(FieldError::Bad) => return Err(LineError::Bad),
+                Err(FieldError::OutOfMemory) => return Err(LineError::OutOfMemory),
+            }
         };
         self.lines += 1;
         Ok(text)
+    }
+
+    fn lines(&self) -> u64 {
+        self.lines
+    }
+
+    /// How many requests were answered.
+    fn answered(&self) -> u64 {
+        self.answered
+    }
+
+    /// Whether a line named the realm.
+    fn can_end(&self) -> bool {
+        self.realm.is_some()
+    }
+
+    fn end_line(&self) -> ArrayString<ROOM> {
+        numbered_line("end ", self.answered)
     }
 }

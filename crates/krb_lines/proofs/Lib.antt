@@ -1,0 +1,4 @@
+mod RunLemmas
+mod StandingLemmas
+mod ExitLemmas
+mod CloseLemmas
