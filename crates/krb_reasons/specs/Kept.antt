@@ -1,7 +1,7 @@
 -- What is kept of an input.
-use Rattle.std.specs.Prelude.{ℕ, ◌+◌, ◌-◌, ◌^◌, ◌==◌, ◌||◌, min, Bool, false, List, [], ◌∷◌, ◌++◌, codes, if◌then◌else◌}
+use Rattle.std.specs.Prelude.{◌≡◌, ℕ, ◌+◌, ◌-◌, ◌^◌, ◌==◌, ◌||◌, min, Bool, false, List, [], ◌∷◌, ◌++◌, codes, if◌then◌else◌}
 use Rattle.std.specs.List.{fold, starts_with}
-use Rattle.krb_text.specs.Lines.{cut, is_skipped}
+use Rattle.krb_text.specs.Lines.{cut, lines, is_skipped}
 
 -- the lines before the last piece: those that are kept, each with its 0A, their numbers from 1, and how many lines there were
 pub record Head : Type 0 where
@@ -51,3 +51,13 @@ kept_with kept piece = record {
   tail = (cut kept.tail).rest ++ piece;
   is_lost = kept.is_lost;
 }
+
+-- what is kept of an input that comes in these pieces
+abbrev pub kept_of : List (List ℕ) → Keeping
+kept_of pieces = fold kept_with nothing_kept pieces
+
+-- the input's lines are those that the head has or counts, and then those of the tail
+pub record KeepsLines (input : List ℕ) (kept : Keeping) : Type 0 where
+  pub before : List (List ℕ)
+  pub head_is : kept.head ≡ with_lines no_head before
+  pub lines_are : lines input ≡ before ++ lines kept.tail
