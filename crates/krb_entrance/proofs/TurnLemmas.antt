@@ -1,12 +1,12 @@
 -- Keys that are tried in turn.
-use Rattle.std.proofs.Common.{◌≡◌, ℕ, suc, zero, ◌+◌, ◌<◌, List, [], ◌∷◌, ◌++◌, length, take, drop, get_or, Bool, true, false, Err, refl, sym, ap, ◌∙◌, subst, inl, inr, arith, add-one, drop-cons}
-use Rattle.std.specs.Prelude.{All, slice_index_or, ◌⊎◌}
-use Rattle.std.proofs.lemmas.List.{take-append-drop, take_all}
+use Rattle.std.proofs.Common.{◌≡◌, ℕ, suc, zero, ◌+◌, ◌<◌, List, ◌∷◌, ◌++◌, length, take, drop, get_or, Bool, true, sym, ap, ◌∙◌, subst, inl, inr, arith, add-one, drop-cons}
+use Rattle.std.specs.Prelude.{All}
+use Rattle.std.proofs.lemmas.List.{take-append-drop}
 use Rattle.krb_context.specs.declared.server.ServerProperties.{ServerProperties}
 use Rattle.krb_context.specs.Refusals.{Refuses}
 use Rattle.krb_entrance.specs.declared.candidate.Candidate.{Candidate}
-use Rattle.krb_entrance.specs.Candidates.{Stops, Passes}
-use Rattle.krb_entrance.specs.Turns.{leads_on, IsClosed, Opens, Ends, AllClosed, NoneOpens, EndsBehind, EndsInTurn}
+use Rattle.krb_entrance.specs.Candidates.{Stops}
+use Rattle.krb_entrance.specs.Turns.{leads_on, IsClosed, Opens, EndsBehind, EndsInTurn}
 use Rattle.sspi_core.specs.Kinds.{error_of}
 use Rattle.sspi_core.specs.declared.cause.Cause.TheVariants.{Memory}
 use Rattle.sspi_core.specs.declared.draw.Draw.{Draw}

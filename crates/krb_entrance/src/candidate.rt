@@ -78,6 +78,23 @@ fn client_told(alloc: Global, judged: &Judged) -> Result<Client, OutOfMemory>
     copier.finish(client)
 }
 
+fn judge_alone(
+    alloc: Global,
+    connection: &mut Kerberos,
+    token: &[u8],
+    draw: &Draw,
+) -> Result<Judged, Error>
+    ensures passes { IfOk result (λ judged. Prepares connection.old false token.now draw.now judged) }
+    ensures refused { IfErr result (Refuses places.Elsewhere (JudgesApReq connection.old false token.now draw.now)) }
+    ensures stays { connection.new ≡ connection.old }
+{
+    let flags = ServerRequestFlags::from_bits_retain(0);
+    match krb_server::judge(alloc, connection, token, flags, draw) {
+        Ok(judged) => Ok(judged),
+        Err(error) => Err(error),
+    }
+}
+
 fn judge_at(
     alloc: Global,
     connection: &mut Kerberos,
@@ -89,10 +106,9 @@ fn judge_at(
     ensures refused { IfErr result (Refuses places.Elsewhere (JudgesApReq connection.old false token.now draw.now)) }
     ensures stays { connection.new ≡ connection.old }
 {
-    let flags = ServerRequestFlags::from_bits_retain(0);
-    let judged = krb_server::judge(alloc, connection, token, flags, draw)?;
+    let judged = boxed(alloc, judge_alone(alloc, connection, token, draw)?)?;
     let client = boxed(alloc, client_told(alloc, &judged)?)?;
-    Ok((judged, client))
+    Ok((Box::into_inner(judged), client))
 }
 
 /// Judges a token without the book, at a connection of these services that is made for it. The keys are read alone, so threads
@@ -153,6 +169,10 @@ pub fn admit(alloc: Global, candidate: Candidate, book: &mut ReplayBook) -> Resu
             connection,
             client: Some(client),
         }),
-        Err(error) => Err(error),
+        Err(error) => {
+            drop(connection);
+            drop(client);
+            Err(error)
+        }
     }
 }

@@ -75,8 +75,8 @@ impl Service {
     {
         let parts = components(alloc, name)?;
         let key = Some(Secret::new(key));
-        let properties = ServerProperties::new(alloc, &parts, None, skew, key)?;
         let book = ReplayBook::new(alloc, skew)?;
+        let properties = ServerProperties::new(alloc, &parts, None, skew, key)?;
         Ok(Service { properties, book })
     }
 

@@ -8,6 +8,7 @@ ghost use Rattle.krb_replay.specs.Telling.{AdmitsAsTold};
 ghost use Rattle.krb_entrance.specs.Told.{IsToldIn, IsToldAway, record_octets, told_gate};
 
 use crate::candidate::Candidate;
+use krb_der::boxed;
 use krb_replay::Record;
 use krb_server::{Answer, Error, Judged, Kerberos, Octets, OutOfMemory, TellingGate};
 use krb_sessions::{Session, principal};
@@ -82,7 +83,11 @@ fn admit_at(alloc: Global, candidate: Candidate, gate: &mut TellingGate) -> Resu
             connection,
             client: Some(client),
         }),
-        Err(error) => Err(error),
+        Err(error) => {
+            drop(connection);
+            drop(client);
+            Err(error)
+        }
     }
 }
 
@@ -103,8 +108,8 @@ pub fn admit_told(
     // A refusal is that of the first check that failed: the clock's, the store's, or one behind them.
     ensures refused { IfErr result (Refuses places.Elsewhere (IsToldAway candidate (told_gate candidate.judged skew moment seen))) }
 {
-    match gate_of(alloc, &candidate.judged, skew, moment, seen) {
-        Ok(mut gate) => admit_at(alloc, candidate, &mut gate),
-        Err(error) => Err(Error::from(error)),
-    }
+    let candidate = boxed(alloc, candidate)?;
+    let gate = gate_of(alloc, &candidate.judged, skew, moment, seen)?;
+    let mut gate = boxed(alloc, gate)?;
+    admit_at(alloc, Box::into_inner(candidate), &mut gate)
 }

@@ -1,4 +1,4 @@
-use Rattle.std.proofs.Common.{[], ◌∷◌, refl, sym, ◌∙◌, inl}
+use Rattle.std.proofs.Common.{[], refl, sym, ◌∙◌, inl}
 use Rattle.std.proofs.lemmas.List.Elements.{All-nil}
 use Rattle.std.proofs.lemmas.Result.{IfOk-weaker, IfErr-weaker}
 use Rattle.krb_entrance.specs.Turns.{IsClosed}
