@@ -17,7 +17,8 @@ use Rattle.krb_script.specs.Script.{Declared, nothing_declared, Reading, declare
 use Rattle.krb_script.specs.declared.item.Item.{Item}
 use Rattle.krb_script.specs.declared.stop.Stop.{Stop}
 use Rattle.krb_script.specs.declared.stop.Stop.TheVariants.{Whole as WholeStop, Bad as BadStop, Long as LongStop}
-use Rattle.krb_machine.proofs.StandingLemmas.{short, read-short, read-next}
+use Rattle.krb_lines.proofs.StandingLemmas.{short-line as short}
+use Rattle.krb_machine.proofs.ReadingLemmas.{read-short, read-next}
 use Rattle.krb_threads.specs.Ahead.{AreOf, Declares}
 use Rattle.krb_threads.specs.Known.{Known, nothing_known, Ends}
 use Rattle.krb_threads.specs.Taking.{Takes, TakesWhole, stopped, StopsAt, StopsIn, StopsWith, EndsWith}
