@@ -1,4 +1,4 @@
 mod RunLemmas
-mod StandingLemmas
+pub mod StandingLemmas
 mod ExitLemmas
 mod CloseLemmas

@@ -1,11 +1,11 @@
 -- The text of an input, by its reading.
-use Rattle.std.proofs.Common.{◌≡◌, ◌≢◌, ℕ, ◌+◌, ◌≤◌, ◌⊎◌, inl, inr, true, false, List, [], ◌∷◌, ◌++◌, length, take, Option, Some, None, IfSome, refl, ap, sym, ◌∙◌, subst, arith}
+use Rattle.std.proofs.Common.{◌≡◌, ◌≢◌, ℕ, ◌+◌, ◌⊎◌, inl, inr, List, [], ◌∷◌, ◌++◌, length, Option, Some, None, IfSome, refl, ap, sym, ◌∙◌, subst, arith}
 use Rattle.std.specs.Prelude.{if◌then◌else◌}
 use Rattle.std.proofs.lemmas.List.{append-nil}
 use Rattle.krb_text.specs.Lines.{cut}
 use Rattle.krb_text.specs.declared.status.Status.{Status}
 use Rattle.krb_text.specs.declared.status.Status.TheVariants.{Done, BadWords, BadLine, TooLong, ReadFault, WriteFault, OutOfMemory}
-use Rattle.krb_lines.specs.Answering.{octet_count, Reaches, IsBad, IsLong, EndsDone, EndsBad, EndsLong, EndsStopped, EndsUnread, IsWholeText, AnswersLines, Written as WrittenBy}
+use Rattle.krb_lines.specs.Answering.{octet_count, Reaches, IsBad, IsLong, EndsDone, EndsStopped, EndsUnread, IsWholeText, AnswersLines, Written as WrittenBy}
 use Rattle.krb_lines.specs.Halts.{closing, status_at}
 use Rattle.krb_lines.specs.declared.halt.Halt.TheVariants.{End}
 use Rattle.krb_script.specs.Script.{Declared, Reading, read_lines, read_on, reading_of}
@@ -18,7 +18,7 @@ use Rattle.krb_machine.specs.declared.reply.Reply.{Reply}
 use Rattle.krb_machine.specs.Policy.{State}
 use Rattle.krb_machine.specs.Described.{skew_of, service_of, with_gate}
 use Rattle.krb_machine.specs.Reply.{replies_text, admissions}
-use Rattle.krb_machine.specs.Text.{Answered, IsText, IsStopped, first_events, last_line, end_line, bad_line, long_line}
+use Rattle.krb_machine.specs.Text.{Answered, IsText, IsStopped, last_line, end_line, bad_line, long_line}
 use Rattle.krb_machine.specs.Progress.{Progress, new_progress}
 use Rattle.krb_machine.specs.LineRules.{line_rules, kept_by}
 use Rattle.krb_machine.specs.Serve.{Written, Serves, IsSound, whole_reading, status_of, end_of}
@@ -102,7 +102,7 @@ done_text input text e =
 -- the reading stops at a line that is left
 stopped_text : (input text front line : List ℕ) (others : List (List ℕ)) (progress : Progress) (stop : Stop) (r : Reaches line_rules new_progress input others front progress)
     → ((so_far : Declared) (replies : List Reply) → Follows progress so_far replies
-      → read_lines (length input) (octet_count r.first) (progress.lines + 1) so_far others ≡ record { so_far = so_far; number = progress.lines + 1; stop = stop })
+    → read_lines (length input) (octet_count r.first) (progress.lines + 1) so_far others ≡ record { so_far = so_far; number = progress.lines + 1; stop = stop })
     → ((so_far : Declared) (replies : List Reply) (after : State History) → line ≡ last_line stop (progress.lines + 1) so_far.setup replies after.gate)
     → text ≡ front ++ line → ((so_far : Declared) × (end_of input ≡ status_of stop so_far)) × IsText input text
 stopped_text input text front line others progress stop r stops line_is text_is =
@@ -165,8 +165,7 @@ unread_text taken text e =
     let L : List (List ℕ) → Type 0 = λ l. Reached (length taken) (octet_count whole) l [] text e.taker in
     let r = subst L (append-nil whole) k in
     let all = all-answered e.taker r.so_far r.replies r.follows.state in
-    let D : Reading → Type 0 = λ s. Answered s.so_far text r.replies all.0 in
-    (
+    let D : Reading → Type 0 = λ s. Answered s.so_far text r.replies all.0 in (
       (ap (λ (s : Reading). s.stop) r.reading, e.rest, e.total),
       (r.replies, all.0, subst D (sym r.reading) (record { runs = all.1.runs; is = r.text_is })),
     )

@@ -1,5 +1,5 @@
 -- A session against what the lines so far declare.
-use Rattle.std.specs.Prelude.{◌≡◌, ◌<◌, ℕ, List, [], Some, None, length, is_some, true, ◌⊎◌}
+use Rattle.std.specs.Prelude.{◌≡◌, ◌<◌, List, [], Some, None, length, is_some, true, ◌⊎◌}
 use Rattle.krb_script.specs.Script.{Declared}
 use Rattle.krb_replay.specs.Book.{Book, StandsFor}
 use Rattle.krb_replay.specs.History.{History}

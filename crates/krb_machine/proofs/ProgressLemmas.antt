@@ -1,5 +1,5 @@
 -- What a session knows against what the lines declare.
-use Rattle.std.proofs.Common.{◌≡◌, ℕ, ◌+◌, ◌<◌, ◌≤◌, ◌⊎◌, inl, inr, Bool, true, false, List, [], ◌∷◌, ◌++◌, length, length-append, take, Option, Some, None, is_some, option_map, refl, ap, sym, ◌∙◌, subst, arith}
+use Rattle.std.proofs.Common.{◌≡◌, ℕ, ◌+◌, ◌<◌, ◌⊎◌, inl, inr, Bool, true, false, List, [], ◌∷◌, ◌++◌, length, length-append, take, Option, Some, None, is_some, option_map, refl, ap, sym, ◌∙◌, subst, arith}
 use Rattle.std.specs.Prelude.{if◌then◌else◌, MatchBool, MatchOption, IfSome}
 use Rattle.std.proofs.lemmas.List.{append-nil, take_at}
 use Rattle.std.proofs.lemmas.List.Concat.{flat_map-append}
@@ -17,7 +17,7 @@ use Rattle.krb_replay.specs.Book.{Book, StandsFor}
 use Rattle.krb_replay.specs.History.{History, no_history}
 use Rattle.krb_machine.specs.Policy.{State, Runs}
 use Rattle.krb_machine.specs.Described.{Remembers, skew_of, connections_of, service_of, with_gate}
-use Rattle.krb_machine.specs.Reply.{reply_line, replies_text, admits_peer}
+use Rattle.krb_machine.specs.Reply.{reply_line, replies_text}
 use Rattle.krb_machine.specs.Text.{Answered, first_events}
 use Rattle.krb_machine.specs.Progress.{Progress, IsNew, BeginsService, CannotBegin, one_if_admits, Answers, prepare, prepare_by, Prepares, TakesItem, RefusesItem, TakesContent, counted, Takes, Refuses}
 use Rattle.krb_machine.proofs.Following.{IsBefore, IsAmid, Follows}
