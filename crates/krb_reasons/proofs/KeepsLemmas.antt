@@ -3,7 +3,7 @@ use Rattle.std.proofs.Common.{◌≡◌, ℕ, Bool, true, false, List, [], ◌�
 use Rattle.std.specs.Prelude.{◌==◌}
 use Rattle.std.specs.List.{concat, fold}
 use Rattle.std.proofs.lemmas.List.{append-nil}
-use Rattle.krb_text.specs.Lines.{Cut, cut, in_front, unended, lines}
+use Rattle.krb_text.specs.Lines.{Cut, cut, in_front, unended}
 use Rattle.krb_reasons.specs.Kept.{Head, no_head, with_line, with_lines, Keeping, nothing_kept, kept_with, kept_of, KeepsLines}
 
 -- the lines of a text, and of what follows it
@@ -12,11 +12,11 @@ onto c more = record { whole = c.whole ++ (cut (c.rest ++ more)).whole; rest = (
 
 -- one octet in front that ends no line
 front_onto : (b : ℕ) (c : Cut) (more : List ℕ) → (b == 10) ≡ false → in_front b (onto c more).whole (onto c more).rest ≡ onto (in_front b c.whole c.rest) more
-front_onto b c more open = by c.whole c.rest
+front_onto b c more inside = by c.whole c.rest
   where
     by : (whole : List (List ℕ)) (rest : List ℕ)
         → in_front b (whole ++ (cut (rest ++ more)).whole) (cut (rest ++ more)).rest ≡ onto (in_front b whole rest) more
-    by [] rest = rw open refl
+    by [] rest = rw inside refl
     by (line ∷ whole) rest = refl
 
 cut_step : (b : ℕ) (bs more : List ℕ) (ends : Bool) → (b == 10) ≡ ends → cut (bs ++ more) ≡ onto (cut bs) more → cut (b ∷ (bs ++ more)) ≡ onto (cut (b ∷ bs)) more

@@ -14,7 +14,7 @@ use Rattle.krb_reasons.specs.Shapes.{reason_of}
 use Rattle.krb_reasons.specs.declared.reason.Reason.{Reason}
 use Rattle.krb_reasons.specs.declared.reason.Reason.TheVariants as reasons
 use Rattle.krb_reasons.specs.declared.judge.Complaint.{Complaint}
-use Rattle.krb_reasons.specs.declared.judge.Complaint.TheVariants.{Bad, OutOfMemory}
+use Rattle.krb_reasons.specs.declared.judge.Complaint.TheVariants.{Bad}
 
 -- what the lines before the first event declare, and whether there was an event
 pub record Judged : Type 0 where
