@@ -1,16 +1,31 @@
-# `make run` runs an example with every check at run time and no proof, `make build` proves and builds the program, `make test` is the
-# merge gate, and `make bench` measures and reads the machine code. Another example: make run EXAMPLE=examples/real-client
-# `make bindings` proves and builds the library for C and Rust, and tests both: in ROUNDS=10000 rounds in C.
-# `make live` does without the tests, and lets real clients, KDCs and services speak to the programs of bindings/rust/examples, in
-# throw-away realms (docs/LIVE.md).
-# `make realm` proves and builds `krb_run` and `krb_realm`, and goes from a password to a sealed message with them.
+# Targets, which `make help` prints:
+#
+# make run       runs an example, with every check at run time and no proof; another one: make run EXAMPLE=examples/real-client
+# make test      runs the tests of the libraries and all cases, with every check at run time and no proof
+# make prove     proves all crates, runs the programs, and tries the few wrong bodies of must-fail: first part of the gate, .ci/run
+# make build     proves and builds `krb_run`
+# make realm     proves and builds `krb_run` and `krb_realm`, and goes from a password to an encrypted message with them
+# make library   proves and builds the library for C and Rust
+# make bindings  does the same, and tests it in C and Rust: in ROUNDS=10000 rounds in C
+# make live      lets real clients, KDCs and services speak to that library's examples, in throw-away realms (docs/LIVE.md)
+# make bench     measures, and reads the machine code (docs/BENCHMARKS.md)
 EXAMPLE ?= examples/one-client
 PROGRAM = crates/krb_run/out/krb_run
 
-.PHONY: run build realm library bindings live try-live test bench
+.PHONY: run help test prove build realm library bindings live try-live bench
 run:
 	@cd crates/krb_run && rt try -- serve < $(abspath $(EXAMPLE))
 	@echo "This was not proved: it ran with every check at run time. make build proves."
+
+help:
+	@sed -n 's/^# make/make/p' Makefile
+
+test:
+	tests/library/run
+	tests/cases/run lines acceptor clients initiator kdcs demo-300 demo-none workers realm
+
+prove:
+	rt ci
 
 build:
 	@cd crates/krb_run && rt run -- --version
@@ -38,9 +53,7 @@ try-live: library
 	@test -x tests/live/out/cyrus/usr/lib/cyrus/bin/imtest || tests/live/unpack > /dev/null 2>&1 || echo "live: Heimdal could not be fetched"
 	tests/live/run
 
-test:
-	rt ci
-
-bench:
-	cd crates/krb_bench && rt run -- full
-	tests/machine-code/run crates/krb_bench/out/krb_bench
+bench: library
+	bench/run
+	tests/live/measure
+	tests/machine-code/run

@@ -1,4 +1,4 @@
-"""The wrong bodies of edits/NAME/*.edit as texts: what each changes, in which function, and which can be tried together."""
+"""The wrong bodies of tests/edits/NAME/*.edit as texts: what each changes, in which function, and which can be tried together."""
 
 import glob
 import os
@@ -32,6 +32,10 @@ class Edit:
             else:
                 file, old = (rest.strip(), "") if word == "file" else (file, rest)
         self.find_functions(crate, are_named=bool(self.functions))
+
+    @staticmethod
+    def is_of_gate(path):
+        return "# gate" in text_of(path).split("\n")
 
     def find_functions(self, crate, are_named):
         for at, (file, old, _) in enumerate(self.pairs):

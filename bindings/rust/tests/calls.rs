@@ -3,8 +3,8 @@
 use menolavuri::{Acceptor, Cause, Error, Judged, Session, version};
 use std::time::{Duration, SystemTime, UNIX_EPOCH};
 
-/// The conversation of `crates/krb_gateway/stdin`.
-const CONVERSATION: &str = include_str!("../../../crates/krb_gateway/stdin");
+/// The conversation of `crates/example_acceptor/stdin`.
+const CONVERSATION: &str = include_str!("../../../crates/example_acceptor/stdin");
 
 fn octets(hex: &str) -> Vec<u8> {
     (0..hex.len() / 2)

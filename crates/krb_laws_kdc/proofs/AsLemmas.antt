@@ -38,7 +38,7 @@ use Rattle.krb_kdc.specs.declared.kdc.Principal.{Principal}
 use Rattle.krb_kdc.specs.declared.request.Asked.TheVariants.{First}
 use Rattle.krb_kdc.specs.Answering.{first_grant, Answers}
 use Rattle.krb_kdc.specs.AsChecks.{granting_name, timestamp_type, FindsClient, IsTimestamp, ProvesTime}
-use Rattle.krb_kdc.specs.Clocks.{is_near, is_after}
+use Rattle.krb_kdc.specs.Clocks.{is_near, ends_after}
 use Rattle.krb_kdc.specs.Grants.{as_rep}
 use Rattle.krb_kdc.specs.Refusals.{hint, refusal}
 use Rattle.krb_kdc.specs.Registers.{same_text, principal_with}
@@ -111,7 +111,7 @@ module _ (kdc : Kdc) (name : PrincipalName) (principal : Principal) (moment : �
       (follows _ _ principal _ (takes_some (Code 6) (principal_with name.name_string kdc.principals) principal asks.known)
       (follows _ _ service _ (takes_some (Code 7) (granting_name kdc.realm body.sname) service (ap (granting_name kdc.realm) asks.service ∙ granted_name kdc.realm))
       (follows _ _ tt _ (holds_true (Code 14) (takes_suite kdc.suite body.etype) (ap (takes_suite kdc.suite) asks.etype ∙ suite_taken kdc.suite))
-      (follows _ _ tt _ (holds_true (Code 11) (is_after body.till draw.moment) (ap (λ t. is_after t draw.moment) asks.till ∙ till_after kdc.skew moment draw.moment fair near))
+      (follows _ _ tt _ (holds_true (Code 11) (ends_after body.till draw.moment) (ap (λ t. ends_after t draw.moment) asks.till ∙ till_after kdc.skew moment draw.moment fair near))
       (gives (client_with kdc name principal)))))))
 
   -- the client's name is no longer than the request

@@ -6,12 +6,20 @@ use Rattle.std.proofs.lemmas.Bool.{lt-ltb, le-ltb}
 use Rattle.krb_der.specs.Integer.{integer_value}
 use Rattle.krb_replay.specs.Clock.{in_microseconds}
 use Rattle.krb_requests.specs.Pieces.{three_days_after, whole_second}
-use Rattle.krb_kdc.specs.Clocks.{is_near, is_after, part_of_second, microseconds_of, moment_of}
+use Rattle.krb_kdc.specs.Clocks.{is_near, asks_latest, is_after, ends_after, part_of_second, microseconds_of, moment_of}
 use Rattle.krb_laws_kdc.specs.Asking.{AreNear, IsFairSkew}
 
 -- till is three days after the client's moment, and so after the KDC's
-pub till_after : (skew moment now : ℕ) → IsFairSkew skew → AreNear skew moment now → is_after (three_days_after moment) now ≡ true
-till_after skew moment now fair near = lt-ltb now ((moment / 1000000 + 259200) * 1000000) (omega (arith, near.down, fair.fair))
+is_after_till : (skew moment now : ℕ) → IsFairSkew skew → AreNear skew moment now → is_after (three_days_after moment) now ≡ true
+is_after_till skew moment now fair near = lt-ltb now ((moment / 1000000 + 259200) * 1000000) (omega (arith, near.down, fair.fair))
+
+either_way : (a b : Bool) → b ≡ true → (a || b) ≡ true
+either_way true b e = refl
+either_way false b e = e
+
+pub till_after : (skew moment now : ℕ) → IsFairSkew skew → AreNear skew moment now → ends_after (three_days_after moment) now ≡ true
+till_after skew moment now fair near =
+    either_way (asks_latest (three_days_after moment)) (is_after (three_days_after moment) now) (is_after_till skew moment now fair near)
 
 neither : (a b : Bool) → a ≡ false → b ≡ false → not (a || b) ≡ true
 neither true b e f = absurd cc

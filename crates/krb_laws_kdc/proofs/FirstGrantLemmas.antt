@@ -17,11 +17,10 @@ use Rattle.krb_initiator.specs.InitSteps.{body_of}
 use Rattle.krb_laws_ends.proofs.AnswerLemmas.{moment_time}
 use Rattle.krb_kdc.specs.declared.grant.Grant.{Grant}
 use Rattle.krb_kdc.specs.declared.kdc.Kdc.{Kdc}
-use Rattle.krb_kdc.specs.Clocks.{ten_hours_after}
 use Rattle.krb_kdc.specs.Grants.{as_rep}
 use Rattle.krb_laws_kdc.specs.Fetching.{IsTimely, Draws, HasClient, name_of, first_granted, held_first}
 use Rattle.krb_laws_kdc.specs.Granting.{IsSoundGrant, IsSoundClient}
-use Rattle.krb_laws_kdc.proofs.HeldLemmas.{IsHeld, IsLiving, living_time, earlier_lives, three_days_live, ten_hours_live}
+use Rattle.krb_laws_kdc.proofs.HeldLemmas.{IsHeld, IsLiving, living_time, granted_lives, three_days_live, ten_hours_live}
 use Rattle.krb_laws_kdc.proofs.NameLemmas.{AreNames, principal_names, name_sound, name_octets, known_type}
 use Rattle.krb_laws_kdc.proofs.RepLemmas.{ticket_sound}
 use Rattle.krb_laws_kdc.proofs.WalkLemmas.{granting_sound}
@@ -51,7 +50,7 @@ module _ (seeker : Seeker) (draws : Draws) (user : UserName) (kdc : Kdc) (has : 
   first_lives : IsLiving start grant.endtime
   unfolding first_body
   first_lives =
-      earlier_lives start (three_days_after draws.start.moment) (ten_hours_after draws.first.moment) (three_days_live start span draws.start begun)
+      granted_lives start draws.first.moment (three_days_after draws.start.moment) (three_days_live start span draws.start begun)
       (ten_hours_live start span draws.first given)
 
   nonce_size : length body.nonce ≡ 4

@@ -24,7 +24,7 @@ use Rattle.krb_laws_ends.proofs.OctetsLemmas.{IsOctets-drop}
 use Rattle.krb_kdc.specs.declared.kdc.Kdc.{Kdc}
 use Rattle.krb_kdc.specs.declared.tgs_req.Target.{Target}
 use Rattle.krb_kdc.specs.Answering.{Answers}
-use Rattle.krb_kdc.specs.Clocks.{earlier, ten_hours_after}
+use Rattle.krb_kdc.specs.Clocks.{earlier, ten_hours_after, asks_latest, granted_end}
 use Rattle.krb_kdc.specs.Grants.{ticket_part, ticket, tgs_rep}
 use Rattle.krb_kdc.specs.TgsChecks.{ticket_key, target_of}
 use Rattle.krb_laws_kdc.specs.Asking.{AreNear, IsFairSkew}
@@ -74,6 +74,13 @@ ten_hours_live start span draw t = record {
   after = omega (arith, t.from);
   upto = omega (arith, t.is.moment);
 }
+
+pub granted_lives : (start moment : ℕ) (till : ℤ) → IsLiving start till → IsLiving start (ten_hours_after moment) → IsLiving start (granted_end till moment)
+granted_lives start moment till x y = go (asks_latest till)
+  where
+    go : (c : Bool) → IsLiving start (if c then ten_hours_after moment else earlier till (ten_hours_after moment))
+    go true = y
+    go false = earlier_lives start till (ten_hours_after moment) x y
 
 pub near : (start span skew : ℕ) (x y : Draw) → IsTimely start span x → IsTimely start span y → span ≤ skew → AreNear skew x.moment y.moment
 near start span skew x y t u least =
@@ -161,8 +168,8 @@ module _ (start span : ℕ) (wanted : Wanted) (unset : has_flag wanted.flags.0 u
     next_lives : IsLiving start (granted suite wanted kdc held target own draw).endtime
     unfolding ticket_part
     next_lives =
-        earlier_lives start (earlier (three_days_after own.moment) (ten_hours_after draw.moment)) held.grant.endtime
-        (earlier_lives start (three_days_after own.moment) (ten_hours_after draw.moment) (three_days_live start span own t) (ten_hours_live start span draw u)) h.living
+        earlier_lives start (granted_end (three_days_after own.moment) draw.moment) held.grant.endtime
+        (granted_lives start draw.moment (three_days_after own.moment) (three_days_live start span own t) (ten_hours_live start span draw u)) h.living
 
     pub next_sound : IsSoundGrant kdc.realm (drawn_nonce own) (granted suite wanted kdc held target own draw)
     unfolding ticket_part

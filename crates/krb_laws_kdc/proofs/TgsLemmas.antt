@@ -33,7 +33,7 @@ use Rattle.krb_kdc.specs.declared.kdc.Kdc.{Kdc}
 use Rattle.krb_kdc.specs.declared.request.Asked.TheVariants.{Next}
 use Rattle.krb_kdc.specs.declared.tgs_req.Target.{Target}
 use Rattle.krb_kdc.specs.Answering.{next_grant, FindsWish, Answers}
-use Rattle.krb_kdc.specs.Clocks.{is_near, is_after}
+use Rattle.krb_kdc.specs.Clocks.{is_near, ends_after}
 use Rattle.krb_kdc.specs.Grants.{tgs_rep}
 use Rattle.krb_kdc.specs.Registers.{same_text}
 use Rattle.krb_kdc.specs.Requests.{IsMessage, takes_suite}
@@ -136,7 +136,7 @@ module _ (kdc : Kdc) (ticket : Ticket) (part : EncTicketPart) (moment : ℕ) (bo
     finds_target =
         follows _ _ tt _ (holds_true (Code 13) (not (asks_own_key body.kdc_options)) (ap not asks.alone))
         (follows _ _ tt _ (holds_true (Code 14) (takes_suite kdc.suite body.etype) (ap (takes_suite kdc.suite) asks.etype ∙ suite_taken kdc.suite))
-        (follows _ _ tt _ (holds_true (Code 11) (is_after body.till draw.moment) (ap (λ t. is_after t draw.moment) asks.till ∙ till_after kdc.skew moment draw.moment fair near))
+        (follows _ _ tt _ (holds_true (Code 11) (ends_after body.till draw.moment) (ap (λ t. ends_after t draw.moment) asks.till ∙ till_after kdc.skew moment draw.moment fair near))
         (takes_some (Code 7) (target_of kdc body.sname) target asks.served)))
 
     finds_wish : FindsWish kdc draw.moment request.0 (Ok (record { part = part; target = target }))

@@ -142,7 +142,7 @@ static LINES: [(&str, &str); 38] = [
 ];
 
 /// Inputs, the number of their bad line, and why it is bad.
-static INPUTS: [(&str, u64, &str); 4] = [
+static INPUTS: [(&str, u64, &str); 9] = [
     ("", 1, "no line skew <seconds> stands before it"),
     (
         "# none\nacceptor 1 100 server host/s\nskew 300\n",
@@ -159,6 +159,23 @@ static INPUTS: [(&str, u64, &str); 4] = [
         6,
         "behind the first event only events stand",
     ),
+    ("# none\n\n#", 4, "no line skew <seconds> stands before it"),
+    (
+        "#\n\n# a\nskew 300\n\n#\nacceptor 1 100 server host/s\n# key 2 host/s 00\nkey 2 host/s 00",
+        9,
+        "no line before declared connection 2",
+    ),
+    (
+        "\n#\nskew 300\n# event 1\nskew 300\n#\n",
+        5,
+        "a line before told the skew",
+    ),
+    (
+        "#\nskew 300\n\nevent 1 0 ~ - start\n#\n\nevent 1 0 ~ MM start",
+        7,
+        "field 5, <flags>, wants letters of DMRSCKEIN, each once, or -",
+    ),
+    ("# a\r\nskew 300\n\r\n", 3, "field 1 has a carriage return"),
 ];
 
 /// The octets of a text, with 128 zeros for each `~`.
@@ -230,6 +247,24 @@ fn a_source_keeps_what_it_read(rt: HostRuntime) -> Result<(), Fail> {
         text.as_str(),
         "krb_run: bad line 2: no line before declared connection 1\n"
     );
+    Ok(())
+}
+
+#[test]
+fn comments_are_counted_and_not_kept(rt: HostRuntime) -> Result<(), Fail> {
+    let mut kept = Kept::new(rt.alloc());
+    for piece in [
+        b"#\n\n# a comment\n".as_slice(),
+        b"skew 300\n#",
+        b" b\n\n#\n",
+        b"#",
+    ] {
+        kept.keep(piece);
+    }
+    assert_eq!(rt; kept.head().octets(), b"skew 300\n".as_slice());
+    assert_eq!(rt; kept.head().numbers(), [4].as_slice());
+    assert_eq!(rt; kept.head().lines(), 7);
+    assert_eq!(rt; kept.tail(), b"#".as_slice());
     Ok(())
 }
 
