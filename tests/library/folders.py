@@ -58,11 +58,17 @@ class Folder:
                     yield place[len("src/") :], TEST.sub(self.kept, file.read())
 
     def kept(self, test):
-        """The attribute of a test, or nothing where that test is not asked for."""
-        return "" if self.only and test["name"] not in self.only else test[0]
+        """The attribute of a test, with another that skips it where it is not asked for."""
+        return test[0] if self.asks_for(test["name"]) else f"{test[0]}#[ignore]\n"
+
+    def asks_for(self, name):
+        """Whether the test of this name is to run."""
+        return not self.only or name in self.only
 
     def count(self):
         """How many tests there are that are asked for."""
+        if self.only:
+            return sum(self.asks_for(test["name"]) for _, text in self.sources() for test in TEST.finditer(text))
         return sum(len(re.findall(r"^\s*#\[test\]", text, re.M)) for _, text in self.sources())
 
 
