@@ -23,6 +23,7 @@ help:
 test:
 	tests/library/run
 	tests/cases/run lines acceptor clients initiator kdcs demo-300 demo-none workers realm
+	tests/keys/run
 
 prove:
 	rt ci
