@@ -53,6 +53,7 @@ try-live: library
 	@test -x tests/live/out/cyrus/usr/lib/cyrus/bin/imtest || tests/live/unpack > /dev/null 2>&1 || echo "live: Heimdal could not be fetched"
 	tests/live/run
 
-bench:
-	cd crates/krb_bench && rt run -- full
-	tests/machine-code/run crates/krb_bench/out/krb_bench
+bench: library
+	bench/run
+	tests/live/measure
+	tests/machine-code/run

@@ -6,7 +6,7 @@
 #include <stdlib.h>
 #include <string.h>
 
-/* What an initiator was told, as crates/krb_login reads it, and what it asked, showed and sealed. */
+/* What an initiator was told, as crates/example_initiator reads it, and what it asked, showed and sealed. */
 typedef struct {
     char user[64], realm[64], machine[64], url[64], password[64], target[64];
     uint8_t number[4];

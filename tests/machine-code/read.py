@@ -115,18 +115,20 @@ def functions(program):
         yield name, body
 
 
-STACK = r"rsp([+-]0x[0-9a-f]+)?"
+# An operand on the stack at a fixed place: how wide it is, and how far behind `rsp`.
+ON_STACK = re.compile(r"\b(BYTE|WORD|DWORD|QWORD|XMMWORD|YMMWORD) PTR \[rsp([+-]0x[0-9a-f]+)?\]")
+OCTETS = {"BYTE": 1, "WORD": 2, "DWORD": 4, "QWORD": 8, "XMMWORD": 16, "YMMWORD": 32}
 
 
-def place_at(behind, width):
-    """The name of a place on the stack: how far behind `rsp`, and how wide."""
-    return f"{width} rsp{behind:+#x}"
+def octets_at(behind, width):
+    """The octets of the stack from so far behind `rsp` on."""
+    return set(range(behind, behind + OCTETS[width]))
 
 
-def place_of(operand):
-    """The same of an operand: None where it is no octet and no word of 8 octets on the stack, at a fixed place."""
-    place = re.search(rf"\b(BYTE|QWORD) PTR \[{STACK}\]", operand)
-    return place_at(int(place[2] or "0", 16), place[1]) if place else None
+def octets_of(operand):
+    """The octets of the stack that an operand is: none where it is no place on the stack, or no fixed one."""
+    place = ON_STACK.search(operand)
+    return octets_at(int(place[2] or "0", 16), place[1]) if place else set()
 
 
 def registers(text):
@@ -134,35 +136,30 @@ def registers(text):
 
 
 class Reading:
-    """What is known before an instruction: which registers and flags are secret, which places of the stack are not, and which registers
+    """What is known before an instruction: which registers and flags are secret, which octets of the stack are not, and which registers
     point to the stack, and where."""
 
-    def __init__(self, secrets, places, pointers=()):
-        self.secrets, self.places, self.pointers = set(secrets), set(places), dict(pointers)
+    def __init__(self, secrets, octets, pointers=()):
+        self.secrets, self.octets, self.pointers = set(secrets), set(octets), dict(pointers)
 
     def joined(self, other):
         pointers = set(self.pointers.items()) & set(other.pointers.items())
-        return Reading(self.secrets | other.secrets, self.places & other.places, pointers)
+        return Reading(self.secrets | other.secrets, self.octets & other.octets, pointers)
 
     def same(self, other):
-        return (self.secrets, self.places, self.pointers) == (other.secrets, other.places, other.pointers)
+        return (self.secrets, self.octets, self.pointers) == (other.secrets, other.octets, other.pointers)
 
     def is_secret(self, name, operand):
         place = PLACE.search(operand)
-        if place_of(operand) in self.places:
+        if octets_of(operand) and octets_of(operand) <= self.octets:
             return False
         if place:
             return not any(re.search(f, name) and re.fullmatch(p, place[1]) for f, p in PUBLIC_LOADS)
         return bool(VECTOR.search(operand)) or bool(registers(operand) & self.secrets)
 
     def put(self, operand, secret):
-        place = PLACE.search(operand)
-        if place:
-            at = re.fullmatch(STACK, place[1])
-            if at:
-                self.places -= {place_at(int(at[1] or "0", 16), width) for width in ("BYTE", "QWORD")}
-            if place_of(operand) and not secret:
-                self.places.add(place_of(operand))
+        if PLACE.search(operand):
+            (self.octets.difference_update if secret else self.octets.update)(octets_of(operand))
             return
         for register in registers(operand):
             (self.secrets.add if secret else self.secrets.discard)(register)
@@ -179,7 +176,7 @@ class Reading:
 
 def step(name, now, mnemonic, operands):
     """What an instruction leaves, and what is wrong with it."""
-    after = Reading(now.secrets, now.places, now.pointers)
+    after = Reading(now.secrets, now.octets, now.pointers)
     wrong = None
     for operand in operands:
         place = PLACE.search(operand)
@@ -200,11 +197,11 @@ def step(name, now, mnemonic, operands):
             after.secrets -= {"rax", "rdx"}
         for pattern, behind, width in PUBLIC_FIELDS:
             if "rdi" in now.pointers and re.search(pattern, " ".join(operands)):
-                after.places.add(place_at(now.pointers["rdi"] + behind, width))
+                after.octets |= octets_at(now.pointers["rdi"] + behind, width)
         for register in CLOBBERED:
             after.pointers.pop(register, None)
     elif mnemonic in ("push", "pop") or first == "rsp":
-        after.places.clear()
+        after.octets.clear()
         after.pointers.clear()
         if mnemonic == "pop":
             after.put(first, False)

@@ -3,10 +3,10 @@
 //!     cargo run --offline --example gss_server 127.0.0.1:4444 host/server.example.com key 300 600
 //!     gss-client -port 4444 127.0.0.1 host@server.example.com hello
 //!
-//! `key` is a file with the service's key in hex, as `klist -k -K` prints it behind 0x. Clocks may be wrong by 300 seconds. 600 is for
-//! how long the server waits before it lets anybody in, twice as long: a token that an earlier process admitted may be ahead by 300 and is
-//! good for 300 behind that, and it is too old by then. It may be 0 where no earlier process had this key. Behind it are the options that
-//! its clients want, by name (docs/EMBEDDING.md), if there are any.
+//! `key` is a file with the service's key in hex, as `klist -k -K` prints it after 0x. Clocks may be wrong by 300 seconds. The server waits
+//! for 600 seconds before it admits anybody, twice as long: a token that an earlier process admitted may be ahead by 300, and is then valid
+//! for 300 after its own time. That wait may be 0 if no earlier process had this key. The options that its clients need follow, by name
+//! (docs/EMBEDDING.md), if there are any.
 
 #[path = "parts/connections.rs"]
 mod connections;

@@ -101,7 +101,7 @@ fn log_in(
     let answer = client.answer(&offer)?;
     ask(connection, &base64::encode(&answer))?;
     connection.check_read()?;
-    connection.is_in();
+    connection.end_log_in();
     println!("logged in: {service}, layer {:?}", client.layer()?);
     if layer != Layer::None {
         connection.begin(client);

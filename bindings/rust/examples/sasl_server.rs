@@ -110,7 +110,7 @@ fn authenticate(
         }
     };
     connection.say("+OK")?;
-    connection.is_in();
+    connection.end_log_in();
     connections::log(&format!(
         "admitted: {}, layer {layer:?}",
         server.session().peer()

@@ -81,13 +81,15 @@ impl Session {
         self.client.as_deref()
     }
 
-    /// The user of this realm that the client is, to look up what it may do: its name of one component, where its realm is this one, octet
-    /// for octet, and no sign in the name has a meaning of its own. Not [`peer`](Session::peer): that is the same text for clients of other
-    /// realms too. None for a service as `host/server.example.com`, for `alice/admin`, and at an initiator's session.
+    /// Returns the user's name if the client is a user of this realm: its realm is `realm`, byte for byte, and its name has one component,
+    /// of visible ASCII without `/`, `@` and `\`. Returns `None` for a service as `host/server.example.com`, for `alice/admin`, for a
+    /// client of another realm, and for a session of an initiator.
+    ///
+    /// # Security
+    /// Give rights by this name or by [`client`](Session::client), and not by [`peer`](Session::peer), which is the same text for clients
+    /// of other realms.
     pub fn user_of(&self, realm: &str) -> Option<&str> {
-        let user = self.client()?.strip_suffix(realm)?.strip_suffix('@')?;
-        let is_plain = |sign: char| sign.is_ascii_graphic() && !matches!(sign, '/' | '@' | '\\');
-        (!user.is_empty() && user.chars().all(is_plain)).then_some(user)
+        plain_user(self.client()?, realm)
     }
 
     /// Until when the client's ticket is valid. An initiator's session does not tell it.
@@ -180,5 +182,40 @@ impl Drop for Session {
     fn drop(&mut self) {
         // SAFETY: the handle is ours.
         unsafe { sys::mk_session_free(&mut self.handle) }
+    }
+}
+
+/// The one component of a client's whole name, if its realm is this one and no letter of the component has a meaning of its own.
+fn plain_user<'a>(client: &'a str, realm: &str) -> Option<&'a str> {
+    let user = client.strip_suffix(realm)?.strip_suffix('@')?;
+    let is_plain = |letter: char| letter.is_ascii_graphic() && !matches!(letter, '/' | '@' | '\\');
+    (!user.is_empty() && user.chars().all(is_plain)).then_some(user)
+}
+
+#[cfg(test)]
+mod tests {
+    use super::plain_user;
+
+    #[test]
+    fn a_user_has_one_plain_component_in_this_realm() {
+        let rows = [
+            ("alice@EXAMPLE.COM", Some("alice")),
+            ("alice/admin@EXAMPLE.COM", None),
+            ("host/server.example.com@EXAMPLE.COM", None),
+            ("alice@EVIL.COM", None),
+            ("alice@example.com", None),
+            ("alice@EVIL.EXAMPLE.COM", None),
+            (r"alice\@EXAMPLE.COM", None),
+            (r"alice@EVIL\@EXAMPLE.COM", None),
+            (r"DOMAIN\\alice@EXAMPLE.COM", None),
+            ("al ice@EXAMPLE.COM", None),
+            ("alice\n@EXAMPLE.COM", None),
+            ("@EXAMPLE.COM", None),
+            ("EXAMPLE.COM", None),
+        ];
+        for (client, user) in rows {
+            assert_eq!(plain_user(client, "EXAMPLE.COM"), user, "{client:?}");
+        }
+        assert_eq!(plain_user("alice@EXAMPLE.COM", ""), None);
     }
 }

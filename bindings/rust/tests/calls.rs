@@ -3,8 +3,8 @@
 use menolavuri::{Acceptor, Cause, Error, Judged, Session, version};
 use std::time::{Duration, SystemTime, UNIX_EPOCH};
 
-/// The conversation of `crates/krb_gateway/stdin`.
-const CONVERSATION: &str = include_str!("../../../crates/krb_gateway/stdin");
+/// The conversation of `crates/example_acceptor/stdin`.
+const CONVERSATION: &str = include_str!("../../../crates/example_acceptor/stdin");
 
 fn octets(hex: &str) -> Vec<u8> {
     (0..hex.len() / 2)
@@ -44,6 +44,7 @@ fn a_client_is_admitted_once() {
     let acceptor = acceptor();
     let session = accept(&acceptor).unwrap();
     assert_eq!(session.peer(), "alice@example.com");
+    assert_eq!(session.user_of("EXAMPLE.COM"), Some("alice"));
     assert!(session.answer().is_empty());
     assert_eq!(acceptor.kept(), 1);
     let error = accept(&acceptor).err().unwrap();

@@ -4,8 +4,8 @@ use menolavuri::{Cause, Error, Flags, Initiator, Next, Options, Session, Step};
 use std::time::{Duration, SystemTime, UNIX_EPOCH};
 
 /// What an initiator was told, up to its first message, and what it asked and showed.
-const TOLD: &str = include_str!("../../../crates/krb_login/stdin");
-const ANSWERED: &str = include_str!("../../../crates/krb_login/stdout");
+const TOLD: &str = include_str!("../../../crates/example_initiator/stdin");
+const ANSWERED: &str = include_str!("../../../crates/example_initiator/stdout");
 
 fn octets(hex: &str) -> Vec<u8> {
     (0..hex.len() / 2)

@@ -6,6 +6,7 @@ use Rattle.krb_context.specs.declared.context.Kerberos.{Kerberos}
 use Rattle.krb_context.specs.declared.server.ServerProperties.{ServerProperties}
 use Rattle.krb_context.specs.Contexts.{new_context}
 use Rattle.krb_context.specs.Params.{default_params}
+use Rattle.krb_context.specs.Queries.{name_of}
 use Rattle.krb_replay.specs.Book.{Book, Follows, StandsFor}
 use Rattle.krb_server.specs.Whole.{AcceptsWhole}
 use Rattle.krb_server.specs.declared.accept.Accepted.{Accepted}
@@ -13,6 +14,7 @@ use Rattle.krb_server.specs.declared.accept.Accepted.TheVariants.{Done, Run}
 use Rattle.sspi_core.specs.declared.cause.Cause.{Cause}
 use Rattle.sspi_core.specs.declared.cause.Cause.TheVariants.{Credentials}
 use Rattle.sspi_core.specs.declared.draw.Draw.{Draw}
+use Rattle.sspi_core.specs.Usernames.{UserName}
 
 -- a connection of the service that waits for its client's token
 pub record Waits (service : ServerProperties) (connection : Kerberos) : Type 0 where
@@ -51,3 +53,7 @@ Admits service old token draw answer connection new = Judges service old token d
 -- it is refused so, and the book is as the checks leave it
 abbrev pub Rejects : ServerProperties → Book → List ℕ → Draw → Book → Result (List ℕ) Cause → Type 0
 Rejects service old token draw new answer = (connection : Kerberos) × Judges service old token draw answer connection new
+
+-- a name is known of the client
+abbrev pub HasName : Kerberos → Type 0
+HasName connection = (client : UserName) × (name_of connection ≡ Ok client)

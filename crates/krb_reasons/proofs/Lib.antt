@@ -1,4 +1,5 @@
 pub mod JudgedLemmas
+pub mod HeadLemmas
 pub mod KeptLemmas
 pub mod BufferLemmas
 pub mod ShapeLemmas

@@ -1,13 +1,53 @@
 -- What is kept of an input.
-use Rattle.std.specs.Prelude.{ℕ, Bool, false, List, []}
+use Rattle.std.specs.Prelude.{ℕ, ◌+◌, ◌-◌, ◌^◌, ◌==◌, ◌||◌, min, Bool, false, List, [], ◌∷◌, ◌++◌, codes, if◌then◌else◌}
+use Rattle.std.specs.List.{fold, starts_with}
+use Rattle.krb_text.specs.Lines.{cut, is_skipped}
 
--- the lines up to the first event, how many lines behind them are dropped, and what stands behind those
-pub record Keeping : Type 0 where
-  pub head : List ℕ
-  pub tail : List ℕ
+-- the lines before the last piece: those that are kept, each with its 0A, their numbers from 1, and how many lines there were
+pub record Head : Type 0 where
+  pub octets : List ℕ
+  pub numbers : List ℕ
+  pub lines : ℕ
   pub has_event : Bool
-  pub dropped : ℕ
+
+abbrev pub no_head : Head
+no_head = record { octets = []; numbers = []; lines = 0; has_event = false }
+
+-- the line of an event
+abbrev pub is_event : List ℕ → Bool
+is_event line = starts_with ◌==◌ line (codes "event ")
+
+-- the number of the next line, which is counted to 2^64 - 1
+abbrev pub number_after : ℕ → ℕ
+number_after lines = min (lines + 1) (2 ^ 64 - 1)
+
+-- one line more: it is counted, and kept where it is not skipped and no event stands before it
+abbrev pub with_line : Head → List ℕ → Head
+with_line head line =
+    if head.has_event || is_skipped line then record head { lines = number_after head.lines }
+    else record {
+      octets = head.octets ++ (line ++ 10 ∷ []);
+      numbers = head.numbers ++ number_after head.lines ∷ [];
+      lines = number_after head.lines;
+      has_event = is_event line;
+    }
+
+abbrev pub with_lines : Head → List (List ℕ) → Head
+with_lines head lines = fold with_line head lines
+
+-- what is left of the lines before the last piece, and the last piece, from the beginning of its first line on
+pub record Keeping : Type 0 where
+  pub head : Head
+  pub tail : List ℕ
   pub is_lost : Bool
 
 abbrev pub nothing_kept : Keeping
-nothing_kept = record { head = []; tail = []; has_event = false; dropped = 0; is_lost = false }
+nothing_kept = record { head = no_head; tail = []; is_lost = false }
+
+-- one piece more: the lines before it are settled
+abbrev pub kept_with : Keeping → List ℕ → Keeping
+kept_with kept piece = record {
+  head = with_lines kept.head (cut kept.tail).whole;
+  tail = (cut kept.tail).rest ++ piece;
+  is_lost = kept.is_lost;
+}

@@ -3,6 +3,7 @@
 ghost use Rattle.std.specs.Prelude.{◌≡◌, IfOk, string_bytes};
 ghost use Rattle.krb_reasons.specs.Reasons.{bad_line_text};
 
+use crate::head::Head;
 use crate::judge::{Complaint, Judge};
 use crate::kept::Kept;
 use crate::reason::Reason;
@@ -27,31 +28,43 @@ impl BadLine {
     }
 }
 
-/// Lines that were taken.
+/// Lines that are taken one after another.
 #[derive(Drop)]
 struct Walk {
     judge: Judge,
-    lines: u64,
+    /// The number of the line that is taken.
+    number: u64,
 }
 
 impl Walk {
-    /// Takes the lines of a text. Behind its last 0A a line begins, which may be empty and is then none.
-    fn take_lines(&mut self, alloc: Global, octets: &[u8]) -> Result<(), Complaint> {
+    /// Takes lines that have these numbers, each with its 0A.
+    fn take_head(&mut self, alloc: Global, head: &Head) -> Result<(), Complaint> {
+        let lines = split(alloc, b'\n', head.octets())?;
+        for (line, number) in lines.iter().zip(head.numbers()) {
+            self.number = *number;
+            self.judge.take(alloc, line)?;
+        }
+        Ok(())
+    }
+
+    /// Takes the lines of a text that stands behind so many lines. Behind its last 0A a line begins, which may be empty and is then
+    /// none. At the end of the text its next line is to be taken.
+    fn take_tail(&mut self, alloc: Global, before: u64, octets: &[u8]) -> Result<(), Complaint> {
         let mut lines = split(alloc, b'\n', octets)?;
         if octets.is_empty() || octets.ends_with(b"\n") {
             lines.pop();
         }
+        self.number = before.saturating_add(1);
         for line in &lines {
             self.judge.take(alloc, line)?;
-            self.lines = self.lines.saturating_add(1);
+            self.number = self.number.saturating_add(1);
         }
         Ok(())
     }
 
     fn take_kept(&mut self, alloc: Global, kept: &Kept) -> Result<(), Complaint> {
-        self.take_lines(alloc, kept.head())?;
-        self.lines = self.lines.saturating_add(kept.dropped());
-        self.take_lines(alloc, kept.tail())?;
+        self.take_head(alloc, kept.head())?;
+        self.take_tail(alloc, kept.head().lines(), kept.tail())?;
         match self.judge.missing() {
             Some(reason) => Err(Complaint::Bad(reason)),
             None => Ok(()),
@@ -66,13 +79,13 @@ pub fn first_bad_line(alloc: Global, kept: &Kept) -> Result<Option<BadLine>, Out
     }
     let mut walk = Walk {
         judge: Judge::new(alloc),
-        lines: 0,
+        number: 0,
     };
     match walk.take_kept(alloc, kept) {
         Ok(()) => Ok(None),
         Err(Complaint::OutOfMemory) => Err(OutOfMemory),
         Err(Complaint::Bad(reason)) => Ok(Some(BadLine {
-            number: walk.lines.saturating_add(1),
+            number: walk.number,
             reason,
         })),
     }

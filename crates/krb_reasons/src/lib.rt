@@ -15,6 +15,7 @@
 mod bad_line;
 mod buffer;
 mod fields;
+mod head;
 mod judge;
 mod keeping;
 mod kept;
@@ -24,6 +25,7 @@ mod shapes;
 mod wanted;
 
 pub use bad_line::{BadLine, first_bad_line};
+pub use head::Head;
 pub use judge::{Complaint, Judge};
 pub use keeping::KeepingSource;
 pub use kept::Kept;

@@ -11,11 +11,9 @@
 //! ```
 //!
 //! Below them stands [`Service`], many connections over one replay gate: [`Service::run`] answers a list of events with as many
-//! replies. [`run_two`] runs two services in two threads. [`laws`] has what holds for every service, every pair of ends and every
-//! input, as laws over the definitions that the contracts of these calls name.
+//! replies. [`run_two`] runs two services in two threads. `krb_laws` has the laws over the definitions that the contracts of these
+//! calls name.
 #![tactic(auto)]
-
-pub mod laws;
 
 pub use krb_machine::{Connection, HeldConnection, Reply, Service, Stopped, demo, serve};
 pub use krb_script::{Event, Input};

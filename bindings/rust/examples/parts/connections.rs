@@ -10,7 +10,7 @@ use std::{fs, thread, time::Duration};
 const MOST: usize = 1000;
 const PATIENCE: Duration = Duration::from_secs(60);
 
-/// A client's place among those that are served, which is given back however its thread ends.
+/// A client's place among those that are served. It is given back however the client's thread ends.
 struct Place<'a>(&'a AtomicUsize);
 
 impl Drop for Place<'_> {
@@ -19,14 +19,14 @@ impl Drop for Place<'_> {
     }
 }
 
-/// A line for the log, in which what a client chose can neither begin another line nor command a terminal. A log that takes nothing ends
-/// no connection.
+/// Writes one line to the log, with control characters escaped: text that a client chose can neither begin another line nor command a
+/// terminal. A failure to write ends no connection.
 pub fn log(words: &str) {
     let mut line: String = words
         .chars()
-        .map(|sign| match sign {
-            sign if sign.is_control() => sign.escape_default().to_string(),
-            sign => sign.to_string(),
+        .map(|letter| match letter {
+            letter if letter.is_control() => letter.escape_default().to_string(),
+            letter => letter.to_string(),
         })
         .collect();
     line.push('\n');
@@ -48,7 +48,7 @@ pub fn serve_all(address: &str, serve: impl Fn(&TcpStream) -> Answer<()> + Sync)
             if served.fetch_add(1, Ordering::SeqCst) >= MOST {
                 continue;
             }
-            // Where there is no other thread the client sees that its connection ends.
+            // If no thread can be started, the connection is closed.
             let started = thread::Builder::new().spawn_scoped(threads, move || {
                 let _place = place;
                 if let Err(error) = patient(&stream).and_then(|()| serve(&stream)) {
@@ -56,7 +56,7 @@ pub fn serve_all(address: &str, serve: impl Fn(&TcpStream) -> Answer<()> + Sync)
                 }
             });
             if let Err(error) = started {
-                log(&format!("no thread: {error}"));
+                log(&format!("no thread for a client: {error}"));
             }
         }
         Ok(())

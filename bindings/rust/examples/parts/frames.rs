@@ -15,9 +15,10 @@ pub const WRAPPED: u8 = 0x20;
 pub const SEALED: u8 = 0x40;
 pub const WANTS_MIC: u8 = 0x80;
 
-/// The longest frame that is read, and the longest of a client that is not let in: Windows makes no token of more octets.
+/// The longest frame that is read, in bytes.
 pub const LONGEST: u32 = 1 << 24;
-#[allow(dead_code)] // a client lets nobody in
+/// The longest frame of a client that is not admitted yet. Windows makes no longer token.
+#[allow(dead_code)] // a client admits nobody
 pub const LONGEST_TOKEN: u32 = 1 << 16;
 
 pub struct Frame {

@@ -67,8 +67,8 @@ impl<'a, E: End> Connection<'a, E> {
         }
     }
 
-    /// The log-in is over: the peer has as much time as it likes, while it is not silent.
-    pub fn is_in(&mut self) {
+    /// Ends the time limit of the log-in. From now on only silence is limited.
+    pub fn end_log_in(&mut self) {
         self.from.get_mut().lift();
     }
 

@@ -139,7 +139,7 @@ impl Store {
             Some([seconds, micros]) => UNIX_EPOCH
                 .checked_add(Duration::from_secs(*seconds))
                 .and_then(|time| time.checked_add(Duration::from_micros(*micros)))
-                .ok_or_else(|| invalid("the store tells a time past all times")),
+                .ok_or_else(|| invalid("the store's time is past the end of time")),
             _ => Err(invalid("the store does not tell its time")),
         }
     }

@@ -1,14 +1,15 @@
-//! A peer that is listened to until a moment, and from then on while it is not silent.
+//! What a peer sends, with a time limit for its log-in as a whole and for each silence after it.
 
 use std::io::{self, Read};
 use std::net::TcpStream;
 use std::time::{Duration, Instant};
 
-/// For how long a peer may be silent, and for how long it may take to log in, however little silent it is.
+/// The longest silence of a peer.
 const PATIENCE: Duration = Duration::from_secs(60);
+/// The longest time for a log-in as a whole.
 const TO_LOG_IN: Duration = Duration::from_secs(30);
 
-/// What a peer sends. Until `lift` it has a time for all of it.
+/// What a peer sends. Until `lift` is called, there is one time limit for all of it.
 pub struct Until<'a> {
     stream: &'a TcpStream,
     end: Option<Instant>,
@@ -22,7 +23,7 @@ impl<'a> Until<'a> {
         }
     }
 
-    /// From now on silence alone is limited.
+    /// Ends the time limit of the log-in. From now on only silence is limited.
     pub fn lift(&mut self) {
         self.end = None;
     }

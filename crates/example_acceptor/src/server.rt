@@ -1,0 +1,43 @@
+//! What a server does with the library: it admits a client by its token, and opens its messages.
+
+ghost use Rattle.std.specs.Prelude.{◌≡◌, Ok, IfOk};
+ghost use Rattle.krb_context.specs.Unwraps.{Unwraps};
+ghost use Rattle.krb_entrance.specs.Candidates.{Passes, IsLetIn};
+ghost use Rattle.krb_entrance.specs.declared.candidate.Candidate.{Candidate};
+ghost use Rattle.krb_sessions.specs.Gives.{whole_message};
+
+use krb_entrance::{Draw, Error, Fault, OutOfMemory, Service, Session};
+use std::alloc::Global;
+
+/// Admits the client that sent this token. The session has its whole name and what goes back to it.
+///
+/// # Errors
+/// The check that failed first. Write it to a log, and tell the client only that it was refused.
+pub fn admit(
+    alloc: Global,
+    service: &mut Service,
+    token: &[u8],
+    draw: &Draw,
+) -> Result<Session, Error>
+    // The token passed every check, the replay book's among them.
+    ensures admitted { IfOk result (λ session. (candidate : Candidate)
+        × Passes service.old.properties token.now draw.now candidate.judged candidate.connection
+        × IsLetIn candidate service.old.book session service.new.book) }
+{
+    let candidate = service.judge(alloc, token, draw)?;
+    service.admit(alloc, candidate)
+}
+
+fn room(alloc: Global, length: usize) -> Result<Vec<u8>, OutOfMemory> {
+    Ok(vec![in alloc; 0; length]?)
+}
+
+/// The text of a message of the client. Each message is opened once.
+pub fn open(alloc: Global, session: &mut Session, sealed: &[u8]) -> Result<Vec<u8>, Fault>
+    ensures opened { IfOk result (λ text. Unwraps session.old.connection (whole_message sealed.now) (Ok text.items)) }
+{
+    let mut text = room(alloc, sealed.len())?; // no text is longer than its message
+    let length = session.unwrap(alloc, sealed, &mut text)?;
+    text.truncate(length);
+    Ok(text)
+}

@@ -1,0 +1,204 @@
+//! A client that embeds the initiator.
+//!
+//! It reads lines of standard input: a user at a machine, what each step may draw, what a KDC and a service answered, and what to
+//! do. It writes the requests that go to the KDC, the tokens that go to the service, and what was refused. A client looks at its
+//! clock, draws random octets and opens a socket; this one is told all three, so that a recorded conversation can be tried again.
+#![tactic(auto)]
+
+mod change;
+mod line;
+mod login;
+mod network;
+mod printing;
+mod steps;
+
+use anyhow::{Context, Result, anyhow};
+use krb_client::Octets;
+use krb_dialogue::{Dialogue, Error, Next, Session};
+use line::{Line, User};
+use network::Network;
+use printing::{print_octets, print_refusal, print_requests};
+use std::alloc::Global;
+use std::io;
+use steps::Steps;
+
+/// The most octets of a new password.
+const MAX_PASSWORD: usize = 16_777_216;
+
+/// What the lines have told so far.
+#[derive(Drop)]
+struct Client<'a> {
+    user: Option<User<'a>>,
+    /// A log-in whose context is not established yet.
+    login: Option<Box<Dialogue>>,
+    /// The session of a context that is established.
+    session: Option<Box<Session>>,
+    steps: Steps,
+    network: Network,
+}
+
+fn octets(alloc: Global, hex: &str) -> Result<Vec<u8>> {
+    Ok(hex::decode(alloc, hex.as_bytes())?)
+}
+
+fn number_of(user: &User) -> Result<[u8; 4]> {
+    let mut number = [0; 4];
+    hex::decode_to_slice(user.number.as_bytes(), &mut number)?;
+    Ok(number)
+}
+
+fn is_at(login: &Dialogue, target: &str) -> bool {
+    match &login.options.target {
+        Some(name) => name.as_slice() == target.as_bytes(),
+        None => false,
+    }
+}
+
+/// What a step led to: the requests, and then the token for the service, or the refusal.
+fn print_step(
+    rt: &(impl Print + AllocGlobal),
+    login: &Dialogue,
+    outcome: &std::result::Result<Next, Error>,
+    network: &mut Network,
+) -> Result<()> {
+    print_requests(rt, network)?;
+    match outcome {
+        Ok(Next::AskKdc) => Err(anyhow!("a reply has no step")),
+        Ok(Next::SendToken) => print_octets(rt, "token", &login::token(rt.alloc(), login)),
+        Ok(Next::Established) => {
+            print_octets(rt, "established", &login::token(rt.alloc(), login))
+        }
+        Err(error) => print_refusal(rt, error),
+    }
+}
+
+impl<'a> Client<'a> {
+    fn new(alloc: Global) -> Client<'a> {
+        Client {
+            user: None,
+            login: None,
+            session: None,
+            steps: Steps::new(alloc),
+            network: Network::new(alloc),
+        }
+    }
+
+    /// The user logs in at a service.
+    fn log_in(&mut self, rt: &(impl Print + AllocGlobal), target: &str) -> Result<()> {
+        let user = self.user.context("no user")?;
+        let steps = self.steps.take();
+        let draws = steps.for_login().context("a log-in without a step")?;
+        let mut login = login::new_login(rt.alloc(), &user, number_of(&user)?, target)?;
+        let outcome = login::start(rt.alloc(), &mut login, &mut self.network, draws);
+        print_step(rt, &login, &outcome, &mut self.network)?;
+        self.login = Some(login);
+        Ok(())
+    }
+
+    /// The service has answered.
+    fn hear(&mut self, rt: &(impl Print + AllocGlobal), target: &str, token: &str) -> Result<()> {
+        let token = octets(rt.alloc(), token)?;
+        let steps = self.steps.take();
+        let draws = steps.for_login().context("an answer without a step")?;
+        let login = self.login.as_mut().context("no log-in")?;
+        if !is_at(login, target) {
+            return Err(anyhow!("a log-in at another service"));
+        }
+        let outcome = login::hear(rt.alloc(), login, &token, &mut self.network, draws);
+        print_step(rt, login, &outcome, &mut self.network)
+    }
+
+    /// Keeps the session of a log-in whose context is established.
+    fn settle(&mut self) {
+        if let Some(login) = self.login.take() {
+            match Dialogue::into_session(login) {
+                Ok(session) => self.session = Some(session),
+                Err(login) => self.login = Some(login),
+            }
+        }
+    }
+
+    /// A message for the service.
+    fn seal(
+        &mut self,
+        rt: &(impl Print + AllocGlobal),
+        confounder: &str,
+        text: &str,
+    ) -> Result<()> {
+        let text = octets(rt.alloc(), text)?;
+        let mut random = [0; 16];
+        hex::decode_to_slice(confounder.as_bytes(), &mut random)?;
+        let session = self.session.as_mut().context("no session")?;
+        print_octets(
+            rt,
+            "sealed",
+            &login::seal(rt.alloc(), session, &text, random),
+        )
+    }
+
+    /// The user's password is changed.
+    fn change(&mut self, rt: &(impl Print + AllocGlobal), password: &str) -> Result<()> {
+        let user = self.user.context("no user")?;
+        if password.len() > MAX_PASSWORD {
+            return Err(anyhow!("a password of more than 16777216 octets"));
+        }
+        let number = number_of(&user)?;
+        let draws = self
+            .steps
+            .take()
+            .for_change()
+            .context("a change without 4 steps")?;
+        let outcome = change::change(
+            rt.alloc(),
+            &user,
+            number,
+            password,
+            &mut self.network,
+            &draws,
+        );
+        print_requests(rt, &mut self.network)?;
+        match outcome {
+            Ok(()) => println!(rt; "changed")?,
+            Err(error) => print_refusal(rt, &error)?,
+        }
+        Ok(())
+    }
+
+    fn take_line(&mut self, rt: &(impl Print + AllocGlobal), line: Line<'a>) -> Result<()> {
+        match line {
+            Line::User(user) => {
+                self.user = Some(user);
+                self.login = None;
+                self.session = None;
+            }
+            Line::Step { moment, random } => self.steps.add(moment, random)?,
+            Line::Reply { octets: reply } => {
+                self.network.add(Octets::new(octets(rt.alloc(), reply)?))?;
+            }
+            Line::Login { target } => self.log_in(rt, target)?,
+            Line::Answer { target, token } => {
+                self.hear(rt, target, token)?;
+                self.settle();
+            }
+            Line::Seal { confounder, text } => self.seal(rt, confounder, text)?,
+            Line::Change { password } => self.change(rt, password)?,
+        }
+        Ok(())
+    }
+}
+
+fn answer_lines(rt: &(impl Print + AllocGlobal), text: &str) -> Result<()> {
+    let mut client = Client::new(rt.alloc());
+    for line in text.lines() {
+        match Line::parse(line) {
+            Some(line) => client.take_line(rt, line)?,
+            None => return Err(anyhow!("not a line of the initiator: {line}")),
+        }
+    }
+    Ok(())
+}
+
+fn main(rt: HostRuntime) -> Result<()> {
+    let text = io::read_to_string(rt.alloc(), rt.stdin())?;
+    answer_lines(&rt, text.as_str())
+}

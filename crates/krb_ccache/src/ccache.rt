@@ -1,0 +1,112 @@
+//! A credential cache.
+
+ghost use Rattle.std.specs.Prelude.{◌≡◌, ◌++◌, ◌∷◌, [], true, IfOk, IfErr, OnOk, OnErr, option_copied};
+ghost use Rattle.krb_ccache.specs.Format.{written, Spells, IsFault};
+ghost use Rattle.krb_ccache.specs.Finding.{found, found_tgt, found_or_tgt};
+ghost use Rattle.krb_ccache.specs.Writing.{can_be_written};
+
+use crate::credential::Credential;
+use crate::error::CcacheError;
+use crate::find::{Service, Wanted, longest};
+use crate::principal::CcachePrincipal;
+use crate::read::read_file;
+use crate::write::{can_be_written, write_file};
+use krb_der::{Items, Octets, OutOfMemory};
+use std::alloc::Global;
+use std::mem;
+
+/// A version of the format.
+#[derive(Drop)]
+pub enum Version {
+    /// 0503, which Java writes.
+    Three,
+    /// 0504, which MIT krb5 and Heimdal write, with the octets of its header.
+    Four(Octets),
+}
+
+/// What a credential cache has, in the order of the file.
+#[derive(Drop)]
+pub struct Ccache {
+    pub version: Version,
+    /// Whose cache it is.
+    pub principal: CcachePrincipal,
+    /// Tickets, options of the cache and removed entries.
+    pub credentials: Items<Credential>,
+}
+
+impl Ccache {
+    /// What a file of the format 0503 or 0504 has. The first fault from the front is told.
+    pub fn read(alloc: Global, octets: &[u8]) -> Result<Ccache, CcacheError>
+        ensures found { IfOk result (λ cache. Spells cache octets.now) }
+        ensures refused { IfErr result (λ error. IsFault error octets.now) }
+    {
+        read_file(alloc, octets)
+    }
+
+    /// Whether it can be written: each length and each number of elements is below 2^32, and that of the header below 2^16.
+    pub fn is_writable(&self) -> bool
+        ensures { result ≡ can_be_written self.now }
+    {
+        can_be_written(self)
+    }
+
+    /// The file with what it has.
+    pub fn write(&self, alloc: Global) -> Result<Octets, OutOfMemory>
+        requires { can_be_written self.now ≡ true }
+        ensures { IfOk result (λ octets. octets ≡ written self.now) }
+    {
+        write_file(alloc, self)
+    }
+
+    /// Adds an entry after the last one. If memory runs out the cache stays as it was.
+    pub fn push(&mut self, alloc: Global, credential: Credential) -> Result<(), OutOfMemory>
+        ensures pushed { OnOk result (self.new ≡ record self.old { credentials = self.old.credentials ++ credential ∷ [] }) }
+        ensures stays { OnErr result (self.new ≡ self.old) }
+    {
+        let none = Items::new(Vec::new(alloc));
+        let mut credentials = mem::replace(&mut self.credentials, none).into_inner();
+        let is_pushed = credentials.push(credential).is_ok();
+        self.credentials = Items::new(credentials);
+        if is_pushed { Ok(()) } else { Err(OutOfMemory) }
+    }
+
+    /// The ticket that the cache's own principal can show by itself to a service of these components in this second since 1970,
+    /// in whichever realm the service is: it is no option and not sealed under a session key, it is valid and its key is one of
+    /// AES-256 or AES-128. Of several it is the one that is valid for longest, of equals the last.
+    pub fn find(&self, components: &Items<Octets>, seconds: u32) -> Option<&Credential>
+        ensures { option_copied result ≡ found self.now.principal self.now.credentials components.now seconds }
+    {
+        longest(
+            self.credentials.as_slice(),
+            &Wanted {
+                client: &self.principal,
+                service: Service::Named(components),
+                seconds,
+            },
+        )
+    }
+
+    /// The ticket for the ticket-granting service of the principal's own realm, chosen as `find` chooses.
+    pub fn find_tgt(&self, seconds: u32) -> Option<&Credential>
+        ensures { option_copied result ≡ found_tgt self.now.principal self.now.credentials seconds }
+    {
+        longest(
+            self.credentials.as_slice(),
+            &Wanted {
+                client: &self.principal,
+                service: Service::Granting(&self.principal.realm),
+                seconds,
+            },
+        )
+    }
+
+    /// The service's own ticket, as `find` gives it, or otherwise that of `find_tgt`, with which the KDC can be asked for one.
+    pub fn find_or_tgt(&self, components: &Items<Octets>, seconds: u32) -> Option<&Credential>
+        ensures { option_copied result ≡ found_or_tgt self.now.principal self.now.credentials components.now seconds }
+    {
+        match self.find(components, seconds) {
+            Some(credential) => Some(credential),
+            None => self.find_tgt(seconds),
+        }
+    }
+}

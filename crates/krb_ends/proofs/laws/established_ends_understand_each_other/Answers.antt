@@ -1,5 +1,0 @@
-use Rattle.krb_ends.proofs.ReachLemmas.{understand}
-use Rattle.krb_ends.proofs.laws.established_ends_understand_each_other.Goals as goal
-
-pub returns : goal.returns
-returns c = understand

@@ -1,5 +1,0 @@
-use Rattle.krb_ends.proofs.HonestLemmas.{admitted}
-use Rattle.krb_ends.proofs.laws.honest_requests_are_admitted.Goals as goal
-
-pub returns : goal.returns
-returns c = admitted

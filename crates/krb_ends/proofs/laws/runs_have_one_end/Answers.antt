@@ -1,5 +1,0 @@
-use Rattle.krb_ends.proofs.OneEndLemmas.{one_end}
-use Rattle.krb_ends.proofs.laws.runs_have_one_end.Goals as goal
-
-pub returns : goal.returns
-returns c = one_end

@@ -1,0 +1,185 @@
+//! Laws of both ends, for all values.
+
+ghost use Rattle.std.specs.Prelude.{◌≡◌, ◌^◌, ◌<◌, ℕ, suc, List, [], true, false, Some, None, Result, Ok};
+ghost use Rattle.sspi_core.specs.declared.cause.Cause.{Cause};
+ghost use Rattle.sspi_core.specs.declared.draw.Draw.{Draw};
+ghost use Rattle.sspi_core.specs.Usernames.{UserName};
+ghost use Rattle.krb_conf.specs.declared.env.Env.{Env};
+ghost use Rattle.krb_context.specs.declared.context.Kerberos.{Kerberos};
+ghost use Rattle.krb_context.specs.Contexts.{settled};
+ghost use Rattle.krb_context.specs.Peers.{ArePeers};
+ghost use Rattle.sspi_core.specs.declared.identity.CredentialsBuffers.{CredentialsBuffers};
+ghost use Rattle.krb_crypto.specs.declared.suite.CipherSuite.{CipherSuite};
+ghost use Rattle.krb_messages.specs.declared.enc_ticket_part.EncTicketPart.{EncTicketPart};
+ghost use Rattle.krb_exchange.specs.declared.kdc_rep.TgsRep.{TgsRep};
+ghost use Rattle.krb_as.specs.declared.done.InitDone.{InitDone};
+ghost use Rattle.krb_as.specs.declared.client.Client.{Client};
+ghost use Rattle.krb_replay.specs.declared.ask.Verdict.TheVariants.{Admitted};
+ghost use Rattle.krb_ap.specs.Initiators.{is_bare};
+ghost use Rattle.krb_initiator.specs.declared.options.InitOptions.{InitOptions};
+ghost use Rattle.krb_initiator.specs.declared.seeker.Seeker.{Seeker};
+ghost use Rattle.krb_initiator.specs.declared.seeker.Initiation.TheVariants.{Seeks};
+ghost use Rattle.krb_initiator.specs.Beginnings.{BeginsInitiation};
+ghost use Rattle.krb_admission.specs.Accepts.{DecidesAdmission};
+ghost use Rattle.krb_admission.specs.Clients.{client_of};
+ghost use Rattle.krb_admission.specs.Requests.{ask_of};
+ghost use Rattle.krb_server.specs.declared.accept.Accepted.{Accepted};
+ghost use Rattle.krb_server.specs.Whole.{AcceptsWhole};
+ghost use Rattle.krb_laws_ends.specs.Answers.{admission_for, IsAnswered, AdmitsOnly, IsDraw, Offered, AreNew, AreEstablished, EndsWell, EndsWellInTurn, EndsWellIn};
+ghost use Rattle.krb_laws_ends.specs.Fetches.{CanBegin, seeker_for, Fetches, AsksMutual, EndsWithOffer, HoldsKey};
+ghost use Rattle.krb_laws_ends.specs.Flow.{numbered, Flows, FlowsOn};
+ghost use Rattle.krb_laws_ends.specs.HonestKdc.{Answers, AreHonestKdcs};
+ghost use Rattle.krb_laws_ends.specs.Messages.{
+  Message,
+  Placed,
+  IsSent,
+  IsInTime,
+  IsCaughtUp,
+  AreSent,
+  AreOpened,
+  AreAmongSent,
+  AreInTime,
+  AreInOrder,
+  places_of,
+  messages_of,
+  wrapped_one,
+  opened_one,
+};
+ghost use Rattle.krb_laws_ends.specs.Offers.{Offer, IsFor, request_of, offered_token};
+ghost use Rattle.krb_laws_ends.specs.Talk.{Turn, IsFair, IsUnderstood};
+
+use krb_replay::ReplayGate;
+
+/// An initiator before its exchange that is called with a target, credentials of ASCII names and no token, and not for user-to-user,
+/// begins to fetch the target's ticket.
+pub fn initiators_begin()
+    ensures begins { (context : Kerberos) (options : InitOptions) (target : List ℕ) (credentials : CredentialsBuffers) (client : Client)
+        → CanBegin context options target credentials client
+        → BeginsInitiation context options (Ok (Seeks (seeker_for context options target credentials client))) }
+    ensures asks { (context : Kerberos) (options : InitOptions) (target : List ℕ) (credentials : CredentialsBuffers) (client : Client)
+        → CanBegin context options target credentials client → AsksMutual (seeker_for context options target credentials client) }
+{}
+
+/// Over honest KDCs, with any number of referrals up to nine, the run of an initiator that asks for mutual authentication ends with
+/// ContinueNeeded and a token: the AP-REQ of an honest offer, which has the service's ticket, and whose authenticator is sealed under
+/// the key that the last reply handed on. The context then awaits the answer, with that key in the suite of the exchange.
+pub fn honest_kdcs_lead_to_an_offer()
+    ensures { (context : Kerberos) (seeker : Seeker) (suite : CipherSuite) (service_key : List ℕ) (draw : Draw) (answers : Answers) (rep : TgsRep)
+        (part : EncTicketPart) → context.server ≡ None → AsksMutual seeker → AreHonestKdcs seeker suite service_key answers rep part
+        → IsDraw answers.last.draw → EndsWithOffer context seeker service_key suite draw answers rep part }
+{}
+
+/// The run of an initiator over given replies has at most one end: so over honest KDCs it has that one and no other.
+pub fn runs_have_one_end()
+    ensures { (seeker : Seeker) (draw : Draw) (answers : Answers) (one other : InitDone) → Fetches seeker draw answers one → Fetches seeker draw answers other
+        → one ≡ other }
+{}
+
+/// The AP-REQ of an honest offer passes every check of an acceptor that waits for a token and holds the service's key. Behind the
+/// gate's verdict Admitted it makes the admission that its options ask for, with an AP-REP.
+pub fn honest_requests_are_admitted()
+    ensures { (server : Kerberos) (draw : Draw) (client : UserName) (offer : Offer) → IsFor server client offer
+        → DecidesAdmission server offer.dce (offered_token offer) draw Admitted (Ok (admission_for server draw client offer)) }
+{}
+
+/// An acceptor asks its gate for that AP-REQ, and where the gate admits it, answers it by the AP-REP and is settled.
+pub fn honest_requests_are_answered<G: ReplayGate>()
+    ensures { (server server' : Kerberos) (env : Env) (draw : Draw) (client : UserName) (offer : Offer) (old new : G) (answer : Result Accepted Cause)
+        → IsFor server client offer → AcceptsWhole G.admits server offer.dce (offered_token offer) env draw old answer server' new
+        → IsAnswered G.admits server draw client offer old answer server' new }
+{}
+
+/// An honest AP-REQ that a gate admits ends the exchange well: the initiator that made it takes the acceptor's answer, and from there
+/// on the two are established with one session key, one sub-session key, one suite and one length of the filler, and each is the
+/// other's peer.
+pub fn exchanges_end_well<G: ReplayGate>()
+    ensures { (initiator server server' : Kerberos) (options : InitOptions) (env : Env) (own draw : Draw) (client : UserName) (offer : Offer)
+        (old new : G) (answer : Result Accepted Cause) → IsFor server client offer → offer.dce ≡ false → Offered initiator offer
+        → is_bare options.flags ≡ false → IsDraw draw → AreNew initiator server
+        → AcceptsWhole G.admits server false (offered_token offer) env draw old answer server' new
+        → AdmitsOnly G.admits old (ask_of (request_of offer) draw.moment) new → EndsWell initiator server' options own draw offer answer }
+{}
+
+/// In DCE style it does so with one token more: the initiator takes the acceptor's answer and has the last word, which the acceptor
+/// takes without asking its gate. Then sealed messages have 16 octets of filler at both ends.
+pub fn dce_exchanges_end_well<G: ReplayGate>()
+    ensures { (initiator server server' : Kerberos) (options : InitOptions) (env : Env) (own draw : Draw) (client : UserName) (offer : Offer)
+        (old new : G) (answer : Result Accepted Cause) → IsFor server client offer → offer.dce ≡ true → Offered initiator offer
+        → is_bare options.flags ≡ true → IsDraw own → IsDraw draw → AreNew initiator server
+        → AcceptsWhole G.admits server true (offered_token offer) env draw old answer server' new
+        → AdmitsOnly G.admits old (ask_of (request_of offer) draw.moment) new
+        → EndsWellInTurn G.admits initiator server' options own draw offer answer }
+{}
+
+/// The messages that one end wraps one after another, handed over in that order, all open at the other end to the same
+/// octets, however many they are.
+pub fn messages_open_in_their_order()
+    ensures { (sender receiver : Kerberos) (messages : List Message) → ArePeers sender receiver → IsCaughtUp sender receiver
+        → AreSent sender messages → AreOpened receiver messages }
+{}
+
+/// Messages that one end wraps, handed over in any order, each once and in time, open at the other end to the same
+/// octets: in time is less than 64 messages behind the furthest that was handed over, and less than 2^31 before it.
+pub fn messages_open_in_any_order()
+    ensures { (sender receiver : Kerberos) (handed : List Placed) → ArePeers sender receiver → sender.seq_number < 2 ^ 32
+        → receiver.window.mask ≡ 0 → AreAmongSent sender handed → AreInTime [] (places_of handed) → AreOpened receiver (messages_of handed) }
+{}
+
+/// The same in the order of sending where some are lost: as long as fewer than 2^31 - 1 are left out at a time.
+pub fn messages_open_where_others_are_lost()
+    ensures { (sender receiver : Kerberos) (handed : List Placed) → ArePeers sender receiver → sender.seq_number < 2 ^ 32
+        → receiver.window.mask ≡ 0 → AreAmongSent sender handed → AreInOrder (places_of handed) → AreOpened receiver (messages_of handed) }
+{}
+
+/// What holds of one direction of a connection at any time, whatever both ends wrap and open meanwhile: it begins with the first
+/// message; a message that comes in time opens, and the direction goes on with it; the sender takes one more number, for a message
+/// or a MIC token; what is wrapped now is one behind those that were; what is the other direction's changes nothing; and what was
+/// wrapped behind so many others stays so.
+pub fn directions_go_on()
+    ensures begins { (sender receiver : Kerberos) → ArePeers sender receiver → sender.seq_number < 2 ^ 32 → receiver.window.mask ≡ 0
+        → Flows sender receiver sender.seq_number 0 [] }
+    ensures opens { (sender receiver : Kerberos) (number sent : ℕ) (before : List ℕ) (place : ℕ) (message : Message) → Flows sender receiver number sent before
+        → IsInTime before place → IsSent (numbered number place sender) message → FlowsOn sender receiver number sent before place message }
+    ensures numbers { (sender receiver : Kerberos) (number sent : ℕ) (before : List ℕ) → Flows sender receiver number sent before
+        → Flows (wrapped_one sender) receiver number (suc sent) before }
+    ensures wraps { (sender receiver : Kerberos) (number sent : ℕ) (before : List ℕ) (message : Message)
+        → Flows sender receiver number sent before → IsSent sender message
+        → IsSent (numbered number sent (wrapped_one sender)) message }
+    ensures beside { (sender receiver : Kerberos) (number sent : ℕ) (before : List ℕ) (other : ℕ) → Flows sender receiver number sent before
+        → Flows (opened_one other sender) receiver number sent before × Flows sender (wrapped_one receiver) number sent before }
+    ensures stays { (sender : Kerberos) (number behind other : ℕ) (message : Message) → IsSent (numbered number behind sender) message
+        → IsSent (numbered number behind (opened_one other sender)) message × IsSent (numbered number behind (wrapped_one sender)) message }
+{}
+
+/// Whatever two ends wrap, and in whatever order each is handed what the other wrapped, each message that comes for the first time
+/// and in time opens to the text that was wrapped.
+pub fn both_ends_understand_each_other()
+    ensures { (left right : Kerberos) (turns : List Turn) → ArePeers left right → ArePeers right left → left.seq_number < 2 ^ 32 → right.seq_number < 2 ^ 32
+        → left.window.mask ≡ 0 → right.window.mask ≡ 0 → IsFair left.seq_number right.seq_number left right [] [] turns → IsUnderstood left right turns }
+{}
+
+/// Whatever two ends wrap that an exchange established, and in whatever order each is handed what the other wrapped, each message that
+/// comes for the first time and in time opens to the text that was wrapped.
+pub fn established_ends_understand_each_other()
+    ensures { (initiator acceptor : Kerberos) (suite : CipherSuite) (session_key sub_session_key : List ℕ) (ec : ℕ) (turns : List Turn)
+        → AreEstablished initiator acceptor suite session_key sub_session_key ec
+        → IsFair initiator.seq_number acceptor.seq_number initiator acceptor [] [] turns → IsUnderstood initiator acceptor turns }
+{}
+
+/// Both ends reach one context: the token that an initiator ends with over honest KDCs, an acceptor that holds the service's key answers
+/// where its gate admits the client, and the initiator takes that answer; in DCE style the acceptor takes the initiator's last word.
+/// Then both are established with one session key, one sub-session key, one suite and one length of the filler, and all messages are
+/// before them.
+pub fn both_ends_reach_one_context<G: ReplayGate>()
+    ensures { (initiator acceptor acceptor' : Kerberos) (options more : InitOptions) (target service_key : List ℕ) (credentials : CredentialsBuffers)
+        (client : Client) (suite : CipherSuite) (answers : Answers) (rep : TgsRep) (part : EncTicketPart) (user : UserName) (env : Env)
+        (first own draw : Draw) (old new : G) (answer : Result Accepted Cause)
+        → is_bare more.flags ≡ is_bare options.flags
+        → AreHonestKdcs (seeker_for initiator options target credentials client) suite service_key answers rep part
+        → HoldsKey acceptor target service_key → client_of part.cname part.crealm ≡ Some user → AreNew initiator acceptor
+        → IsDraw own → IsDraw draw
+        → (end : EndsWithOffer initiator (seeker_for initiator options target credentials client) service_key suite first answers rep part)
+        → AcceptsWhole G.admits acceptor (is_bare options.flags) end.done.token env draw old answer acceptor' new
+        → AdmitsOnly G.admits old (ask_of (request_of end.offer) draw.moment) new
+        → EndsWellIn (is_bare options.flags) G.admits (settled initiator end.done.change) acceptor' more own draw end.offer answer }
+{}

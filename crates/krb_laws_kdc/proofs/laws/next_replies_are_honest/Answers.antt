@@ -1,0 +1,10 @@
+use Rattle.krb_laws_kdc.proofs.NextLemmas.{refers_on, serves}
+use Rattle.krb_laws_kdc.proofs.laws.next_replies_are_honest.Goals as goal
+
+pub returns : goal.returns
+returns c = record {
+  refers = λ suite realm nonce draw grant known asker home address d g tcp octets short named other found.
+      refers_on suite realm draw d nonce grant g known tcp octets short asker home address named other found;
+  serves = λ suite realm nonce draw grant known options target d g tcp octets short client fits named no_referral.
+      serves suite realm draw d nonce grant g known tcp octets short options target client fits named no_referral;
+}

@@ -1,0 +1,212 @@
+//! Laws of a client and its KDCs, for all values.
+
+ghost use Rattle.std.specs.Prelude.{◌≡◌, ◌+◌, ◌≤◌, ◌<◌, ◌^◌, ℕ, List, length, Some, unwrap_or, Result, None, false, pos};
+ghost use Rattle.krb_aes.specs.Octets.{IsOctets};
+ghost use Rattle.krb_crypto.specs.declared.suite.CipherSuite.{CipherSuite};
+ghost use Rattle.krb_messages.specs.declared.principal_name.PrincipalName.{PrincipalName};
+ghost use Rattle.krb_messages.specs.declared.authenticator.Authenticator.{Authenticator};
+ghost use Rattle.krb_messages.specs.declared.enc_ticket_part.EncTicketPart.{EncTicketPart};
+ghost use Rattle.krb_messages.specs.declared.ticket.Ticket.{Ticket};
+ghost use Rattle.krb_messages.specs.Frame.{with_length};
+ghost use Rattle.krb_exchange.specs.declared.kdc_req.KdcReqBody.{KdcReqBody};
+ghost use Rattle.krb_exchange.specs.Layouts.{as_req_layout, as_rep_layout, tgs_req_layout, tgs_rep_layout};
+ghost use Rattle.sspi_core.specs.declared.draw.Draw.{Draw};
+ghost use Rattle.sspi_core.specs.Moments.{last_moment};
+ghost use Rattle.krb_requests.specs.Pieces.{principal as name_with};
+ghost use Rattle.krb_requests.specs.PaDatas.{plain_pa_datas, timed_pa_datas};
+ghost use Rattle.krb_requests.specs.Bodies.{as_req_with, user_components};
+ghost use Rattle.krb_kdc.specs.declared.kdc.Kdc.{Kdc};
+ghost use Rattle.krb_kdc.specs.declared.kdc.Principal.{Principal};
+ghost use Rattle.krb_kdc.specs.declared.tgs_req.Target.{Target};
+ghost use Rattle.krb_kdc.specs.Answering.{Answers, first_grant, next_grant};
+ghost use Rattle.krb_context.specs.Drawn.{drawn_key};
+ghost use Rattle.krb_kdc.specs.Grants.{as_rep, tgs_rep, ticket_part, ticket};
+ghost use Rattle.krb_kdc.specs.Refusals.{hint, refusal};
+ghost use Rattle.krb_authenticators.specs.TgsRequests.{tgs_req};
+ghost use Rattle.krb_as.specs.declared.client.Client.{Client as Credentialed};
+ghost use Rattle.krb_as.specs.declared.body.FirstService.TheVariants.{TicketGranting};
+ghost use Rattle.krb_as.specs.FirstBodies.{first_body};
+ghost use Rattle.krb_kdc.specs.Registers.{principal_with, trust_in};
+ghost use Rattle.krb_laws_kdc.specs.Asking.{AsksFirst, AreNear, IsFairSkew, client_with};
+ghost use Rattle.sspi_core.specs.declared.protocol.NetworkProtocol.TheVariants.{Tcp};
+ghost use Rattle.krb_as.specs.declared.asker.Asker.{Asker};
+ghost use Rattle.krb_crypto.specs.Suite.{key_size};
+ghost use Rattle.krb_kdc.specs.declared.grant.Grant.{Grant};
+ghost use Rattle.krb_as.specs.Askers.{time_suite, client_key, default_salt};
+ghost use Rattle.krb_laws_ends.specs.Answers.{IsDraw, AdmitsOnly, AreNew, EndsWellIn};
+ghost use Rattle.krb_laws_ends.specs.HonestKdc.{AnswersError, GrantsFirst, Known, HasKdc, Refers, Serves, service_of};
+ghost use Rattle.krb_laws_kdc.specs.Granting.{IsSoundGrant, IsSoundClient};
+ghost use Rattle.krb_laws_kdc.specs.Showing.{OpensAtKdc, IsHolder, AsksNext};
+ghost use Rattle.sspi_core.specs.declared.cause.Cause.{Cause};
+ghost use Rattle.sspi_core.specs.declared.error.Error.{Error};
+ghost use Rattle.sspi_core.specs.declared.identity.CredentialsBuffers.{CredentialsBuffers};
+ghost use Rattle.sspi_core.specs.Flags.{has_flag, use_session_key};
+ghost use Rattle.sspi_core.specs.Usernames.{UserName};
+ghost use Rattle.sspi_generator.specs.Runs.{Resolves};
+ghost use Rattle.krb_conf.specs.declared.env.Env.{Env};
+ghost use Rattle.krb_context.specs.declared.context.Kerberos.{Kerberos};
+ghost use Rattle.krb_context.specs.declared.interoperability.Interoperability.{Interoperability};
+ghost use Rattle.krb_context.specs.Contexts.{settled};
+ghost use Rattle.krb_exchange.specs.declared.kdc_rep.KdcRep.{KdcRep};
+ghost use Rattle.krb_replay.specs.Clock.{in_microseconds, is_later};
+ghost use Rattle.krb_as.specs.declared.kdc.Kdc.{Kdc as Address};
+ghost use Rattle.krb_replies.specs.Realms.{referral_realm};
+ghost use Rattle.krb_as.specs.declared.done.InitDone.{InitDone};
+ghost use Rattle.krb_as.specs.Turns.{IsWant};
+ghost use Rattle.krb_tgs.specs.declared.wanted.Wanted.{Wanted};
+ghost use Rattle.krb_tgs.specs.TgsAsked.{is_same_realm, tgs_authenticator, drawn_confounder};
+ghost use Rattle.krb_ap.specs.Initiators.{is_bare};
+ghost use Rattle.krb_initiator.specs.declared.options.InitOptions.{InitOptions};
+ghost use Rattle.krb_initiator.specs.declared.init_run.InitRun.{InitRun};
+ghost use Rattle.krb_initiator.specs.declared.seeker.Seeker.{Seeker};
+ghost use Rattle.krb_initiator.specs.declared.seeker.Initiation.TheVariants.{Seeks};
+ghost use Rattle.krb_initiator.specs.declared.seeker.InitPhase.TheVariants.{New};
+ghost use Rattle.krb_initiator.specs.InitRuns.{StartsAt, ResumesAt};
+ghost use Rattle.krb_admission.specs.Requests.{ask_of};
+ghost use Rattle.krb_server.specs.declared.accept.Accepted.{Accepted};
+ghost use Rattle.krb_server.specs.Whole.{AcceptsWhole};
+ghost use Rattle.krb_laws_ends.specs.Fetches.{seeker_for, HoldsKey};
+ghost use Rattle.krb_laws_ends.specs.Offers.{request_of};
+ghost use Rattle.krb_kdc.specs.declared.kdc.Trust.{Trust};
+ghost use Rattle.krb_kdc.specs.Nets.{Net};
+ghost use Rattle.krb_kdc.specs.Requests.{granting};
+ghost use Rattle.krb_kdc.specs.TgsChecks.{target_of};
+ghost use Rattle.krb_laws_kdc.specs.Example.{example_seeker, example_pairs, example_draws, service_octets, example_user};
+ghost use Rattle.std.proofs.Common.{Global};
+ghost use Rattle.krb_der.specs.Layout.{spelling};
+ghost use Rattle.sspi_generator.specs.Draws.{AreInRange};
+ghost use Rattle.krb_laws_kdc.specs.Fetching.{body_at, Draws, of_client, of_kdcs, CanFetch, HasFetched, SendsTo};
+
+use krb_replay::ReplayGate;
+
+/// A KDC asks a client that it has, and that brings no pre-authentication, for it, and tells its suite and its salt.
+pub fn clients_are_asked_for_their_key()
+    ensures { (kdc : Kdc) (name : PrincipalName) (principal : Principal) (moment : ℕ) (body : KdcReqBody) (draw : Draw) (reply : List ℕ)
+        → AsksFirst kdc name principal moment body → IsFairSkew kdc.skew → AreNear kdc.skew moment draw.moment
+        → length (spelling as_req_layout (as_req_with plain_pa_datas body)) + 4 ≤ 2 ^ 24
+        → Answers kdc (with_length (spelling as_req_layout (as_req_with plain_pa_datas body))) draw reply
+        → reply ≡ with_length (refusal kdc.realm draw 25 (Some (hint kdc.suite principal.salt))) }
+{}
+
+/// A client that seals its time under its key, and whose clock and the KDC's are near, is given the ticket-granting ticket.
+pub fn clients_with_their_key_are_granted_a_ticket()
+    ensures { (kdc : Kdc) (name : PrincipalName) (principal : Principal) (moment later : ℕ) (body : KdcReqBody) (confounder : List ℕ) (draw : Draw) (reply : List ℕ)
+        → AsksFirst kdc name principal moment body → IsFairSkew kdc.skew → AreNear kdc.skew moment draw.moment → AreNear kdc.skew later draw.moment
+        → later ≤ last_moment → length confounder ≡ 16 → IsOctets confounder
+        → length (spelling as_req_layout (as_req_with (timed_pa_datas kdc.suite principal.key later confounder) body)) + 4 ≤ 2 ^ 24
+        → Answers kdc (with_length (spelling as_req_layout (as_req_with (timed_pa_datas kdc.suite principal.key later confounder) body))) draw reply
+        → reply ≡ with_length (spelling as_rep_layout
+        (as_rep kdc.suite kdc.realm draw body.nonce principal.key (first_grant kdc draw.moment body (client_with kdc name principal)))) }
+{}
+
+/// A holder of a ticket that the KDC opens, whose clock and the KDC's are near, is given the ticket that it asks for.
+pub fn holders_of_tickets_are_served()
+    ensures { (kdc : Kdc) (ticket : Ticket) (part : EncTicketPart) (moment : ℕ) (body : KdcReqBody) (authenticator : Authenticator) (confounder : List ℕ)
+        (target : Target) (draw : Draw) (reply : List ℕ) → OpensAtKdc kdc draw.moment ticket part → IsHolder part moment body authenticator confounder
+        → AsksNext kdc moment body target → IsFairSkew kdc.skew → AreNear kdc.skew moment draw.moment
+        → length (spelling tgs_req_layout (tgs_req kdc.suite part.key.key_value confounder ticket authenticator body)) + 4 ≤ 2 ^ 24
+        → Answers kdc (with_length (spelling tgs_req_layout (tgs_req kdc.suite part.key.key_value confounder ticket authenticator body))) draw reply
+        → reply ≡ with_length (spelling tgs_rep_layout
+        (tgs_rep kdc.suite kdc.realm draw body.nonce part.key.key_value (next_grant draw.moment body part target))) }
+{}
+
+/// The reply by which a KDC asks a client that it has for its key is, over TCP, an honest KDC's error that names the client's suite and salt.
+pub fn requests_for_a_key_are_honest()
+    ensures { (kdc : Kdc) (components : List (List ℕ)) (principal : Principal) (draw : Draw) (asker : Asker)
+        → principal_with components kdc.principals ≡ Some principal → draw.moment ≤ last_moment
+        → length (refusal kdc.realm draw 25 (Some (hint kdc.suite principal.salt))) ≤ 2 ^ 23
+        → AnswersError asker Tcp (with_length (refusal kdc.realm draw 25 (Some (hint kdc.suite principal.salt))))
+        (time_suite asker (Some kdc.suite)) (unwrap_or principal.salt (default_salt asker.credentials)) }
+{}
+
+/// The AS-REP that grants a client its first ticket is, over TCP, an honest KDC's to a client with that key.
+pub fn first_replies_are_honest()
+    ensures { (suite : CipherSuite) (realm nonce key used : List ℕ) (draw : Draw) (grant : Grant) (asker : Asker) → IsDraw draw → IsSoundGrant realm nonce grant
+        → client_key suite used asker.credentials ≡ key → length key ≡ key_size suite
+        → IsOctets (with_length (spelling as_rep_layout (as_rep suite realm draw nonce key grant)))
+        → length (spelling as_rep_layout (as_rep suite realm draw nonce key grant)) ≤ 2 ^ 23
+        → GrantsFirst asker suite Tcp used (with_length (spelling as_rep_layout (as_rep suite realm draw nonce key grant)))
+        (as_rep suite realm draw nonce key grant) (drawn_key suite draw) }
+{}
+
+/// The body that credentials make of their AS-REQ asks the KDC of their realm, where that KDC has them.
+pub fn credentials_ask_their_kdc()
+    ensures { (kdc : Kdc) (client : Credentialed) (principal : Principal) (flags : ℕ) (own : Draw) → client.realm ≡ kdc.realm
+        → principal_with (user_components client.name) kdc.principals ≡ Some principal → IsDraw own
+        → AsksFirst kdc (name_with client.name_type (user_components client.name)) principal own.moment (first_body client TicketGranting flags own) }
+{}
+
+/// A client's TGS-REQ asks the KDC of a realm that gives the ticket, and its authenticator is that of the holder of the ticket that the
+/// reply before it brought.
+pub fn tgs_requests_ask_their_kdc()
+    ensures asks { (kdc : Kdc) (wanted : Wanted) (own : Draw) (target : Target) → has_flag wanted.flags.0 use_session_key ≡ false
+        → IsDraw own
+        → target_of kdc (Some (name_with 2 (service_of wanted.target))) ≡ Some target
+        → AsksNext kdc own.moment (body_at wanted kdc.realm own) target }
+    ensures shows { (wanted : Wanted) (rep : KdcRep) (own : Draw) (body : KdcReqBody) (part : EncTicketPart) → IsSoundClient rep.crealm rep.cname → IsDraw own
+        → rep.crealm ≡ part.crealm → rep.cname ≡ part.cname
+        → IsHolder part own.moment body (tgs_authenticator wanted rep own) (drawn_confounder own) }
+{}
+
+/// The TGS-REP that grants a ticket is, over TCP, an honest KDC's: one to a route refers to its realm, and one to a principal serves.
+pub fn next_replies_are_honest()
+    ensures refers { (suite : CipherSuite) (realm nonce : List ℕ) (draw : Draw) (grant : Grant) (known : Known) (asker : Asker) (home : List ℕ) (address : Address)
+        → IsDraw draw → IsSoundGrant realm nonce grant → known.kdc.protocol ≡ Tcp
+        → IsOctets (with_length (spelling tgs_rep_layout (tgs_rep suite realm draw nonce known.key grant)))
+        → length (spelling tgs_rep_layout (tgs_rep suite realm draw nonce known.key grant)) ≤ 2 ^ 23
+        → grant.sname ≡ name_with 2 (granting address.realm) → is_same_realm known.kdc.realm address.realm ≡ false
+        → HasKdc asker home address.realm address
+        → Refers asker home suite known (with_length (spelling tgs_rep_layout (tgs_rep suite realm draw nonce known.key grant)))
+        (record { key = drawn_key suite draw; kdc = address }) }
+    ensures serves { (suite : CipherSuite) (realm nonce : List ℕ) (draw : Draw) (grant : Grant) (known : Known) (options : Interoperability)
+        (target : List ℕ) → IsDraw draw → IsSoundGrant realm nonce grant → known.kdc.protocol ≡ Tcp
+        → IsOctets (with_length (spelling tgs_rep_layout (tgs_rep suite realm draw nonce known.key grant)))
+        → length (spelling tgs_rep_layout (tgs_rep suite realm draw nonce known.key grant)) ≤ 2 ^ 23
+        → IsSoundClient grant.crealm grant.cname → length grant.key ≡ key_size suite → grant.sname ≡ name_with 2 (service_of target)
+        → referral_realm (name_with 2 (service_of target)) ≡ None
+        → Serves options target suite grant.key known (with_length (spelling tgs_rep_layout (tgs_rep suite realm draw nonce known.key grant)))
+        (tgs_rep suite realm draw nonce known.key grant) (ticket_part suite draw grant) }
+{}
+
+/// A KDC opens its own ticket to its ticket-granting service, and the KDC that it refers to opens the ticket that it gave.
+pub fn tickets_are_opened()
+    ensures own { (kdc : Kdc) (realm nonce : List ℕ) (draw : Draw) (grant : Grant) (now : ℕ) → IsDraw draw → IsSoundGrant realm nonce grant
+        → IsSoundClient grant.crealm grant.cname → realm ≡ kdc.realm → grant.sname ≡ name_with 2 (granting kdc.realm) → grant.key ≡ kdc.tgt_key
+        → is_later (pos now) (in_microseconds grant.endtime) kdc.skew ≡ false
+        → OpensAtKdc kdc now (ticket kdc.suite realm draw grant) (ticket_part kdc.suite draw grant) }
+    ensures next { (kdc next : Kdc) (nonce : List ℕ) (draw : Draw) (grant : Grant) (back : Trust) (now : ℕ) → IsDraw draw → IsSoundGrant kdc.realm nonce grant
+        → IsSoundClient grant.crealm grant.cname → is_same_realm kdc.realm next.realm ≡ false → grant.sname ≡ name_with 2 (granting next.realm)
+        → trust_in kdc.realm next.trusts ≡ Some back → grant.key ≡ back.key
+        → is_later (pos now) (in_microseconds grant.endtime) next.skew ≡ false
+        → OpensAtKdc next now (ticket next.suite kdc.realm draw grant) (ticket_part next.suite draw grant) }
+{}
+
+/// A run over a network of KDCs that lead to a service ends out of memory or with the service's ticket: the KDCs' replies are
+/// honest, and the run ends with the token of an honest offer.
+pub fn runs_over_kdcs_fetch_their_ticket()
+    ensures { (context : Kerberos) (seeker : Seeker) (net net' : Net) (draws : Draws) (service_key : List ℕ) (user : UserName) (run run' : InitRun)
+        (out : Result InitDone Error) → context.server ≡ None → CanFetch seeker net.pairs draws service_key user → net.draws ≡ of_kdcs draws
+        → run.initiation ≡ Seeks seeker → run.phase ≡ New → Resolves StartsAt ResumesAt SendsTo run net (of_client draws) out run' net'
+        → (IsWant out → ⊥) → HasFetched context seeker draws.start service_key user out }
+{}
+
+/// There is a client with all that this needs: alice of EXAMPLE.COM, who asks the KDC of her realm for the ticket of host/b, and has a
+/// draw for each turn of her run.
+pub fn some_client_can_fetch()
+    ensures can { (alloc : Global) → CanFetch example_seeker (example_pairs alloc) example_draws service_octets example_user }
+    ensures enough { 12 < length (of_client example_draws) }
+    ensures moments { AreInRange (of_client example_draws) }
+{}
+
+/// The token that such a run ends with is taken by an acceptor that holds the service's key, where its gate admits the client, and both
+/// ends reach one context.
+pub fn fetched_tickets_are_admitted<G: ReplayGate>()
+    ensures { (initiator acceptor acceptor' : Kerberos) (options more : InitOptions) (target service_key : List ℕ) (credentials : CredentialsBuffers)
+        (client : Credentialed) (user : UserName) (out : Result InitDone Error) (env : Env) (first own draw : Draw) (old new : G) (answer : Result Accepted Cause)
+        → is_bare more.flags ≡ is_bare options.flags
+        → (fetched : HasFetched initiator (seeker_for initiator options target credentials client) first service_key user out)
+        → HoldsKey acceptor target service_key → AreNew initiator acceptor → IsDraw own → IsDraw draw
+        → AcceptsWhole G.admits acceptor (is_bare options.flags) fetched.end.done.token env draw old answer acceptor' new
+        → AdmitsOnly G.admits old (ask_of (request_of fetched.end.offer) draw.moment) new
+        → EndsWellIn (is_bare options.flags) G.admits (settled initiator fetched.end.done.change) acceptor' more own draw fetched.end.offer answer }
+{}

@@ -1,0 +1,40 @@
+//! Laws of session keys, for all values.
+
+ghost use Rattle.std.specs.Prelude.{◌≡◌, ℕ, List, Some, None};
+ghost use Rattle.krb_replay.specs.History.{History};
+ghost use Rattle.krb_script.specs.Script.{Setup, Declared, at_id};
+ghost use Rattle.krb_script.specs.declared.item.Event.{Event};
+ghost use Rattle.krb_machine.specs.Described.{connections_of};
+ghost use Rattle.krb_machine.specs.Policy.{State, Runs};
+ghost use Rattle.krb_machine.specs.Text.{Answered};
+ghost use Rattle.krb_machine.specs.declared.connection.Connection.{Connection};
+ghost use Rattle.krb_machine.specs.declared.reply.Reply.{Reply};
+ghost use Rattle.krb_laws_origin.specs.Origins.{IsKeyless, HasOrigin, IsSameInitiator};
+
+use krb_replay::ReplayGate;
+
+/// Over every list of events, and whatever the gate: an initiator that had no session key, and awaited no KDC, has one afterwards
+/// only where a chain of replies that its own events brought leads to it from its credentials. And it is still there, an initiator
+/// that speaks for the same.
+pub fn session_keys_come_from_credentials<G: ReplayGate>()
+    ensures origin { (before after : State G) (events : List Event) (replies : List Reply) (id : ℕ) (first last : Connection)
+        (key : List ℕ)
+        → Runs G.admits before events replies after → at_id id before.connections ≡ Some first → IsKeyless first
+        → at_id id after.connections ≡ Some last → last.context.encryption_params.session_key ≡ Some key
+        → HasOrigin first.context.auth_identity id events key }
+    ensures stays { (before after : State G) (events : List Event) (replies : List Reply) (id : ℕ) (first : Connection)
+        → Runs G.admits before events replies after → at_id id before.connections ≡ Some first → IsKeyless first
+        → (last : Connection) × (at_id id after.connections ≡ Some last) × IsSameInitiator first last }
+{}
+
+/// Over every input: each initiator that its lines declare begins without a session key and awaits no KDC; and behind the events that
+/// are answered it has a session key only where a chain of replies that these events brought leads to it from its credentials.
+pub fn declared_initiators_have_keys_by_their_replies()
+    ensures keyless { (setup : Setup) (id : ℕ) (first : Connection) → at_id id (connections_of setup) ≡ Some first
+        → first.context.server ≡ None → IsKeyless first }
+    ensures origin { (so_far : Declared) (text : List ℕ) (replies : List Reply) (after : State History) (id : ℕ)
+        (first last : Connection) (key : List ℕ)
+        → Answered so_far text replies after → at_id id (connections_of so_far.setup) ≡ Some first → first.context.server ≡ None
+        → at_id id after.connections ≡ Some last → last.context.encryption_params.session_key ≡ Some key
+        → HasOrigin first.context.auth_identity id so_far.events key }
+{}

@@ -1,0 +1,82 @@
+//! Laws of both ends over a service, for all values.
+
+ghost use Rattle.std.specs.Prelude.{◌≡◌, ℕ, List, [], ◌∷◌, Some, None, ◌==◌, true, false, map};
+ghost use Rattle.sspi_core.specs.declared.draw.Draw.{Draw};
+ghost use Rattle.sspi_core.specs.declared.flags.ClientRequestFlags.{ClientRequestFlags};
+ghost use Rattle.sspi_core.specs.declared.identity.CredentialsBuffers.{CredentialsBuffers};
+ghost use Rattle.sspi_core.specs.Usernames.{UserName};
+ghost use Rattle.krb_conf.specs.declared.env.Env.{Env};
+ghost use Rattle.krb_crypto.specs.declared.suite.CipherSuite.{CipherSuite};
+ghost use Rattle.krb_messages.specs.declared.enc_ticket_part.EncTicketPart.{EncTicketPart};
+ghost use Rattle.krb_exchange.specs.declared.kdc_rep.TgsRep.{TgsRep};
+ghost use Rattle.krb_as.specs.declared.client.Client.{Client};
+ghost use Rattle.krb_ap.specs.Initiators.{is_bare};
+ghost use Rattle.krb_admission.specs.Clients.{client_of};
+ghost use Rattle.krb_machine.specs.Initiations.{options_of};
+ghost use Rattle.krb_machine.specs.declared.connection.Connection.{Connection};
+ghost use Rattle.krb_machine.specs.declared.reply.Reply.{Reply};
+ghost use Rattle.krb_laws_ends.specs.Answers.{AreNew, IsDraw, AreEstablished};
+ghost use Rattle.krb_laws_ends.specs.Fetches.{CanBegin, seeker_for, HoldsKey};
+ghost use Rattle.krb_laws_ends.specs.HonestKdc.{Answers, AreHonestKdcs};
+ghost use Rattle.krb_laws_service.specs.Served.{IsFetched, IsShown, ArePlayed, answer_to};
+ghost use Rattle.krb_script.specs.Script.{at_id};
+ghost use Rattle.krb_script.specs.declared.item.Event.{Event};
+ghost use Rattle.krb_machine.specs.Policy.{State, Steps, Runs};
+ghost use Rattle.krb_laws_service.specs.Listed.{Exchanged, AreReady, CanOnlyAdmit, handing, events_of, closing_of, EndsPlainly, EndsInTurn};
+ghost use Rattle.krb_laws_ends.specs.Talk.{Turn, IsFair};
+
+use krb_replay::ReplayGate;
+
+/// Both ends over a service, or over two: an initiator that is started, and whose honest KDCs' replies are handed in, says a token.
+/// Handed to an acceptor that holds the service's key, and whose gate admits the client, it is answered by one; that is handed to the
+/// initiator, and in DCE style the initiator's last word to the acceptor. Then both are established with one session key, one
+/// sub-session key, one suite and one length of the filler. Events of other connections may come between.
+pub fn both_ends_reach_one_context_by_events<G: ReplayGate>()
+    ensures { (initiator waiting acceptor : Connection) (flags : ClientRequestFlags) (env : Env) (target service_key : List ℕ)
+        (credentials : CredentialsBuffers) (client : Client) (suite : CipherSuite) (answers : Answers) (rep : TgsRep) (part : EncTicketPart)
+        (user : UserName) (draw : Draw) (reply : Reply)
+        → CanBegin initiator.context (options_of initiator env flags []) target credentials client
+        → AreHonestKdcs (seeker_for initiator.context (options_of initiator env flags []) target credentials client) suite service_key answers rep part
+        → IsDraw answers.last.draw → HoldsKey acceptor.context target service_key → client_of part.cname part.crealm ≡ Some user
+        → AreNew initiator.context acceptor.context → initiator.exchange ≡ None → acceptor.exchange ≡ None
+        → IsFetched G.admits flags env draw answers initiator reply waiting
+        → IsShown G.admits suite part acceptor.context.encryption_params.ec (is_bare flags) reply waiting acceptor }
+{}
+
+/// An event leaves every connection but its own.
+pub fn events_leave_other_connections<G: ReplayGate>()
+    ensures { (state after : State G) (event : Event) (reply : Reply) (id : ℕ) → Steps G.admits state event reply after
+        → (event.connection == id) ≡ false → at_id id after.connections ≡ at_id id state.connections }
+{}
+
+/// What two established connections wrap, in whatever order each is handed what the other wrapped: each wrap is answered by the
+/// message, and each unwrap of one that comes for the first time and in time is answered by the text that was wrapped.
+pub fn established_connections_understand_each_other<G: ReplayGate>()
+    ensures { (left right : Connection) (suite : CipherSuite) (session_key sub_session_key : List ℕ) (ec : ℕ) (turns : List Turn)
+        (replies : List Reply) → AreEstablished left.context right.context suite session_key sub_session_key ec
+        → left.exchange ≡ None → right.exchange ≡ None
+        → IsFair left.context.seq_number right.context.seq_number left.context right.context [] [] turns
+        → ArePlayed G.admits left right turns replies → replies ≡ map answer_to turns }
+{}
+
+/// The same as one list of events at two connections of one service, where the KDC of the client's realm has the service: the initiator
+/// is started, three replies are handed in, the acceptor is handed the token that the initiator said, and the initiator the acceptor's.
+/// If the gate can do nothing but admit the request, both connections have one context then. In DCE style the acceptor is handed the
+/// initiator's last word, too.
+pub fn one_list_of_events_brings_both_to_one_context<G: ReplayGate>()
+    ensures plain { (before after : State G) (e : Exchanged) (initiator acceptor : Connection) (target service_key : List ℕ)
+        (credentials : CredentialsBuffers) (client : Client) (suite : CipherSuite) (rep : TgsRep) (part : EncTicketPart) (user : UserName)
+        (asked again wanted said answered ended : Reply)
+        → AreReady before e initiator acceptor target service_key credentials client suite rep part user
+        → CanOnlyAdmit G.admits before (handing e said) → is_bare e.flags ≡ false
+        → Runs G.admits before (events_of e said answered []) (asked ∷ again ∷ wanted ∷ said ∷ answered ∷ ended ∷ []) after
+        → EndsPlainly e suite part acceptor.context.encryption_params.ec said answered ended after }
+    ensures dce { (before after : State G) (e : Exchanged) (initiator acceptor : Connection) (target service_key : List ℕ)
+        (credentials : CredentialsBuffers) (client : Client) (suite : CipherSuite) (rep : TgsRep) (part : EncTicketPart) (user : UserName)
+        (asked again wanted said answered ended closed : Reply)
+        → AreReady before e initiator acceptor target service_key credentials client suite rep part user
+        → CanOnlyAdmit G.admits before (handing e said) → is_bare e.flags ≡ true
+        → Runs G.admits before (events_of e said answered (closing_of e ended))
+        (asked ∷ again ∷ wanted ∷ said ∷ answered ∷ ended ∷ closed ∷ []) after
+        → EndsInTurn e suite part said answered ended closed after }
+{}
