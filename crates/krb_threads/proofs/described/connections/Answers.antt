@@ -11,8 +11,8 @@ use Rattle.krb_threads.specs.Journaled.{connections_of}
 use Rattle.krb_threads.proofs.ConnectionsLemmas.{below-turn, put-own, put-other}
 use Rattle.krb_threads.proofs.described.connections.Goals as goal
 
-pub loop-id-preserved-in_ok-put : goal.loop-id-preserved-in_ok-put
-loop-id-preserved-in_ok-put c =
+pub loop-id-preserved-in-Continue-branch-2 : goal.loop-id-preserved-in-Continue-branch-2
+loop-id-preserved-in-Continue-branch-2 c =
     let d = c.args.described.now in
     let front = map deref_pair c.loop-id.yielded in
     let id = c.in-Some.id.now in
