@@ -4,7 +4,8 @@
     read.py PROGRAM
 
 What is loaded from memory or comes out of a vector register is a secret, and so is what is computed from one. What a function is given
-in general registers is none: pointers, lengths and counts. A register that is kept on the stack stays what it is. Refused are
+in general registers, and past the sixth on the stack, is none: pointers, lengths and counts. Nor is what the program has as a constant, at
+an address that is no secret. A register that is kept on the stack stays what it is. Refused are
 
 - an address that has a secret in it;
 - a jump under flags that a secret has set, or to a place that is one;
@@ -20,9 +21,9 @@ import re
 import subprocess
 import sys
 
-# What is read, by the names of its functions, each with what is inlined in it. Each of these must be there. In `krb_bench` both
-# directions of a schedule are made inside `SealingKey::new`, a schedule for decryption alone inside `decrypt`, and a comparison
-# inside `opened_under`: they are read where they stand alone too.
+# What is read, by the names of its functions, each with what is inlined in it. Each of these must be there. In the library
+# `SealingKey::new` is inlined in `Kept::boxed`, `decrypt` in `unseal`, what seals a text in `encrypt`, and the comparison in
+# `opened_under`: they are read where they stand alone too.
 READ = [
     r"^krb_aes::encryption::encrypted$",
     r"^krb_aes::encryption::encrypted_two$",
@@ -31,20 +32,26 @@ READ = [
     r"^krb_aes::decryption::decrypted_eight$",
     r"^krb_aes::schedule::EncryptionSchedule::new$",
     r"^krb_crypto::cbc::",
-    r"^krb_crypto::hmac::HmacKey::",
+    r"^krb_crypto::cts::decrypt_under$",
+    r"^krb_crypto::cts::encrypt_under$",
+    r"^krb_crypto::hmac::HmacKey::new$",
+    r"^krb_crypto::hmac::HmacState::finalize$",
     r"^krb_crypto::suite::sealing_keys$",
-    r"^krb_crypto::sealing_key::SealingKey::new$",
-    r"^krb_crypto::one_way::sealed_under$",
+    r"^krb_crypto::checksum::checksum_key$",
     r"^krb_crypto::one_way::opened_under$",
     r"^krb_crypto::sealing::encrypt$",
-    r"^krb_crypto::sealing::decrypt$",
+    r"^krb_context::kept::Kept::boxed$",
+    r"^krb_replies::unseal::unseal$",
     r"^sha1::compress::compress$",
     r"^sha1::Sha1::update$",
 ]
 READ_WHERE_ALONE = [
     r"^krb_aes::schedule::KeySchedule::new$",
     r"^krb_aes::schedule::DecryptionSchedule::new$",
-    r"^krb_crypto::sealing_key::SealingKey::checksum$",
+    r"^krb_crypto::hmac::HmacKey::",
+    r"^krb_crypto::one_way::sealed_under$",
+    r"^krb_crypto::sealing::decrypt$",
+    r"^krb_crypto::sealing_key::SealingKey::",
     r"^krb_der::equal::is_equal$",
 ]
 
@@ -61,6 +68,9 @@ PUBLIC_FIELDS = [
     # whether the two keys of a usage have 16 octets or 32: the front of each, of which the second lies 33 octets behind the first
     (r"<krb_crypto::suite::sealing_keys>", 0, "BYTE"),
     (r"<krb_crypto::suite::sealing_keys>", 33, "BYTE"),
+    # how many octets both digests of a key have taken, each behind its 84 octets
+    (r"<krb_crypto::hmac::HmacKey::new>", 88, "QWORD"),
+    (r"<krb_crypto::hmac::HmacKey::new>", 184, "QWORD"),
     # where a vector's octets lie, how many they are and how many fit
     (GROWS, 0, "QWORD"),
     (GROWS, 8, "QWORD"),
@@ -118,6 +128,9 @@ def functions(program):
 # An operand on the stack at a fixed place: how wide it is, and how far behind `rsp`.
 ON_STACK = re.compile(r"\b(BYTE|WORD|DWORD|QWORD|XMMWORD|YMMWORD) PTR \[rsp([+-]0x[0-9a-f]+)?\]")
 OCTETS = {"BYTE": 1, "WORD": 2, "DWORD": 4, "QWORD": 8, "XMMWORD": 16, "YMMWORD": 32}
+TOP = "QWORD PTR [rsp]"
+# Where a function is given what has no register: behind the place to return to.
+GIVEN_ON_STACK = range(8, 72)
 
 
 def octets_at(behind, width):
@@ -136,22 +149,32 @@ def registers(text):
 
 
 class Reading:
-    """What is known before an instruction: which registers and flags are secret, which octets of the stack are not, and which registers
-    point to the stack, and where."""
+    """What is known before an instruction: which registers and flags are secret, which octets of the stack are not, which registers
+    point to the stack, and where, and which to a constant."""
 
-    def __init__(self, secrets, octets, pointers=()):
-        self.secrets, self.octets, self.pointers = set(secrets), set(octets), dict(pointers)
+    def __init__(self, secrets, octets, pointers=(), constants=()):
+        self.secrets, self.octets, self.pointers, self.constants = set(secrets), set(octets), dict(pointers), set(constants)
+
+    def copy(self):
+        return Reading(self.secrets, self.octets, self.pointers, self.constants)
+
+    def move(self, by):
+        """The stack grows by so many octets. What lies beyond it is lost."""
+        self.octets = {at + by for at in self.octets if at + by >= 0}
+        self.pointers = {register: at + by for register, at in self.pointers.items()}
 
     def joined(self, other):
         pointers = set(self.pointers.items()) & set(other.pointers.items())
-        return Reading(self.secrets | other.secrets, self.octets & other.octets, pointers)
+        return Reading(self.secrets | other.secrets, self.octets & other.octets, pointers, self.constants & other.constants)
 
     def same(self, other):
-        return (self.secrets, self.octets, self.pointers) == (other.secrets, other.octets, other.pointers)
+        return vars(self) == vars(other)
 
     def is_secret(self, name, operand):
         place = PLACE.search(operand)
         if octets_of(operand) and octets_of(operand) <= self.octets:
+            return False
+        if place and place[1].split("+")[0] in {"rip", *self.constants}:
             return False
         if place:
             return not any(re.search(f, name) and re.fullmatch(p, place[1]) for f, p in PUBLIC_LOADS)
@@ -163,20 +186,28 @@ class Reading:
             return
         for register in registers(operand):
             (self.secrets.add if secret else self.secrets.discard)(register)
-            self.pointers.pop(register, None)
+            self.forget(register)
+
+    def forget(self, register):
+        """Where a register points to is no longer known."""
+        self.pointers.pop(register, None)
+        self.constants.discard(register)
 
     def point(self, register, source):
         """A register takes an address: `source` is a register, or what stands between the brackets."""
         at = re.fullmatch(r"(\w+)(?:\+(0x[0-9a-f]+))?", source)
         start = 0 if at and at[1] == "rsp" else self.pointers.get(at[1]) if at else None
-        self.pointers.pop(register, None)
+        is_constant = bool(at) and at[1] in {"rip", *self.constants}
+        self.forget(register)
         if start is not None:
             self.pointers[register] = start + int(at[2] or "0", 16)
+        if is_constant:
+            self.constants.add(register)
 
 
 def step(name, now, mnemonic, operands):
     """What an instruction leaves, and what is wrong with it."""
-    after = Reading(now.secrets, now.octets, now.pointers)
+    after = now.copy()
     wrong = None
     for operand in operands:
         place = PLACE.search(operand)
@@ -199,17 +230,23 @@ def step(name, now, mnemonic, operands):
             if "rdi" in now.pointers and re.search(pattern, " ".join(operands)):
                 after.octets |= octets_at(now.pointers["rdi"] + behind, width)
         for register in CLOBBERED:
-            after.pointers.pop(register, None)
-    elif mnemonic in ("push", "pop") or first == "rsp":
+            after.forget(register)
+    elif mnemonic == "push":
+        after.move(8)
+        after.put(TOP, secret)
+    elif mnemonic == "pop":
+        after.put(first, now.is_secret(name, TOP))
+        after.move(-8)
+    elif mnemonic in ("sub", "add") and first == "rsp" and operands[1].startswith("0x"):
+        after.move(int(operands[1], 16) * (1 if mnemonic == "sub" else -1))
+    elif first == "rsp":
         after.octets.clear()
         after.pointers.clear()
-        if mnemonic == "pop":
-            after.put(first, False)
     elif mnemonic.startswith("rep_"):
         if {"rcx", "rdi", "rsi"} & now.secrets and "stos" not in mnemonic or {"rcx", "rdi"} & now.secrets:
             wrong = "a copy whose place or length is a secret"
         for register in ("rcx", "rdi", "rsi"):
-            after.pointers.pop(register, None)
+            after.forget(register)
     elif mnemonic == "lea":
         after.put(first, bool(registers(operands[1]) & now.secrets))
         if first in WIDTHS.values():
@@ -268,7 +305,7 @@ def successors(body, at):
 def faults(name, body):
     """The instructions of a function that are refused."""
     given = {register for pattern, some in GIVEN.items() if re.search(pattern, name) for register in some}
-    before = {0: Reading(given, ())}
+    before = {0: Reading(given, GIVEN_ON_STACK)}
     work, found = [0], {}
     while work:
         at = work.pop()
