@@ -21,9 +21,7 @@ help:
 	@sed -n 's/^# make/make/p' Makefile
 
 test:
-	tests/library/run
-	tests/cases/run lines acceptor clients initiator kdcs demo-300 demo-none workers realm
-	tests/keys/run
+	tests/run
 
 prove:
 	rt ci
