@@ -29,12 +29,13 @@ fn draw_of(moment: u64, random: &str) -> Result<Draw> {
 }
 
 /// The service of the first line: one for the whole process, since its replay book serves all its clients.
-fn service_of(alloc: Global, line: Option<&str>) -> Result<Service> {
+fn service_of(alloc: Global, line: Option<&str>) -> Result<Box<Service>> {
     let Some(Line::Service { name, key }) = line.and_then(Line::parse) else {
         return Err(anyhow!("the first line is not: service NAME KEY"));
     };
     let key = Octets::new(hex::decode(alloc, key.as_bytes())?);
-    Ok(Service::new(alloc, name, key, SKEW)?)
+    let service = Service::new(alloc, name, key, SKEW)?;
+    Ok(boxed(alloc, service)?)
 }
 
 /// The octets in hex; a hyphen stands for none.
