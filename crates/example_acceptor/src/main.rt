@@ -29,12 +29,13 @@ fn draw_of(moment: u64, random: &str) -> Result<Draw> {
 }
 
 /// The service of the first line: one for the whole process, since its replay book serves all its clients.
-fn service_of(alloc: Global, line: Option<&str>) -> Result<Service> {
+fn service_of(alloc: Global, line: Option<&str>) -> Result<Box<Service>> {
     let Some(Line::Service { name, key }) = line.and_then(Line::parse) else {
         return Err(anyhow!("the first line is not: service NAME KEY"));
     };
     let key = Octets::new(hex::decode(alloc, key.as_bytes())?);
-    Ok(Service::new(alloc, name, key, SKEW)?)
+    let service = Service::new(alloc, name, key, SKEW)?;
+    Ok(boxed(alloc, service)?)
 }
 
 /// The octets in hex; a hyphen stands for none.
@@ -55,6 +56,24 @@ fn print_session(rt: &(impl Print + AllocGlobal), session: &Session) -> Result<(
     print_octets(rt, "answer", session.answer.as_slice())
 }
 
+fn print_refusal(rt: &impl Print, error: &Error) -> Result<()> {
+    println!(rt; "refused {error}")?;
+    Ok(())
+}
+
+/// What a message says, or which check failed first.
+fn print_text(
+    rt: &(impl Print + AllocGlobal),
+    outcome: &std::result::Result<Vec<u8>, Fault>,
+) -> Result<()> {
+    match outcome {
+        Ok(text) => print_octets(rt, "opened", text),
+        Err(Fault::Refused(error)) => print_refusal(rt, error),
+        Err(Fault::Room(length)) => Err(anyhow!("no room for {length} octets")),
+    }
+}
+
+/// Keeps the session on the heap.
 fn admitted(rt: &(impl Print + AllocGlobal), session: Session) -> Result<Option<Box<Session>>> {
     let session = boxed(rt.alloc(), session)?;
     print_session(rt, &session)?;
@@ -62,7 +81,7 @@ fn admitted(rt: &(impl Print + AllocGlobal), session: Session) -> Result<Option<
 }
 
 fn refused(rt: &impl Print, error: &Error) -> Result<Option<Box<Session>>> {
-    println!(rt; "refused {error}")?;
+    print_refusal(rt, error)?;
     Ok(None)
 }
 
@@ -87,12 +106,7 @@ fn open(
 ) -> Result<()> {
     let session = session.context("a message before a client was admitted")?;
     let sealed = hex::decode(rt.alloc(), sealed.as_bytes())?;
-    match server::open(rt.alloc(), session, &sealed) {
-        Ok(text) => print_octets(rt, "opened", &text)?,
-        Err(Fault::Refused(error)) => println!(rt; "refused {error}")?,
-        Err(Fault::Room(length)) => println!(rt; "refused a text of {length} octets")?,
-    }
-    Ok(())
+    print_text(rt, &server::open(rt.alloc(), session, &sealed))
 }
 
 fn answer_line(
