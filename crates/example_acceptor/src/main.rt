@@ -9,7 +9,8 @@ mod line;
 mod server;
 
 use anyhow::{Context, Result, anyhow};
-use krb_entrance::{Draw, Fault, MAX_MOMENT, Octets, Service, Session};
+use krb_der::boxed;
+use krb_entrance::{Draw, Error, Fault, MAX_MOMENT, Octets, Service, Session};
 use line::Line;
 use std::alloc::Global;
 use std::io;
@@ -54,29 +55,34 @@ fn print_session(rt: &(impl Print + AllocGlobal), session: &Session) -> Result<(
     print_octets(rt, "answer", session.answer.as_slice())
 }
 
+fn admitted(rt: &(impl Print + AllocGlobal), session: Session) -> Result<Option<Box<Session>>> {
+    let session = boxed(rt.alloc(), session)?;
+    print_session(rt, &session)?;
+    Ok(Some(session))
+}
+
+fn refused(rt: &impl Print, error: &Error) -> Result<Option<Box<Session>>> {
+    println!(rt; "refused {error}")?;
+    Ok(None)
+}
+
 /// The session of the client that sent this token, or none: then a line tells which check failed first.
 fn admit(
     rt: &(impl Print + AllocGlobal),
     service: &mut Service,
     token: &str,
     draw: &Draw,
-) -> Result<Option<Session>> {
+) -> Result<Option<Box<Session>>> {
     let token = hex::decode(rt.alloc(), token.as_bytes())?;
     match server::admit(rt.alloc(), service, &token, draw) {
-        Ok(session) => {
-            print_session(rt, &session)?;
-            Ok(Some(session))
-        }
-        Err(error) => {
-            println!(rt; "refused {error}")?;
-            Ok(None)
-        }
+        Ok(session) => admitted(rt, session),
+        Err(error) => refused(rt, &error),
     }
 }
 
 fn open(
     rt: &(impl Print + AllocGlobal),
-    session: Option<&mut Session>,
+    session: Option<&mut Box<Session>>,
     sealed: &str,
 ) -> Result<()> {
     let session = session.context("a message before a client was admitted")?;
@@ -92,7 +98,7 @@ fn open(
 fn answer_line(
     rt: &(impl Print + AllocGlobal),
     service: &mut Service,
-    session: &mut Option<Session>,
+    session: &mut Option<Box<Session>>,
     line: &str,
 ) -> Result<()> {
     match Line::parse(line) {

@@ -9,14 +9,14 @@ use krb_client::{
     ChangePassword, ContextChange, Draw, Env, Error, Generator, GeneratorChangePassword, Kerberos,
     KerberosConfig, NetworkClient, OutOfMemory, Secret, Text, change_password,
 };
+use krb_der::boxed;
 use std::alloc::Global;
 
 /// A context before its exchange, on the heap: a call that can fail is lent it.
 fn context_of(alloc: Global, user: &User, number: [u8; 4]) -> Result<Box<Kerberos>, OutOfMemory> {
     let machine = Text::from_str(alloc, user.machine)?;
     let config = KerberosConfig::new(alloc, user.kdc, machine)?;
-    let context = Kerberos::new_client_from_config(config, number);
-    Ok(Box::new(alloc, context)?)
+    boxed(alloc, Kerberos::new_client_from_config(config, number))
 }
 
 /// What is asked of the KDC.
@@ -24,11 +24,15 @@ fn change_of(alloc: Global, user: &User, password: &str) -> Result<ChangePasswor
     requires { length password.now ≤ 2 ^ 24 }
     ensures { IfOk result (λ change. length change.new_password ≤ 2 ^ 24) }
 {
+    let account_name = Text::from_str(alloc, user.name)?;
+    let domain_name = Text::from_str(alloc, user.realm)?;
+    let old_password = Text::from_str(alloc, user.password)?;
+    let new_password = Text::from_str(alloc, password)?;
     Ok(ChangePassword {
-        account_name: Text::from_str(alloc, user.name)?,
-        domain_name: Text::from_str(alloc, user.realm)?,
-        old_password: Secret::new(Text::from_str(alloc, user.password)?),
-        new_password: Secret::new(Text::from_str(alloc, password)?),
+        account_name,
+        domain_name,
+        old_password: Secret::new(old_password),
+        new_password: Secret::new(new_password),
     })
 }
 
@@ -43,7 +47,7 @@ fn run_of(
     ensures turns { IfOk result (λ run. turns_left run.value.phase ≡ 3) }
 {
     match change_password(alloc, context, change, Env::new(alloc)) {
-        Ok(run) => Ok(Box::new(alloc, Generator::new(run))?),
+        Ok(run) => Ok(boxed(alloc, Generator::new(run))?),
         Err(error) => Err(error),
     }
 }
@@ -80,6 +84,25 @@ fn changed(
     }
 }
 
+fn change_at(
+    alloc: Global,
+    context: &Kerberos,
+    user: &User,
+    password: &str,
+    network: &mut dyn NetworkClient,
+    draws: &[Draw],
+) -> Result<(), Error>
+    requires password { length password.now ≤ 2 ^ 24 }
+    requires enough { 3 < length draws.now }
+    requires in_range { AreInRange draws.now }
+{
+    let change = change_of(alloc, user, password)?;
+    match changed(alloc, context, change, network, draws) {
+        Ok(_) => Ok(()),
+        Err(error) => Err(error),
+    }
+}
+
 /// Changes the user's password at the KDC. The number is the first sequence number of this end, four random octets. There is a
 /// draw for each step.
 pub fn change(
@@ -95,7 +118,5 @@ pub fn change(
     requires in_range { AreInRange draws.now }
 {
     let context = context_of(alloc, user, number)?;
-    let change = change_of(alloc, user, password)?;
-    changed(alloc, &context, change, network, draws)?;
-    Ok(())
+    change_at(alloc, &context, user, password, network, draws)
 }

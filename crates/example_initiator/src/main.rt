@@ -13,14 +13,13 @@ mod printing;
 mod steps;
 
 use anyhow::{Context, Result, anyhow};
-use krb_client::Octets;
 use krb_dialogue::{Dialogue, Error, Next, Session};
 use line::{Line, User};
 use network::Network;
-use printing::{print_octets, print_refusal, print_requests};
+use printing::{print_change, print_octets, print_refusal, print_requests};
 use std::alloc::Global;
 use std::io;
-use steps::Steps;
+use steps::{Draws, Steps};
 
 /// The most octets of a new password.
 const MAX_PASSWORD: usize = 16_777_216;
@@ -72,6 +71,58 @@ fn print_step(
     }
 }
 
+fn start(
+    rt: &(impl Print + AllocGlobal),
+    login: &mut Dialogue,
+    network: &mut Network,
+    draws: Draws,
+) -> Result<()> {
+    let outcome = login::start(rt.alloc(), login, network, draws);
+    print_step(rt, login, &outcome, network)
+}
+
+fn hear(
+    rt: &(impl Print + AllocGlobal),
+    login: &mut Dialogue,
+    token: &[u8],
+    network: &mut Network,
+    draws: Draws,
+) -> Result<()> {
+    let outcome = login::hear(rt.alloc(), login, token, network, draws);
+    print_step(rt, login, &outcome, network)
+}
+
+/// A log-in that has begun.
+fn log_in(
+    rt: &(impl Print + AllocGlobal),
+    user: &User,
+    target: &str,
+    network: &mut Network,
+    draws: Draws,
+) -> Result<Box<Dialogue>> {
+    let number = number_of(user)?;
+    let mut login = login::new_login(rt.alloc(), user, number, target)?;
+    start(rt, &mut login, network, draws)?;
+    Ok(login)
+}
+
+fn change_password(
+    rt: &(impl Print + AllocGlobal),
+    user: &User,
+    password: &str,
+    network: &mut Network,
+    steps: &Steps,
+) -> Result<()> {
+    if password.len() > MAX_PASSWORD {
+        return Err(anyhow!("a password of more than 16777216 octets"));
+    }
+    let number = number_of(user)?;
+    let draws = steps.for_change().context("a change without 4 steps")?;
+    let outcome = change::change(rt.alloc(), user, number, password, network, &draws);
+    print_requests(rt, network)?;
+    print_change(rt, &outcome)
+}
+
 impl<'a> Client<'a> {
     fn new(alloc: Global) -> Client<'a> {
         Client {
@@ -88,27 +139,23 @@ impl<'a> Client<'a> {
         let user = self.user.context("no user")?;
         let steps = self.steps.take();
         let draws = steps.for_login().context("a log-in without a step")?;
-        let mut login = login::new_login(rt.alloc(), &user, number_of(&user)?, target)?;
-        let outcome = login::start(rt.alloc(), &mut login, &mut self.network, draws);
-        print_step(rt, &login, &outcome, &mut self.network)?;
-        self.login = Some(login);
+        self.login = Some(log_in(rt, &user, target, &mut self.network, draws)?);
         Ok(())
     }
 
-    /// The service has answered.
-    fn hear(&mut self, rt: &(impl Print + AllocGlobal), target: &str, token: &str) -> Result<()> {
-        let token = octets(rt.alloc(), token)?;
+    /// The service has answered. A log-in whose context is established then becomes a session.
+    fn hear(&mut self, rt: &(impl Print + AllocGlobal), target: &str, token: &[u8]) -> Result<()> {
         let steps = self.steps.take();
         let draws = steps.for_login().context("an answer without a step")?;
         let login = self.login.as_mut().context("no log-in")?;
         if !is_at(login, target) {
             return Err(anyhow!("a log-in at another service"));
         }
-        let outcome = login::hear(rt.alloc(), login, &token, &mut self.network, draws);
-        print_step(rt, login, &outcome, &mut self.network)
+        hear(rt, login, token, &mut self.network, draws)?;
+        self.settle();
+        Ok(())
     }
 
-    /// Keeps the session of a log-in whose context is established.
     fn settle(&mut self) {
         if let Some(login) = self.login.take() {
             match Dialogue::into_session(login) {
@@ -123,72 +170,56 @@ impl<'a> Client<'a> {
         &mut self,
         rt: &(impl Print + AllocGlobal),
         confounder: &str,
-        text: &str,
+        text: &[u8],
     ) -> Result<()> {
-        let text = octets(rt.alloc(), text)?;
         let mut random = [0; 16];
         hex::decode_to_slice(confounder.as_bytes(), &mut random)?;
         let session = self.session.as_mut().context("no session")?;
-        print_octets(
-            rt,
-            "sealed",
-            &login::seal(rt.alloc(), session, &text, random),
-        )
+        let sealed = login::seal(rt.alloc(), session, text, random);
+        print_octets(rt, "sealed", &sealed)
     }
 
     /// The user's password is changed.
     fn change(&mut self, rt: &(impl Print + AllocGlobal), password: &str) -> Result<()> {
         let user = self.user.context("no user")?;
-        if password.len() > MAX_PASSWORD {
-            return Err(anyhow!("a password of more than 16777216 octets"));
-        }
-        let number = number_of(&user)?;
-        let draws = self
-            .steps
-            .take()
-            .for_change()
-            .context("a change without 4 steps")?;
-        let outcome = change::change(
-            rt.alloc(),
-            &user,
-            number,
-            password,
-            &mut self.network,
-            &draws,
-        );
-        print_requests(rt, &mut self.network)?;
-        match outcome {
-            Ok(()) => println!(rt; "changed")?,
-            Err(error) => print_refusal(rt, &error)?,
-        }
-        Ok(())
+        let steps = self.steps.take();
+        change_password(rt, &user, password, &mut self.network, &steps)
+    }
+
+    /// Another user begins anew.
+    fn set_user(&mut self, user: User<'a>) {
+        self.user = Some(user);
+        self.login = None;
+        self.session = None;
     }
 
     fn take_line(&mut self, rt: &(impl Print + AllocGlobal), line: Line<'a>) -> Result<()> {
         match line {
             Line::User(user) => {
-                self.user = Some(user);
-                self.login = None;
-                self.session = None;
+                self.set_user(user);
+                Ok(())
             }
-            Line::Step { moment, random } => self.steps.add(moment, random)?,
-            Line::Reply { octets: reply } => {
-                self.network.add(Octets::new(octets(rt.alloc(), reply)?))?;
-            }
-            Line::Login { target } => self.log_in(rt, target)?,
+            Line::Step { moment, random } => self.steps.add(moment, random),
+            Line::Reply { octets } => self.network.add(octets),
+            Line::Login { target } => self.log_in(rt, target),
             Line::Answer { target, token } => {
-                self.hear(rt, target, token)?;
-                self.settle();
+                let token = octets(rt.alloc(), token)?;
+                self.hear(rt, target, &token)
             }
-            Line::Seal { confounder, text } => self.seal(rt, confounder, text)?,
-            Line::Change { password } => self.change(rt, password)?,
+            Line::Seal { confounder, text } => {
+                let text = octets(rt.alloc(), text)?;
+                self.seal(rt, confounder, &text)
+            }
+            Line::Change { password } => self.change(rt, password),
         }
-        Ok(())
     }
 }
 
-fn answer_lines(rt: &(impl Print + AllocGlobal), text: &str) -> Result<()> {
-    let mut client = Client::new(rt.alloc());
+fn answer_lines<'a>(
+    rt: &(impl Print + AllocGlobal),
+    client: &mut Client<'a>,
+    text: &'a str,
+) -> Result<()> {
     for line in text.lines() {
         match Line::parse(line) {
             Some(line) => client.take_line(rt, line)?,
@@ -200,5 +231,6 @@ fn answer_lines(rt: &(impl Print + AllocGlobal), text: &str) -> Result<()> {
 
 fn main(rt: HostRuntime) -> Result<()> {
     let text = io::read_to_string(rt.alloc(), rt.stdin())?;
-    answer_lines(&rt, text.as_str())
+    let mut client = Client::new(rt.alloc());
+    answer_lines(&rt, &mut client, text.as_str())
 }

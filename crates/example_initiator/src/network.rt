@@ -2,6 +2,7 @@
 
 ghost use Rattle.std.specs.Prelude.{◌≡◌};
 
+use anyhow::Result;
 use krb_client::{NetFault, NetworkClient, NetworkRequest, Octets, OutOfMemory, TryCopy};
 use std::alloc::{AllocError, Global};
 use std::collections::VecDeque;
@@ -27,9 +28,10 @@ impl Network {
         }
     }
 
-    /// One more reply, behind those that are there.
-    pub fn add(&mut self, reply: Octets) -> Result<(), OutOfMemory> {
-        self.replies.push_back(reply)?;
+    /// One more reply, in hex, after those that are there.
+    pub fn add(&mut self, reply: &str) -> Result<()> {
+        let reply = hex::decode(self.alloc, reply.as_bytes())?;
+        self.replies.push_back(Octets::new(reply))?;
         Ok(())
     }
 
@@ -39,7 +41,7 @@ impl Network {
     }
 
     /// Keeps what is asked.
-    fn keep(&mut self, request: &NetworkRequest) -> Result<(), OutOfMemory>
+    fn keep(&mut self, request: &NetworkRequest) -> std::result::Result<(), OutOfMemory>
         ensures { self.new.faults ≡ self.old.faults }
     {
         let request = request.copy(self.alloc)?;
@@ -54,7 +56,7 @@ impl NetworkClient for Network {
     // A network may answer anything, so nothing is said of it but that it counts its failures.
     ghost sends = { λ old request answer new. Unit {0} };
 
-    fn send(&mut self, request: &NetworkRequest) -> Result<Octets, NetFault> {
+    fn send(&mut self, request: &NetworkRequest) -> std::result::Result<Octets, NetFault> {
         if self.keep(request).is_err() {
             return Err(NetFault::OutOfMemory);
         }

@@ -39,3 +39,14 @@ pub fn print_octets(
     }
     Ok(())
 }
+
+/// Whether the password was changed.
+pub fn print_change(rt: &impl Print, outcome: &std::result::Result<(), Error>) -> Result<()> {
+    match outcome {
+        Ok(()) => {
+            println!(rt; "changed")?;
+            Ok(())
+        }
+        Err(error) => print_refusal(rt, error),
+    }
+}

@@ -50,7 +50,7 @@ long_input None front b F pending handled bytes p f q = tt
 long_input (Some input) None b F pending handled bytes p f q = absurd p
 long_input (Some input) (Some coming) b F pending handled bytes p f q = (coming, p, f, (known_cut (Some input) (Some coming) b pending handled bytes p q).2)
 
--- a line comes behind the first ones, and neither they nor it are too long
+-- a line comes after the first ones, and neither they nor it are too long
 pub record Coming (b : Option (List ℕ)) (input : List ℕ) (first : List (List ℕ)) (line : List ℕ) : Type 0 where
   pub taken : List ℕ
   pub more : List (List ℕ)
@@ -59,7 +59,7 @@ pub record Coming (b : Option (List ℕ)) (input : List ℕ) (first : List (List
   pub short : AreShort (length input) 0 first
   pub fits : is_long (length input) (octet_count first) line ≡ false
 
--- the last line comes, and nothing behind it
+-- the last line comes, and nothing after it
 pub record Last (b : Option (List ℕ)) (input : List ℕ) (first : List (List ℕ)) (line : List ℕ) : Type 0 where
   pub coming : Coming b input first line
   pub none : coming.more ≡ []
@@ -257,7 +257,7 @@ module _ {T : Type 0} (rules : Rules T) (new : T) (left front before now : Optio
       ))
       (known_rest left front b s.handled rest s.consumed (rw front_is t.consumed))
 
-  -- the input is at its end, and no octets stand behind the last 0A
+  -- the input is at its end, and no octets come after the last 0A
   pub exit-end : (old reader : Reader) (a b : Option (List ℕ)) (taker : T) (rest : List ℕ) → front ≡ ahead old a
       → (s : Standing rules new left front before now old.cutting.taken taker) → TakesRest old reader a b rest → IsAtEnd b → rest ≡ [] → Halts rules new left b before now taker End
   exit-end old reader a b taker rest front_is s t at_end none =

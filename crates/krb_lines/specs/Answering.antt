@@ -9,7 +9,7 @@ use Rattle.krb_text.specs.declared.status.Status.TheVariants.{Done, BadWords, Ba
 use Rattle.krb_lines.specs.Rules.{Rules}
 use Rattle.krb_lines.specs.Text.{bad_line, long_line, stopped_line}
 
--- one line, and then those behind it
+-- one line, and then those after it
 pub record FirstThen {T : Type 0} (rules : Rules T) (line : List ℕ) (rest : T → List ℕ → Type 0) (taker : T) (text : List ℕ) : Type 0 where
   pub own : List ℕ
   pub next : T
@@ -28,24 +28,24 @@ abbrev pub octet_count : List (List ℕ) → ℕ
 octet_count [] = 0
 octet_count (line ∷ more) = (length line + 1) + octet_count more
 
--- no line is longer than it may be, where they stand behind `at` of `total` octets
+-- no line is longer than it may be; they come after `at` of `total` octets
 abbrev pub AreShort : ℕ → ℕ → List (List ℕ) → Type 0
 AreShort total at [] = Unit {0}
 AreShort total at (line ∷ more) = (is_long total at line ≡ false) × AreShort total (at + length line + 1) more
 
--- the first lines of an input are taken, others stand behind them, and this text is written
+-- the first lines of an input are taken, none of them is longer than it may be, others come after them, and this text is written
 pub record Reaches {T : Type 0} (rules : Rules T) (new : T) (input : List ℕ) (others : List (List ℕ)) (text : List ℕ) (taker : T) : Type 0 where
   pub first : List (List ℕ)
   pub lines_are : lines input ≡ first ++ others
   pub short : AreShort (length input) 0 first
   pub runs : Runs rules new first text taker
 
--- the next line is bad, and no longer than it may be; where none is left, the input may not end here
+-- the next line is bad, and no longer than it may be; or none is left, and the input may not end here
 abbrev pub IsBad : {T : Type 0} → Rules T → ℕ → ℕ → T → List (List ℕ) → Type 0
 IsBad rules total at taker [] = rules.can_end taker ≡ false
 IsBad rules total at taker (line ∷ more) = (is_long total at line ≡ false) × rules.refuses taker line
 
--- the next line is longer than it may be, or ends behind the longest input
+-- the next line is longer than it may be, or ends past the longest input
 abbrev pub IsLong : ℕ → ℕ → List (List ℕ) → Type 0
 IsLong total at [] = ⊥
 IsLong total at (line ∷ more) = is_long total at line ≡ true
@@ -119,7 +119,7 @@ Written rules new input taken BadWords written = (taken ≡ []) × (written ≡ 
 abbrev pub IsTaken : List ℕ → Option (List ℕ) → List ℕ → Type 0
 IsTaken input left_after taken = Consumes (Some input) left_after taken × (length taken ≤ max_input + 1)
 
--- of the input that the source had left, a front is taken, and the sink has taken what the status says, where they tell
+-- of the input that the source had left, a front is taken, and the sink has taken what the status says, if they tell
 abbrev pub AnswersLines : {T : Type 0} → Rules T → T → Option (List ℕ) → Option (List ℕ) → Option (List ℕ) → Option (List ℕ) → Status → Type 0
 AnswersLines rules new left left_after before after status =
     IfSome left (λ input. (taken written : List ℕ) × IsTaken input left_after taken × Appends before after written × Written rules new input taken status written)

@@ -27,7 +27,7 @@ status_at rules taker ReadFault = ReadStatus
 status_at rules taker WriteFault = WriteStatus
 status_at rules taker OutOfMemory = MemoryStatus
 
--- the next line is bad: the counts are those behind the lines before it
+-- the next line is bad: the counts are those after the lines before it
 pub record StopsAtBad {T : Type 0} (rules : Rules T) (new : T) (input written : List ℕ) (taker : T) : Type 0 where
   pub before : T
   pub line : List ℕ

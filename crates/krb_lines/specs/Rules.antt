@@ -2,7 +2,7 @@
 use Rattle.std.specs.Prelude.{◌≡◌, ℕ, Bool, List}
 
 -- a line is taken: this text is written for it, and this is known then; a line is bad; how many lines were taken, and how many
--- replies written; whether the input may end here, and the last line where it does
+-- replies written; whether the input may end here, and the last line if it does
 pub record Rules (T : Type 0) : Type 1 where
   pub takes : T → List ℕ → List ℕ → T → Type 0
   pub refuses : T → List ℕ → Type 0

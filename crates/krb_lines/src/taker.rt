@@ -49,7 +49,7 @@ pub trait LineTaker {
     fn can_end(&self) -> bool
         ensures { result ≡ rules.can_end self.now };
 
-    /// The last line where the input ends here.
+    /// The last line if the input ends here.
     fn end_line(&self) -> ArrayString<ROOM>
         ensures { result.bytes ≡ rules.end_line self.now };
 }

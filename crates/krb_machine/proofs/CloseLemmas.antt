@@ -135,7 +135,7 @@ long_text input text front (line ∷ more) progress r long is =
     (λ so_far replies after. refl) is in
     (t.0.1, t.1)
 
--- memory ran out behind the first lines
+-- memory ran out after the first lines
 short_text : (input text : List ℕ) → EndsStopped line_rules new_progress input text → IsStopped input text
 short_text input text e =
     let k = input-reaches input e.others e.front e.taker e.reaches in
@@ -156,7 +156,7 @@ short_text input text e =
       is = e.is;
     }
 
--- a read failed behind the whole lines
+-- a read failed after the whole lines
 unread_text : (taken text : List ℕ) → EndsUnread line_rules new_progress taken text
     → IsSound taken × ((replies : List Reply) × (after : State History) × Answered (whole_reading taken).so_far text replies after)
 unread_text taken text e =

@@ -26,7 +26,7 @@ pub read-long : (total at n : ℕ) (so_far : Declared) (line : List ℕ) (rest :
     → read_lines total at n so_far (line ∷ rest) ≡ record { so_far = so_far; number = n; stop = Long }
 read-long total at n so_far line rest e = rw e refl
 
--- what the first lines declare, behind what was declared before them, and the replies to all their events
+-- what the first lines declare, after what was declared before them, and the replies to all their events
 pub record Declares (total at : ℕ) (progress : Progress) (so_far : Declared) (replies : List Reply) (first others : List (List ℕ)) (text : List ℕ) (after : Progress) : Type 0 where
   pub next : Declared
   pub all : List Reply
@@ -59,7 +59,7 @@ run-declares total at progress so_far replies (line ∷ more) others text after 
       text_is = r.text_is ∙ ap (λ l. l ++ run.later) m.text_is ∙ append_assoc (replies_text replies) run.own run.later ∙ ap (λ l. replies_text replies ++ l) (sym run.text_is);
     }
 
--- behind the first lines of an input a session follows what they declare, and their replies are written
+-- after the first lines of an input a session follows what they declare, and their replies are written
 pub record Reached (total at : ℕ) (input_lines others : List (List ℕ)) (text : List ℕ) (progress : Progress) : Type 0 where
   pub so_far : Declared
   pub replies : List Reply

@@ -3,7 +3,7 @@ ghost use Rattle.std.specs.Prelude.{◌≡◌, IfOk};
 
 use crate::exchange::Exchange;
 use krb_context::Kerberos;
-use krb_der::{Name, OutOfMemory};
+use krb_der::{Name, OutOfMemory, boxed};
 use std::alloc::Global;
 use std::marker::Model;
 
@@ -39,7 +39,7 @@ impl HeldConnection {
         ensures { IfOk result (λ held. held ≡ connection) }
     {
         Ok(HeldConnection {
-            connection: Box::new(alloc, connection)?,
+            connection: boxed(alloc, connection)?,
         })
     }
 }

@@ -12,7 +12,7 @@ use krb_context::{Kerberos, ServerProperties};
 use krb_der::{Name, OutOfMemory, Text, TryCopy, boxed};
 use krb_replay::{ReplayBook, ReplayGate};
 use krb_script::{Endpoint, Role, Script, ServiceKey};
-use sspi_core::Secret;
+use sspi_core::{CredentialsBuffers, Secret};
 use std::alloc::{AllocError, Global};
 use std::collections::BTreeMap;
 use url::Url;
@@ -139,6 +139,12 @@ fn acceptor_context(
     Kerberos::new_server_from_config(config, Box::into_inner(server), number)
 }
 
+fn set_identity(client: &mut Kerberos, identity: Option<CredentialsBuffers>)
+    ensures { client.new ≡ record client.old { auth_identity = identity } }
+{
+    client.auth_identity = identity;
+}
+
 /// The context of an initiator before its exchange.
 fn initiator_context(alloc: Global, endpoint: &Endpoint) -> Result<Kerberos, OutOfMemory>
     ensures { IfOk result (λ context. context ≡ initiator_context endpoint.now) }
@@ -146,7 +152,7 @@ fn initiator_context(alloc: Global, endpoint: &Endpoint) -> Result<Kerberos, Out
     let identity = boxed(alloc, endpoint.credentials.copy(alloc)?)?;
     let config = config_of(alloc, endpoint)?;
     let mut client = Kerberos::new_client_from_config(config, endpoint.number.to_be_bytes());
-    client.auth_identity = Box::into_inner(identity);
+    set_identity(&mut client, Box::into_inner(identity));
     Ok(client)
 }
 
@@ -214,6 +220,11 @@ pub fn service_of(alloc: Global, script: Script) -> Result<Service<ReplayBook>, 
     let (skew, env, endpoints) = script.into_parts();
     let mut service = Service::new(alloc, ReplayBook::new(alloc, skew)?);
     service.set_env(env);
-    put_endpoints(alloc, skew, endpoints, &mut service)?;
-    Ok(service)
+    match put_endpoints(alloc, skew, endpoints, &mut service) {
+        Ok(()) => Ok(service),
+        Err(error) => {
+            drop(service);
+            Err(error)
+        }
+    }
 }

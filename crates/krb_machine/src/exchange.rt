@@ -13,7 +13,7 @@ ghost use Rattle.krb_machine.specs.declared.run.Run.{Run};
 
 use crate::run::{Run, resume, start};
 use krb_as::InitDone;
-use krb_der::{Octets, OutOfMemory};
+use krb_der::{Octets, OutOfMemory, boxed};
 use sspi_core::{Cause, Draw, Error, ErrorKind};
 use sspi_generator::{GeneratorState, NetFault, NetworkRequest};
 use std::alloc::Global;
@@ -95,7 +95,7 @@ pub fn begin_exchange(alloc: Global, run: Run, draw: &Draw) -> Result<Step, OutO
     requires moment { draw.now.moment ≤ last_moment }
     ensures begins { IfOk result (λ step. BeginsRun run draw.now step) }
 {
-    let mut run = Box::new(alloc, run)?;
+    let mut run = boxed(alloc, run)?;
     let state = start(&mut run, draw);
     match step_of(state, run) {
         Ok(step) => Ok(step),

@@ -35,14 +35,17 @@ fn held_connection(
     HeldConnection::new(alloc, connection_of(alloc, skew, endpoint)?)
 }
 
-/// Puts a connection where its number stands, in the place of one that has it.
+/// Puts the connection of an end where its number stands, in the place of one that has it.
 fn put(
-    made: &mut BTreeMap<u32, HeldConnection>,
+    alloc: Global,
+    skew: u32,
     id: u32,
-    connection: HeldConnection,
+    endpoint: &Endpoint,
+    made: &mut BTreeMap<u32, HeldConnection>,
 ) -> Result<(), OutOfMemory>
-    ensures { OnOk result (made.new.entries ≡ insert_entry nat_cmp made.old.entries id connection) }
+    ensures { OnOk result (made.new.entries ≡ insert_entry nat_cmp made.old.entries id (connection_of skew endpoint.now)) }
 {
+    let connection = held_connection(alloc, skew, endpoint)?;
     made.insert(id, connection)?;
     Ok(())
 }
@@ -59,8 +62,7 @@ fn connections(
     let mut made = BTreeMap::new(alloc);
     for (id, endpoint) in described.endpoints.iter() {
         if *id % 2 == worker {
-            let connection = held_connection(alloc, described.skew, endpoint)?;
-            put(&mut made, *id, connection)?;
+            put(alloc, described.skew, *id, endpoint, &mut made)?;
         }
     }
     Ok(made)

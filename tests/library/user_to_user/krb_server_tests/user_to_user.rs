@@ -269,7 +269,7 @@ fn begun(
     ensures { IfOk result (λ answer. IfOk answer (λ run. IsNew run.value)) }
 {
     match accept_security_context(alloc, server, book, token, flags_of(dce), env, &draw()) {
-        Ok(Accepted::Run(run)) => Ok(Ok(boxed(alloc, run)?)),
+        Ok(Accepted::Run(run)) => Ok(Ok(run)),
         Ok(Accepted::Done { .. }) => Err(Fail::from("no run")),
         Err(error) => Ok(Err(error)),
     }

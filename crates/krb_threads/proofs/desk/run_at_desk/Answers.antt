@@ -1,10 +1,14 @@
+use Rattle.std.proofs.Common.{ap, ◌∙◌}
+use Rattle.krb_shared.specs.Desk.{Desk}
 use Rattle.krb_threads.specs.Described.{all_connections}
 use Rattle.krb_threads.proofs.AnswersLemmas.{told-there}
 use Rattle.krb_threads.proofs.desk.run_at_desk.Goals as goal
 
 pub returns : goal.returns
 returns g c =
-    told-there c.args.described.now.skew c.args.described.now.env (all_connections c.args.described.now) c.args.low.items c.args.high.items c.in_ok-first.first.items c.in_ok-second.second.items
-    c.in_ok-desk.desk c.run_at.new.desk c.run_at-2.new.desk c.into_journal.result c.in_ok-desk.ensures.skew c.in_ok-desk.ensures.journal
-    c.in_ok-low_ends.low_ends.env c.in_ok-low_ends.high_ends.env c.in_ok-low_ends.ensures.first.env c.in_ok-low_ends.ensures.second.env
-    c.in_ok-low_ends.low_ends.connections.entries c.in_ok-low_ends.high_ends.connections.entries c.in_ok-low_ends.ensures.first.connections c.in_ok-low_ends.ensures.second.connections c.in_ok-first.ensures c.in_ok-second.ensures c.into_journal.ensures.journal c.into_journal.ensures.entries
+    let new = c.deref_mut.ensures.value ∙ c.in_ok-desk.ensures in
+    told-there c.args.described.now.skew c.args.described.now.env (all_connections c.args.described.now) c.args.low.items c.args.high.items c.in_ok-one.one.value.replies.items c.in_ok-two.two.value.replies.items
+    c.deref_mut.result.now c.deref_mut-2.result.now c.into_inner.result c.into_journal.result (ap (λ (d : Desk). d.skew) new ∙ c.in_ok-new.ensures.skew) (ap (λ (d : Desk). d.journal) new ∙ c.in_ok-new.ensures.journal)
+    c.in_ok-ends_of.field-0.value.env c.in_ok-ends_of-2.field-0.value.env c.in_ok-ends_of.ensures.env c.in_ok-ends_of-2.ensures.env
+    c.in_ok-ends_of.field-0.value.connections.entries c.in_ok-ends_of-2.field-0.value.connections.entries c.in_ok-ends_of.ensures.connections c.in_ok-ends_of-2.ensures.connections
+    (rw c.deref_mut-2.ensures.value c.in_ok-one.ensures) (rw c.into_inner.ensures c.in_ok-two.ensures) c.into_journal.ensures.journal c.into_journal.ensures.entries
