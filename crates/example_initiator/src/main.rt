@@ -19,7 +19,7 @@ use network::Network;
 use printing::{print_change, print_octets, print_refusal, print_requests};
 use std::alloc::Global;
 use std::io;
-use steps::{Draws, Steps};
+use steps::Steps;
 
 /// The most octets of a new password.
 const MAX_PASSWORD: usize = 16_777_216;
@@ -71,39 +71,38 @@ fn print_step(
     }
 }
 
-fn start(
-    rt: &(impl Print + AllocGlobal),
-    login: &mut Dialogue,
-    network: &mut Network,
-    draws: Draws,
-) -> Result<()> {
-    let outcome = login::start(rt.alloc(), login, network, draws);
-    print_step(rt, login, &outcome, network)
-}
-
-fn hear(
-    rt: &(impl Print + AllocGlobal),
-    login: &mut Dialogue,
-    token: &[u8],
-    network: &mut Network,
-    draws: Draws,
-) -> Result<()> {
-    let outcome = login::hear(rt.alloc(), login, token, network, draws);
-    print_step(rt, login, &outcome, network)
-}
-
 /// A log-in that has begun.
 fn log_in(
     rt: &(impl Print + AllocGlobal),
     user: &User,
     target: &str,
     network: &mut Network,
-    draws: Draws,
+    steps: &Steps,
 ) -> Result<Box<Dialogue>> {
     let number = number_of(user)?;
+    let draws = steps.for_login().context("a log-in without a step")?;
     let mut login = login::new_login(rt.alloc(), user, number, target)?;
-    start(rt, &mut login, network, draws)?;
+    let outcome = login::start(rt.alloc(), &mut login, network, draws);
+    print_step(rt, &login, &outcome, network)?;
     Ok(login)
+}
+
+/// The service has answered.
+fn hear(
+    rt: &(impl Print + AllocGlobal),
+    login: Option<&mut Box<Dialogue>>,
+    target: &str,
+    token: &[u8],
+    network: &mut Network,
+    steps: &Steps,
+) -> Result<()> {
+    let login = login.context("no log-in")?;
+    if !is_at(login, target) {
+        return Err(anyhow!("a log-in at another service"));
+    }
+    let draws = steps.for_login().context("an answer without a step")?;
+    let outcome = login::hear(rt.alloc(), login, token, network, draws);
+    print_step(rt, login, &outcome, network)
 }
 
 fn change_password(
@@ -138,22 +137,17 @@ impl<'a> Client<'a> {
     fn log_in(&mut self, rt: &(impl Print + AllocGlobal), target: &str) -> Result<()> {
         let user = self.user.context("no user")?;
         let steps = self.steps.take();
-        let draws = steps.for_login().context("a log-in without a step")?;
-        self.login = Some(log_in(rt, &user, target, &mut self.network, draws)?);
+        self.login = Some(log_in(rt, &user, target, &mut self.network, &steps)?);
         Ok(())
     }
 
     /// The service has answered. A log-in whose context is established then becomes a session.
     fn hear(&mut self, rt: &(impl Print + AllocGlobal), target: &str, token: &[u8]) -> Result<()> {
         let steps = self.steps.take();
-        let draws = steps.for_login().context("an answer without a step")?;
-        let login = self.login.as_mut().context("no log-in")?;
-        if !is_at(login, target) {
-            return Err(anyhow!("a log-in at another service"));
-        }
-        hear(rt, login, token, &mut self.network, draws)?;
+        let login = self.login.as_mut();
+        let outcome = hear(rt, login, target, token, &mut self.network, &steps);
         self.settle();
-        Ok(())
+        outcome
     }
 
     fn settle(&mut self) {
