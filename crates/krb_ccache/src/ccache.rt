@@ -35,7 +35,7 @@ pub struct Ccache {
 }
 
 impl Ccache {
-    /// What a file of the format 0503 or 0504 has. The first fault from the front is told.
+    /// Reads a file of the format 0503 or 0504. Fails with the first fault from the front.
     pub fn read(alloc: Global, octets: &[u8]) -> Result<Ccache, CcacheError>
         ensures found { IfOk result (λ cache. Spells cache octets.now) }
         ensures refused { IfErr result (λ error. IsFault error octets.now) }
