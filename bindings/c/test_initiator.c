@@ -106,7 +106,7 @@ static int asks(const login *l, mk_initiator *initiator, const octets *request) 
 /* Begins with these flags and options, and takes the three replies of the KDC. */
 static mk_reply ask_all(const login *l, mk_initiator *to, uint32_t flags, uint32_t options) {
     CHECK(mk_initiator_new(to, text(l->target), strlen(l->target), text(l->machine), strlen(l->machine), flags, l->number, 4).status == MK_OK);
-    CHECK(mk_initiator_allow(to, options).status == MK_OK);
+    CHECK(mk_initiator_set_rules(to, options).status == MK_OK);
     CHECK(mk_initiator_kdc(to, text(l->url), strlen(l->url)).status == MK_OK);
     set_password(l, to);
     mk_reply reply = mk_initiator_start(to, &l->steps[0]);
@@ -161,9 +161,9 @@ static void use_session(const login *l, mk_session *session) {
     reply = mk_wrap(session, l->text.at, l->text.length, l->confounder.at, l->confounder.length, out, sizeof out);
     CHECK(gives(reply, out, l->sealed.at, l->sealed.length));
     CHECK(is_refused(mk_unwrap(session, out, reply.length, out + 2048, 2048), MK_CAUSE_DIRECTION));
-    CHECK(mk_session_allow(session, 0x1ff).status == MK_OK);
-    CHECK(mk_session_allow(session, 0x200).status == MK_ARGUMENT);
-    CHECK(mk_session_allow(session, 0).status == MK_OK);
+    CHECK(mk_session_set_rules(session, 0x1ff).status == MK_OK);
+    CHECK(mk_session_set_rules(session, 0x200).status == MK_ARGUMENT);
+    CHECK(mk_session_set_rules(session, 0).status == MK_OK);
 }
 
 /* The whole log-in, octet for octet. */
@@ -212,7 +212,7 @@ static void refuse_handles(const login *l, mk_initiator *full) {
     uint8_t out[64] = {0};
     const uint8_t *a = text("a");
     CHECK(make(l, full).status == MK_HANDLE && full->count != 0);
-    CHECK(mk_initiator_allow(&empty, 0).status == MK_HANDLE);
+    CHECK(mk_initiator_set_rules(&empty, 0).status == MK_HANDLE);
     CHECK(mk_initiator_kdc(&empty, a, 1).status == MK_HANDLE);
     CHECK(mk_initiator_password(&empty, a, 1, a, 1, a, 1).status == MK_HANDLE);
     CHECK(mk_initiator_key(&empty, a, 1, 18, out, 32).status == MK_HANDLE);
@@ -228,7 +228,7 @@ static void refuse_handles(const login *l, mk_initiator *full) {
     CHECK(mk_initiator_token(&empty, out, sizeof out).status == MK_HANDLE);
     CHECK(mk_initiator_peer(&empty, out, sizeof out).status == MK_HANDLE);
     CHECK(mk_initiator_session(&empty, &session).status == MK_HANDLE);
-    CHECK(mk_session_allow(&session, 0).status == MK_HANDLE);
+    CHECK(mk_session_set_rules(&session, 0).status == MK_HANDLE);
     mk_initiator_free(&empty);
     CHECK(empty.count == 0 && empty.at == NULL && session.count == 0);
 }
@@ -244,10 +244,10 @@ static void refuse_arguments(const login *l, mk_initiator *initiator) {
     CHECK(mk_initiator_new(&none, a, 1, a, 1, ALL_FLAGS, key, 5).status == MK_ARGUMENT);
     CHECK(is_refused(mk_initiator_new(&none, text("\xc3\xa4"), 2, a, 1, ALL_FLAGS, l->number, 4), MK_CAUSE_NOT_ASCII));
     CHECK(none.count == 0 && none.at == NULL);
-    CHECK(mk_initiator_allow(initiator, 0x1ff).status == MK_OK);
-    CHECK(mk_initiator_allow(initiator, 0x200).status == MK_ARGUMENT);
-    CHECK(mk_initiator_allow(initiator, 0x80000000).status == MK_ARGUMENT);
-    CHECK(mk_initiator_allow(initiator, 0).status == MK_OK);
+    CHECK(mk_initiator_set_rules(initiator, 0x1ff).status == MK_OK);
+    CHECK(mk_initiator_set_rules(initiator, 0x200).status == MK_ARGUMENT);
+    CHECK(mk_initiator_set_rules(initiator, 0x80000000).status == MK_ARGUMENT);
+    CHECK(mk_initiator_set_rules(initiator, 0).status == MK_OK);
     CHECK(mk_initiator_kdc(initiator, bad, 1).status == MK_ARGUMENT);
     CHECK(mk_initiator_password(initiator, bad, 1, a, 1, a, 1).status == MK_ARGUMENT);
     CHECK(mk_initiator_password(initiator, a, 1, bad, 1, a, 1).status == MK_ARGUMENT);

@@ -36,7 +36,7 @@ fn main() -> Answer<()> {
     thread::sleep(Duration::from_secs(wait.parse()?));
     let admit = |token: &[u8]| -> Answer<Session> {
         let mut session = acceptor.accept(token)?;
-        session.allow(options)?;
+        session.set_rules(options)?;
         Ok(session)
     };
     connections::serve_all(address, |stream| samples::serve(stream, admit))

@@ -43,7 +43,7 @@ fn run(arguments: &[String]) -> Answer<()> {
     };
     let kdcs: Vec<&str> = kdcs.split(',').collect();
     let mut initiator = Initiator::new(service, "desk", flags(asked)?)?;
-    initiator.allow(options::named(words)?)?;
+    initiator.set_rules(options::named(words)?)?;
     initiator.kdc(kdcs[0])?;
     kdcs::identify(&mut initiator, user, keytab)?;
     let (mut session, stream) = sample_client::log_in(initiator, &kdcs[1..], address)?;

@@ -128,7 +128,7 @@ fn run(arguments: &[String]) -> Answer<()> {
     };
     let kdcs: Vec<&str> = kdcs.split(',').collect();
     let mut initiator = Initiator::new(service, "desk", Flags::USUAL)?;
-    initiator.allow(options::named(words)?)?;
+    initiator.set_rules(options::named(words)?)?;
     initiator.kdc(kdcs[0])?;
     kdcs::identify(&mut initiator, user, keytab)?;
     let stream = TcpStream::connect(address)?;

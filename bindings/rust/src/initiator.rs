@@ -120,9 +120,9 @@ impl Initiator {
     }
 
     /// Allows it, and the session that it makes, these options and no others.
-    pub fn allow(&mut self, options: Options) -> Result<(), Error> {
+    pub fn set_rules(&mut self, options: Options) -> Result<(), Error> {
         // SAFETY: the handle is ours.
-        done(unsafe { sys::mk_initiator_allow(&mut self.0, options.0) })?;
+        done(unsafe { sys::mk_initiator_set_rules(&mut self.0, options.0) })?;
         Ok(())
     }
 

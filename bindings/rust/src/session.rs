@@ -103,9 +103,9 @@ impl Session {
     }
 
     /// Allows it these options from now on, and no others.
-    pub fn allow(&mut self, options: Options) -> Result<(), Error> {
+    pub fn set_rules(&mut self, options: Options) -> Result<(), Error> {
         // SAFETY: the handle is ours.
-        done(unsafe { sys::mk_session_allow(&mut self.handle, options.0) })?;
+        done(unsafe { sys::mk_session_set_rules(&mut self.handle, options.0) })?;
         Ok(())
     }
 

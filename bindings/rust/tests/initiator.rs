@@ -75,7 +75,7 @@ fn a_service_is_reached() {
     assert_eq!(session.ends(), None);
     assert_eq!(session.key().unwrap().len(), 32);
     assert_eq!(session.wrap(b"A").unwrap().len(), 61);
-    session.allow(Options::ALL).unwrap();
+    session.set_rules(Options::ALL).unwrap();
 }
 
 #[test]
@@ -85,7 +85,7 @@ fn one_way_is_settled_where_that_is_allowed() {
     let flags = Flags::USUAL.without(Flags::MUTUAL_AUTH);
     let mut initiator =
         Initiator::with_number("host/server.example.com", user[3], flags, number).unwrap();
-    initiator.allow(Options::ONE_WAY_IS_SETTLED).unwrap();
+    initiator.set_rules(Options::ONE_WAY_IS_SETTLED).unwrap();
     initiator.kdc(user[4]).unwrap();
     initiator.password(user[1], user[2], user[5]).unwrap();
     let mut next = step(&mut initiator, Step::Start, 0).unwrap();
@@ -139,7 +139,7 @@ fn a_file_names_the_kdc() {
     let text = "[realms]\nEXAMPLE.COM = {\nkdc = kdc.example.com:88\n}\n";
     initiator.file("/krb5.conf", text).unwrap();
     initiator.bind(b"tls-server-end-point:").unwrap();
-    initiator.allow(Options::AS_REP_TAGGED_26).unwrap();
+    initiator.set_rules(Options::AS_REP_TAGGED_26).unwrap();
     assert_eq!(initiator.start().unwrap(), Next::AskKdc);
     assert_eq!(initiator.url().unwrap(), "tcp://kdc.example.com:88");
 }

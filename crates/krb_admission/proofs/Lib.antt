@@ -1,7 +1,6 @@
 pub mod Frames
 pub mod Begun
 pub mod Lengths
-pub mod Numbers
 pub mod Once
 pub mod Steps
 pub mod Words

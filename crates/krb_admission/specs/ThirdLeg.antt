@@ -1,18 +1,17 @@
 -- The third leg of DCE style: the initiator's last word, an AP-REP in answer to the acceptor's (MS-KILE, section 3.4.5.1).
-use Rattle.std.specs.Prelude.{◌≡◌, ℕ, ◌==◌, ◌^◌, ◌&&◌, ◌||◌, nat_le, Bool, false, ℤ, pos, ◌-ℤ◌, List, [], length, Result, Ok, Err}
-use Rattle.std.specs.Ordering.{int_eq}
+use Rattle.std.specs.Prelude.{◌≡◌, ℕ, ◌==◌, ◌^◌, ◌&&◌, ◌||◌, nat_le, Bool, false, List, [], length, Result, Ok, Err}
 use Rattle.std.specs.Cmp.Lexicographic.{pointwise}
-use Rattle.krb_der.specs.Integer.{integer_value}
 use Rattle.krb_messages.specs.Layouts.{ap_rep_layout}
 use Rattle.krb_messages.specs.declared.ap_rep.ApRep.{ApRep}
 use Rattle.krb_context.specs.Contexts.{next_number}
-use Rattle.krb_context.specs.Interoperability.{allows, third_leg_by_value}
-use Rattle.krb_context.specs.declared.interoperability.Interoperability.{Interoperability}
+use Rattle.krb_context.specs.Rules.{has_rule, third_leg_by_value}
+use Rattle.krb_context.specs.declared.rules.Rules.{Rules}
 use Rattle.krb_context.specs.Params.{suite_of}
 use Rattle.krb_context.specs.declared.context.Kerberos.{Kerberos}
 use Rattle.krb_context.specs.declared.state.KerberosState.TheVariants.{Final}
 use Rattle.krb_replies.specs.Unseals.{IsRead}
 use Rattle.krb_replies.specs.Answered.{TellsNumber}
+use Rattle.krb_replies.specs.Fresh.{has_value}
 use Rattle.krb_admission.specs.Admission.{next_number_octets}
 use Rattle.krb_admission.specs.declared.admission.Answer.{Answer}
 use Rattle.sspi_core.specs.declared.results.SecurityStatus.TheVariants.{Ok as Complete}
@@ -34,28 +33,20 @@ TellsLast server token = do
   key ← Takes Reply server.encryption_params.session_key
   TellsNumber (suite_of server.encryption_params) key message
 
--- an INTEGER is this number
-abbrev pub is_number : List ℕ → ℤ → Bool
-is_number octets number = int_eq (integer_value octets) number
-
--- an INTEGER has this number for its value, or the number less 2^32, as which its four octets are read where the first bit is set
-abbrev pub has_value : ℕ → List ℕ → Bool
-has_value number octets = is_number octets (pos number) || is_number octets (pos number -ℤ pos (2 ^ 32))
-
 -- where it is allowed, a number is compared by its value, in any spelling (RFC 4120, section 5.5.2)
-abbrev pub is_spelling : Interoperability → ℕ → List ℕ → Bool
-is_spelling options awaited number = allows options third_leg_by_value && has_value awaited number
+abbrev pub is_spelling : Rules → ℕ → List ℕ → Bool
+is_spelling rules awaited number = has_rule rules third_leg_by_value && has_value awaited number
 
 -- a number repeats that of the acceptor's AP-REP by its octets, or in another spelling
-abbrev pub repeats : Interoperability → ℕ → List ℕ → Bool
-repeats options own number = pointwise ◌==◌ number (next_number_octets own) || is_spelling options (next_number own) number
+abbrev pub repeats : Rules → ℕ → List ℕ → Bool
+repeats rules own number = pointwise ◌==◌ number (next_number_octets own) || is_spelling rules (next_number own) number
 
 -- the last word repeats the number of the acceptor's AP-REP, the one after the acceptor's own
 unfoldable pub IsLastWord : Kerberos → List ℕ → Result (Unit {0}) Cause → Type 0
 IsLastWord server token = do
   properties ← Takes Sequence server.server
   number ← TellsLast server token
-  Holds Number (repeats server.interoperability server.seq_number number)
+  Holds Number (repeats server.rules server.seq_number number)
 
 -- the context is established, and its sealed messages have 16 octets of filler
 abbrev pub concluded : Kerberos → Kerberos

@@ -2,7 +2,7 @@
 
 ghost use Rattle.std.specs.Prelude.{◌≡◌, ◌↔◌, ℕ, Bool, false, List, Result, Ok, ◌==◌};
 ghost use Rattle.std.specs.Cmp.Lexicographic.{pointwise};
-ghost use Rattle.krb_context.specs.Interoperability.{no_options};
+ghost use Rattle.krb_context.specs.Rules.{no_rules};
 ghost use Rattle.krb_admission.specs.Admission.{next_number_octets};
 ghost use Rattle.krb_admission.specs.ThirdLeg.{repeats};
 ghost use Rattle.sspi_core.specs.declared.cause.Cause.{Cause};
@@ -47,6 +47,6 @@ pub fn one_last_word()
 {}
 
 /// Where nothing is allowed beyond the rules, the number of a last word is compared by its octets.
-pub fn without_options_last_words_are_compared_by_octets()
-    ensures { (own : ℕ) (number : List ℕ) → repeats no_options own number ≡ pointwise ◌==◌ number (next_number_octets own) }
+pub fn without_rules_last_words_are_compared_by_octets()
+    ensures { (own : ℕ) (number : List ℕ) → repeats no_rules own number ≡ pointwise ◌==◌ number (next_number_octets own) }
 {}

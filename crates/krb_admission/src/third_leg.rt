@@ -6,13 +6,13 @@ ghost use Rattle.sspi_core.specs.declared.cause.Cause.TheVariants as causes;
 ghost use Rattle.sspi_core.specs.Checks.{Answers, Holds, Takes};
 ghost use Rattle.krb_context.specs.Params.{suite_of};
 ghost use Rattle.krb_replies.specs.Answered.{TellsNumber};
-ghost use Rattle.krb_admission.specs.ThirdLeg.{ReadsApRep, TellsLast, is_number, has_value, is_spelling, repeats, IsLastWord, concluded, last_answer, Concludes};
+ghost use Rattle.krb_admission.specs.ThirdLeg.{ReadsApRep, TellsLast, is_spelling, repeats, IsLastWord, concluded, last_answer, Concludes};
 
 use crate::admission::Answer;
-use krb_context::{Interoperability, Kerberos, KerberosState, ServerProperties};
+use krb_context::{Rules, Kerberos, KerberosState, ServerProperties};
 use krb_der::{IntegerAsn1, Octets};
 use krb_messages::ApRep;
-use krb_replies::{check_token_length, extract_seq_number_from_ap_rep, read_or};
+use krb_replies::{check_token_length, extract_seq_number_from_ap_rep, has_value, read_or};
 use sspi_core::{Cause, Secret, SecurityStatus, hold};
 use std::alloc::Global;
 
@@ -70,42 +70,27 @@ fn last_number(alloc: Global, server: &Kerberos, token: &[u8]) -> Result<Octets,
     number_in(alloc, server, key, &message)
 }
 
-/// Whether an INTEGER is this number, in any spelling.
-fn is_number(octets: &IntegerAsn1, number: i64) -> bool
-    ensures { result ≡ is_number octets.now number }
-{
-    octets.value() == Some(number)
-}
-
-/// Whether an INTEGER is this number, or the one less 2^32.
-fn has_value(number: u32, octets: &IntegerAsn1) -> bool
-    ensures { result ≡ has_value number octets.now }
-{
-    let number = i64::from(number);
-    is_number(octets, number) || is_number(octets, number - 4_294_967_296)
-}
-
 /// Whether an INTEGER has this number for its value, where that is allowed.
-fn is_spelling(options: Interoperability, awaited: u32, octets: &IntegerAsn1) -> bool
-    ensures { result ≡ is_spelling options awaited octets.now }
+fn is_spelling(rules: Rules, awaited: u32, octets: &IntegerAsn1) -> bool
+    ensures { result ≡ is_spelling rules awaited octets.now }
 {
-    options.allows(Interoperability::THIRD_LEG_BY_VALUE) && has_value(awaited, octets)
+    rules.has(Rules::THIRD_LEG_BY_VALUE) && has_value(awaited, octets)
 }
 
 /// Whether a number repeats the one after the own.
-fn repeats(options: Interoperability, own: u32, number: Octets) -> bool
-    ensures { result ≡ repeats options own number }
+fn repeats(rules: Rules, own: u32, number: Octets) -> bool
+    ensures { result ≡ repeats rules own number }
 {
     let awaited = own.wrapping_add(1);
     let number = IntegerAsn1::from_bytes_be(number.into_inner());
     let octets = awaited.to_be_bytes();
-    number.as_slice() == octets.as_slice() || is_spelling(options, awaited, &number)
+    number.as_slice() == octets.as_slice() || is_spelling(rules, awaited, &number)
 }
 
-fn check_number(options: Interoperability, own: u32, number: Octets) -> Result<(), Cause>
-    ensures { Holds causes.Number (repeats options own number) result }
+fn check_number(rules: Rules, own: u32, number: Octets) -> Result<(), Cause>
+    ensures { Holds causes.Number (repeats rules own number) result }
 {
-    hold(repeats(options, own, number), Cause::Number)
+    hold(repeats(rules, own, number), Cause::Number)
 }
 
 fn check_last_word(alloc: Global, server: &Kerberos, token: &[u8]) -> Result<(), Cause>
@@ -113,7 +98,7 @@ fn check_last_word(alloc: Global, server: &Kerberos, token: &[u8]) -> Result<(),
 {
     properties(&server.server)?;
     let number = last_number(alloc, server, token)?;
-    check_number(server.interoperability, server.seq_number, number)
+    check_number(server.rules, server.seq_number, number)
 }
 
 /// The context is established. This cannot fail.

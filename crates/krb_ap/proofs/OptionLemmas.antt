@@ -6,9 +6,9 @@ use Rattle.krb_messages.specs.declared.encryption.EncryptionKey.{EncryptionKey}
 use Rattle.krb_context.specs.Contexts.{next_number}
 use Rattle.krb_context.specs.Drawn.{drawn_key}
 use Rattle.krb_context.specs.Params.{or_else}
-use Rattle.krb_context.specs.declared.interoperability.Interoperability.{Interoperability}
+use Rattle.krb_context.specs.declared.rules.Rules.{Rules}
 use Rattle.krb_context.specs.declared.state.KerberosState.TheVariants.{ApExchange, Final}
-use Rattle.krb_context.specs.Interoperability.{no_options, allows, first_number_as_shown, ap_rep_without_subkey, one_way_is_settled}
+use Rattle.krb_context.specs.Rules.{no_rules, has_rule, first_number_as_shown, ap_rep_without_subkey, one_way_is_settled}
 use Rattle.sspi_core.specs.Flags.{has_flag, mutual_auth}
 use Rattle.sspi_core.specs.declared.draw.Draw.{Draw}
 use Rattle.sspi_core.specs.declared.results.SecurityStatus.TheVariants.{Ok as Complete, ContinueNeeded}
@@ -19,20 +19,20 @@ use Rattle.krb_ap.specs.Shown.{kept_subkey, shown_state, shown_number, shown_sta
 
 -- ---- the first number
 
-pub as_shown : (initiator : Initiator) (from_service : Bool) (subkey : List ℕ) → allows initiator.interoperability first_number_as_shown ≡ true
+pub as_shown : (initiator : Initiator) (from_service : Bool) (subkey : List ℕ) → has_rule initiator.rules first_number_as_shown ≡ true
     → next_number (confirmed initiator from_service subkey).change.seq_number ≡ next_number initiator.number
 as_shown initiator from_service subkey allowed = ap (λ (b : Bool). next_number (if b then initiator.number else next_number initiator.number)) allowed
 
-pub without : (initiator : Initiator) (from_service : Bool) (subkey : List ℕ) → initiator.interoperability ≡ no_options
+pub without : (initiator : Initiator) (from_service : Bool) (subkey : List ℕ) → initiator.rules ≡ no_rules
     → next_number (confirmed initiator from_service subkey).change.seq_number ≡ next_number (next_number initiator.number)
 without initiator from_service subkey none =
-    ap (λ (o : Interoperability). next_number (if allows o first_number_as_shown then initiator.number else next_number initiator.number)) none
+    ap (λ (o : Rules). next_number (if has_rule o first_number_as_shown then initiator.number else next_number initiator.number)) none
 
 -- ---- an answer is awaited, whether it was asked for or not
 
-module _ (initiator : Initiator) (none : initiator.interoperability ≡ no_options) where
+module _ (initiator : Initiator) (none : initiator.rules ≡ no_rules) where
   answered : is_one_way initiator ≡ false
-  answered = ap (λ (o : Interoperability). allows o one_way_is_settled && not (has_flag (exchange_flags initiator) mutual_auth)) none
+  answered = ap (λ (o : Rules). has_rule o one_way_is_settled && not (has_flag (exchange_flags initiator) mutual_auth)) none
 
   pub awaits : shown_state initiator ≡ ApExchange
   awaits = ap (λ (b : Bool). if b then Final else ApExchange) answered
@@ -45,7 +45,7 @@ module _ (initiator : Initiator) (none : initiator.interoperability ≡ no_optio
 
   keeps_none : keeps_subkey initiator ≡ false
   keeps_none =
-      ap (λ (o : Interoperability). allows o ap_rep_without_subkey || (allows o one_way_is_settled && not (has_flag (exchange_flags initiator) mutual_auth))) none
+      ap (λ (o : Rules). has_rule o ap_rep_without_subkey || (has_rule o one_way_is_settled && not (has_flag (exchange_flags initiator) mutual_auth))) none
 
   pub keeps_key : (suite : CipherSuite) (draw : Draw) → kept_subkey initiator suite draw ≡ initiator.params.sub_session_key
   keeps_key suite draw = ap (λ (b : Bool). if b then Some (drawn_key suite draw) else initiator.params.sub_session_key) keeps_none
@@ -58,5 +58,5 @@ module _ (initiator : Initiator) (none : initiator.interoperability ≡ no_optio
 
   pub chooses : (subkey : Option EncryptionKey) → chosen_subkey initiator subkey ≡ subkey_in subkey
   chooses subkey =
-      ap (λ (o : Interoperability). or_else (subkey_in subkey) (if allows o ap_rep_without_subkey then initiator.params.sub_session_key else None)) none
+      ap (λ (o : Rules). or_else (subkey_in subkey) (if has_rule o ap_rep_without_subkey then initiator.params.sub_session_key else None)) none
       ∙ or_none (subkey_in subkey)

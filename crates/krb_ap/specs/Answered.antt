@@ -1,6 +1,7 @@
 -- The answer of the service: an AP-REP (RFC 4120, section 3.2.5; RFC 4121, section 4.1), which DCE style answers in turn
 -- (MS-KILE, section 3.4.5.1).
-use Rattle.std.specs.Prelude.{ℕ, nat_le, Bool, true, false, is_some, List, [], ◌∷◌, length, take, Option, Some, None, option_map, Result, if◌then◌else◌}
+use Rattle.std.specs.Prelude.{ℕ, ◌%◌, ◌&&◌, ◌||◌, not, pos, nat_le, Bool, true, false, is_some, List, [], ◌∷◌, length, take, Option, Some, None, option_map, Result, if◌then◌else◌}
+use Rattle.std.specs.Ordering.{int_eq}
 use Rattle.krb_der.specs.Layout.{spelling}
 use Rattle.krb_crypto.specs.declared.suite.CipherSuite.{CipherSuite}
 use Rattle.krb_messages.specs.Frame.{IsFrame}
@@ -8,16 +9,18 @@ use Rattle.krb_messages.specs.Layouts.{ap_rep_layout}
 use Rattle.krb_messages.specs.declared.ap_rep.ApRep.{ApRep}
 use Rattle.krb_messages.specs.declared.ap_rep.EncApRepPart.{EncApRepPart}
 use Rattle.krb_messages.specs.declared.encryption.EncryptionKey.{EncryptionKey}
-use Rattle.krb_context.specs.Interoperability.{allows, ap_rep_without_subkey}
+use Rattle.krb_context.specs.Rules.{has_rule, ap_rep_without_subkey, answers_its_authenticator}
+use Rattle.krb_requests.specs.Pieces.{whole_second}
 use Rattle.krb_context.specs.Params.{suite_of, or_else}
 use Rattle.krb_context.specs.declared.context.ContextChange.{ContextChange}
 use Rattle.krb_context.specs.declared.state.KerberosState.TheVariants.{Final}
 use Rattle.sspi_core.specs.declared.results.SecurityStatus.TheVariants.{Ok as Complete}
 use Rattle.sspi_core.specs.declared.draw.Draw.{Draw}
 use Rattle.sspi_core.specs.declared.cause.Cause.{Cause}
-use Rattle.sspi_core.specs.declared.cause.Cause.TheVariants.{Shape, Reply, NoSubKey, NoNumber}
+use Rattle.sspi_core.specs.declared.cause.Cause.TheVariants.{Shape, Reply, ReplyTime, NoSubKey, NoNumber}
 use Rattle.sspi_core.specs.Checks.{Finds, Gives, Holds, Takes, ◌>>=◌, ◌>>◌}
 use Rattle.krb_replies.specs.Unseals.{IsRead}
+use Rattle.krb_replies.specs.Fresh.{is_number}
 use Rattle.krb_replies.specs.Answered.{OpensApRep}
 use Rattle.krb_as.specs.declared.done.InitDone.{InitDone}
 use Rattle.krb_ap.specs.declared.initiator.Initiator.{Initiator}
@@ -50,6 +53,7 @@ established initiator from_service subkey ec number = record {
   encryption_params = record initiator.params { sub_session_key = Some subkey; ec = ec; acceptor_subkey = from_service };
   seq_number = number;
   krb5_user_to_user = initiator.user_to_user;
+  asked_at = initiator.asked_at;
   ticket_decryption_key = None;
 }
 
@@ -79,7 +83,7 @@ subkey_in subkey = option_map (λ (k : EncryptionKey). k.key_value) subkey
 
 -- where it is allowed that the service chose none, the authenticator's own, which the context keeps (RFC 4121, section 2)
 abbrev pub own_subkey : Initiator → Option (List ℕ)
-own_subkey initiator = if allows initiator.interoperability ap_rep_without_subkey then initiator.params.sub_session_key else None
+own_subkey initiator = if has_rule initiator.rules ap_rep_without_subkey then initiator.params.sub_session_key else None
 
 abbrev pub chosen_subkey : Initiator → Option EncryptionKey → Option (List ℕ)
 chosen_subkey initiator subkey = or_else (subkey_in subkey) (own_subkey initiator)
@@ -101,6 +105,19 @@ abbrev pub FinishesInitiation : Bool → Initiator → List ℕ → EncApRepPart
 FinishesInitiation true initiator key part draw answer = Replies initiator key part.subkey part.seq_number draw answer
 FinishesInitiation false initiator key part draw answer = Confirms initiator part.subkey answer
 
+-- the AP-REP has the time of the authenticator that was shown at this moment, by the values of both its fields (RFC 4120, section 3.2.5)
+abbrev pub is_time_of : EncApRepPart → ℕ → Bool
+is_time_of part moment = int_eq part.ctime (whole_second moment) && is_number part.cusec (pos (moment % 1000000))
+
+-- nothing has the time of an authenticator that was not shown
+abbrev pub answers_at : Option ℕ → EncApRepPart → Bool
+answers_at None part = false
+answers_at (Some moment) part = is_time_of part moment
+
+-- where that is a rule, an AP-REP has the time of its authenticator
+abbrev pub answers_authenticator : Initiator → EncApRepPart → Bool
+answers_authenticator initiator part = not (has_rule initiator.rules answers_its_authenticator) || answers_at initiator.asked_at part
+
 -- the answer of the service: what has the subkey and the number is sealed under the session key, in the context's suite, and
 -- nothing is sealed under a key that is not there
 unfoldable pub TakesApRep : Initiator → List ℕ → Draw → Result InitDone Cause → Type 0
@@ -108,4 +125,5 @@ TakesApRep initiator token draw = do
   message ← ReadsApRep (is_bare initiator.flags) token
   key ← Takes Reply initiator.params.session_key
   part ← OpensApRep (suite_of initiator.params) key message
+  Holds ReplyTime (answers_authenticator initiator part)
   FinishesInitiation (is_bare initiator.flags) initiator key part draw

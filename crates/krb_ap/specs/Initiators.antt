@@ -1,7 +1,7 @@
 -- What an initiator's caller asks for.
 use Rattle.std.specs.Prelude.{ℕ, bit_or, Bool, not, ◌&&◌, ◌||◌, if◌then◌else◌}
 use Rattle.krb_context.specs.Contexts.{next_number}
-use Rattle.krb_context.specs.Interoperability.{allows, first_number_as_shown, ap_rep_without_subkey, one_way_is_settled}
+use Rattle.krb_context.specs.Rules.{has_rule, first_number_as_shown, ap_rep_without_subkey, one_way_is_settled}
 use Rattle.sspi_core.specs.Flags.{has_flag, mutual_auth, use_session_key, use_dce_style}
 use Rattle.sspi_core.specs.declared.flags.ClientRequestFlags.{ClientRequestFlags}
 use Rattle.krb_ap.specs.declared.initiator.Initiator.{Initiator}
@@ -18,12 +18,12 @@ exchange_flags initiator = if initiator.user_to_user then bit_or initiator.flags
 -- that the authenticator showed, and where it is allowed that one itself (RFC 4120, section 5.5.1; RFC 4121, section 4.2.1)
 abbrev pub settled_number : Initiator → ℕ
 settled_number initiator =
-    if allows initiator.interoperability first_number_as_shown then initiator.number else next_number initiator.number
+    if has_rule initiator.rules first_number_as_shown then initiator.number else next_number initiator.number
 
 -- no answer is asked for, and where it is allowed none is awaited (RFC 4120, section 3.2.4)
 abbrev pub is_one_way : Initiator → Bool
-is_one_way initiator = allows initiator.interoperability one_way_is_settled && not (has_flag (exchange_flags initiator) mutual_auth)
+is_one_way initiator = has_rule initiator.rules one_way_is_settled && not (has_flag (exchange_flags initiator) mutual_auth)
 
 -- the subkey of the authenticator is kept: an answer may bring none, or none is awaited
 abbrev pub keeps_subkey : Initiator → Bool
-keeps_subkey initiator = allows initiator.interoperability ap_rep_without_subkey || is_one_way initiator
+keeps_subkey initiator = has_rule initiator.rules ap_rep_without_subkey || is_one_way initiator

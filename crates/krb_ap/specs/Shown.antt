@@ -95,6 +95,7 @@ change_of initiator suite key home draw = record {
   };
   seq_number = shown_number initiator;
   krb5_user_to_user = initiator.user_to_user;
+  asked_at = Some draw.moment;
   ticket_decryption_key = None;
 }
 

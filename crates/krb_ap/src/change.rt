@@ -44,6 +44,7 @@ pub(crate) fn established(
         encryption_params,
         seq_number: number,
         krb5_user_to_user: initiator.user_to_user,
+        asked_at: initiator.asked_at,
         ticket_decryption_key: None,
     })
 }

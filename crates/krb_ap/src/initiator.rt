@@ -4,7 +4,7 @@ ghost use Rattle.std.specs.Prelude.{◌≡◌};
 ghost use Rattle.krb_ap.specs.Initiators.{is_bare, exchange_flags, settled_number, is_one_way, keeps_subkey};
 
 use bitflags::Flags;
-use krb_context::{EncryptionParams, Interoperability};
+use krb_context::{EncryptionParams, Rules};
 use krb_der::Text;
 use sspi_core::ClientRequestFlags;
 
@@ -17,8 +17,10 @@ pub struct Initiator {
     pub realm: Option<Text>,
     pub user_to_user: bool,
     pub flags: ClientRequestFlags,
-    /// What the context allows beyond its own rules.
-    pub interoperability: Interoperability,
+    /// The rules that the context goes by.
+    pub rules: Rules,
+    /// The moment of the authenticator that it showed last, in microseconds since 1970.
+    pub asked_at: Option<u64>,
 }
 
 /// Whether tokens are bare: DCE style.
@@ -43,8 +45,8 @@ pub fn exchange_flags(initiator: &Initiator) -> ClientRequestFlags
 pub(crate) fn settled_number(initiator: &Initiator) -> u32
     ensures { result ≡ settled_number initiator.now }
 {
-    let options = initiator.interoperability;
-    if options.allows(Interoperability::FIRST_NUMBER_AS_SHOWN) {
+    let rules = initiator.rules;
+    if rules.has(Rules::FIRST_NUMBER_AS_SHOWN) {
         initiator.number
     } else {
         initiator.number.wrapping_add(1)
@@ -55,8 +57,8 @@ pub(crate) fn settled_number(initiator: &Initiator) -> u32
 pub(crate) fn is_one_way(initiator: &Initiator) -> bool
     ensures { result ≡ is_one_way initiator.now }
 {
-    let options = initiator.interoperability;
-    options.allows(Interoperability::ONE_WAY_IS_SETTLED)
+    let rules = initiator.rules;
+    rules.has(Rules::ONE_WAY_IS_SETTLED)
         && !exchange_flags(initiator).contains(ClientRequestFlags::MUTUAL_AUTH)
 }
 
@@ -64,6 +66,6 @@ pub(crate) fn is_one_way(initiator: &Initiator) -> bool
 pub(crate) fn keeps_subkey(initiator: &Initiator) -> bool
     ensures { result ≡ keeps_subkey initiator.now }
 {
-    let options = initiator.interoperability;
-    options.allows(Interoperability::AP_REP_WITHOUT_SUBKEY) || is_one_way(initiator)
+    let rules = initiator.rules;
+    rules.has(Rules::AP_REP_WITHOUT_SUBKEY) || is_one_way(initiator)
 }

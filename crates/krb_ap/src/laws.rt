@@ -4,7 +4,7 @@ ghost use Rattle.std.specs.Prelude.{◌≡◌, ℕ, Bool, List, Option, true};
 ghost use Rattle.krb_crypto.specs.declared.suite.CipherSuite.{CipherSuite};
 ghost use Rattle.krb_messages.specs.declared.encryption.EncryptionKey.{EncryptionKey};
 ghost use Rattle.krb_context.specs.Contexts.{next_number};
-ghost use Rattle.krb_context.specs.Interoperability.{no_options, allows, first_number_as_shown};
+ghost use Rattle.krb_context.specs.Rules.{no_rules, has_rule, first_number_as_shown};
 ghost use Rattle.krb_context.specs.declared.state.KerberosState.TheVariants as states;
 ghost use Rattle.sspi_core.specs.declared.draw.Draw.{Draw};
 ghost use Rattle.sspi_core.specs.declared.results.SecurityStatus.TheVariants as statuses;
@@ -15,20 +15,20 @@ ghost use Rattle.krb_ap.specs.Shown.{kept_subkey, shown_state, shown_number, sho
 /// The number of an initiator's first message behind an AP-REP: where it is allowed the one that its authenticator showed, which is the
 /// one after its own; where nothing is allowed the next one.
 pub fn first_numbers()
-    ensures as_shown { (initiator : Initiator) (from_service : Bool) (subkey : List ℕ) → allows initiator.interoperability first_number_as_shown ≡ true
+    ensures as_shown { (initiator : Initiator) (from_service : Bool) (subkey : List ℕ) → has_rule initiator.rules first_number_as_shown ≡ true
         → next_number (confirmed initiator from_service subkey).change.seq_number ≡ next_number initiator.number }
-    ensures without { (initiator : Initiator) (from_service : Bool) (subkey : List ℕ) → initiator.interoperability ≡ no_options
+    ensures without { (initiator : Initiator) (from_service : Bool) (subkey : List ℕ) → initiator.rules ≡ no_rules
         → next_number (confirmed initiator from_service subkey).change.seq_number ≡ next_number (next_number initiator.number) }
 {}
 
 /// Where nothing is allowed beyond the rules, an initiator awaits the service's answer behind its AP-REQ, whether it asked for one or not,
 /// and that answer has the key of messages.
-pub fn without_options_an_answer_is_awaited()
-    ensures state { (initiator : Initiator) → initiator.interoperability ≡ no_options → shown_state initiator ≡ states.ApExchange }
-    ensures status { (initiator : Initiator) → initiator.interoperability ≡ no_options → shown_status initiator ≡ statuses.ContinueNeeded }
-    ensures number { (initiator : Initiator) → initiator.interoperability ≡ no_options → shown_number initiator ≡ initiator.number }
-    ensures key { (initiator : Initiator) → initiator.interoperability ≡ no_options → (suite : CipherSuite) (draw : Draw)
+pub fn without_rules_an_answer_is_awaited()
+    ensures state { (initiator : Initiator) → initiator.rules ≡ no_rules → shown_state initiator ≡ states.ApExchange }
+    ensures status { (initiator : Initiator) → initiator.rules ≡ no_rules → shown_status initiator ≡ statuses.ContinueNeeded }
+    ensures number { (initiator : Initiator) → initiator.rules ≡ no_rules → shown_number initiator ≡ initiator.number }
+    ensures key { (initiator : Initiator) → initiator.rules ≡ no_rules → (suite : CipherSuite) (draw : Draw)
         → kept_subkey initiator suite draw ≡ initiator.params.sub_session_key }
-    ensures subkey { (initiator : Initiator) → initiator.interoperability ≡ no_options → (subkey : Option EncryptionKey)
+    ensures subkey { (initiator : Initiator) → initiator.rules ≡ no_rules → (subkey : Option EncryptionKey)
         → chosen_subkey initiator subkey ≡ subkey_in subkey }
 {}

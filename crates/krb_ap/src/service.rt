@@ -5,24 +5,24 @@ ghost use Rattle.std.specs.Result.{result_map_both};
 ghost use Rattle.krb_crypto.specs.Suite.{key_size};
 ghost use Rattle.sspi_core.specs.declared.cause.Cause.TheVariants as causes;
 ghost use Rattle.sspi_core.specs.Moments.{last_moment};
-ghost use Rattle.sspi_core.specs.Checks.{Answers, Finds, Gives, Takes};
+ghost use Rattle.sspi_core.specs.Checks.{Answers, Finds, Gives, Holds, Takes};
 ghost use Rattle.krb_context.specs.Params.{suite_of};
 ghost use Rattle.krb_replies.specs.Answered.{OpensApRep};
 ghost use Rattle.krb_ap.specs.Initiators.{is_bare};
 ghost use Rattle.krb_ap.specs.ApReps.{IsSendableNumber};
-ghost use Rattle.krb_ap.specs.Answered.{IsApRep, ReadsApRep, own_subkey, chosen_subkey, confirmed, replied, last_word, Confirms, Replies, FinishesInitiation, TakesApRep};
+ghost use Rattle.krb_ap.specs.Answered.{IsApRep, ReadsApRep, is_time_of, answers_at, answers_authenticator, own_subkey, chosen_subkey, confirmed, replied, last_word, Confirms, Replies, FinishesInitiation, TakesApRep};
 
 use crate::ap_rep::seal_ap_rep;
 use crate::change::established;
 use crate::initiator::{Initiator, is_bare, settled_number};
 use krb_as::InitDone;
-use krb_context::Interoperability;
+use krb_context::Rules;
 use krb_crypto::CipherSuite;
 use krb_der::{Asn1, IntegerAsn1, Octets, OutOfMemory, TryCopy};
 use krb_messages::constants::{AP_REP_TOKEN_ID, AP_REP_USAGE};
 use krb_messages::{ApRep, EncApRepPart, EncryptionKey, read_framed};
-use krb_replies::{SESSION_KEY, check_token_length, open, read_or};
-use sspi_core::{Cause, Draw, Secret, SecurityStatus, take};
+use krb_replies::{SESSION_KEY, check_token_length, is_number, open, read_or};
+use sspi_core::{Cause, Draw, Secret, SecurityStatus, hold, take};
 use std::alloc::Global;
 
 /// The filler of sealed messages in DCE style, in octets.
@@ -95,8 +95,8 @@ fn open_ap_rep(
 fn own_subkey(alloc: Global, initiator: &Initiator) -> Result<Option<Secret<Octets>>, OutOfMemory>
     ensures { IfOk result (λ key. key ≡ own_subkey initiator.now) }
 {
-    let options = initiator.interoperability;
-    if options.allows(Interoperability::AP_REP_WITHOUT_SUBKEY) {
+    let rules = initiator.rules;
+    if rules.has(Rules::AP_REP_WITHOUT_SUBKEY) {
         initiator.params.sub_session_key.copy(alloc)
     } else {
         Ok(None)
@@ -232,6 +232,37 @@ fn reply(
     replied(alloc, initiator, key, from_service, subkey, number, draw)
 }
 
+/// Whether an AP-REP has the time of the authenticator that was shown at this moment.
+fn is_time_of(part: &EncApRepPart, moment: u64) -> bool
+    ensures { result ≡ is_time_of part.now moment }
+{
+    part.ctime.seconds() == (moment / 1_000_000) as i64
+        && is_number(&part.cusec, (moment % 1_000_000) as i64)
+}
+
+fn answers_at(asked_at: Option<u64>, part: &EncApRepPart) -> bool
+    ensures { result ≡ answers_at asked_at part.now }
+{
+    match asked_at {
+        None => false,
+        Some(moment) => is_time_of(part, moment),
+    }
+}
+
+/// Whether an AP-REP has the time of its authenticator, where that is a rule.
+fn answers_authenticator(initiator: &Initiator, part: &EncApRepPart) -> bool
+    ensures { result ≡ answers_authenticator initiator.now part.now }
+{
+    let rules = initiator.rules;
+    !rules.has(Rules::ANSWERS_ITS_AUTHENTICATOR) || answers_at(initiator.asked_at, part)
+}
+
+fn check_time(initiator: &Initiator, part: &EncApRepPart) -> Result<(), Cause>
+    ensures { Holds causes.ReplyTime (answers_authenticator initiator.now part.now) result }
+{
+    hold(answers_authenticator(initiator, part), Cause::ReplyTime)
+}
+
 /// What follows from what was sealed.
 fn finish(
     alloc: Global,
@@ -260,7 +291,8 @@ fn finish(
 /// authenticator showed.
 ///
 /// Refused, in this order, as `Shape` where the token is no AP-REP or has more than 16,777,216 octets; as `Reply` where nothing
-/// is sealed to it under the session key; as `Inner` where what is sealed is no EncAPRepPart; as `NoSubKey` where it has no subkey
+/// is sealed to it under the session key; as `Inner` where what is sealed is no EncAPRepPart; as `ReplyTime` where it has to have the time
+/// of the authenticator, and does not; as `NoSubKey` where it has no subkey
 /// and none of the authenticator's stays; in DCE style as `NoNumber` where it has no number.
 #[tactic(auto, unfolding(crate::specs::Answered::TakesApRep))]
 pub fn take_ap_rep(
@@ -276,5 +308,6 @@ pub fn take_ap_rep(
     let message = read_ap_rep(alloc, dce, token)?;
     let key = session_key(initiator)?;
     let part = open_ap_rep(alloc, initiator.params.suite(), key, &message)?;
+    check_time(initiator, &part)?;
     finish(alloc, dce, initiator, key, part, draw)
 }

@@ -284,6 +284,7 @@ fn change_of(
         encryption_params,
         seq_number: shown_number(initiator),
         krb5_user_to_user: initiator.user_to_user,
+        asked_at: Some(draw.moment),
         ticket_decryption_key: None,
     })
 }

@@ -8,8 +8,8 @@ use Rattle.krb_exchange.specs.declared.krb_error.KrbError.{KrbError}
 use Rattle.krb_exchange.specs.declared.result.KrbResult.{KrbResult}
 use Rattle.krb_exchange.specs.declared.result.KrbResult.TheVariants.{Ok as Reply, Err as Refusal}
 use Rattle.krb_exchange.specs.Layouts.{as_rep_layout}
-use Rattle.krb_context.specs.declared.interoperability.Interoperability.{Interoperability}
-use Rattle.krb_context.specs.Interoperability.{allows, no_preauthentication}
+use Rattle.krb_context.specs.declared.rules.Rules.{Rules}
+use Rattle.krb_context.specs.Rules.{has_rule, no_preauthentication}
 use Rattle.sspi_core.specs.declared.cause.Cause.{Cause}
 use Rattle.sspi_core.specs.declared.cause.Cause.TheVariants.{EarlyAsRep}
 use Rattle.sspi_core.specs.declared.draw.Draw.{Draw}
@@ -35,12 +35,12 @@ use Rattle.krb_as.specs.AsPhases.{BeginsExchange, SealsTime, AsksSecond, BringsG
 pub record AsTaken (asker : Asker) (protocol : NetworkProtocol) (used : List ℕ) (reply : Result (List ℕ) NetFault) (grant : Grant) : Type 0 where
   pub rep : AsRep
   pub granted : Grants protocol as_rep_layout reply (Ok rep)
-  pub opened : TakesReplyKey asker.interoperability asker.credentials used rep (Ok (record { suite = grant.suite; key = grant.key }))
+  pub opened : TakesReplyKey asker.rules asker.credentials used rep (Ok (record { suite = grant.suite; key = grant.key }))
   pub brought : grant.rep ≡ rep.0
 
 -- ---- the first reply: an error, or an AS-REP where no pre-authentication is let pass
 
-module _ {A : Type 0} (options : Interoperability) (protocol : NetworkProtocol) (behind : KrbError → Result A Cause → Type 0)
+module _ {A : Type 0} (rules : Rules) (protocol : NetworkProtocol) (behind : KrbError → Result A Cause → Type 0)
     (next : AsRep → Result A Cause → Type 0) (reply : Result (List ℕ) NetFault) (value : A) where
   pub record CameError : Type 0 where
     pub error : KrbError
@@ -50,17 +50,17 @@ module _ {A : Type 0} (options : Interoperability) (protocol : NetworkProtocol) 
   pub record CameEarly : Type 0 where
     pub rep : AsRep
     pub replies : Replies protocol as_rep_layout reply (Ok (Reply rep))
-    pub allowed : allows options no_preauthentication ≡ true
+    pub allowed : has_rule rules no_preauthentication ≡ true
     pub rest : next rep (Ok value)
 
-  either : (result : KrbResult AsRep) → Replies protocol as_rep_layout reply (Ok result) → TakesEither options behind next result (Ok value) → CameError ⊎ CameEarly
+  either : (result : KrbResult AsRep) → Replies protocol as_rep_layout reply (Ok result) → TakesEither rules behind next result (Ok value) → CameError ⊎ CameEarly
   unfolding TakesEarly
   either (Refusal error) r h = inl (record { error = error; replies = r; rest = h })
   either (Reply rep) r h =
       let may = passed _ _ _ h in
-      inr (record { rep = rep; replies = r; allowed = held EarlyAsRep (allows options no_preauthentication) may.found may.first_held; rest = may.rest_held })
+      inr (record { rep = rep; replies = r; allowed = held EarlyAsRep (has_rule rules no_preauthentication) may.found may.first_held; rest = may.rest_held })
 
-  pub first_taken : TakesFirst options protocol behind next reply (Ok value) → CameError ⊎ CameEarly
+  pub first_taken : TakesFirst rules protocol behind next reply (Ok value) → CameError ⊎ CameEarly
   unfolding TakesFirst
   first_taken h = let result = passed _ _ _ h in either result.found result.first_held result.rest_held
 
@@ -124,7 +124,7 @@ pub record WentOn {P O : Type 0} (next : Grant → Result (Turn P O) Cause → T
 -- so it did at once
 pub record WentOnEarly {P O : Type 0} (next : Grant → Result (Turn P O) Cause → Type 0) (asker : Asker) (kdc : Kdc)
     (reply : Result (List ℕ) NetFault) (turn : Turn P O) : Type 0 where
-  pub allowed : allows asker.interoperability no_preauthentication ≡ true
+  pub allowed : has_rule asker.rules no_preauthentication ≡ true
   pub on : WentOn next asker kdc.protocol (default_salt asker.credentials) reply turn
 
 module _ {P O : Type 0} (within : AsPhase → P) (next : Grant → Result (Turn P O) Cause → Type 0) (asker : Asker) (reply : Result (List ℕ) NetFault) (draw : Draw) (turn : Turn P O) where
@@ -146,8 +146,8 @@ module _ {P O : Type 0} (within : AsPhase → P) (next : Grant → Result (Turn 
   error_taken kdc body h = let inner = passed _ _ _ h in came inner.found inner.rest_held (first_taken _ _ _ _ _ _ inner.first_held)
     where
       came : (inner : Turn AsPhase Grant) → Within within next inner (Ok turn)
-          → CameError asker.interoperability kdc.protocol (AsksSecond (λ phase. phase) asker kdc body draw) (BringsGrant asker (default_salt asker.credentials)) reply inner
-          ⊎ CameEarly asker.interoperability kdc.protocol (AsksSecond (λ phase. phase) asker kdc body draw) (BringsGrant asker (default_salt asker.credentials)) reply inner
+          → CameError asker.rules kdc.protocol (AsksSecond (λ phase. phase) asker kdc body draw) (BringsGrant asker (default_salt asker.credentials)) reply inner
+          ⊎ CameEarly asker.rules kdc.protocol (AsksSecond (λ phase. phase) asker kdc body draw) (BringsGrant asker (default_salt asker.credentials)) reply inner
           → AskedSecond within asker kdc reply turn ⊎ WentOnEarly next asker kdc reply turn
       came inner rest (inl first) =
           let asked = asked_second (λ phase. phase) asker kdc body reply draw first.error inner first.replies first.rest in

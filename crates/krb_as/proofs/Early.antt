@@ -5,8 +5,8 @@ use Rattle.krb_exchange.specs.declared.krb_error.KrbError.{KrbError}
 use Rattle.krb_exchange.specs.declared.result.KrbResult.{KrbResult}
 use Rattle.krb_exchange.specs.declared.result.KrbResult.TheVariants.{Ok as Reply}
 use Rattle.krb_exchange.specs.Layouts.{as_rep_layout}
-use Rattle.krb_context.specs.declared.interoperability.Interoperability.{Interoperability}
-use Rattle.krb_context.specs.Interoperability.{allows, no_preauthentication}
+use Rattle.krb_context.specs.declared.rules.Rules.{Rules}
+use Rattle.krb_context.specs.Rules.{has_rule, no_preauthentication}
 use Rattle.sspi_core.specs.declared.cause.Cause.{Cause}
 use Rattle.sspi_core.specs.declared.cause.Cause.TheVariants.{EarlyAsRep}
 use Rattle.sspi_core.specs.declared.protocol.NetworkProtocol.{NetworkProtocol}
@@ -21,16 +21,16 @@ fails : (test : Bool) (answer : Result (Unit {0}) Cause) → test ≡ false → 
 fails true answer e h = absurd cc
 fails false answer e h = h.is
 
-module _ {A : Type 0} (options : Interoperability) (next : AsRep → Result A Cause → Type 0) (rep : AsRep) (answer : Result A Cause)
-    (off : allows options no_preauthentication ≡ false) where
-  taken_early : TakesEarly options next rep answer → answer ≡ Err EarlyAsRep
+module _ {A : Type 0} (rules : Rules) (next : AsRep → Result A Cause → Type 0) (rep : AsRep) (answer : Result A Cause)
+    (off : has_rule rules no_preauthentication ≡ false) where
+  taken_early : TakesEarly rules next rep answer → answer ≡ Err EarlyAsRep
   unfolding TakesEarly
   taken_early h =
-      subst (λ (m : Result (Unit {0}) Cause). Goes (λ (x : Unit {0}). next rep) m answer) (fails (allows options no_preauthentication) h.middle off h.held) h.rest
+      subst (λ (m : Result (Unit {0}) Cause). Goes (λ (x : Unit {0}). next rep) m answer) (fails (has_rule rules no_preauthentication) h.middle off h.held) h.rest
 
   pub refused_early : (protocol : NetworkProtocol) (behind : KrbError → Result A Cause → Type 0) (reply : Result (List ℕ) NetFault)
-      → Replies protocol as_rep_layout reply (Ok (Reply rep)) → TakesFirst options protocol behind next reply answer → answer ≡ Err EarlyAsRep
+      → Replies protocol as_rep_layout reply (Ok (Reply rep)) → TakesFirst rules protocol behind next reply answer → answer ≡ Err EarlyAsRep
   unfolding TakesFirst
   refused_early protocol behind reply replies h =
-      taken_early (subst (λ (m : Result (KrbResult AsRep) Cause). Goes (TakesEither options behind next) m answer)
+      taken_early (subst (λ (m : Result (KrbResult AsRep) Cause). Goes (TakesEither rules behind next) m answer)
       ((replies_once protocol as_rep_layout reply as_rep_once).same h.middle (Ok (Reply rep)) h.held replies) h.rest)

@@ -68,8 +68,8 @@ unfolding EndsWithAsRep
 next_down asker (New body) reply draw request phase h = absurd h
 next_down asker (InAsExchange (AwaitsError kdc body)) reply draw request phase h = go (first_taken _ _ _ _ _ _ h)
   where
-    go : CameError asker.interoperability kdc.protocol (AsksSecond InAsExchange asker kdc body draw) (EndsWith (default_salt asker.credentials)) reply (Asks request phase)
-        ⊎ CameEarly asker.interoperability kdc.protocol (AsksSecond InAsExchange asker kdc body draw) (EndsWith (default_salt asker.credentials)) reply (Asks request phase)
+    go : CameError asker.rules kdc.protocol (AsksSecond InAsExchange asker kdc body draw) (EndsWith (default_salt asker.credentials)) reply (Asks request phase)
+        ⊎ CameEarly asker.rules kdc.protocol (AsksSecond InAsExchange asker kdc body draw) (EndsWith (default_salt asker.credentials)) reply (Asks request phase)
         → turns_left phase < 1
     go (inl first) =
         let second = asked_second InAsExchange asker kdc body reply draw first.error (Asks request phase) first.replies first.rest in

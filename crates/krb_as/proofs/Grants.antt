@@ -5,7 +5,7 @@ use Rattle.sspi_core.specs.declared.cause.Cause.{Cause}
 use Rattle.sspi_core.specs.declared.cause.Cause.TheVariants.{Memory}
 use Rattle.sspi_core.specs.Checks.{Gives, Goes, Answers}
 use Rattle.krb_exchange.specs.declared.kdc_rep.AsRep.{AsRep}
-use Rattle.krb_context.specs.declared.interoperability.Interoperability.{Interoperability}
+use Rattle.krb_context.specs.declared.rules.Rules.{Rules}
 use Rattle.krb_replies.specs.declared.keys.ReplyKey.{ReplyKey}
 use Rattle.krb_as.specs.declared.asker.Asker.{Asker}
 use Rattle.krb_as.specs.declared.as_exchange.AsDone.{AsDone}
@@ -27,29 +27,29 @@ leads_on {A} {B} first whole into fails leads found answer h is = record {
 }
 
 module _ (asker : Asker) (used : List ℕ) (rep : AsRep) where
-  keyed : (taken : Result ReplyKey Cause) → TakesReplyKey asker.interoperability asker.credentials used rep taken → BringsGrant asker used rep (grant_in rep taken)
+  keyed : (taken : Result ReplyKey Cause) → TakesReplyKey asker.rules asker.credentials used rep taken → BringsGrant asker used rep (grant_in rep taken)
   unfolding BringsGrant
   keyed (Ok key) h = follows _ _ key _ h (gives _)
   keyed (Err e) h = record { middle = Err e; held = h; rest = refl }
 
   pub brings_grant : (taken : Result ReplyKey Cause) (answer : Result (Turn AsPhase Grant) Cause)
-      → Answers (TakesReplyKey asker.interoperability asker.credentials used rep) taken → answer ≡ grant_in rep taken → Answers (BringsGrant asker used rep) answer
+      → Answers (TakesReplyKey asker.rules asker.credentials used rep) taken → answer ≡ grant_in rep taken → Answers (BringsGrant asker used rep) answer
   brings_grant taken answer h is = leads_on _ _ (grant_in rep) (λ e. refl) keyed taken answer h is
 
-  went : (m : Result (Unit {0}) Cause) (taken : Result ReplyKey Cause) → Goes (λ (x : Unit {0}). TakesReplyKey asker.interoperability asker.credentials used rep) m taken
+  went : (m : Result (Unit {0}) Cause) (taken : Result ReplyKey Cause) → Goes (λ (x : Unit {0}). TakesReplyKey asker.rules asker.credentials used rep) m taken
       → Goes (λ (x : Unit {0}). BringsGrant asker used rep) m (grant_in rep taken)
   went (Ok x) taken h = keyed taken h
   went (Err e) taken h = ap (λ (r : Result ReplyKey Cause). grant_in rep r) h
 
-  early_keyed : (options : Interoperability) (taken : Result ReplyKey Cause) → TakesEarly options (TakesReplyKey asker.interoperability asker.credentials used) rep taken
-      → TakesEarly options (BringsGrant asker used) rep (grant_in rep taken)
+  early_keyed : (rules : Rules) (taken : Result ReplyKey Cause) → TakesEarly rules (TakesReplyKey asker.rules asker.credentials used) rep taken
+      → TakesEarly rules (BringsGrant asker used) rep (grant_in rep taken)
   unfolding TakesEarly
-  early_keyed options taken h = record { middle = h.middle; held = h.held; rest = went h.middle taken h.rest }
+  early_keyed rules taken h = record { middle = h.middle; held = h.held; rest = went h.middle taken h.rest }
 
-  pub brings_early : (options : Interoperability) (taken : Result ReplyKey Cause) (answer : Result (Turn AsPhase Grant) Cause)
-      → Answers (TakesEarly options (TakesReplyKey asker.interoperability asker.credentials used) rep) taken → answer ≡ grant_in rep taken
-      → Answers (TakesEarly options (BringsGrant asker used) rep) answer
-  brings_early options taken answer h is = leads_on _ _ (grant_in rep) (λ e. refl) (early_keyed options) taken answer h is
+  pub brings_early : (rules : Rules) (taken : Result ReplyKey Cause) (answer : Result (Turn AsPhase Grant) Cause)
+      → Answers (TakesEarly rules (TakesReplyKey asker.rules asker.credentials used) rep) taken → answer ≡ grant_in rep taken
+      → Answers (TakesEarly rules (BringsGrant asker used) rep) answer
+  brings_early rules taken answer h is = leads_on _ _ (grant_in rep) (λ e. refl) (early_keyed rules) taken answer h is
 
 -- the exchange as a task
 module _ (default : List ℕ) (rep : AsRep) where
@@ -58,10 +58,10 @@ module _ (default : List ℕ) (rep : AsRep) where
   salted (Ok x) salt h = record { is = ap (λ (r : Result (List ℕ) Cause). end_in rep r) h.is }
   salted (Err e) salt h = ap (λ (r : Result (List ℕ) Cause). end_in rep r) h
 
-  early_salted : (options : Interoperability) (salt : Result (List ℕ) Cause) → LeavesEarly options default salt → TakesEarly options (EndsWith default) rep (end_in rep salt)
+  early_salted : (rules : Rules) (salt : Result (List ℕ) Cause) → LeavesEarly rules default salt → TakesEarly rules (EndsWith default) rep (end_in rep salt)
   unfolding LeavesEarly TakesEarly
-  early_salted options salt h = record { middle = h.middle; held = h.held; rest = salted h.middle salt h.rest }
+  early_salted rules salt h = record { middle = h.middle; held = h.held; rest = salted h.middle salt h.rest }
 
-  pub ends_early : (options : Interoperability) (salt : Result (List ℕ) Cause) (answer : Result (Turn ExchangePhase AsDone) Cause)
-      → Answers (LeavesEarly options default) salt → answer ≡ end_in rep salt → Answers (TakesEarly options (EndsWith default) rep) answer
-  ends_early options salt answer h is = leads_on _ _ (end_in rep) (λ e. refl) (early_salted options) salt answer h is
+  pub ends_early : (rules : Rules) (salt : Result (List ℕ) Cause) (answer : Result (Turn ExchangePhase AsDone) Cause)
+      → Answers (LeavesEarly rules default) salt → answer ≡ end_in rep salt → Answers (TakesEarly rules (EndsWith default) rep) answer
+  ends_early rules salt answer h is = leads_on _ _ (end_in rep) (λ e. refl) (early_salted rules) salt answer h is

@@ -15,8 +15,8 @@ use Rattle.krb_exchange.specs.declared.pa_data.EtypeInfo2Entry.{EtypeInfo2Entry}
 use Rattle.krb_exchange.proofs.Results.{one_result_of}
 use Rattle.krb_exchange.proofs.Spelled.{same_record}
 use Rattle.krb_conf.specs.declared.env.Env.{Env}
-use Rattle.krb_context.specs.declared.interoperability.Interoperability.{Interoperability}
-use Rattle.krb_context.specs.Interoperability.{allows, suite_of_each_key}
+use Rattle.krb_context.specs.declared.rules.Rules.{Rules}
+use Rattle.krb_context.specs.Rules.{has_rule, suite_of_each_key}
 use Rattle.krb_as.specs.Kdcs.{FindsKdc}
 use Rattle.krb_as.specs.Replies.{Replies}
 use Rattle.krb_as.specs.declared.kdc.Kdc.{Kdc}
@@ -131,17 +131,17 @@ leaves_suite_once : (is_told : Bool) (asker : Asker) (error : KrbError) → Once
 leaves_suite_once false asker error = record { same = λ r s h k. (gives_once _).same r s h k }
 leaves_suite_once true asker error = record { same = λ r s h k. (tells_suite_once asker error).same r s h k }
 
-module _ {A : Type 0} (options : Interoperability) (behind : KrbError → Result A Cause → Type 0) (next : AsRep → Result A Cause → Type 0)
+module _ {A : Type 0} (rules : Rules) (behind : KrbError → Result A Cause → Type 0) (next : AsRep → Result A Cause → Type 0)
     (behind_once : (error : KrbError) → Once (behind error)) (next_once : (as_rep : AsRep) → Once (next as_rep)) where
-  takes_early_once : (as_rep : AsRep) → Once (TakesEarly options next as_rep)
+  takes_early_once : (as_rep : AsRep) → Once (TakesEarly rules next as_rep)
   unfolding TakesEarly
   takes_early_once as_rep = then_once _ _ (holds_once _ _) (λ _. next_once as_rep)
 
-  takes_either_once : (result : KrbResult AsRep) → Once (λ r. TakesEither options behind next result r)
+  takes_either_once : (result : KrbResult AsRep) → Once (λ r. TakesEither rules behind next result r)
   takes_either_once (Refusal error) = record { same = λ r s h k. (behind_once error).same r s h k }
   takes_either_once (Reply as_rep) = record { same = λ r s h k. (takes_early_once as_rep).same r s h k }
 
-  takes_first_once : (protocol : NetworkProtocol) (reply : Result (List ℕ) NetFault) → Once (TakesFirst options protocol behind next reply)
+  takes_first_once : (protocol : NetworkProtocol) (reply : Result (List ℕ) NetFault) → Once (TakesFirst rules protocol behind next reply)
   unfolding TakesFirst
   takes_first_once protocol reply = then_once _ _ (replies_once protocol as_rep_layout reply as_rep_once) takes_either_once
 
@@ -151,9 +151,9 @@ unfolding NamesClient
 names_client_once credentials machine env =
     then_once _ _ (takes_once _ _) (λ name. then_once _ _ (takes_once _ _) (λ realm. then_once _ _ (takes_once _ _) (λ host. gives_once _)))
 
-pub takes_reply_key_once : (options : Interoperability) (credentials : CredentialsBuffers) (used : List ℕ) (as_rep : AsRep) → Once (TakesReplyKey options credentials used as_rep)
+pub takes_reply_key_once : (rules : Rules) (credentials : CredentialsBuffers) (used : List ℕ) (as_rep : AsRep) → Once (TakesReplyKey rules credentials used as_rep)
 unfolding TakesReplyKey
-takes_reply_key_once options credentials used as_rep =
+takes_reply_key_once rules credentials used as_rep =
     then_once _ _ (tells_etype_once used as_rep) (λ hint. brings_first_once _ _ _ as_rep)
 
 -- the phases
@@ -164,12 +164,12 @@ begins_exchange_once asker body = then_once _ _ (finds_kdc_once asker.kdc_url as
 seals_time_once : (asker : Asker) (kdc : Kdc) (body : KdcReqBody) (draw : Draw) (error : KrbError) → Once (SealsTime asker kdc body draw error)
 unfolding SealsTime
 seals_time_once asker kdc body draw error =
-    then_once _ _ (leaves_salt_once _ error) (λ salt. then_once _ _ (leaves_suite_once (allows asker.interoperability suite_of_each_key) asker error) (λ suite. then_once _ _ (takes_once _ _) (λ key. gives_once _)))
+    then_once _ _ (leaves_salt_once _ error) (λ salt. then_once _ _ (leaves_suite_once (has_rule asker.rules suite_of_each_key) asker error) (λ suite. then_once _ _ (takes_once _ _) (λ key. gives_once _)))
 
 brings_grant_once : (asker : Asker) (used : List ℕ) (as_rep : AsRep) → Once (BringsGrant asker used as_rep)
 unfolding BringsGrant
 brings_grant_once asker used as_rep =
-    then_once _ _ (takes_reply_key_once asker.interoperability asker.credentials used as_rep) (λ taken. gives_once _)
+    then_once _ _ (takes_reply_key_once asker.rules asker.credentials used as_rep) (λ taken. gives_once _)
 
 takes_as_rep_once : (asker : Asker) (protocol : NetworkProtocol) (used : List ℕ) (reply : Result (List ℕ) NetFault) → Once (TakesAsRep asker protocol used reply)
 unfolding TakesAsRep

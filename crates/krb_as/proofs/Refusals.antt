@@ -15,8 +15,8 @@ use Rattle.krb_exchange.specs.declared.result.KrbResult.{KrbResult}
 use Rattle.krb_exchange.specs.declared.result.KrbResult.TheVariants.{Ok as Reply, Err as Refusal}
 use Rattle.krb_exchange.specs.declared.kdc_req.KdcReqBody.{KdcReqBody}
 use Rattle.krb_exchange.specs.declared.krb_error.KrbError.{KrbError}
-use Rattle.krb_context.specs.declared.interoperability.Interoperability.{Interoperability}
-use Rattle.krb_context.specs.Interoperability.{allows, suite_of_each_key}
+use Rattle.krb_context.specs.declared.rules.Rules.{Rules}
+use Rattle.krb_context.specs.Rules.{has_rule, suite_of_each_key}
 use Rattle.krb_as.specs.declared.kdc.Kdc.{Kdc}
 use Rattle.krb_as.specs.Kdcs.{FindsKdc}
 use Rattle.krb_as.specs.Replies.{Brings, Unproxies, Strips, Skips, Unpacks, Unwraps, Replies}
@@ -149,20 +149,20 @@ module _ (P : Type 0) where
   suite_refuses false suite key_type e h z = (gives_refuses P suite).not e h z
   suite_refuses true suite key_type e h z = (takes_refuses P Etype (suite_of_integer key_type) (λ y. let i = y.1 in absurd cc)).not e h z
 
-  pub takes_key_refuses : (options : Interoperability) (suite : CipherSuite) (key : EncryptionKey) → Refuses P (TakesKey options suite key)
+  pub takes_key_refuses : (rules : Rules) (suite : CipherSuite) (key : EncryptionKey) → Refuses P (TakesKey rules suite key)
   unfolding TakesKey
-  takes_key_refuses options suite key = then_refuses P _ _ (record { not = suite_refuses (allows options suite_of_each_key) suite key.key_type }) (λ own. gives_refuses P _)
+  takes_key_refuses rules suite key = then_refuses P _ _ (record { not = suite_refuses (has_rule rules suite_of_each_key) suite key.key_type }) (λ own. gives_refuses P _)
 
-  brings_refuse : (options : Interoperability) (suite : CipherSuite) (key : List ℕ) (as_rep : AsRep) → Refuses P (BringsFirst options suite key as_rep)
+  brings_refuse : (rules : Rules) (suite : CipherSuite) (key : List ℕ) (as_rep : AsRep) → Refuses P (BringsFirst rules suite key as_rep)
   unfolding BringsFirst OpensFirst Unseals
-  brings_refuse options suite key as_rep =
+  brings_refuse rules suite key as_rep =
       then_refuses P _ _ (then_refuses P _ _ (then_refuses P _ _ (holds_refuses P KeyLength _ (λ z. let e = z.1 in absurd cc))
       (λ _. then_refuses P _ _ (holds_refuses P Short _ (λ z. let e = z.1 in absurd cc)) (λ _. finds_refuses P Altered _ (λ z. let e = z.1 in absurd cc))))
-      (λ plain. finds_refuses P Inner _ (λ z. let e = z.1 in absurd cc))) (λ part. takes_key_refuses options suite part.0.key)
+      (λ plain. finds_refuses P Inner _ (λ z. let e = z.1 in absurd cc))) (λ part. takes_key_refuses rules suite part.0.key)
 
-  pub key_refuses : (options : Interoperability) (credentials : CredentialsBuffers) (used : List ℕ) (as_rep : AsRep) → Refuses P (TakesReplyKey options credentials used as_rep)
+  pub key_refuses : (rules : Rules) (credentials : CredentialsBuffers) (used : List ℕ) (as_rep : AsRep) → Refuses P (TakesReplyKey rules credentials used as_rep)
   unfolding TakesReplyKey
-  key_refuses options credentials used as_rep =
+  key_refuses rules credentials used as_rep =
       then_refuses P _ _ (tells_refuse used as_rep) (λ hint. brings_refuse _ _ _ as_rep)
 
 brought_refuses : (reply : Result (List ℕ) NetFault) (e : Cause) → Brings reply (Err e) → IsNetwork e → IsFailure reply
@@ -178,17 +178,17 @@ module _ (reply : Result (List ℕ) NetFault) (protocol : NetworkProtocol) where
       (λ message. finds_refuses _ Shape _ (not_shape _))
 
   -- nor does what follows the first reply, where neither what is behind an error nor what an AS-REP brings does
-  module _ {A : Type 0} (options : Interoperability) (behind : KrbError → Result A Cause → Type 0) (next : AsRep → Result A Cause → Type 0)
+  module _ {A : Type 0} (rules : Rules) (behind : KrbError → Result A Cause → Type 0) (next : AsRep → Result A Cause → Type 0)
       (behind_refuses : (error : KrbError) → Refuses (IsFailure reply) (behind error)) (next_refuses : (as_rep : AsRep) → Refuses (IsFailure reply) (next as_rep)) where
-    early_refuses : (as_rep : AsRep) → Refuses (IsFailure reply) (TakesEarly options next as_rep)
+    early_refuses : (as_rep : AsRep) → Refuses (IsFailure reply) (TakesEarly rules next as_rep)
     unfolding TakesEarly
     early_refuses as_rep = then_refuses _ _ _ (holds_refuses _ EarlyAsRep _ (not_early _)) (λ _. next_refuses as_rep)
 
-    either_refuses : (result : KrbResult AsRep) → Refuses (IsFailure reply) (λ r. TakesEither options behind next result r)
+    either_refuses : (result : KrbResult AsRep) → Refuses (IsFailure reply) (λ r. TakesEither rules behind next result r)
     either_refuses (Refusal error) = record { not = λ e h z. (behind_refuses error).not e h z }
     either_refuses (Reply as_rep) = record { not = λ e h z. (early_refuses as_rep).not e h z }
 
-    pub first_refuses : Refuses (IsFailure reply) (TakesFirst options protocol behind next reply)
+    pub first_refuses : Refuses (IsFailure reply) (TakesFirst rules protocol behind next reply)
     unfolding TakesFirst
     first_refuses = then_refuses _ _ _ (replies_refuse _) either_refuses
 
@@ -216,7 +216,7 @@ module _ (P : Type 0) where
   seals_refuse : (asker : Asker) (kdc : Kdc) (body : KdcReqBody) (draw : Draw) (error : KrbError) → Refuses P (SealsTime asker kdc body draw error)
   unfolding SealsTime
   seals_refuse asker kdc body draw error =
-      then_refuses P _ _ (leaves_refuse _ error) (λ salt. then_refuses P _ _ (record { not = leaves_suite_refuses (allows asker.interoperability suite_of_each_key) asker error })
+      then_refuses P _ _ (leaves_refuse _ error) (λ salt. then_refuses P _ _ (record { not = leaves_suite_refuses (has_rule asker.rules suite_of_each_key) asker error })
       (λ suite. then_refuses P _ _ (takes_refuses P KeyLength _ (not_key P)) (λ key. gives_refuses P _)))
 
   asks_second_refuses : {Q O : Type 0} (within : AsPhase → Q) (asker : Asker) (kdc : Kdc) (body : KdcReqBody) (draw : Draw) (error : KrbError)
@@ -227,7 +227,7 @@ module _ (P : Type 0) where
   brings_grant_refuses : (asker : Asker) (used : List ℕ) (as_rep : AsRep) → Refuses P (BringsGrant asker used as_rep)
   unfolding BringsGrant
   brings_grant_refuses asker used as_rep =
-      then_refuses P _ _ (key_refuses P asker.interoperability asker.credentials used as_rep) (λ taken. gives_refuses P _)
+      then_refuses P _ _ (key_refuses P asker.rules asker.credentials used as_rep) (λ taken. gives_refuses P _)
 
 takes_as_rep_refuses : (asker : Asker) (protocol : NetworkProtocol) (used : List ℕ) (reply : Result (List ℕ) NetFault)
     → Refuses (IsFailure reply) (TakesAsRep asker protocol used reply)

@@ -8,8 +8,8 @@ use Rattle.sspi_core.specs.declared.error.Error.{Error}
 use Rattle.sspi_core.specs.declared.cause.Cause.{Cause}
 use Rattle.sspi_core.specs.declared.cause.Cause.TheVariants.{EarlyAsRep}
 use Rattle.sspi_core.specs.Checks.{Holds, Gives, ◌>>=◌, ◌>>◌}
-use Rattle.krb_context.specs.declared.interoperability.Interoperability.{Interoperability}
-use Rattle.krb_context.specs.Interoperability.{allows, no_preauthentication}
+use Rattle.krb_context.specs.declared.rules.Rules.{Rules}
+use Rattle.krb_context.specs.Rules.{has_rule, no_preauthentication}
 use Rattle.sspi_generator.specs.declared.network.NetworkRequest.{NetworkRequest}
 use Rattle.sspi_generator.specs.declared.network.NetFault.{NetFault}
 use Rattle.sspi_generator.specs.declared.task.GeneratorState.{GeneratorState}
@@ -34,9 +34,9 @@ end_in as_rep (Ok salt) = Ok (Ends (record { as_rep = as_rep; salt = salt }))
 end_in as_rep (Err cause) = Err cause
 
 -- the salt of an AS-REP that came at once, where it may
-unfoldable pub LeavesEarly : Interoperability → List ℕ → Result (List ℕ) Cause → Type 0
-LeavesEarly options default = do
-  Holds EarlyAsRep (allows options no_preauthentication)
+unfoldable pub LeavesEarly : Rules → List ℕ → Result (List ℕ) Cause → Type 0
+LeavesEarly rules default = do
+  Holds EarlyAsRep (has_rule rules no_preauthentication)
   Gives default
 
 -- the AS-REP ends it, with the salt of the key that the time was sealed under
@@ -57,7 +57,7 @@ Starts asker Over answer = ⊥
 abbrev pub Next : Asker → ExchangePhase → Result (List ℕ) NetFault → Draw → Result (Turn ExchangePhase AsDone) Cause → Type 0
 Next asker (New body) reply draw answer = ⊥
 Next asker (InAsExchange (AwaitsError kdc body)) reply draw answer =
-    TakesFirst asker.interoperability kdc.protocol (AsksSecond InAsExchange asker kdc body draw) (EndsWith (default_salt asker.credentials)) reply answer
+    TakesFirst asker.rules kdc.protocol (AsksSecond InAsExchange asker kdc body draw) (EndsWith (default_salt asker.credentials)) reply answer
 Next asker (InAsExchange (AwaitsAsRep sealed)) reply draw answer = EndsWithAsRep sealed.kdc.protocol sealed.salt reply answer
 Next asker Over reply draw answer = ⊥
 

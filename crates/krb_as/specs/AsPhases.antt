@@ -7,7 +7,7 @@ use Rattle.krb_exchange.specs.declared.kdc_req.KdcReqBody.{KdcReqBody}
 use Rattle.krb_exchange.specs.declared.krb_error.KrbError.{KrbError}
 use Rattle.krb_exchange.specs.Layouts.{as_rep_layout, kdc_req_body_layout}
 use Rattle.krb_crypto.specs.declared.suite.CipherSuite.{CipherSuite}
-use Rattle.krb_context.specs.Interoperability.{allows, suite_of_each_key}
+use Rattle.krb_context.specs.Rules.{has_rule, suite_of_each_key}
 use Rattle.sspi_core.specs.declared.cause.Cause.{Cause}
 use Rattle.sspi_core.specs.declared.cause.Cause.TheVariants.{KeyLength}
 use Rattle.sspi_core.specs.declared.draw.Draw.{Draw}
@@ -47,7 +47,7 @@ sealed_time kdc suite salt key = record { kdc = kdc; suite = suite; salt = salt;
 unfoldable pub SealsTime : Asker → Kdc → KdcReqBody → Draw → KrbError → Result (NetworkRequest × SealedTime) Cause → Type 0
 SealsTime asker kdc body draw error = do
   salt ← LeavesSalt (default_salt asker.credentials) error
-  suite ← LeavesSuite (allows asker.interoperability suite_of_each_key) asker error
+  suite ← LeavesSuite (has_rule asker.rules suite_of_each_key) asker error
   key ← Takes KeyLength (sized_key asker suite salt)
   Gives (second_request suite key draw kdc body, sealed_time kdc suite salt key)
 
@@ -66,7 +66,7 @@ grant_in as_rep (Err cause) = Err cause
 -- an AS-REP brings a ticket, and the key that is sealed in it under that of the credentials; used is the salt of the request
 unfoldable pub BringsGrant : Asker → List ℕ → AsRep → Result (Turn AsPhase Grant) Cause → Type 0
 BringsGrant asker used as_rep = do
-  taken ← TakesReplyKey asker.interoperability asker.credentials used as_rep
+  taken ← TakesReplyKey asker.rules asker.credentials used as_rep
   Gives (Ends (record { suite = taken.suite; key = taken.key; rep = as_rep.0 }))
 
 unfoldable pub TakesAsRep : Asker → NetworkProtocol → List ℕ → Result (List ℕ) NetFault → Result (Turn AsPhase Grant) Cause → Type 0
@@ -77,7 +77,7 @@ TakesAsRep asker protocol used reply = do
 -- what a reply leads to. No salt was used where the first reply is an AS-REP, so that is the one that the credentials have
 abbrev pub TakesReply : Asker → AsPhase → Result (List ℕ) NetFault → Draw → Result (Turn AsPhase Grant) Cause → Type 0
 TakesReply asker (AwaitsError kdc body) reply draw answer =
-    TakesFirst asker.interoperability kdc.protocol (AsksSecond (λ phase. phase) asker kdc body draw) (BringsGrant asker (default_salt asker.credentials)) reply answer
+    TakesFirst asker.rules kdc.protocol (AsksSecond (λ phase. phase) asker kdc body draw) (BringsGrant asker (default_salt asker.credentials)) reply answer
 TakesReply asker (AwaitsAsRep sealed) reply draw answer = TakesAsRep asker sealed.kdc.protocol sealed.salt reply answer
 
 -- ---- within a run

@@ -4,7 +4,7 @@ use Rattle.krb_crypto.specs.Suite.{key_size, suite_of_etype}
 use Rattle.krb_crypto.specs.Password.{password_key}
 use Rattle.krb_crypto.specs.declared.suite.CipherSuite.{CipherSuite}
 use Rattle.krb_conf.specs.declared.env.Env.{Env}
-use Rattle.krb_context.specs.Interoperability.{allows, suite_of_each_key}
+use Rattle.krb_context.specs.Rules.{has_rule, suite_of_each_key}
 use Rattle.krb_context.specs.Params.{suite_of}
 use Rattle.krb_context.specs.declared.context.Kerberos.{Kerberos}
 use Rattle.sspi_core.specs.declared.identity.CredentialsBuffers.{CredentialsBuffers}
@@ -19,7 +19,7 @@ asker_of client credentials realm env = record {
   realm = realm;
   suite = suite_of client.encryption_params;
   credentials = credentials;
-  interoperability = client.interoperability;
+  rules = client.rules;
 }
 
 -- the suite of the client's key: the context's for a password, the key's own for a keytab
@@ -36,7 +36,7 @@ suite_told asker named = suite_for (unwrap_or named asker.suite) asker.credentia
 
 -- the suite of the key that the time is sealed under, where a KDC's error names this one
 abbrev pub time_suite : Asker → Option CipherSuite → CipherSuite
-time_suite asker named = if allows asker.interoperability suite_of_each_key then suite_told asker named else asker_suite asker
+time_suite asker named = if has_rule asker.rules suite_of_each_key then suite_told asker named else asker_suite asker
 
 -- the salt where nobody names one: the domain and then the user
 abbrev pub default_salt : CredentialsBuffers → List ℕ

@@ -8,8 +8,8 @@ use Rattle.krb_exchange.specs.declared.kdc_rep.AsRep.{AsRep}
 use Rattle.krb_exchange.specs.declared.result.KrbResult.{KrbResult}
 use Rattle.krb_exchange.specs.declared.result.KrbResult.TheVariants.{Ok as Reply, Err as Refusal}
 use Rattle.krb_exchange.specs.Layouts.{as_rep_layout}
-use Rattle.krb_context.specs.declared.interoperability.Interoperability.{Interoperability}
-use Rattle.krb_context.specs.Interoperability.{allows, no_preauthentication}
+use Rattle.krb_context.specs.declared.rules.Rules.{Rules}
+use Rattle.krb_context.specs.Rules.{has_rule, no_preauthentication}
 use Rattle.sspi_core.specs.declared.protocol.NetworkProtocol.{NetworkProtocol}
 use Rattle.sspi_core.specs.declared.cause.Cause.{Cause}
 use Rattle.sspi_core.specs.declared.cause.Cause.TheVariants.{EarlyAsRep, Kdc}
@@ -51,22 +51,22 @@ pub record LeavesFirst (protocol : NetworkProtocol) (default : List ℕ) (reply 
 
 -- an AS-REP in the place of that error: the KDC asks for no pre-authentication, which is to be allowed (RFC 4120, section 3.1.3). It is
 -- taken as the second reply is
-unfoldable pub TakesEarly : {A : Type 0} → Interoperability → (AsRep → Result A Cause → Type 0) → AsRep → Result A Cause → Type 0
-TakesEarly options next as_rep = do
-  Holds EarlyAsRep (allows options no_preauthentication)
+unfoldable pub TakesEarly : {A : Type 0} → Rules → (AsRep → Result A Cause → Type 0) → AsRep → Result A Cause → Type 0
+TakesEarly rules next as_rep = do
+  Holds EarlyAsRep (has_rule rules no_preauthentication)
   next as_rep
 
 -- the first reply of an AS exchange: what follows an error, and what follows an AS-REP
-abbrev pub TakesEither : {A : Type 0} → Interoperability → (KrbError → Result A Cause → Type 0) → (AsRep → Result A Cause → Type 0) → KrbResult AsRep
+abbrev pub TakesEither : {A : Type 0} → Rules → (KrbError → Result A Cause → Type 0) → (AsRep → Result A Cause → Type 0) → KrbResult AsRep
     → Result A Cause → Type 0
-TakesEither options behind next (Refusal error) answer = behind error answer
-TakesEither options behind next (Reply as_rep) answer = TakesEarly options next as_rep answer
+TakesEither rules behind next (Refusal error) answer = behind error answer
+TakesEither rules behind next (Reply as_rep) answer = TakesEarly rules next as_rep answer
 
-unfoldable pub TakesFirst : {A : Type 0} → Interoperability → NetworkProtocol → (KrbError → Result A Cause → Type 0) → (AsRep → Result A Cause → Type 0)
+unfoldable pub TakesFirst : {A : Type 0} → Rules → NetworkProtocol → (KrbError → Result A Cause → Type 0) → (AsRep → Result A Cause → Type 0)
     → Result (List ℕ) NetFault → Result A Cause → Type 0
-TakesFirst options protocol behind next reply = do
+TakesFirst rules protocol behind next reply = do
   result ← Replies protocol as_rep_layout reply
-  TakesEither options behind next result
+  TakesEither rules behind next result
 
 -- a reply that was asked for, and no error
 unfoldable pub Grants : {A : Type 0} → NetworkProtocol → Layout A → Result (List ℕ) NetFault → Result A Cause → Type 0

@@ -46,7 +46,7 @@ pub struct AsDone {
     pub salt: Text,
 }
 
-/// The AS exchange: a request without pre-authentication, whose error may name the salt, and one with it. Where the options allow that
+/// The AS exchange: a request without pre-authentication, whose error may name the salt, and one with it. Where the rules allow that
 /// there is no pre-authentication, the first request's answer may be the AS-REP.
 #[derive(Drop)]
 pub struct AsExchange {
@@ -151,9 +151,9 @@ fn end_in(salt: Result<Text, Cause>, as_rep: AsRep) -> Result<Turn<ExchangePhase
 /// The salt of the credentials, since none was used, where an AS-REP may come at once.
 #[tactic(auto, unfolding(crate::specs::AsExchanges::LeavesEarly))]
 fn early_salt(alloc: Global, asker: &Asker) -> Result<Text, Cause>
-    ensures { Answers (LeavesEarly asker.now.interoperability (default_salt asker.now.credentials)) result }
+    ensures { Answers (LeavesEarly asker.now.rules (default_salt asker.now.credentials)) result }
 {
-    check_early(asker.interoperability)?;
+    check_early(asker.rules)?;
     Ok(default_salt(alloc, &asker.credentials)?)
 }
 
@@ -163,7 +163,7 @@ fn end_early(
     asker: &Asker,
     as_rep: AsRep,
 ) -> Result<Turn<ExchangePhase, AsDone>, Cause>
-    ensures step { Answers (TakesEarly asker.now.interoperability (EndsWith (default_salt asker.now.credentials)) as_rep) result }
+    ensures step { Answers (TakesEarly asker.now.rules (EndsWith (default_salt asker.now.credentials)) as_rep) result }
     ensures down { IfOk result (λ turn. GoesDown (IsAwaiting asker.now) turns_left 1 turn) }
 {
     let salt = early_salt(alloc, asker);
@@ -182,7 +182,7 @@ fn take_either(
     requires moment { draw.now.moment ≤ last_moment }
     requires body { Fits kdc_req_body_layout (2 ^ 28) body.now }
     requires realm { length kdc.now.realm ≤ 2 ^ 24 }
-    ensures step { Answers (TakesEither asker.now.interoperability (AsksSecond phases.InAsExchange asker.now kdc.now body.now draw.now)
+    ensures step { Answers (TakesEither asker.now.rules (AsksSecond phases.InAsExchange asker.now kdc.now body.now draw.now)
         (EndsWith (default_salt asker.now.credentials)) first) result }
     ensures down { IfOk result (λ turn. GoesDown (IsAwaiting asker.now) turns_left 1 turn) }
 {
@@ -205,7 +205,7 @@ fn take_first(
     requires moment { draw.now.moment ≤ last_moment }
     requires body { Fits kdc_req_body_layout (2 ^ 28) body.now }
     requires realm { length kdc.now.realm ≤ 2 ^ 24 }
-    ensures step { Answers (TakesFirst asker.now.interoperability kdc.now.protocol (AsksSecond phases.InAsExchange asker.now kdc.now body.now draw.now)
+    ensures step { Answers (TakesFirst asker.now.rules kdc.now.protocol (AsksSecond phases.InAsExchange asker.now kdc.now body.now draw.now)
         (EndsWith (default_salt asker.now.credentials)) reply) result }
     ensures down { IfOk result (λ turn. GoesDown (IsAwaiting asker.now) turns_left 1 turn) }
 {

@@ -205,7 +205,7 @@ fn grant_in(taken: Result<ReplyKey, Cause>, as_rep: AsRep) -> Result<Turn<AsPhas
 
 /// The key of an AS-REP that came at once, with the salt of the credentials where it tells none, since none was used.
 fn unsalted_key(alloc: Global, asker: &Asker, as_rep: &AsRep) -> Result<ReplyKey, Cause>
-    ensures { Answers (TakesReplyKey asker.now.interoperability asker.now.credentials (default_salt asker.now.credentials) as_rep.now) result }
+    ensures { Answers (TakesReplyKey asker.now.rules asker.now.credentials (default_salt asker.now.credentials) as_rep.now) result }
 {
     let salt = default_salt(alloc, &asker.credentials)?;
     reply_key(alloc, asker, &salt, as_rep)
@@ -214,17 +214,17 @@ fn unsalted_key(alloc: Global, asker: &Asker, as_rep: &AsRep) -> Result<ReplyKey
 /// That key, where the AS-REP may come at once.
 #[tactic(auto, unfolding(crate::specs::Replied::TakesEarly))]
 fn early_key(alloc: Global, asker: &Asker, as_rep: &AsRep) -> Result<ReplyKey, Cause>
-    ensures { Answers (TakesEarly asker.now.interoperability
-        (TakesReplyKey asker.now.interoperability asker.now.credentials (default_salt asker.now.credentials)) as_rep.now) result }
+    ensures { Answers (TakesEarly asker.now.rules
+        (TakesReplyKey asker.now.rules asker.now.credentials (default_salt asker.now.credentials)) as_rep.now) result }
 {
-    check_early(asker.interoperability)?;
+    check_early(asker.rules)?;
     unsalted_key(alloc, asker, as_rep)
 }
 
 /// The ticket of an AS-REP that came at once, where it may.
 fn early_grant(alloc: Global, asker: &Asker, as_rep: AsRep) -> Result<Turn<AsPhase, Grant>, Cause>
     requires sendable { IsSendable as_rep.0 }
-    ensures step { Answers (TakesEarly asker.now.interoperability (BringsGrant asker.now (default_salt asker.now.credentials)) as_rep) result }
+    ensures step { Answers (TakesEarly asker.now.rules (BringsGrant asker.now (default_salt asker.now.credentials)) as_rep) result }
     ensures down { IfOk result (λ turn. GoesDown (IsAwaiting asker.now) turns_left 1 turn) }
     ensures sendable { IfOk result (λ turn. EndsSendable turn) }
 {
@@ -245,7 +245,7 @@ fn take_either(
     requires body { Fits kdc_req_body_layout (2 ^ 28) body.now }
     requires realm { length kdc.now.realm ≤ 2 ^ 24 }
     requires sendable { IsSendableReply first }
-    ensures step { Answers (TakesEither asker.now.interoperability (AsksSecond (λ phase. phase) asker.now kdc.now body.now draw.now)
+    ensures step { Answers (TakesEither asker.now.rules (AsksSecond (λ phase. phase) asker.now kdc.now body.now draw.now)
         (BringsGrant asker.now (default_salt asker.now.credentials)) first) result }
     ensures down { IfOk result (λ turn. GoesDown (IsAwaiting asker.now) turns_left 1 turn) }
     ensures sendable { IfOk result (λ turn. EndsSendable turn) }
@@ -269,7 +269,7 @@ fn take_first(
     requires moment { draw.now.moment ≤ last_moment }
     requires body { Fits kdc_req_body_layout (2 ^ 28) body.now }
     requires realm { length kdc.now.realm ≤ 2 ^ 24 }
-    ensures step { Answers (TakesFirst asker.now.interoperability kdc.now.protocol (AsksSecond (λ phase. phase) asker.now kdc.now body.now draw.now)
+    ensures step { Answers (TakesFirst asker.now.rules kdc.now.protocol (AsksSecond (λ phase. phase) asker.now kdc.now body.now draw.now)
         (BringsGrant asker.now (default_salt asker.now.credentials)) reply) result }
     ensures down { IfOk result (λ turn. GoesDown (IsAwaiting asker.now) turns_left 1 turn) }
     ensures sendable { IfOk result (λ turn. EndsSendable turn) }
@@ -313,7 +313,7 @@ fn take_as_rep(
 }
 
 /// What a reply leads to: the second request behind the first reply, and behind the second one the ticket that it brings. Where the
-/// options allow that there is no pre-authentication, a first reply that is an AS-REP brings the ticket.
+/// rules allow that there is no pre-authentication, a first reply that is an AS-REP brings the ticket.
 ///
 /// The first reply is refused as `read_reply` refuses. An error is then refused as `left_salt` refuses, and as `KeyLength` where the key
 /// is a keytab's and has not the length of its suite's keys; an AS-REP as `EarlyAsRep` where it is not allowed, and as `reply_key`

@@ -9,7 +9,7 @@ ghost use Rattle.krb_as.specs.Askers.{suite_for, key_for, client_key, default_sa
 
 use crate::client::Client;
 use krb_conf::Env;
-use krb_context::{Interoperability, Kerberos};
+use krb_context::{Rules, Kerberos};
 use krb_crypto::{CipherSuite, generate_key_from_password};
 use krb_der::{Name, Octets, OutOfMemory, Text, TryCopy};
 use sspi_core::{Cause, CredentialsBuffers};
@@ -29,7 +29,7 @@ pub struct Asker {
     pub suite: CipherSuite,
     pub credentials: CredentialsBuffers,
     /// What the client's context allows beyond its own rules.
-    pub interoperability: Interoperability,
+    pub rules: Rules,
 }
 
 /// The URL that the client has.
@@ -58,7 +58,7 @@ impl Asker {
             realm,
             suite: client.encryption_params.suite(),
             credentials,
-            interoperability: client.interoperability,
+            rules: client.rules,
         })
     }
 }

@@ -10,7 +10,7 @@ ghost use Rattle.krb_as.specs.ReplyKeys.{TakesReplyKey};
 
 use crate::asker::Asker;
 use crate::kdc::Kdc;
-use krb_context::Interoperability;
+use krb_context::Rules;
 use krb_crypto::{CipherSuite, generate_key_from_password};
 use krb_der::{Octets, Text};
 use krb_exchange::{AsRep, KdcRep};
@@ -45,23 +45,23 @@ pub struct Grant {
 /// The key that is sealed under the key of the credentials.
 fn brought_key(
     alloc: Global,
-    options: Interoperability,
+    rules: Rules,
     credentials: &CredentialsBuffers,
     suite: CipherSuite,
     salt: &Text,
     as_rep: &AsRep,
 ) -> Result<ReplyKey, Cause>
-    ensures { Answers (BringsFirst options suite (client_key suite salt.now credentials.now) as_rep.now) result }
+    ensures { Answers (BringsFirst rules suite (client_key suite salt.now credentials.now) as_rep.now) result }
 {
     match credentials {
         CredentialsBuffers::AuthIdentity(identity) => {
             let password = identity.password.as_ref().as_str().as_bytes();
             let key = generate_key_from_password(suite, password, salt.as_str().as_bytes());
-            key_in_as_rep(alloc, options, suite, key.as_slice(), as_rep)
+            key_in_as_rep(alloc, rules, suite, key.as_slice(), as_rep)
         }
         CredentialsBuffers::Keytab(identity) => {
             let key = identity.key.as_ref().as_slice();
-            key_in_as_rep(alloc, options, suite, key, as_rep)
+            key_in_as_rep(alloc, rules, suite, key, as_rep)
         }
     }
 }
@@ -80,12 +80,12 @@ fn told_key(
     hint: &(u8, Text),
     as_rep: &AsRep,
 ) -> Result<ReplyKey, Cause>
-    ensures { Answers (BringsFirst asker.now.interoperability (suite_of_etype hint.now.0)
+    ensures { Answers (BringsFirst asker.now.rules (suite_of_etype hint.now.0)
         (client_key (suite_of_etype hint.now.0) hint.now.1 asker.now.credentials) as_rep.now) result }
 {
     brought_key(
         alloc,
-        asker.interoperability,
+        asker.rules,
         &asker.credentials,
         CipherSuite::of_etype(hint.0),
         &hint.1,
@@ -107,7 +107,7 @@ pub fn reply_key(
     salt: &Text,
     as_rep: &AsRep,
 ) -> Result<ReplyKey, Cause>
-    ensures { Answers (TakesReplyKey asker.now.interoperability asker.now.credentials salt.now as_rep.now) result }
+    ensures { Answers (TakesReplyKey asker.now.rules asker.now.credentials salt.now as_rep.now) result }
 {
     let hint = told_hint(alloc, salt, as_rep)?;
     told_key(alloc, asker, &hint, as_rep)
@@ -130,12 +130,12 @@ fn kept_or_told_key(
     as_rep: &AsRep,
 ) -> Result<ReplyKey, Cause>
     requires { sealed.now.key ≡ client_key sealed.now.suite sealed.now.salt asker.now.credentials }
-    ensures { Answers (BringsFirst asker.now.interoperability (suite_of_etype hint.now.0)
+    ensures { Answers (BringsFirst asker.now.rules (suite_of_etype hint.now.0)
         (client_key (suite_of_etype hint.now.0) hint.now.1 asker.now.credentials) as_rep.now) result }
 {
     if is_kept(sealed, hint) {
         let key = sealed.key.as_ref().as_slice();
-        key_in_as_rep(alloc, asker.interoperability, sealed.suite, key, as_rep)
+        key_in_as_rep(alloc, asker.rules, sealed.suite, key, as_rep)
     } else {
         told_key(alloc, asker, hint, as_rep)
     }
@@ -150,7 +150,7 @@ pub(crate) fn kept_reply_key(
     as_rep: &AsRep,
 ) -> Result<ReplyKey, Cause>
     requires { sealed.now.key ≡ client_key sealed.now.suite sealed.now.salt asker.now.credentials }
-    ensures { Answers (TakesReplyKey asker.now.interoperability asker.now.credentials sealed.now.salt as_rep.now) result }
+    ensures { Answers (TakesReplyKey asker.now.rules asker.now.credentials sealed.now.salt as_rep.now) result }
 {
     let hint = told_hint(alloc, &sealed.salt, as_rep)?;
     kept_or_told_key(alloc, asker, sealed, &hint, as_rep)

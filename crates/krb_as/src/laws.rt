@@ -16,7 +16,7 @@ ghost use Rattle.krb_as.specs.declared.asker.Asker.{Asker};
 ghost use Rattle.krb_as.specs.declared.kdc.Kdc.{Kdc};
 ghost use Rattle.krb_as.specs.declared.key.Grant.{Grant};
 ghost use Rattle.krb_as.specs.AsPhases.{TakesReply};
-ghost use Rattle.krb_context.specs.Interoperability.{no_options, allows, no_preauthentication, suite_of_each_key};
+ghost use Rattle.krb_context.specs.Rules.{no_rules, has_rule, no_preauthentication, suite_of_each_key};
 ghost use Rattle.krb_crypto.specs.declared.suite.CipherSuite.{CipherSuite};
 ghost use Rattle.krb_exchange.specs.declared.krb_error.KrbError.{KrbError};
 ghost use Rattle.krb_as.specs.Askers.{asker_suite};
@@ -62,15 +62,15 @@ pub fn one_outcome()
 /// A first reply that is an AS-REP is refused as EarlyAsRep unless the caller allows that there is no pre-authentication.
 pub fn early_as_reps_are_refused()
     ensures { (asker : Asker) (kdc : Kdc) (body : KdcReqBody) (reply : Result (List ℕ) NetFault) (draw : Draw) (as_rep : AsRep)
-        (answer : Result (Turn AsPhase Grant) Cause) → allows asker.interoperability no_preauthentication ≡ false
+        (answer : Result (Turn AsPhase Grant) Cause) → has_rule asker.rules no_preauthentication ≡ false
         → Replies kdc.protocol as_rep_layout reply (Ok (Reply as_rep)) → TakesReply asker (AwaitsError kdc body) reply draw answer
         → answer ≡ Err EarlyAsRep }
 {}
 
 /// Where nothing is allowed beyond the rules, the time is sealed in the suite of the client's own key, whatever suite an error names.
-pub fn without_options_the_time_is_in_the_own_suite()
-    ensures { (asker : Asker) (error : KrbError) (answer : Result CipherSuite Cause) → asker.interoperability ≡ no_options
-        → LeavesSuite (allows asker.interoperability suite_of_each_key) asker error answer → answer ≡ Ok (asker_suite asker) }
+pub fn without_rules_the_time_is_in_the_own_suite()
+    ensures { (asker : Asker) (error : KrbError) (answer : Result CipherSuite Cause) → asker.rules ≡ no_rules
+        → LeavesSuite (has_rule asker.rules suite_of_each_key) asker error answer → answer ≡ Ok (asker_suite asker) }
 {}
 
 /// A run of an AS exchange asks twice at most, whoever sends: it ends with what it ends with over the first three of its draws.

@@ -3,7 +3,7 @@
 ghost use Rattle.std.specs.Prelude.{unwrap_or, IfOk};
 ghost use Rattle.sspi_core.specs.declared.cause.Cause.TheVariants as causes;
 ghost use Rattle.sspi_core.specs.Checks.{Answers, Holds, Gives};
-ghost use Rattle.krb_context.specs.Interoperability.{allows, no_preauthentication, suite_of_each_key};
+ghost use Rattle.krb_context.specs.Rules.{has_rule, no_preauthentication, suite_of_each_key};
 ghost use Rattle.krb_replies.specs.Told.{Hands};
 ghost use Rattle.krb_exchange.specs.Layouts.{as_rep_layout, tgs_rep_layout};
 ghost use Rattle.krb_as.specs.Askers.{default_salt};
@@ -13,7 +13,7 @@ ghost use Rattle.krb_as.specs.Replies.{Replies};
 
 use crate::asker::{Asker, asker_suite, default_salt, suite_told};
 use crate::receiving::read_reply;
-use krb_context::Interoperability;
+use krb_context::Rules;
 use krb_crypto::CipherSuite;
 use krb_der::{Asn1, Octets, Text};
 use krb_exchange::{AsRep, KrbError, KrbResult, TgsRep};
@@ -91,10 +91,10 @@ pub(crate) fn left_suite(
     asker: &Asker,
     error: &KrbError,
 ) -> Result<CipherSuite, Cause>
-    ensures { Answers (LeavesSuite (allows asker.now.interoperability suite_of_each_key) asker.now error.now) result }
+    ensures { Answers (LeavesSuite (has_rule asker.now.rules suite_of_each_key) asker.now error.now) result }
 {
-    let options = asker.interoperability;
-    let is_told = options.allows(Interoperability::SUITE_OF_EACH_KEY);
+    let rules = asker.rules;
+    let is_told = rules.has(Rules::SUITE_OF_EACH_KEY);
     suite_by(alloc, is_told, asker, error)
 }
 
@@ -112,11 +112,11 @@ pub(crate) fn first_reply(
 }
 
 /// Whether an AS-REP may come in the place of that error. Refused as `EarlyAsRep` where it may not.
-pub(crate) fn check_early(options: Interoperability) -> Result<(), Cause>
-    ensures { Holds causes.EarlyAsRep (allows options no_preauthentication) result }
+pub(crate) fn check_early(rules: Rules) -> Result<(), Cause>
+    ensures { Holds causes.EarlyAsRep (has_rule rules no_preauthentication) result }
 {
     hold(
-        options.allows(Interoperability::NO_PREAUTHENTICATION),
+        rules.has(Rules::NO_PREAUTHENTICATION),
         Cause::EarlyAsRep,
     )
 }

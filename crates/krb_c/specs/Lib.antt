@@ -1,4 +1,4 @@
-pub mod Allows
+pub mod Rules
 pub mod Calls
 pub mod Codes
 pub mod Copies

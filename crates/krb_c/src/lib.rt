@@ -6,7 +6,7 @@
 
 mod accept;
 mod acceptor;
-mod allows;
+mod rules;
 mod codes;
 mod copies;
 mod handed;

@@ -46,7 +46,7 @@ pub use krb_requests::{
 pub use bitflags::Flags;
 pub use krb_conf::{ConfigFile, Env, KerberosConfig};
 pub use krb_context::{
-    ApOptions, ContextChange, EncryptionParams, GssFlags, Interoperability, KdcOptions, Kerberos,
+    ApOptions, ContextChange, EncryptionParams, GssFlags, Rules, KdcOptions, Kerberos,
     KerberosState, ProtocolConfig,
 };
 pub use krb_crypto::CipherSuite;

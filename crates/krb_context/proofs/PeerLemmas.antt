@@ -128,8 +128,8 @@ opens_there sender receiver key confounder sent received peers size octets_c oct
     let peer : Bool = is_peer_acceptor receiver in
     let s = spelt_there sender receiver key confounder sent received peers size octets_c octets_p ready delivered in
     let front : s.header ≡ take 16 (spelled received) = (halves (spelled received) s.header s.body s.text s.header_size).0 in
-    let kept : count_for receiver.interoperability ec (spelled received) ≡ ec =
-    count_kept receiver.interoperability ec (spelled received) (ap (λ (h : List ℕ). ec_of h) (sym front) ∙ s.count) in
+    let kept : count_for receiver.rules ec (spelled received) ≡ ec =
+    count_kept receiver.rules ec (spelled received) (ap (λ (h : List ℕ). ec_of h) (sym front) ∙ s.count) in
     unwraps_openable receiver key (part_octets Plain sent) received delivered.plain (sym peers.key ∙ ready.ready) sized delivered.found
     (record {
       spelling =

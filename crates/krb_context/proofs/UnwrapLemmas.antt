@@ -18,8 +18,8 @@ use Rattle.sspi_core.specs.Buffer.{Buffer}
 use Rattle.sspi_core.specs.Checks.{Answers}
 use Rattle.sspi_core.specs.Messages.{find_part}
 use Rattle.sspi_core.proofs.Chain.{held, passed, took, gave, no_refusal}
-use Rattle.krb_context.specs.Interoperability.{allows, extra_count_by_token}
-use Rattle.krb_context.specs.declared.interoperability.Interoperability.{Interoperability}
+use Rattle.krb_context.specs.Rules.{has_rule, extra_count_by_token}
+use Rattle.krb_context.specs.declared.rules.Rules.{Rules}
 use Rattle.krb_context.specs.declared.context.Kerberos.{Kerberos}
 use Rattle.krb_context.specs.declared.params.EncryptionParams.{EncryptionParams}
 use Rattle.krb_context.specs.declared.window.NumberVerdict.{NumberVerdict}
@@ -158,8 +158,8 @@ length-spelt_clear key peer buffers p s =
     )
 
 -- a text whose header says the context's own length is opened by that
-pub count_kept : (options : Interoperability) (ec : ℕ) (text : List ℕ) → ec_of (take 16 text) ≡ ec → count_for options ec text ≡ ec
-count_kept options ec text same = go (allows options extra_count_by_token && nat_le 16 (length text))
+pub count_kept : (rules : Rules) (ec : ℕ) (text : List ℕ) → ec_of (take 16 text) ≡ ec → count_for rules ec text ≡ ec
+count_kept rules ec text same = go (has_rule rules extra_count_by_token && nat_le 16 (length text))
   where
     go : (b : Bool) → (if b then ec_of (take 16 text) else ec) ≡ ec
     go true = same
@@ -167,13 +167,13 @@ count_kept options ec text same = go (allows options extra_count_by_token && nat
 
 -- the checks of a header, where the length was found first
 pub heads_by : (context : Kerberos) (key : List ℕ) (peer : Bool) (text : List ℕ) (ec : ℕ) (answer : Result (List ℕ) Cause)
-    → ec ≡ count_for context.interoperability context.encryption_params.ec text
+    → ec ≡ count_for context.rules context.encryption_params.ec text
     → Heads (record context.encryption_params { ec = ec }) key peer text answer → Heads (params_for context text) key peer text answer
 heads_by context key peer text ec answer is h = subst (λ (n : ℕ). Heads (record context.encryption_params { ec = n }) key peer text answer) is h
 
 -- those of a body
 pub opens_by : (context : Kerberos) (key : List ℕ) (peer : Bool) (buffers : List Buffer) (plain : Buffer) (text header : List ℕ) (ec : ℕ) (answer : Result (List ℕ) Cause)
-    → ec ≡ count_for context.interoperability context.encryption_params.ec text
+    → ec ≡ count_for context.rules context.encryption_params.ec text
     → Answers (OpensBody (record context.encryption_params { ec = ec }) key peer buffers plain text header) answer
     → Answers (OpensBody (params_for context text) key peer buffers plain text header) answer
 opens_by context key peer buffers plain text header ec answer is h =

@@ -10,7 +10,7 @@ use Rattle.krb_context.specs.declared.context.ContextChange.{ContextChange}
 use Rattle.krb_context.specs.declared.params.EncryptionParams.{EncryptionParams}
 use Rattle.krb_context.specs.declared.server.ServerProperties.{ServerProperties}
 use Rattle.krb_context.specs.declared.state.KerberosState.TheVariants.{TgtExchange}
-use Rattle.krb_context.specs.Interoperability.{no_options}
+use Rattle.krb_context.specs.Rules.{no_rules}
 use Rattle.krb_context.specs.Params.{or_else}
 use Rattle.krb_context.specs.Window.{new_window}
 
@@ -25,7 +25,8 @@ new_context params config server number = record {
   realm = None;
   krb5_user_to_user = false;
   server = server;
-  interoperability = no_options;
+  rules = no_rules;
+  asked_at = None;
   window = new_window;
   kept_to_seal = tt;
   kept_to_open = tt;
@@ -68,5 +69,6 @@ settled context change = record context {
   encryption_params = change.encryption_params;
   seq_number = change.seq_number;
   krb5_user_to_user = change.krb5_user_to_user;
+  asked_at = change.asked_at;
   server = option_map (with_key change.ticket_decryption_key) context.server;
 }

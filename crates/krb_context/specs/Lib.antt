@@ -7,7 +7,7 @@ pub mod Decrypted
 pub mod Drawn
 pub mod Headed
 pub mod Header
-pub mod Interoperability
+pub mod Rules
 pub mod KeptCodes
 pub mod Mics
 pub mod Openable

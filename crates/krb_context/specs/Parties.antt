@@ -2,11 +2,11 @@
 use Rattle.std.specs.Prelude.{ℕ, List, Bool, not, ◌||◌, Option, None, if◌then◌else◌}
 use Rattle.krb_crypto.specs.SealingPair.{SealingPair, sealing_pair}
 use Rattle.krb_context.specs.declared.context.Kerberos.{Kerberos}
-use Rattle.krb_context.specs.declared.interoperability.Interoperability.{Interoperability}
+use Rattle.krb_context.specs.declared.rules.Rules.{Rules}
 use Rattle.krb_context.specs.declared.params.EncryptionParams.{EncryptionParams}
 use Rattle.krb_context.specs.declared.state.KerberosState.{KerberosState}
 use Rattle.krb_context.specs.Contexts.{is_acceptor}
-use Rattle.krb_context.specs.Interoperability.{allows, subkey_flag_by_origin}
+use Rattle.krb_context.specs.Rules.{has_rule, subkey_flag_by_origin}
 use Rattle.krb_context.specs.Params.{suite_of, key_of}
 use Rattle.krb_context.specs.States.{is_final}
 
@@ -24,8 +24,8 @@ sign_usage acceptor = if acceptor then 23 else 25
 
 -- AcceptorSubkey, the flag that the acceptor chose the key, is written always, and where it is allowed exactly where the sub-session key
 -- came in an AP-REP (RFC 4121, section 4.2.2)
-abbrev pub has_subkey_flag : Interoperability → EncryptionParams → Bool
-has_subkey_flag options params = not (allows options subkey_flag_by_origin) || params.acceptor_subkey
+abbrev pub has_subkey_flag : Rules → EncryptionParams → Bool
+has_subkey_flag rules params = not (has_rule rules subkey_flag_by_origin) || params.acceptor_subkey
 
 -- the flags that a side writes: its own mark, that the text is sealed, and perhaps that the acceptor chose the key
 abbrev pub seal_flags : Bool → Bool → ℕ
@@ -37,7 +37,7 @@ sign_flags subkey acceptor = if acceptor then (if subkey then 5 else 1) else (if
 
 -- those that an end writes
 abbrev pub writes_subkey : Kerberos → Bool
-writes_subkey context = has_subkey_flag context.interoperability context.encryption_params
+writes_subkey context = has_subkey_flag context.rules context.encryption_params
 
 abbrev pub own_seal_flags : Kerberos → ℕ
 own_seal_flags context = seal_flags (writes_subkey context) (is_acceptor context)

@@ -9,13 +9,13 @@ use Rattle.sspi_core.specs.Buffer.{Buffer}
 use Rattle.sspi_core.specs.Checks.{Finds, Takes, Holds, Passes, Gives, ◌>>=◌, ◌>>◌}
 use Rattle.sspi_core.specs.Messages.{find_part, write, write_whole}
 use Rattle.krb_context.specs.declared.context.Kerberos.{Kerberos}
-use Rattle.krb_context.specs.declared.interoperability.Interoperability.{Interoperability}
+use Rattle.krb_context.specs.declared.rules.Rules.{Rules}
 use Rattle.krb_context.specs.declared.params.EncryptionParams.{EncryptionParams}
 use Rattle.krb_context.specs.declared.window.NumberVerdict.{NumberVerdict}
 use Rattle.krb_context.specs.declared.window.NumberVerdict.TheVariants.{Fresh, Old, Repeated}
 use Rattle.krb_context.specs.Contexts.{is_peer_acceptor}
 use Rattle.krb_context.specs.Header.{is_wrap_header, is_sealed, is_from, ec_of, number_of}
-use Rattle.krb_context.specs.Interoperability.{allows, extra_count_by_token}
+use Rattle.krb_context.specs.Rules.{has_rule, extra_count_by_token}
 use Rattle.krb_context.specs.Params.{suite_of}
 use Rattle.krb_context.specs.Parties.{ready_key, seal_usage, keys_of}
 use Rattle.krb_context.specs.Spelled.{spelled, has_part}
@@ -28,13 +28,13 @@ header_of text = if nat_le 16 (length text) && is_wrap_header (take 16 text) the
 
 -- the length of the filler that a text is opened by: the context's, and where it is allowed the one that the text's own header says, up to
 -- what its body holds (RFC 4121, section 4.2.3)
-abbrev pub count_for : Interoperability → ℕ → List ℕ → ℕ
-count_for options ec text = if allows options extra_count_by_token && nat_le 16 (length text) then ec_of (take 16 text) else ec
+abbrev pub count_for : Rules → ℕ → List ℕ → ℕ
+count_for rules ec text = if has_rule rules extra_count_by_token && nat_le 16 (length text) then ec_of (take 16 text) else ec
 
 -- what a text is opened by
 abbrev pub params_for : Kerberos → List ℕ → EncryptionParams
 params_for context text =
-    record context.encryption_params { ec = count_for context.interoperability context.encryption_params.ec text }
+    record context.encryption_params { ec = count_for context.rules context.encryption_params.ec text }
 
 -- the filler of a sealed text is as long as that
 abbrev pub has_count : ℕ → List ℕ → Bool

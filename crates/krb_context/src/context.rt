@@ -5,7 +5,7 @@ ghost use Rattle.std.specs.Int.{from_be_bytes, w32};
 ghost use Rattle.krb_context.specs.Params.{default_params};
 ghost use Rattle.krb_context.specs.Contexts.{new_context, next_number, settled, with_key, kdc_of};
 
-use crate::interoperability::Interoperability;
+use crate::rules::Rules;
 use crate::kept::KeptKey;
 use crate::params::EncryptionParams;
 use crate::server::ServerProperties;
@@ -33,8 +33,10 @@ pub struct Kerberos {
     pub krb5_user_to_user: bool,
     /// The service of an acceptor; an initiator has none.
     pub server: Option<ServerProperties>,
-    /// What the caller allows beyond the rules that a context has by itself: nothing in a new one.
-    pub interoperability: Interoperability,
+    /// The rules beyond those that a context always has: none in a new one.
+    pub rules: Rules,
+    /// The moment of the authenticator that an initiator showed last, in microseconds since 1970. An AP-REP repeats it.
+    pub asked_at: Option<u64>,
     /// The numbers of the messages that were opened.
     pub window: NumberWindow,
     /// The derived keys of the messages that this end seals. Contracts see nothing of them; `KeptKey::new()` makes them.
@@ -51,6 +53,7 @@ pub struct ContextChange {
     pub encryption_params: EncryptionParams,
     pub seq_number: u32,
     pub krb5_user_to_user: bool,
+    pub asked_at: Option<u64>,
     /// The key of an acceptor's own ticket, which becomes its primary key.
     pub ticket_decryption_key: Option<Secret<Octets>>,
 }
@@ -72,7 +75,8 @@ fn new_context(
         realm: None,
         krb5_user_to_user: false,
         server,
-        interoperability: Interoperability::none(),
+        rules: Rules::none(),
+        asked_at: None,
         window: NumberWindow::new(),
         kept_to_seal: KeptKey::new(),
         kept_to_open: KeptKey::new(),
@@ -161,6 +165,7 @@ impl Kerberos {
             encryption_params,
             seq_number,
             krb5_user_to_user,
+            asked_at,
             ticket_decryption_key,
         } = change;
         self.state = state;
@@ -168,6 +173,7 @@ impl Kerberos {
         self.encryption_params = encryption_params;
         self.seq_number = seq_number;
         self.krb5_user_to_user = krb5_user_to_user;
+        self.asked_at = asked_at;
         self.server = match self.server.take() {
             Some(server) => Some(with_key(server, ticket_decryption_key)),
             None => None,
@@ -188,7 +194,8 @@ impl TryCopy for Kerberos {
             realm: copier.copy(&self.realm),
             krb5_user_to_user: self.krb5_user_to_user,
             server: copier.copy(&self.server),
-            interoperability: self.interoperability,
+            rules: self.rules,
+            asked_at: self.asked_at,
             window: self.window,
             kept_to_seal: KeptKey::new(),
             kept_to_open: KeptKey::new(),

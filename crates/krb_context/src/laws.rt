@@ -17,7 +17,7 @@ ghost use Rattle.krb_context.specs.declared.window.NumberVerdict.TheVariants.{Fr
 ghost use Rattle.krb_context.specs.ClearWraps.{WrapsClear};
 ghost use Rattle.krb_context.specs.Contexts.{is_acceptor, is_peer_acceptor, next_number, number_after_messages};
 ghost use Rattle.krb_context.specs.Header.{ec_of};
-ghost use Rattle.krb_context.specs.Interoperability.{no_options, allows, subkey_flag_by_origin, extra_count_by_token};
+ghost use Rattle.krb_context.specs.Rules.{no_rules, has_rule, subkey_flag_by_origin, extra_count_by_token};
 ghost use Rattle.krb_context.specs.Mics.{MakesMic, ChecksMic, IsMicToken};
 ghost use Rattle.krb_context.specs.Openable.{IsOpenable};
 ghost use Rattle.krb_context.specs.Params.{suite_of, key_of};
@@ -131,22 +131,22 @@ pub fn own_mic_tokens_are_refused()
 {}
 
 /// Where nothing is allowed beyond the rules, each end says in all that it seals and signs that the acceptor chose the key.
-pub fn without_options_the_subkey_is_the_acceptors()
-    ensures sealed { (context : Kerberos) → context.interoperability ≡ no_options → own_seal_flags context ≡ (if is_acceptor context then 7 else 6) }
-    ensures signed { (context : Kerberos) → context.interoperability ≡ no_options → own_sign_flags context ≡ (if is_acceptor context then 5 else 4) }
+pub fn without_rules_the_subkey_is_the_acceptors()
+    ensures sealed { (context : Kerberos) → context.rules ≡ no_rules → own_seal_flags context ≡ (if is_acceptor context then 7 else 6) }
+    ensures signed { (context : Kerberos) → context.rules ≡ no_rules → own_sign_flags context ≡ (if is_acceptor context then 5 else 4) }
 {}
 
 /// Where it is allowed, each end says so exactly where the sub-session key came in an AP-REP (RFC 4121, section 4.2.2).
 pub fn the_subkey_flag_goes_by_its_origin()
-    ensures { (context : Kerberos) → allows context.interoperability subkey_flag_by_origin ≡ true
+    ensures { (context : Kerberos) → has_rule context.rules subkey_flag_by_origin ≡ true
         → writes_subkey context ≡ context.encryption_params.acceptor_subkey }
 {}
 
 /// Where nothing is allowed beyond the rules, a text is opened by the context's own length of the filler; where it is allowed, a text by
 /// that of its own header.
 pub fn texts_are_opened_by_a_count()
-    ensures own { (context : Kerberos) (text : List ℕ) → context.interoperability ≡ no_options → params_for context text ≡ context.encryption_params }
-    ensures tokens { (context : Kerberos) (text : List ℕ) → allows context.interoperability extra_count_by_token ≡ true → 16 ≤ length text
+    ensures own { (context : Kerberos) (text : List ℕ) → context.rules ≡ no_rules → params_for context text ≡ context.encryption_params }
+    ensures tokens { (context : Kerberos) (text : List ℕ) → has_rule context.rules extra_count_by_token ≡ true → 16 ≤ length text
         → (params_for context text).ec ≡ ec_of (take 16 text) }
 {}
 

@@ -9,7 +9,7 @@ mod drawn;
 mod handles;
 mod headed;
 mod header;
-mod interoperability;
+mod rules;
 mod kept;
 pub mod laws;
 mod mic;
@@ -34,7 +34,7 @@ pub use constants::{
 };
 pub use context::{ContextChange, Kerberos};
 pub use drawn::{drawn_key, drawn_secret};
-pub use interoperability::Interoperability;
+pub use rules::Rules;
 pub use kept::KeptKey;
 pub use krb_messages::constants::KERBEROS_VERSION;
 pub use options::{ApOptions, GssFlags, KdcOptions};

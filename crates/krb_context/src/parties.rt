@@ -8,7 +8,7 @@ ghost use Rattle.krb_context.specs.Unwraps.{has_key_size};
 ghost use Rattle.krb_context.specs.Parties.{ready_key, seal_usage, sign_usage, has_subkey_flag, seal_flags, sign_flags, own_seal_flags, own_sign_flags};
 
 use crate::context::Kerberos;
-use crate::interoperability::Interoperability;
+use crate::rules::Rules;
 use crate::params::EncryptionParams;
 use crate::state::KerberosState;
 use krb_der::Octets;
@@ -62,10 +62,10 @@ pub(crate) fn sign_usage(acceptor: bool) -> u32
 }
 
 /// Whether tokens say that the acceptor chose the key.
-fn has_subkey_flag(options: Interoperability, params: &EncryptionParams) -> bool
-    ensures { result ≡ has_subkey_flag options params.now }
+fn has_subkey_flag(rules: Rules, params: &EncryptionParams) -> bool
+    ensures { result ≡ has_subkey_flag rules params.now }
 {
-    !options.allows(Interoperability::SUBKEY_FLAG_BY_ORIGIN) || params.acceptor_subkey
+    !rules.has(Rules::SUBKEY_FLAG_BY_ORIGIN) || params.acceptor_subkey
 }
 
 /// The flags of a side's sealed messages.
@@ -97,7 +97,7 @@ impl Kerberos {
     pub(crate) fn own_seal_flags(&self) -> u8
         ensures { result ≡ own_seal_flags self.now }
     {
-        let subkey = has_subkey_flag(self.interoperability, &self.encryption_params);
+        let subkey = has_subkey_flag(self.rules, &self.encryption_params);
         seal_flags(subkey, self.server.is_some())
     }
 
@@ -105,7 +105,7 @@ impl Kerberos {
     pub(crate) fn own_sign_flags(&self) -> u8
         ensures { result ≡ own_sign_flags self.now }
     {
-        let subkey = has_subkey_flag(self.interoperability, &self.encryption_params);
+        let subkey = has_subkey_flag(self.rules, &self.encryption_params);
         sign_flags(subkey, self.server.is_some())
     }
 }

@@ -17,7 +17,7 @@ ghost use Rattle.krb_context.specs.Window.{StandsFor, number_verdict, noted};
 use crate::context::Kerberos;
 use crate::headed::Headed;
 use crate::header::{check_direction, ec_of, is_sealed, is_wrap_header, number_of};
-use crate::interoperability::Interoperability;
+use crate::rules::Rules;
 use crate::kept::keep_codes;
 use crate::params::EncryptionParams;
 use crate::parties::{check_key_size, ready_key};
@@ -68,10 +68,10 @@ fn check_number(window: &NumberWindow, header: &[u8; 16]) -> Result<(), Cause>
 }
 
 /// The length of the filler that a text is opened by.
-fn count_for(options: Interoperability, ec: u16, text: &TokenText<'_>) -> u16
-    ensures { result ≡ count_for options ec text.now }
+fn count_for(rules: Rules, ec: u16, text: &TokenText<'_>) -> u16
+    ensures { result ≡ count_for rules ec text.now }
 {
-    if options.allows(Interoperability::EXTRA_COUNT_BY_TOKEN) && 16 <= text.len() {
+    if rules.has(Rules::EXTRA_COUNT_BY_TOKEN) && 16 <= text.len() {
         ec_of(&text.header())
     } else {
         ec
@@ -113,7 +113,7 @@ impl Kerberos {
         let params = &self.encryption_params;
         let key = ready_key(self.state, params)?;
         let plain = plain_data(message)?;
-        let ec = count_for(self.interoperability, params.ec, text);
+        let ec = count_for(self.rules, params.ec, text);
         let header = params.head(ec, key, peer, text)?;
         let headed = Headed {
             params,

@@ -4,7 +4,7 @@ use Rattle.krb_conf.specs.Kdc.{url_of, with_protocol}
 use Rattle.krb_context.specs.Contexts.{new_context}
 use Rattle.krb_context.specs.Params.{default_params}
 use Rattle.krb_context.specs.declared.context.Kerberos.{Kerberos}
-use Rattle.krb_context.specs.declared.interoperability.Interoperability.{Interoperability}
+use Rattle.krb_context.specs.declared.rules.Rules.{Rules}
 use Rattle.krb_initiator.specs.declared.options.InitOptions.{InitOptions}
 use Rattle.sspi_core.specs.declared.bindings.ChannelBindings.{ChannelBindings}
 use Rattle.sspi_core.specs.declared.flags.ClientRequestFlags.{ClientRequestFlags}
@@ -69,9 +69,9 @@ with_kdc address dialogue =
     }
 
 -- what the context may do beyond its own rules
-abbrev pub with_options : Interoperability → Dialogue → Dialogue
-with_options options dialogue =
-    record dialogue { session = record dialogue.session { connection = record dialogue.session.connection { interoperability = options } } }
+abbrev pub with_rules : Rules → Dialogue → Dialogue
+with_rules options dialogue =
+    record dialogue { session = record dialogue.session { connection = record dialogue.session.connection { rules = options } } }
 
 -- a user with a password, and one with a key
 abbrev pub password_of : List ℕ → List ℕ → List ℕ → CredentialsBuffers

@@ -18,7 +18,7 @@ ghost use Rattle.krb_dialogue.specs.Settings.{
   with_variable,
   with_file,
   with_kdc,
-  with_options,
+  with_rules,
   password_of,
   data_bindings,
   SetsKey,
@@ -29,7 +29,7 @@ ghost use Rattle.krb_dialogue.specs.Settings.{
 use crate::dialogue::{Dialogue, Turn};
 use crate::held::HeldSession;
 use krb_conf::{ConfigFile, Env, KerberosConfig, parse_kdc_url};
-use krb_context::{Interoperability, Kerberos};
+use krb_context::{Rules, Kerberos};
 use krb_der::{Items, Name, Octets, OutOfMemory, Text, boxed};
 use krb_initiator::InitOptions;
 use krb_requests::name_of;
@@ -211,10 +211,10 @@ impl Dialogue {
     ///
     /// `start` and `hear` read them when they begin, and an exchange with KDCs that has begun goes on with those that it began with.
     /// All that begins later goes by the new ones: the next `start` or `hear`, and the messages of the session.
-    pub fn allow(&mut self, options: Interoperability)
-        ensures set { self.new ≡ with_options options self.old }
+    pub fn set_rules(&mut self, options: Rules)
+        ensures set { self.new ≡ with_rules options self.old }
     {
-        self.session.session.allow(options);
+        self.session.session.set_rules(options);
     }
 
     /// A user, its realm, which may be empty, and its password.

@@ -70,7 +70,7 @@ module _ (seeker : Seeker) (reply : Result (List ℕ) NetFault) (draw : Draw) wh
           as_rep = on.taken.rep;
           grants = record { protocol = protocol; granted = on.taken.granted };
           granted = tt;
-          chain = chain_begins seeker.asker.interoperability seeker.asker.credentials salt on.taken.rep (key_of on.grant) on.taken.opened;
+          chain = chain_begins seeker.asker.rules seeker.asker.credentials salt on.taken.rep (key_of on.grant) on.taken.opened;
         };
         referrals = refl;
         count = refl;
@@ -127,7 +127,7 @@ module _ (seeker : Seeker) (reply : Result (List ℕ) NetFault) (draw : Draw) wh
       step false b c h goes = h
 
   module _ (leg : TgsLeg) (replies : List (Result (List ℕ) NetFault)) (shown : Grant) (came : CameWithKey seeker replies leg)
-      (taken : TgsTaken seeker.asker.interoperability leg.kdc.protocol leg.suite leg.key reply shown) where
+      (taken : TgsTaken seeker.asker.rules leg.kdc.protocol leg.suite leg.key reply shown) where
     one_more : HasChain seeker (replies ++ (reply ∷ [])) shown.suite (came.reps ++ (taken.rep ∷ [])) shown.key
     one_more = record {
       before = came.has.before;
@@ -142,7 +142,7 @@ module _ (seeker : Seeker) (reply : Result (List ℕ) NetFault) (draw : Draw) wh
       grants = came.has.grants;
       granted = more_granted came.has.rest came.reps taken.rep came.has.granted (record { protocol = leg.kdc.protocol; granted = taken.granted });
       chain =
-          chain_goes_on seeker.asker.interoperability seeker.asker.credentials came.has.salt came.has.as_rep came.reps taken.rep (record { suite = leg.suite; key = leg.key }) (key_of shown)
+          chain_goes_on seeker.asker.rules seeker.asker.credentials came.has.salt came.has.as_rep came.reps taken.rep (record { suite = leg.suite; key = leg.key }) (key_of shown)
           came.has.chain taken.opened;
     }
 
@@ -202,14 +202,14 @@ module _ (seeker : Seeker) (reply : Result (List ℕ) NetFault) (draw : Draw) wh
   unfolding TakesNext
   next_goes leg replies request next came h =
       let shown = passed _ _ _ h in
-      goes leg replies shown.found came (taken_tgs seeker.asker.interoperability leg.kdc.protocol leg.suite leg.key reply shown.found shown.first_held) _ request next refl shown.rest_held
+      goes leg replies shown.found came (taken_tgs seeker.asker.rules leg.kdc.protocol leg.suite leg.key reply shown.found shown.first_held) _ request next refl shown.rest_held
 
   next_ends : (leg : TgsLeg) (replies : List (Result (List ℕ) NetFault)) (done : InitDone) → CameWithKey seeker replies leg → TakesNext seeker leg reply draw (Ok (Ends done))
       → IsSession seeker (replies ++ (reply ∷ [])) done
   unfolding TakesNext
   next_ends leg replies done came h =
       let shown = passed _ _ _ h in
-      ends_at leg replies shown.found came (taken_tgs seeker.asker.interoperability leg.kdc.protocol leg.suite leg.key reply shown.found shown.first_held) _ done refl shown.rest_held
+      ends_at leg replies shown.found came (taken_tgs seeker.asker.rules leg.kdc.protocol leg.suite leg.key reply shown.found shown.first_held) _ done refl shown.rest_held
 
 pub goes_on : (seeker : Seeker) (replies : List (Result (List ℕ) NetFault)) (phase : InitPhase) (reply : Result (List ℕ) NetFault) (draw : Draw) (request : NetworkRequest) (next : InitPhase)
     → Came seeker replies phase → Next (Seeks seeker) phase reply draw (Ok (Asks request next)) → Came seeker (replies ++ (reply ∷ [])) next

@@ -12,7 +12,7 @@ use Rattle.sspi_generator.specs.declared.network.NetFault.{NetFault}
 use Rattle.sspi_generator.specs.Steps.{IsFailure}
 use Rattle.krb_as.specs.Kdcs.{FindsKdc}
 use Rattle.krb_replies.specs.Unseals.{Unseals, OpensSealed}
-use Rattle.krb_context.specs.declared.interoperability.Interoperability.{Interoperability}
+use Rattle.krb_context.specs.declared.rules.Rules.{Rules}
 use Rattle.krb_replies.specs.Keys.{BringsNext}
 use Rattle.krb_replies.specs.Answered.{OpensApRep}
 use Rattle.krb_replies.specs.Realms.{referral_realm}
@@ -64,12 +64,12 @@ module _ (P : Type 0) where
       then_refuses P _ _ (holds_refuses P Hops _ (λ z. let e = z.1 in absurd cc))
       (λ _. then_refuses P _ _ (holds_refuses P SameRealm _ (λ z. let e = z.1 in absurd cc)) (λ _. asks_refuse asker wanted shown home realm None draw))
 
-  brings_refuse : (options : Interoperability) (suite : CipherSuite) (key : List ℕ) (rep : TgsRep) → Refuses P (BringsNext options suite key rep)
+  brings_refuse : (rules : Rules) (suite : CipherSuite) (key : List ℕ) (rep : TgsRep) → Refuses P (BringsNext rules suite key rep)
   unfolding BringsNext OpensSealed Unseals
-  brings_refuse options suite key rep =
+  brings_refuse rules suite key rep =
       then_refuses P _ _ (then_refuses P _ _ (then_refuses P _ _ (holds_refuses P Reply _ not_reply)
       (λ _. then_refuses P _ _ (holds_refuses P Reply _ not_reply) (λ _. finds_refuses P Reply _ not_reply)))
-      (λ plain. finds_refuses P Inner _ not_inner)) (λ part. takes_key_refuses P options suite part.0.key)
+      (λ plain. finds_refuses P Inner _ not_inner)) (λ part. takes_key_refuses P rules suite part.0.key)
 
   -- what the service is shown
   shows_refuse : (seeker : Seeker) (leg : TgsLeg) (shown : Grant) (draw : Draw) → Refuses P (Arrives seeker leg shown draw)

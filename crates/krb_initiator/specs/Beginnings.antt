@@ -65,7 +65,8 @@ initiator_of context user_to_user flags = record {
   realm = context.realm;
   user_to_user = user_to_user;
   flags = flags;
-  interoperability = context.interoperability;
+  rules = context.rules;
+  asked_at = context.asked_at;
 }
 
 abbrev pub errand_of : Kerberos → InitOptions → Bool → List ℕ → Errand

@@ -111,7 +111,8 @@ fn initiator_of(
         realm,
         user_to_user,
         flags,
-        interoperability: context.interoperability,
+        rules: context.rules,
+        asked_at: context.asked_at,
     })
 }
 

@@ -223,8 +223,8 @@ pub(crate) fn take_next(
     ensures step { Answers (TakesNext seeker.now leg.now reply draw.now) result }
     ensures down { IfOk result (λ turn. GoesDown IsAtTgs turns_left (9 - leg.now.hops) turn) }
 {
-    let options = seeker.asker.interoperability;
+    let rules = seeker.asker.rules;
     let protocol = leg.kdc.protocol;
-    let shown = take_tgs_rep(alloc, options, protocol, leg.suite, &leg.key, reply)?;
+    let shown = take_tgs_rep(alloc, rules, protocol, leg.suite, &leg.key, reply)?;
     go_to(alloc, seeker, leg, shown, draw)
 }

@@ -16,7 +16,7 @@ use Rattle.krb_context.specs.declared.server.ServerProperties.{ServerProperties}
 use Rattle.krb_context.specs.declared.state.KerberosState.{KerberosState}
 use Rattle.krb_context.specs.declared.state.KerberosState.TheVariants.{ApExchange}
 use Rattle.krb_context.specs.Contexts.{with_key, next_number, settled as with_change}
-use Rattle.krb_context.specs.Interoperability.{allows, first_number_as_shown, third_leg_by_value}
+use Rattle.krb_context.specs.Rules.{has_rule, first_number_as_shown, third_leg_by_value}
 use Rattle.sspi_core.proofs.Chain.{takes_some, holds_true, halts, follows}
 use Rattle.krb_replay.specs.declared.ask.Ask.{Ask}
 use Rattle.krb_replay.specs.declared.ask.Verdict.{Verdict}
@@ -33,7 +33,8 @@ use Rattle.krb_admission.specs.Accepts.{BeginsAdmission, Asks, Ends, awaits_last
 use Rattle.krb_context.specs.Drawn.{drawn_key}
 use Rattle.krb_admission.specs.Admission.{ap_rep_with, ap_rep_part, next_number_octets, mutual_admission, with_client, answer_for, settled}
 use Rattle.krb_admission.specs.Requests.{ask_of}
-use Rattle.krb_admission.specs.ThirdLeg.{ReadsApRep, TellsLast, has_value, repeats, IsLastWord, concluded, last_answer, Concludes}
+use Rattle.krb_replies.specs.Fresh.{has_value}
+use Rattle.krb_admission.specs.ThirdLeg.{ReadsApRep, TellsLast, repeats, IsLastWord, concluded, last_answer, Concludes}
 use Rattle.krb_admission.proofs.Once.{begins_once, concludes_once}
 use Rattle.krb_server.specs.declared.accept.Accepted.{Accepted}
 use Rattle.krb_server.specs.TgtReqs.{Found, may_begin, BeginsUserToUser}
@@ -91,7 +92,7 @@ module _ (server : Kerberos) (draw : Draw) (client : UserName) (offer : Offer) (
     unopened = record {
       filler = new.filler;
       small = new.small;
-      initiator_number = settled_small (allows initiator.interoperability first_number_as_shown) initiator.seq_number new.initiator_number;
+      initiator_number = settled_small (has_rule initiator.rules first_number_as_shown) initiator.seq_number new.initiator_number;
       acceptor_number = new.acceptor_number;
       initiator_window = new.initiator_window;
       acceptor_window = new.acceptor_window;
@@ -184,8 +185,8 @@ module _ (server : Kerberos) (draw : Draw) (client : UserName) (offer : Offer) (
       (follows _ _ number _
       (follows _ _ (ap_rep_with offer.suite cipher) _ (word_read drawn)
       (follows _ _ offer.part.key.key_value _ (record { is = refl }) (tells drawn)))
-      (holds_true Number (repeats server.interoperability server.seq_number number)
-      (ap (λ (b : Bool). b || (allows server.interoperability third_leg_by_value && has_value (next_number server.seq_number) number)) (same_octets number))))
+      (holds_true Number (repeats server.rules server.seq_number number)
+      (ap (λ (b : Bool). b || (has_rule server.rules third_leg_by_value && has_value (next_number server.seq_number) number)) (same_octets number))))
 
   concludes : IsDraw own → Concludes acceptor (done true).token (Ok last_answer) (concluded acceptor)
   concludes drawn = record {

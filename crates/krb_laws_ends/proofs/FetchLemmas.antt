@@ -45,7 +45,7 @@ use Rattle.krb_as.specs.ReplyKeys.{TakesReplyKey}
 use Rattle.krb_as.specs.declared.key.Grant.{Grant}
 use Rattle.krb_tgs.specs.TgsAsked.{is_same_realm, tgs_request, AsksTgs, Follows}
 use Rattle.krb_tgs.specs.Taken.{TakesTgsRep}
-use Rattle.krb_context.specs.Interoperability.{allows, no_preauthentication, suite_of_each_key, one_way_is_settled}
+use Rattle.krb_context.specs.Rules.{has_rule, no_preauthentication, suite_of_each_key, one_way_is_settled}
 use Rattle.krb_ap.specs.Initiators.{settled_number, is_one_way}
 use Rattle.krb_ap.specs.Shown.{message, shown_state, shown_number, shown_status, shown as shown_to, ShowsTicket}
 use Rattle.krb_initiator.specs.declared.seeker.Seeker.{Seeker}
@@ -114,26 +114,26 @@ module _ (seeker : Seeker) (suite : CipherSuite) where
       go Aes256CtsHmacSha196 = refl
 
   -- a key in the suite
-  takes_in_suite : (key : EncryptionKey) (octets : List ℕ) → HasSuite (allows seeker.asker.interoperability suite_of_each_key) suite key.key_type (Ok suite) → key.key_value ≡ octets
-      → TakesKey seeker.asker.interoperability suite key (Ok (record { suite = suite; key = octets }))
+  takes_in_suite : (key : EncryptionKey) (octets : List ℕ) → HasSuite (has_rule seeker.asker.rules suite_of_each_key) suite key.key_type (Ok suite) → key.key_value ≡ octets
+      → TakesKey seeker.asker.rules suite key (Ok (record { suite = suite; key = octets }))
   unfolding TakesKey
   takes_in_suite key octets same is = follows _ _ suite _ same (record { is = ap (λ (o : List ℕ). Ok (record { suite = suite; key = o })) (sym is) })
 
   brings_key : (protocol : NetworkProtocol) (used reply : List ℕ) (rep : AsRep) (key : List ℕ) (first : GrantsFirst seeker.asker suite protocol used reply rep key)
-      → BringsFirst seeker.asker.interoperability suite (client_key suite first.salt seeker.asker.credentials) rep (Ok (record { suite = suite; key = key }))
+      → BringsFirst seeker.asker.rules suite (client_key suite first.salt seeker.asker.credentials) rep (Ok (record { suite = suite; key = key }))
   unfolding BringsFirst
   brings_key protocol used reply rep key first =
       follows _ _ first.part _
-      (opens_first seeker.asker.interoperability suite (client_key suite first.salt seeker.asker.credentials) rep.0.enc_part.cipher first.part first.key_fits first.carries)
+      (opens_first seeker.asker.rules suite (client_key suite first.salt seeker.asker.credentials) rep.0.enc_part.cipher first.part first.key_fits first.carries)
       (takes_in_suite first.part.0.key key first.same_suite first.key_is)
 
   takes_key : (protocol : NetworkProtocol) (used reply : List ℕ) (rep : AsRep) (key : List ℕ) → GrantsFirst seeker.asker suite protocol used reply rep key
-      → TakesReplyKey seeker.asker.interoperability seeker.asker.credentials used rep (Ok (record { suite = suite; key = key }))
+      → TakesReplyKey seeker.asker.rules seeker.asker.credentials used rep (Ok (record { suite = suite; key = key }))
   unfolding TakesReplyKey
   takes_key protocol used reply rep key first =
-      let brought : BringsFirst seeker.asker.interoperability (suite_of_etype (suite_number suite)) (client_key (suite_of_etype (suite_number suite)) first.salt seeker.asker.credentials) rep
+      let brought : BringsFirst seeker.asker.rules (suite_of_etype (suite_number suite)) (client_key (suite_of_etype (suite_number suite)) first.salt seeker.asker.credentials) rep
       (Ok (record { suite = suite; key = key })) =
-      subst (λ (s : CipherSuite). BringsFirst seeker.asker.interoperability s (client_key s first.salt seeker.asker.credentials) rep (Ok (record { suite = suite; key = key }))) (sym numbered)
+      subst (λ (s : CipherSuite). BringsFirst seeker.asker.rules s (client_key s first.salt seeker.asker.credentials) rep (Ok (record { suite = suite; key = key }))) (sym numbered)
       (brings_key protocol used reply rep key first) in
       follows _ _ (suite_number suite, first.salt) _ first.tells brought
 
@@ -170,14 +170,14 @@ module _ (seeker : Seeker) (suite : CipherSuite) where
       (asks_tgs known.key rep.0 rep.0.crealm rep.0.crealm known.kdc (first_tickets seeker.tgt) step.draw first.fits found) (gives _))
 
   -- an AS-REP in the place of the error
-  pub takes_early : (kdc : Kdc) (body : KdcReqBody) (step : Step) (rep : AsRep) (known : Known) → allows seeker.asker.interoperability no_preauthentication ≡ true
+  pub takes_early : (kdc : Kdc) (body : KdcReqBody) (step : Step) (rep : AsRep) (known : Known) → has_rule seeker.asker.rules no_preauthentication ≡ true
       → GrantsFirst seeker.asker suite kdc.protocol (default_salt seeker.asker.credentials) step.reply rep known.key → HasKdc seeker.asker rep.0.crealm rep.0.crealm known.kdc
       → Taken (AwaitsError kdc body) step (Asks (tgs_request seeker.wanted (shown known.key rep.0) (first_tickets seeker.tgt) step.draw known.kdc) (AwaitsTgsRep (leg known rep.0.crealm 0)))
   unfolding TakesReplyWithin TakesFirst TakesEarly BringsGrant AsksFirstTgs
   takes_early kdc body step rep known allowed first found =
       follows _ _ (Ends (shown known.key rep.0)) _
       (follows _ _ (Reply rep) _ (replies as_rep_layout kdc.protocol step.reply rep first.brings)
-      (follows _ _ tt _ (holds_true EarlyAsRep (allows seeker.asker.interoperability no_preauthentication) allowed)
+      (follows _ _ tt _ (holds_true EarlyAsRep (has_rule seeker.asker.rules no_preauthentication) allowed)
       (follows _ _ (record { suite = suite; key = known.key }) _ (takes_key kdc.protocol (default_salt seeker.asker.credentials) step.reply rep known.key first) (gives _))))
       (follows _ _ (record { request = tgs_request seeker.wanted (shown known.key rep.0) (first_tickets seeker.tgt) step.draw known.kdc; kdc = known.kdc }) _
       (asks_tgs known.key rep.0 rep.0.crealm rep.0.crealm known.kdc (first_tickets seeker.tgt) step.draw first.fits found) (gives _))
@@ -185,16 +185,16 @@ module _ (seeker : Seeker) (suite : CipherSuite) where
   -- ---- TGS-REPs
 
   pub hands_on : (known : Known) (reply : List ℕ) (rep : TgsRep) (key : List ℕ) → length known.key ≡ key_size suite
-      → GrantsNext seeker.asker.interoperability suite known reply rep key
-      → BringsNext seeker.asker.interoperability suite known.key rep (Ok (record { suite = suite; key = key }))
+      → GrantsNext seeker.asker.rules suite known reply rep key
+      → BringsNext seeker.asker.rules suite known.key rep (Ok (record { suite = suite; key = key }))
   unfolding BringsNext
   hands_on known reply rep key fits next =
       follows _ _ next.part _ (opens_carried enc_tgs_rep_part_layout session_key suite known.key 8 rep.0.enc_part.cipher next.part fits next.carries)
       (takes_in_suite next.part.0.key key next.same_suite next.key_is)
 
   takes_tgs_rep : (known : Known) (reply : List ℕ) (rep : TgsRep) (key : List ℕ) → length known.key ≡ key_size suite
-      → GrantsNext seeker.asker.interoperability suite known reply rep key
-      → TakesTgsRep seeker.asker.interoperability known.kdc.protocol suite known.key (Ok reply) (Ok (shown key rep.0))
+      → GrantsNext seeker.asker.rules suite known reply rep key
+      → TakesTgsRep seeker.asker.rules known.kdc.protocol suite known.key (Ok reply) (Ok (shown key rep.0))
   unfolding TakesTgsRep
   takes_tgs_rep known reply rep key fits next =
       follows _ _ rep _ (grants tgs_rep_layout known.kdc.protocol reply rep next.brings)
@@ -218,7 +218,7 @@ module _ (seeker : Seeker) (suite : CipherSuite) where
 
   -- the service's ticket is shown to the service
   pub arrives : (service_key : List ℕ) (known : Known) (home : List ℕ) (hops : ℕ) (step : Step) (rep : TgsRep) (part : EncTicketPart) → length known.key ≡ key_size suite
-      → Serves seeker.asker.interoperability seeker.wanted.target suite service_key known step.reply rep part
+      → Serves seeker.asker.rules seeker.wanted.target suite service_key known step.reply rep part
       → TakesNext seeker (leg known home hops) (Ok step.reply) step.draw (Ok (Ends (shown_to seeker.errand suite part.key.key_value rep.0 home step.draw)))
   unfolding TakesNext Arrives ShowsTicket
   arrives service_key known home hops step rep part fits serves =
@@ -246,7 +246,7 @@ module _ (seeker : Seeker) (suite : CipherSuite) where
 
   -- what is served, whatever referrals are before it
   pub served : (home service_key : List ℕ) (known : Known) (steps : List Step) (last : Step) (rep : TgsRep) (part : EncTicketPart) → AreHonest seeker home suite service_key known steps last rep part
-      → (before : Known) × Serves seeker.asker.interoperability seeker.wanted.target suite service_key before last.reply rep part
+      → (before : Known) × Serves seeker.asker.rules seeker.wanted.target suite service_key before last.reply rep part
   served home service_key known [] last rep part serves = (known, serves)
   served home service_key known (step ∷ steps) last rep part honest = served home service_key honest.0 steps last rep part honest.2
 
@@ -314,8 +314,8 @@ module _ (seeker : Seeker) (suite : CipherSuite) where
 
       awaited : is_one_way seeker.errand.initiator ≡ false
       awaited =
-          ap (λ (b : Bool). allows seeker.errand.initiator.interoperability one_way_is_settled && not b) asks.asked
-          ∙ and_false (allows seeker.errand.initiator.interoperability one_way_is_settled)
+          ap (λ (b : Bool). has_rule seeker.errand.initiator.rules one_way_is_settled && not b) asks.asked
+          ∙ and_false (has_rule seeker.errand.initiator.rules one_way_is_settled)
 
       awaits : shown_state seeker.errand.initiator ≡ ApExchange
       awaits = ap (λ (b : Bool). if b then Final else ApExchange) awaited

@@ -49,7 +49,7 @@ use Rattle.sspi_core.specs.declared.cause.Cause.TheVariants.{Sequence, NoService
 use Rattle.sspi_core.specs.declared.cause.Cause.{Cause}
 use Rattle.sspi_core.specs.declared.draw.Draw.{Draw}
 use Rattle.sspi_core.specs.Usernames.{UserName}
-use Rattle.krb_context.specs.declared.interoperability.Interoperability.{Interoperability}
+use Rattle.krb_context.specs.declared.rules.Rules.{Rules}
 use Rattle.krb_exchange.specs.declared.enc_kdc_rep_part.EncAsRepPart.{EncAsRepPart}
 use Rattle.krb_replies.specs.Keys.{OpensFirst, HasSuite}
 use Rattle.krb_laws_ends.specs.Answers.{admission_for, IsAnswered}
@@ -99,7 +99,7 @@ opens_carried layout refusals suite key usage text value fits carries =
     (follows _ _ tt _ (holds_true refusals.short (nat_le 28 (length text)) long) (record { is = carries.sealed })))
     (record { is = carries.read })
 
-pub opens_first : (options : Interoperability) (suite : CipherSuite) (key text : List ℕ) (part : EncAsRepPart) → length key ≡ key_size suite
+pub opens_first : (options : Rules) (suite : CipherSuite) (key text : List ℕ) (part : EncAsRepPart) → length key ≡ key_size suite
     → CarriesFirst options suite key text part → OpensFirst options suite key text (Ok part)
 unfolding OpensFirst Unseals
 opens_first options suite key text part fits carries =

@@ -3,8 +3,8 @@
 use Rattle.std.specs.Prelude.{◌≡◌, ◌&&◌, ℕ, ◌^◌, ◌≤◌, false, true, List, [], ◌∷◌, length, Option, Some, None, Ok, unwrap_or}
 use Rattle.krb_aes.specs.Octets.{IsOctets}
 use Rattle.krb_der.specs.Layout.{Layout}
-use Rattle.krb_context.specs.declared.interoperability.Interoperability.{Interoperability}
-use Rattle.krb_context.specs.Interoperability.{allows, as_rep_tagged_26, no_preauthentication, suite_of_each_key}
+use Rattle.krb_context.specs.declared.rules.Rules.{Rules}
+use Rattle.krb_context.specs.Rules.{has_rule, as_rep_tagged_26, no_preauthentication, suite_of_each_key}
 use Rattle.krb_crypto.specs.Sealed.{IsSealed}
 use Rattle.krb_crypto.specs.Suite.{key_size, suite_number}
 use Rattle.krb_crypto.specs.declared.suite.CipherSuite.{CipherSuite}
@@ -48,13 +48,13 @@ pub record AnswersError (asker : Asker) (protocol : NetworkProtocol) (reply : Li
   pub named : Option (List ℕ)
   pub names : NamesSalt error (Ok named)
   pub salt_is : salt ≡ unwrap_or named (default_salt asker.credentials)
-  pub leaves : LeavesSuite (allows asker.interoperability suite_of_each_key) asker error (Ok suite)
+  pub leaves : LeavesSuite (has_rule asker.rules suite_of_each_key) asker error (Ok suite)
 
 -- the part of an AS-REP that is sealed in a text, with usage 3: tagged 26 only where the asker allows that (RFC 4120, section 5.4.2)
-pub record CarriesFirst (options : Interoperability) (suite : CipherSuite) (key text : List ℕ) (part : EncAsRepPart) : Type 0 where
+pub record CarriesFirst (rules : Rules) (suite : CipherSuite) (key text : List ℕ) (part : EncAsRepPart) : Type 0 where
   pub plain : List ℕ
   pub sealed : IsSealed suite key 3 text plain
-  pub read : IsFirstPart (allows options as_rep_tagged_26 && is_tagged_26 plain) plain part
+  pub read : IsFirstPart (has_rule rules as_rep_tagged_26 && is_tagged_26 plain) plain part
 
 -- the second by an AS-REP: sealed under the client's key, with usage 3, and a key of the suite is in it; used is the request's salt
 pub record GrantsFirst (asker : Asker) (suite : CipherSuite) (protocol : NetworkProtocol) (used reply : List ℕ) (rep : AsRep) (key : List ℕ) : Type 0 where
@@ -63,8 +63,8 @@ pub record GrantsFirst (asker : Asker) (suite : CipherSuite) (protocol : Network
   pub tells : TellsEtype used rep (Ok (suite_number suite, salt))
   pub key_fits : length (client_key suite salt asker.credentials) ≡ key_size suite
   pub part : EncAsRepPart
-  pub carries : CarriesFirst asker.interoperability suite (client_key suite salt asker.credentials) rep.0.enc_part.cipher part
-  pub same_suite : HasSuite (allows asker.interoperability suite_of_each_key) suite part.0.key.key_type (Ok suite)
+  pub carries : CarriesFirst asker.rules suite (client_key suite salt asker.credentials) rep.0.enc_part.cipher part
+  pub same_suite : HasSuite (has_rule asker.rules suite_of_each_key) suite part.0.key.key_type (Ok suite)
   pub key_is : part.0.key.key_value ≡ key
   pub fits : length key ≡ key_size suite
 
@@ -74,12 +74,12 @@ pub record Known : Type 0 where
   pub key : List ℕ
   pub kdc : Kdc
 
--- a TGS-REP is sealed under that key, with usage 8, and the next key of the suite is in it; the options are those of who asked
-pub record GrantsNext (options : Interoperability) (suite : CipherSuite) (known : Known) (reply : List ℕ) (rep : TgsRep) (key : List ℕ) : Type 0 where
+-- a TGS-REP is sealed under that key, with usage 8, and the next key of the suite is in it; the rules are those of who asked
+pub record GrantsNext (rules : Rules) (suite : CipherSuite) (known : Known) (reply : List ℕ) (rep : TgsRep) (key : List ℕ) : Type 0 where
   pub brings : Brings tgs_rep_layout known.kdc.protocol reply rep
   pub part : EncTgsRepPart
   pub carries : Carries enc_tgs_rep_part_layout suite known.key 8 rep.0.enc_part.cipher part
-  pub same_suite : HasSuite (allows options suite_of_each_key) suite part.0.key.key_type (Ok suite)
+  pub same_suite : HasSuite (has_rule rules suite_of_each_key) suite part.0.key.key_type (Ok suite)
   pub key_is : part.0.key.key_value ≡ key
   pub fits : length key ≡ key_size suite
 
@@ -90,7 +90,7 @@ HasKdc asker home realm kdc = FindsKdc (url_for asker.kdc_url home realm) asker.
 -- a referral: the ticket is for the ticket-granting service of another realm, whose KDC is known
 pub record Refers (asker : Asker) (home : List ℕ) (suite : CipherSuite) (known : Known) (reply : List ℕ) (next : Known) : Type 0 where
   pub rep : TgsRep
-  pub grants : GrantsNext asker.interoperability suite known reply rep next.key
+  pub grants : GrantsNext asker.rules suite known reply rep next.key
   pub named : referral_realm rep.0.ticket.sname ≡ Some next.kdc.realm
   pub other : is_same_realm known.kdc.realm next.kdc.realm ≡ false
   pub found : HasKdc asker home next.kdc.realm next.kdc
@@ -100,9 +100,9 @@ abbrev pub service_of : List ℕ → List (List ℕ)
 service_of target = (parts_of (target_parts target)).0 ∷ (parts_of (target_parts target)).1 ∷ []
 
 -- the service's ticket, sealed under the service's key, for the client of the reply and with the reply's key
-pub record Serves (options : Interoperability) (target : List ℕ) (suite : CipherSuite) (service_key : List ℕ) (known : Known) (reply : List ℕ) (rep : TgsRep)
+pub record Serves (rules : Rules) (target : List ℕ) (suite : CipherSuite) (service_key : List ℕ) (known : Known) (reply : List ℕ) (rep : TgsRep)
     (part : EncTicketPart) : Type 0 where
-  pub grants : GrantsNext options suite known reply rep part.key.key_value
+  pub grants : GrantsNext rules suite known reply rep part.key.key_value
   pub named : rep.0.ticket.sname.name_string ≡ service_of target
   pub refers_no_more : referral_realm rep.0.ticket.sname ≡ None
   pub ticket : IsServiceTicket suite service_key rep.0.ticket part
@@ -140,11 +140,11 @@ pub record AsksForKey (asker : Asker) (protocol : NetworkProtocol) (step : Step)
 -- 4120, section 3.1.3)
 abbrev pub LeadsToKey : Asker → NetworkProtocol → Option Step → List ℕ → Type 0
 LeadsToKey asker protocol (Some step) salt = AsksForKey asker protocol step salt
-LeadsToKey asker protocol None salt = (allows asker.interoperability no_preauthentication ≡ true) × (salt ≡ default_salt asker.credentials)
+LeadsToKey asker protocol None salt = (has_rule asker.rules no_preauthentication ≡ true) × (salt ≡ default_salt asker.credentials)
 
 -- the replies of ticket-granting services are honest, from what is known on
 abbrev pub AreHonest : Seeker → List ℕ → CipherSuite → List ℕ → Known → List Step → Step → TgsRep → EncTicketPart → Type 0
-AreHonest seeker home suite service_key known [] last rep part = Serves seeker.asker.interoperability seeker.wanted.target suite service_key known last.reply rep part
+AreHonest seeker home suite service_key known [] last rep part = Serves seeker.asker.rules seeker.wanted.target suite service_key known last.reply rep part
 AreHonest seeker home suite service_key known (step ∷ steps) last rep part =
     (next : Known) × Refers seeker.asker home suite known step.reply next × AreHonest seeker home suite service_key next steps last rep part
 

@@ -24,7 +24,7 @@ use Rattle.sspi_core.specs.declared.protocol.NetworkProtocol.TheVariants.{Tcp}
 use Rattle.sspi_core.specs.Moments.{last_moment}
 use Rattle.sspi_core.proofs.Chain.{follows, gives, holds_true}
 use Rattle.krb_as.specs.Replies.{Skips, Unpacks, Unwraps}
-use Rattle.krb_context.specs.Interoperability.{allows, suite_of_each_key}
+use Rattle.krb_context.specs.Rules.{has_rule, suite_of_each_key}
 use Rattle.krb_replies.specs.Salts.{NamesSalt, NamesSuite}
 use Rattle.krb_as.specs.declared.asker.Asker.{Asker}
 use Rattle.krb_as.specs.Askers.{asker_suite, suite_told, time_suite, default_salt}
@@ -168,5 +168,5 @@ module _ (suite : CipherSuite) (realm : List ℕ) (draw : Draw) (salt : Option (
     named = salt;
     names = names_salt;
     salt_is = refl;
-    leaves = leaves_suite asker (allows asker.interoperability suite_of_each_key);
+    leaves = leaves_suite asker (has_rule asker.rules suite_of_each_key);
   }

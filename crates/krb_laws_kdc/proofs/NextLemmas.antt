@@ -26,8 +26,8 @@ use Rattle.krb_laws_ends.specs.Answers.{IsDraw}
 use Rattle.krb_laws_ends.specs.HonestKdc.{Known, GrantsNext, HasKdc, Refers, Serves, service_of}
 use Rattle.krb_laws_ends.proofs.OctetsLemmas.{IsShort, IsOctets-back, short-nothing, short-append, short-tlv, short-field, short-more}
 use Rattle.krb_laws_ends.proofs.HonestLemmas.{spells_itself, has_suite}
-use Rattle.krb_context.specs.declared.interoperability.Interoperability.{Interoperability}
-use Rattle.krb_context.specs.Interoperability.{allows, suite_of_each_key}
+use Rattle.krb_context.specs.declared.rules.Rules.{Rules}
+use Rattle.krb_context.specs.Rules.{has_rule, suite_of_each_key}
 use Rattle.krb_kdc.specs.declared.grant.Grant.{Grant}
 use Rattle.krb_context.specs.Drawn.{drawn_key}
 use Rattle.krb_kdc.specs.Grants.{reply_confounder, reply_part, ticket_part, ticket, tgs_rep}
@@ -72,9 +72,9 @@ module _ (suite : CipherSuite) (realm : List ℕ) (draw : Draw) (d : IsDraw draw
     abbrev reply : List ℕ
     reply = with_length (spelling tgs_rep_layout (tgs_rep suite realm draw nonce known.key grant))
 
-    pub grants_next : (options : Interoperability) → GrantsNext options suite known reply (tgs_rep suite realm draw nonce known.key grant) (drawn_key suite draw)
+    pub grants_next : (rules : Rules) → GrantsNext rules suite known reply (tgs_rep suite realm draw nonce known.key grant) (drawn_key suite draw)
     unfolding tgs_rep reply_part
-    grants_next options =
+    grants_next rules =
         let plain : List ℕ = spelling enc_tgs_rep_part_layout (record { 0 = reply_part suite realm draw nonce grant }) in
         let message : List ℕ = spelling tgs_rep_layout (tgs_rep suite realm draw nonce known.key grant) in
         let whole = short-part in
@@ -94,7 +94,7 @@ module _ (suite : CipherSuite) (realm : List ℕ) (draw : Draw) (d : IsDraw draw
                 (IsOctets-append (reply_confounder suite draw) plain (confounder_octets suite realm draw d) whole.octets);
             read = spells_itself enc_tgs_rep_part_layout (record { 0 = reply_part suite realm draw nonce grant }) part_sound (omega (arith, whole.short));
           };
-          same_suite = has_suite (allows options suite_of_each_key) suite;
+          same_suite = has_suite (has_rule rules suite_of_each_key) suite;
           key_is = refl;
           fits = drawn_fits suite realm draw d;
         }
@@ -104,15 +104,15 @@ module _ (suite : CipherSuite) (realm : List ℕ) (draw : Draw) (d : IsDraw draw
         → HasKdc asker home address.realm address → Refers asker home suite known reply (record { key = drawn_key suite draw; kdc = address })
     unfolding tgs_rep ticket referral_realm
     refers_on asker home address named other found =
-        record { rep = tgs_rep suite realm draw nonce known.key grant; grants = grants_next asker.interoperability; named = ap referral_realm named; other = other; found = found }
+        record { rep = tgs_rep suite realm draw nonce known.key grant; grants = grants_next asker.rules; named = ap referral_realm named; other = other; found = found }
 
     -- to a principal: the service's ticket
-    unfoldable pub serves : (options : Interoperability) (target : List ℕ) → IsSoundClient grant.crealm grant.cname → length grant.key ≡ key_size suite → grant.sname ≡ name_with 2 (service_of target)
+    unfoldable pub serves : (rules : Rules) (target : List ℕ) → IsSoundClient grant.crealm grant.cname → length grant.key ≡ key_size suite → grant.sname ≡ name_with 2 (service_of target)
         → referral_realm (name_with 2 (service_of target)) ≡ None
-        → Serves options target suite grant.key known reply (tgs_rep suite realm draw nonce known.key grant) (ticket_part suite draw grant)
+        → Serves rules target suite grant.key known reply (tgs_rep suite realm draw nonce known.key grant) (ticket_part suite draw grant)
     unfolding tgs_rep ticket ticket_part
-    serves options target client fits named no_referral = record {
-      grants = grants_next options;
+    serves rules target client fits named no_referral = record {
+      grants = grants_next rules;
       named = ap (λ n. n.name_string) named;
       refers_no_more = ap referral_realm named ∙ no_referral;
       ticket = is_service_ticket suite realm draw d grant client g.authtime g.endtime fits;

@@ -36,7 +36,7 @@ use Rattle.krb_context.proofs.DrawnLemmas.{key_size_small}
 use Rattle.krb_kdc.specs.Grants.{reply_confounder, reply_part, ticket, as_rep}
 use Rattle.krb_kdc.proofs.Lengths.{time_short}
 use Rattle.krb_laws_ends.specs.Answers.{IsDraw}
-use Rattle.krb_context.specs.Interoperability.{allows, as_rep_tagged_26, suite_of_each_key}
+use Rattle.krb_context.specs.Rules.{has_rule, as_rep_tagged_26, suite_of_each_key}
 use Rattle.krb_exchange.specs.declared.enc_kdc_rep_part.EncAsRepPart.{EncAsRepPart}
 use Rattle.krb_replies.specs.Keys.{is_tagged_26, IsFirstPart}
 use Rattle.krb_laws_ends.specs.HonestKdc.{GrantsFirst}
@@ -157,11 +157,11 @@ module _ (suite : CipherSuite) (realm : List ℕ) (draw : Draw) (d : IsDraw draw
             sealed = subst (λ (k : List ℕ). IsSealed suite k 3 (sealed suite key 3 (reply_confounder suite draw) plain) plain) (sym is) sealed_in;
             read =
                 subst (λ (b : Bool). IsFirstPart b plain (record { 0 = reply_part suite realm draw nonce grant }))
-                (sym (ap (λ (b : Bool). allows asker.interoperability as_rep_tagged_26 && b) (untagged (record { 0 = reply_part suite realm draw nonce grant }))
-                ∙ and_false (allows asker.interoperability as_rep_tagged_26)))
+                (sym (ap (λ (b : Bool). has_rule asker.rules as_rep_tagged_26 && b) (untagged (record { 0 = reply_part suite realm draw nonce grant }))
+                ∙ and_false (has_rule asker.rules as_rep_tagged_26)))
                 (spells_itself enc_as_rep_part_layout (record { 0 = reply_part suite realm draw nonce grant }) part_sound (omega (arith, whole.short)));
           };
-          same_suite = has_suite (allows asker.interoperability suite_of_each_key) suite;
+          same_suite = has_suite (has_rule asker.rules suite_of_each_key) suite;
           key_is = refl;
           fits = drawn_fits;
         }

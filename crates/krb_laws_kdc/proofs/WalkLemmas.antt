@@ -172,8 +172,8 @@ module _ (seeker : Seeker) (pairs : List (List ℕ × Kdc)) (suite : CipherSuite
         let sound : IsSoundGrant kdc.realm (drawn_nonce own) grant =
         next_sound start span seeker.wanted unset kdc held own draw target t u stands.fair stands.least suite h service_sound in
         let part : EncTicketPart = ticket_part suite draw grant in
-        let served : Serves seeker.asker.interoperability seeker.wanted.target suite service_key known message rep part =
-        serves suite kdc.realm draw u.is (drawn_nonce own) grant sound known stands.tcp octets sizes.reply seeker.asker.interoperability seeker.wanted.target h.client fits refl no_referral in
+        let served : Serves seeker.asker.rules seeker.wanted.target suite service_key known message rep part =
+        serves suite kdc.realm draw u.is (drawn_nonce own) grant sound known stands.tcp octets sizes.reply seeker.asker.rules seeker.wanted.target h.client fits refl no_referral in
         let step : Step = record { reply = message; draw = next_own } in
         let done : InitDone = shown_to seeker.errand suite part.key.key_value rep.0 home next_own in
         let arrived : Next (Seeks seeker) (AwaitsTgsRep (leg seeker suite known home hops)) (Ok message) next_own (Ok (Ends done)) =

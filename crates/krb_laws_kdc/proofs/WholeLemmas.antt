@@ -42,7 +42,7 @@ use Rattle.krb_as.specs.Asked.{first_request, second_request}
 use Rattle.krb_as.specs.AsPhases.{sealed_time}
 use Rattle.krb_as.specs.declared.asker.Asker.{Asker}
 use Rattle.krb_as.specs.Askers.{suite_for, asker_suite, time_suite, client_key, default_salt, key_for}
-use Rattle.krb_context.specs.Interoperability.{allows, suite_of_each_key}
+use Rattle.krb_context.specs.Rules.{has_rule, suite_of_each_key}
 use Rattle.krb_as.specs.declared.as_phase.AsPhase.TheVariants.{AwaitsError, AwaitsAsRep}
 use Rattle.krb_as.specs.declared.key.SealedTime.{SealedTime}
 use Rattle.krb_as.specs.Turns.{IsWant}
@@ -106,7 +106,7 @@ either true x y e = e
 either false x y e = refl
 
 time_told : (asker : Asker) → time_suite asker (Some (asker_suite asker)) ≡ asker_suite asker
-time_told asker = either (allows asker.interoperability suite_of_each_key) _ _ (named_so asker.suite asker.credentials)
+time_told asker = either (has_rule asker.rules suite_of_each_key) _ _ (named_so asker.suite asker.credentials)
 
 ended_so : (out : Result InitDone Error) (one other : InitDone) → out ≡ Ok one → one ≡ other → out ≡ Ok other
 ended_so out one other is same = is ∙ ap Ok same

@@ -4,7 +4,7 @@ use Rattle.std.proofs.Common.{refl, lit≤, Global}
 use Rattle.std.specs.Prelude.{ℕ, List, [], ◌∷◌, codes, replicate, Some, None, false}
 use Rattle.url.specs.Parts.{Parts, serialize}
 use Rattle.url.specs.declared.host.Host.TheVariants.{Domain}
-use Rattle.krb_context.specs.Interoperability.{no_options}
+use Rattle.krb_context.specs.Rules.{no_rules}
 use Rattle.krb_crypto.specs.declared.suite.CipherSuite.TheVariants.{Aes256CtsHmacSha196}
 use Rattle.sspi_core.specs.declared.draw.Draw.{Draw}
 use Rattle.sspi_core.specs.declared.identity.CredentialsBuffers.{CredentialsBuffers}
@@ -68,7 +68,7 @@ example_seeker = record {
     realm = example_realm;
     suite = Aes256CtsHmacSha196;
     credentials = example_credentials;
-    interoperability = no_options;
+    rules = no_rules;
   };
   client = record { name = codes "alice"; name_type = 1; realm = example_realm; host = codes "PC" };
   wanted = record { target = codes "host/b"; flags = record { 0 = mutual_auth }; channel_bindings = None };
@@ -88,7 +88,7 @@ example_seeker = record {
       realm = None;
       user_to_user = false;
       flags = record { 0 = mutual_auth };
-      interoperability = no_options;
+      rules = no_rules;
     };
     bindings = None;
     mechanism = 0x2a ∷ 0x86 ∷ 0x48 ∷ 0x86 ∷ 0xf7 ∷ 0x12 ∷ 0x01 ∷ 0x02 ∷ 0x02 ∷ [];

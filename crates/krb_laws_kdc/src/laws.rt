@@ -45,7 +45,7 @@ ghost use Rattle.sspi_core.specs.Usernames.{UserName};
 ghost use Rattle.sspi_generator.specs.Runs.{Resolves};
 ghost use Rattle.krb_conf.specs.declared.env.Env.{Env};
 ghost use Rattle.krb_context.specs.declared.context.Kerberos.{Kerberos};
-ghost use Rattle.krb_context.specs.declared.interoperability.Interoperability.{Interoperability};
+ghost use Rattle.krb_context.specs.declared.rules.Rules.{Rules};
 ghost use Rattle.krb_context.specs.Contexts.{settled};
 ghost use Rattle.krb_exchange.specs.declared.kdc_rep.KdcRep.{KdcRep};
 ghost use Rattle.krb_replay.specs.Clock.{in_microseconds, is_later};
@@ -158,7 +158,7 @@ pub fn next_replies_are_honest()
         → HasKdc asker home address.realm address
         → Refers asker home suite known (with_length (spelling tgs_rep_layout (tgs_rep suite realm draw nonce known.key grant)))
         (record { key = drawn_key suite draw; kdc = address }) }
-    ensures serves { (suite : CipherSuite) (realm nonce : List ℕ) (draw : Draw) (grant : Grant) (known : Known) (options : Interoperability)
+    ensures serves { (suite : CipherSuite) (realm nonce : List ℕ) (draw : Draw) (grant : Grant) (known : Known) (options : Rules)
         (target : List ℕ) → IsDraw draw → IsSoundGrant realm nonce grant → known.kdc.protocol ≡ Tcp
         → IsOctets (with_length (spelling tgs_rep_layout (tgs_rep suite realm draw nonce known.key grant)))
         → length (spelling tgs_rep_layout (tgs_rep suite realm draw nonce known.key grant)) ≤ 2 ^ 23

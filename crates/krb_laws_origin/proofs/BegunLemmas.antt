@@ -13,7 +13,7 @@ use Rattle.krb_initiator.specs.Beginnings.{identity_of, NamesIdentity, Identifie
 -- it keeps the context's keys, or fetches a ticket for its caller's credentials, with what the context is allowed
 abbrev pub IsFor : Kerberos → InitOptions → Initiation → Type 0
 IsFor context options (Requests initiator token) = initiator.params ≡ context.encryption_params
-IsFor context options (Seeks seeker) = (options.credentials ≡ Some seeker.asker.credentials) × (seeker.asker.interoperability ≡ context.interoperability)
+IsFor context options (Seeks seeker) = (options.credentials ≡ Some seeker.asker.credentials) × (seeker.asker.rules ≡ context.rules)
 IsFor context options (Hears initiator token) = initiator.params ≡ context.encryption_params
 
 module _ (context : Kerberos) (options : InitOptions) (initiation : Initiation) where
@@ -21,13 +21,13 @@ module _ (context : Kerberos) (options : InitOptions) (initiation : Initiation) 
   Is i = IsFor context options i
 
   identified : (identity : Identity) → Identifies context options (Ok identity)
-      → (options.credentials ≡ Some identity.asker.credentials) × (identity.asker.interoperability ≡ context.interoperability)
+      → (options.credentials ≡ Some identity.asker.credentials) × (identity.asker.rules ≡ context.rules)
   unfolding Identifies NamesIdentity
   identified identity h =
       let credentials = passed _ _ _ h in
       let client = passed _ _ _ credentials.rest_held in
       let is : identity ≡ identity_of context credentials.found options.env client.found = gave _ _ client.rest_held in
-      (took _ _ _ credentials.first_held ∙ ap (λ (i : Identity). Some i.asker.credentials) (sym is), ap (λ (i : Identity). i.asker.interoperability) is)
+      (took _ _ _ credentials.first_held ∙ ap (λ (i : Identity). Some i.asker.credentials) (sym is), ap (λ (i : Identity). i.asker.rules) is)
 
   seeks_for : SeeksTicket context options (Ok initiation) → IsFor context options initiation
   unfolding SeeksTicket

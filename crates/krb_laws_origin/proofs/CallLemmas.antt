@@ -15,7 +15,7 @@ use Rattle.krb_laws_origin.proofs.Known.{Speaks, Stands, stands_beside}
 record Keeps (before after : Kerberos) : Type 0 where
   role : after.server ≡ before.server
   identity : after.auth_identity ≡ before.auth_identity
-  set : after.interoperability ≡ before.interoperability
+  set : after.rules ≡ before.rules
   key : after.encryption_params.session_key ≡ before.encryption_params.session_key
 
 -- a context that is made of another, and has these four of it
@@ -23,7 +23,7 @@ keeps_by : (before after made : Kerberos) → after ≡ made → Keeps before ma
 keeps_by before after made is h = record {
   role = ap (λ (c : Kerberos). c.server) is ∙ h.role;
   identity = ap (λ (c : Kerberos). c.auth_identity) is ∙ h.identity;
-  set = ap (λ (c : Kerberos). c.interoperability) is ∙ h.set;
+  set = ap (λ (c : Kerberos). c.rules) is ∙ h.set;
   key = ap (λ (c : Kerberos). c.encryption_params.session_key) is ∙ h.key;
 }
 

@@ -1,6 +1,6 @@
 -- The initiators that lines declare have no session key, and await no KDC.
 use Rattle.std.proofs.Common.{◌≡◌, ℕ, Bool, true, false, cond, List, [], ◌∷◌, Option, Some, None, refl, subst}
-use Rattle.krb_context.specs.Interoperability.{no_options}
+use Rattle.krb_context.specs.Rules.{no_rules}
 use Rattle.krb_replay.specs.History.{History}
 use Rattle.krb_script.specs.Script.{Setup, Declared, at_id}
 use Rattle.krb_script.specs.declared.endpoint.Endpoint.{Endpoint}
@@ -17,7 +17,7 @@ use Rattle.krb_laws_origin.specs.Origins.{IsKeyless, HasOrigin}
 use Rattle.krb_laws_origin.proofs.EventLemmas.{origin}
 
 record IsFresh (connection : Connection) : Type 0 where
-  none_set : connection.context.interoperability ≡ no_options
+  none_set : connection.context.rules ≡ no_rules
   key : connection.context.encryption_params.session_key ≡ None
   free : connection.exchange ≡ None
 

@@ -1,7 +1,7 @@
 -- What is known of an initiator behind the events of a run.
 use Rattle.std.proofs.Common.{◌≡◌, ℕ, inl, inr, List, [], ◌∷◌, ◌++◌, Option, Some, None, refl, sym, ap, ◌∙◌, subst}
 use Rattle.std.specs.Prelude.{◌⊎◌, IfSome, option_map}
-use Rattle.krb_context.specs.Interoperability.{no_options}
+use Rattle.krb_context.specs.Rules.{no_rules}
 use Rattle.krb_context.specs.Contexts.{settled, with_key}
 use Rattle.krb_context.specs.declared.context.ContextChange.{ContextChange}
 use Rattle.krb_context.specs.declared.context.Kerberos.{Kerberos}
@@ -23,7 +23,7 @@ pub record IsFetching (identity : Option CredentialsBuffers) (id : ℕ) (events 
   pub seeker : Seeker
   pub seeks : run.initiation ≡ Seeks seeker
   pub speaks : identity ≡ Some seeker.asker.credentials
-  pub none_set : seeker.asker.interoperability ≡ no_options
+  pub none_set : seeker.asker.rules ≡ no_rules
   pub replies : List (List ℕ)
   pub coming : AreComing id replies events
   pub led : Led seeker replies run.phase
@@ -36,7 +36,7 @@ IsUnderWay identity id events (Initiates run) = IsFetching identity id events ru
 pub record Speaks (identity : Option CredentialsBuffers) (id : ℕ) (events : List Event) (connection : Connection) : Type 0 where
   pub role : connection.context.server ≡ None
   pub identity_is : connection.context.auth_identity ≡ identity
-  pub none_set : connection.context.interoperability ≡ no_options
+  pub none_set : connection.context.rules ≡ no_rules
   pub key : IfSome connection.context.encryption_params.session_key (λ key. HasOrigin identity id events key)
 
 -- and whose exchange, if it awaits a KDC, is under way
@@ -106,7 +106,7 @@ module _ (identity : Option CredentialsBuffers) (id : ℕ) where
 
     -- a context that keeps role, identity and key, where nothing is awaited
     pub stands_beside : (context : Kerberos) → connection.exchange ≡ None → context.server ≡ connection.context.server → context.auth_identity ≡ connection.context.auth_identity
-        → context.interoperability ≡ connection.context.interoperability → context.encryption_params.session_key ≡ connection.context.encryption_params.session_key → Stands identity id events (record connection { context = context })
+        → context.rules ≡ connection.context.rules → context.encryption_params.session_key ≡ connection.context.encryption_params.session_key → Stands identity id events (record connection { context = context })
     stands_beside context free role same set key = record {
       speaks = record {
         role = role ∙ speaks.role;

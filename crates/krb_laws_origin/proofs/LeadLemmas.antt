@@ -3,8 +3,8 @@ use Rattle.std.proofs.Common.{◌≡◌, ℕ, ◌+◌, true, false, List, [], �
 use Rattle.std.proofs.lemmas.List.{length-map}
 use Rattle.sspi_generator.specs.declared.network.NetFault.{NetFault}
 use Rattle.krb_as.specs.declared.done.InitDone.{InitDone}
-use Rattle.krb_context.specs.Interoperability.{no_options, allows, no_preauthentication}
-use Rattle.krb_context.specs.declared.interoperability.Interoperability.{Interoperability}
+use Rattle.krb_context.specs.Rules.{no_rules, has_rule, no_preauthentication}
+use Rattle.krb_context.specs.declared.rules.Rules.{Rules}
 use Rattle.krb_tgs.specs.Chain.{IsChain}
 use Rattle.krb_initiator.specs.Came.{AreGranted, GrantsFirst, NamesFirst, LeaveSalt}
 use Rattle.krb_initiator.specs.declared.seeker.Seeker.{Seeker}
@@ -47,12 +47,12 @@ pub record CameError (seeker : Seeker) (before : List Answer) (salt : List ℕ) 
   pub are : before ≡ error ∷ []
   pub names : NamesFirst seeker error salt
 
-came_error : (seeker : Seeker) (before : List Answer) (salt : List ℕ) → seeker.asker.interoperability ≡ no_options → LeaveSalt seeker before salt → CameError seeker before salt
-came_error seeker [] salt set h = let may : false ≡ true = sym (ap (λ (o : Interoperability). allows o no_preauthentication) set) ∙ h.0 in absurd cc
+came_error : (seeker : Seeker) (before : List Answer) (salt : List ℕ) → seeker.asker.rules ≡ no_rules → LeaveSalt seeker before salt → CameError seeker before salt
+came_error seeker [] salt set h = let may : false ≡ true = sym (ap (λ (o : Rules). has_rule o no_preauthentication) set) ∙ h.0 in absurd cc
 came_error seeker (error ∷ []) salt set h = record { error = error; are = refl; names = h }
 came_error seeker (error ∷ (more ∷ rest)) salt set h = absurd h
 
-pub ends_with : (seeker : Seeker) (replies : List (List ℕ)) (done : InitDone) → seeker.asker.interoperability ≡ no_options → LedToEnd seeker replies done → EndsWith seeker replies done
+pub ends_with : (seeker : Seeker) (replies : List (List ℕ)) (done : InitDone) → seeker.asker.rules ≡ no_rules → LedToEnd seeker replies done → EndsWith seeker replies done
 ends_with seeker replies done set led =
     let session = led.session in
     let has = session.has in
@@ -84,7 +84,7 @@ ends_with seeker replies done set led =
         is_service = session.is_service;
         suite = session.suite;
         chain =
-            subst (λ (o : Interoperability). IsChain o seeker.asker.credentials has.salt has.as_rep (session.referrals ++ (session.last ∷ [])) (record { suite = session.suite; key = session.key }))
+            subst (λ (o : Rules). IsChain o seeker.asker.credentials has.salt has.as_rep (session.referrals ++ (session.last ∷ [])) (record { suite = session.suite; key = session.key }))
             set has.chain;
       };
     }

@@ -1,7 +1,7 @@
 -- An event at which an initiator begins, or hears its peer, keeps what is known of it.
 use Rattle.std.proofs.Common.{◌≡◌, ℕ, Bool, true, false, List, [], Option, Some, None, Result, Ok, Err, refl, sym, ap, ◌∙◌, subst}
 use Rattle.sspi_core.proofs.Chain.{passed, gave}
-use Rattle.krb_context.specs.Interoperability.{no_options}
+use Rattle.krb_context.specs.Rules.{no_rules}
 use Rattle.krb_as.specs.declared.done.InitDone.{InitDone}
 use Rattle.krb_as.specs.declared.turn.Turn.{Turn}
 use Rattle.krb_as.specs.declared.turn.Turn.TheVariants.{Asks, Ends}
@@ -101,7 +101,7 @@ module _ (identity : Option CredentialsBuffers) (id : ℕ) (events : List Event)
       subst Holds (sym (subst (Gone later next) is l)) (stands_kept identity id events connection speaks (requested initiator token).change (ap (λ p. p.session_key) same))
 
   -- it fetches a ticket
-  seeks_lands : (seeker : Seeker) (draw : Draw) (later : InitRun) (answer : Answer) (next : Connection) → identity ≡ Some seeker.asker.credentials → seeker.asker.interoperability ≡ no_options → later.initiation ≡ Seeks seeker
+  seeks_lands : (seeker : Seeker) (draw : Draw) (later : InitRun) (answer : Answer) (next : Connection) → identity ≡ Some seeker.asker.credentials → seeker.asker.rules ≡ no_rules → later.initiation ≡ Seeks seeker
       → StartsNew (Seeks seeker) draw answer → Lands connection later answer next → Holds next
   seeks_lands seeker draw later (Ok (Asks request phase)) next for_it set seeks h l =
       let led : Led seeker [] later.phase = subst (λ (p : InitPhase). Led seeker [] p) (sym l.0) (led_first seeker draw request phase h) in

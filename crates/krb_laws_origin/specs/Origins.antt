@@ -9,7 +9,7 @@ use Rattle.krb_exchange.specs.declared.kdc_rep.TgsRep.{TgsRep}
 use Rattle.sspi_core.specs.declared.identity.CredentialsBuffers.{CredentialsBuffers}
 use Rattle.sspi_core.specs.declared.protocol.NetworkProtocol.{NetworkProtocol}
 use Rattle.sspi_generator.specs.declared.network.NetFault.{NetFault}
-use Rattle.krb_context.specs.Interoperability.{no_options}
+use Rattle.krb_context.specs.Rules.{no_rules}
 use Rattle.krb_as.specs.Askers.{default_salt}
 use Rattle.krb_as.specs.Replied.{LeavesFirst}
 use Rattle.krb_tgs.specs.Chain.{IsChain}
@@ -67,7 +67,7 @@ pub record LeadTo (credentials : CredentialsBuffers) (replies : List (List ℕ))
   pub are_referrals : list_all is_referral referrals ≡ true
   pub is_service : is_referral last ≡ false
   pub suite : CipherSuite
-  pub chain : IsChain no_options credentials salt as_rep (referrals ++ last ∷ []) (record { suite = suite; key = key })
+  pub chain : IsChain no_rules credentials salt as_rep (referrals ++ last ∷ []) (record { suite = suite; key = key })
 
 -- who has this identity has credentials, and from them replies that these events brought lead to the key
 pub record HasOrigin (identity : Option CredentialsBuffers) (id : ℕ) (events : List Event) (key : List ℕ) : Type 0 where
@@ -80,7 +80,7 @@ pub record HasOrigin (identity : Option CredentialsBuffers) (id : ℕ) (events :
 -- an initiator without a session key that awaits no KDC, and is allowed nothing beyond the rules
 pub record IsKeyless (connection : Connection) : Type 0 where
   pub role : connection.context.server ≡ None
-  pub none_set : connection.context.interoperability ≡ no_options
+  pub none_set : connection.context.rules ≡ no_rules
   pub key : connection.context.encryption_params.session_key ≡ None
   pub free : connection.exchange ≡ None
 

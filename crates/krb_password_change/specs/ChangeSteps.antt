@@ -72,6 +72,7 @@ change_of changer leg = record {
   encryption_params = record changer.params { encryption_type = Some leg.suite };
   seq_number = next_number changer.number;
   krb5_user_to_user = changer.user_to_user;
+  asked_at = changer.asked_at;
   ticket_decryption_key = None;
 }
 

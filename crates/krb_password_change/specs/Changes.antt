@@ -26,6 +26,7 @@ changer_of context credentials password env client = record {
   params = context.encryption_params;
   number = context.seq_number;
   user_to_user = context.krb5_user_to_user;
+  asked_at = context.asked_at;
 }
 
 -- the client of the account, on the context's machine

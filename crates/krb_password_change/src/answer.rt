@@ -93,6 +93,7 @@ fn change_of(
         encryption_params,
         seq_number: number_after(changer.number),
         krb5_user_to_user: changer.user_to_user,
+        asked_at: changer.asked_at,
         ticket_decryption_key: None,
     })
 }

@@ -35,6 +35,8 @@ pub struct Changer {
     /// The context's own number.
     pub number: u32,
     pub user_to_user: bool,
+    /// The moment of the authenticator that the context showed last, in microseconds since 1970.
+    pub asked_at: Option<u64>,
 }
 
 /// The user with the old password.
@@ -89,6 +91,7 @@ fn changer_of(
         params,
         number: context.seq_number,
         user_to_user: context.krb5_user_to_user,
+        asked_at: context.asked_at,
     })
 }
 

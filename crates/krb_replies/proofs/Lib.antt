@@ -4,3 +4,4 @@ pub mod Tickets
 pub mod FirstParts
 pub mod Suites
 pub mod Once
+pub mod Numbers

@@ -1,15 +1,15 @@
 -- What is sealed to a key is found in one way.
 use Rattle.std.proofs.Common.{◌≡◌, ℕ, Bool, true, false, List, ap}
 use Rattle.std.specs.Prelude.{◌&&◌}
-use Rattle.krb_messages.specs.declared.encryption.EncryptionKey.{EncryptionKey}
 use Rattle.krb_der.specs.Layout.{Layout}
 use Rattle.krb_crypto.proofs.SealedLemmas.{sealed_once}
 use Rattle.krb_crypto.specs.declared.suite.CipherSuite.{CipherSuite}
-use Rattle.krb_context.specs.declared.interoperability.Interoperability.{Interoperability}
-use Rattle.krb_context.specs.Interoperability.{allows, as_rep_tagged_26, suite_of_each_key}
+use Rattle.krb_context.specs.declared.rules.Rules.{Rules}
+use Rattle.krb_context.specs.Rules.{has_rule, as_rep_tagged_26, suite_of_each_key}
 use Rattle.krb_exchange.specs.declared.kdc_rep.AsRep.{AsRep}
 use Rattle.krb_exchange.specs.declared.kdc_rep.TgsRep.{TgsRep}
 use Rattle.krb_exchange.specs.declared.enc_kdc_rep_part.EncAsRepPart.{EncAsRepPart}
+use Rattle.krb_exchange.specs.declared.enc_kdc_rep_part.EncKdcRepPart.{EncKdcRepPart}
 use Rattle.krb_exchange.specs.declared.enc_kdc_rep_part.EncTgsRepPart.{EncTgsRepPart}
 use Rattle.krb_exchange.specs.Layouts.{enc_as_rep_part_layout, enc_tgs_rep_part_layout}
 use Rattle.krb_exchange.proofs.Spelled.{same_record}
@@ -38,26 +38,26 @@ same_first false plain x y s t = same_record enc_as_rep_part_layout x y plain s 
 same_first true plain x y s t =
     ap (λ (part : EncTgsRepPart). first_of part) (same_record enc_tgs_rep_part_layout (record { 0 = x.0 }) (record { 0 = y.0 }) plain s t)
 
-pub opens_first_once : (options : Interoperability) (suite : CipherSuite) (key text : List ℕ) → Once (OpensFirst options suite key text)
+pub opens_first_once : (rules : Rules) (suite : CipherSuite) (key text : List ℕ) → Once (OpensFirst rules suite key text)
 unfolding OpensFirst
-opens_first_once options suite key text =
-    then_once _ _ (unseals_once _ suite key 3 text) (λ plain. finds_once _ _ (same_first (allows options as_rep_tagged_26 && is_tagged_26 plain) plain))
+opens_first_once rules suite key text =
+    then_once _ _ (unseals_once _ suite key 3 text) (λ plain. finds_once _ _ (same_first (has_rule rules as_rep_tagged_26 && is_tagged_26 plain) plain))
 
 -- so is the key that it brings, and its suite
 has_suite_once : (is_own : Bool) (suite : CipherSuite) (key_type : List ℕ) → Once (λ r. HasSuite is_own suite key_type r)
 has_suite_once false suite key_type = record { same = λ r s h k. (gives_once suite).same r s h k }
 has_suite_once true suite key_type = record { same = λ r s h k. (takes_once _ _).same r s h k }
 
-takes_key_once : (options : Interoperability) (suite : CipherSuite) (key : EncryptionKey) → Once (TakesKey options suite key)
+takes_key_once : (rules : Rules) (suite : CipherSuite) (part : EncKdcRepPart) → Once (TakesKey rules suite part)
 unfolding TakesKey
-takes_key_once options suite key = then_once _ _ (has_suite_once (allows options suite_of_each_key) suite key.key_type) (λ own. gives_once _)
+takes_key_once rules suite part = then_once _ _ (has_suite_once (has_rule rules suite_of_each_key) suite part.key.key_type) (λ own. gives_once _)
 
-pub brings_first_once : (options : Interoperability) (suite : CipherSuite) (key : List ℕ) (as_rep : AsRep) → Once (BringsFirst options suite key as_rep)
+pub brings_first_once : (rules : Rules) (suite : CipherSuite) (key : List ℕ) (as_rep : AsRep) → Once (BringsFirst rules suite key as_rep)
 unfolding BringsFirst
-brings_first_once options suite key as_rep =
-    then_once _ _ (opens_first_once options suite key as_rep.0.enc_part.cipher) (λ part. takes_key_once options suite part.0.key)
+brings_first_once rules suite key as_rep =
+    then_once _ _ (opens_first_once rules suite key as_rep.0.enc_part.cipher) (λ part. takes_key_once rules suite part.0)
 
-pub brings_next_once : (options : Interoperability) (suite : CipherSuite) (key : List ℕ) (tgs_rep : TgsRep) → Once (BringsNext options suite key tgs_rep)
+pub brings_next_once : (rules : Rules) (suite : CipherSuite) (key : List ℕ) (tgs_rep : TgsRep) → Once (BringsNext rules suite key tgs_rep)
 unfolding BringsNext
-brings_next_once options suite key tgs_rep =
-    then_once _ _ (opens_once enc_tgs_rep_part_layout _ suite key 8 tgs_rep.0.enc_part.cipher) (λ part. takes_key_once options suite part.0.key)
+brings_next_once rules suite key tgs_rep =
+    then_once _ _ (opens_once enc_tgs_rep_part_layout _ suite key 8 tgs_rep.0.enc_part.cipher) (λ part. takes_key_once rules suite part.0)

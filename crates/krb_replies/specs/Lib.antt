@@ -3,6 +3,7 @@ pub mod Unseals
 pub mod Hints
 pub mod Salts
 pub mod Keys
+pub mod Fresh
 pub mod Answered
 pub mod Tickets
 pub mod Realms

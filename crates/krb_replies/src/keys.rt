@@ -4,29 +4,30 @@ ghost use Rattle.std.specs.Prelude.{◌≡◌, ◌&&◌, true};
 ghost use Rattle.sspi_core.specs.declared.cause.Cause.TheVariants as causes;
 ghost use Rattle.sspi_core.specs.Checks.{Answers, Finds};
 ghost use Rattle.krb_crypto.specs.Password.{password_key};
-ghost use Rattle.krb_context.specs.Interoperability.{allows, as_rep_tagged_26, suite_of_each_key};
+ghost use Rattle.krb_context.specs.Rules.{has_rule, as_rep_tagged_26, suite_of_each_key};
 ghost use Rattle.krb_context.specs.Params.{suite_of};
 ghost use Rattle.krb_replies.specs.Told.{Tells};
-ghost use Rattle.krb_replies.specs.Keys.{is_tagged_26, IsFirstPart, OpensFirst, HasSuite, TakesKey, BringsFirst, BringsNext, BringsKey, HandsOnKey};
+ghost use Rattle.krb_replies.specs.Keys.{is_tagged_26, IsFirstPart, OpensFirst, HasSuite, key_in, TakesKey, BringsFirst, BringsNext, BringsKey, HandsOnKey};
 
+use crate::facts::ReplyFacts;
 use crate::told::tell;
 use crate::unseal::{OWN_KEY, SESSION_KEY, open, read_inner, suite_of, unseal};
-use krb_context::{EncryptionParams, Interoperability};
+use krb_context::{EncryptionParams, Rules};
 use krb_crypto::{CipherSuite, generate_key_from_password};
 use krb_der::{IntegerAsn1, Octets};
-use krb_exchange::{AsRep, EncAsRepPart, EncTgsRepPart, TgsRep};
-use krb_messages::EncryptionKey;
+use krb_exchange::{AsRep, EncAsRepPart, EncKdcRepPart, EncTgsRepPart, TgsRep};
 use krb_messages::constants::{AS_REP_USAGE, TGS_REP_USAGE};
 use sspi_core::{Cause, Error, Secret, take};
 use std::alloc::Global;
 
-/// The key that a reply of a KDC brings.
+/// The key that a reply of a KDC brings, and what is sealed in the reply beside it.
 #[derive(Drop)]
 pub struct ReplyKey {
     /// The suite of the key.
     pub suite: CipherSuite,
     /// The session key of the ticket.
     pub key: Secret<Octets>,
+    pub facts: ReplyFacts,
 }
 
 /// The application tag of an EncTGSRepPart, 26 (RFC 4120, section 5.4.2).
@@ -42,10 +43,10 @@ fn is_tagged_26(plain: &Octets) -> bool
 }
 
 /// Whether a plain text is read by the tag of an EncTGSRepPart.
-fn is_allowed_tag(options: Interoperability, plain: &Octets) -> bool
-    ensures { result ≡ (allows options as_rep_tagged_26 && is_tagged_26 plain.now) }
+fn is_allowed_tag(rules: Rules, plain: &Octets) -> bool
+    ensures { result ≡ (has_rule rules as_rep_tagged_26 && is_tagged_26 plain.now) }
 {
-    options.allows(Interoperability::AS_REP_TAGGED_26) && is_tagged_26(plain)
+    rules.has(Rules::AS_REP_TAGGED_26) && is_tagged_26(plain)
 }
 
 /// The fields of an EncTGSRepPart as those of an EncASRepPart.
@@ -70,27 +71,27 @@ fn read_first(alloc: Global, is_tagged: bool, plain: &Octets) -> Result<EncAsRep
 /// What an AS-REP seals, by its tag.
 fn first_part(
     alloc: Global,
-    options: Interoperability,
+    rules: Rules,
     plain: &Octets,
 ) -> Result<EncAsRepPart, Cause>
-    ensures { let is_tagged = allows options as_rep_tagged_26 && is_tagged_26 plain.now in
+    ensures { let is_tagged = has_rule rules as_rep_tagged_26 && is_tagged_26 plain.now in
         Answers (Finds causes.Inner (IsFirstPart is_tagged plain.now)) result }
 {
-    let is_tagged = is_allowed_tag(options, plain);
+    let is_tagged = is_allowed_tag(rules, plain);
     read_first(alloc, is_tagged, plain)
 }
 
 fn open_first(
     alloc: Global,
-    options: Interoperability,
+    rules: Rules,
     suite: CipherSuite,
     key: &[u8],
     text: &[u8],
 ) -> Result<EncAsRepPart, Cause>
-    ensures { Answers (OpensFirst options suite key.now text.now) result }
+    ensures { Answers (OpensFirst rules suite key.now text.now) result }
 {
     let plain = unseal(alloc, OWN_KEY, suite, key, AS_REP_USAGE, text)?;
-    first_part(alloc, options, &plain)
+    first_part(alloc, rules, &plain)
 }
 
 fn suite_by(is_own: bool, suite: CipherSuite, key_type: &IntegerAsn1) -> Result<CipherSuite, Cause>
@@ -105,62 +106,76 @@ fn suite_by(is_own: bool, suite: CipherSuite, key_type: &IntegerAsn1) -> Result<
 
 /// The suite of a key: the one that is handed in, or, where each key goes by its own, the one that its type names.
 fn suite_of_key(
-    options: Interoperability,
+    rules: Rules,
     suite: CipherSuite,
     key_type: &IntegerAsn1,
 ) -> Result<CipherSuite, Cause>
-    ensures { HasSuite (allows options suite_of_each_key) suite key_type.now result }
+    ensures { HasSuite (has_rule rules suite_of_each_key) suite key_type.now result }
 {
-    let is_own = options.allows(Interoperability::SUITE_OF_EACH_KEY);
+    let is_own = rules.has(Rules::SUITE_OF_EACH_KEY);
     suite_by(is_own, suite, key_type)
 }
 
-/// The key in its suite.
-fn taken_key(
-    options: Interoperability,
-    suite: CipherSuite,
-    key: EncryptionKey,
-) -> Result<ReplyKey, Cause>
-    ensures { Answers (TakesKey options suite key) result }
+/// The key in this suite, and all else of the part.
+fn key_in(suite: CipherSuite, part: EncKdcRepPart) -> ReplyKey
+    ensures { result ≡ key_in suite part }
 {
-    let own = suite_of_key(options, suite, &key.key_type)?;
-    Ok(ReplyKey {
-        suite: own,
+    let key = part.key;
+    ReplyKey {
+        suite,
         key: Secret::new(key.key_value),
-    })
+        facts: ReplyFacts {
+            nonce: part.nonce,
+            flags: part.flags,
+            authtime: part.authtime,
+            starttime: part.starttime,
+            endtime: part.endtime,
+            renew_till: part.renew_till,
+            srealm: part.srealm,
+            sname: part.sname,
+        },
+    }
+}
+
+/// The key in its suite.
+fn taken_key(rules: Rules, suite: CipherSuite, part: EncKdcRepPart) -> Result<ReplyKey, Cause>
+    ensures { Answers (TakesKey rules suite part) result }
+{
+    let own = suite_of_key(rules, suite, &part.key.key_type)?;
+    Ok(key_in(own, part))
 }
 
 /// The key that an AS-REP brings, as a chain of checks. What it seals may have application tag 26 where that is allowed, and the key goes
 /// by its own suite where that is.
 pub fn key_in_as_rep(
     alloc: Global,
-    options: Interoperability,
+    rules: Rules,
     suite: CipherSuite,
     key: &[u8],
     as_rep: &AsRep,
 ) -> Result<ReplyKey, Cause>
-    ensures { Answers (BringsFirst options suite key.now as_rep.now) result }
+    ensures { Answers (BringsFirst rules suite key.now as_rep.now) result }
 {
     let text = as_rep.0.enc_part.cipher.as_slice();
-    let part = open_first(alloc, options, suite, key, text)?;
+    let part = open_first(alloc, rules, suite, key, text)?;
     let EncAsRepPart(part) = part;
-    taken_key(options, suite, part.key)
+    taken_key(rules, suite, part)
 }
 
 /// The key that a TGS-REP brings, in the same way.
 pub fn key_in_tgs_rep(
     alloc: Global,
-    options: Interoperability,
+    rules: Rules,
     suite: CipherSuite,
     key: &[u8],
     tgs_rep: &TgsRep,
 ) -> Result<ReplyKey, Cause>
-    ensures { Answers (BringsNext options suite key.now tgs_rep.now) result }
+    ensures { Answers (BringsNext rules suite key.now tgs_rep.now) result }
 {
     let text = tgs_rep.0.enc_part.cipher.as_slice();
     let part = open::<EncTgsRepPart>(alloc, SESSION_KEY, suite, key, TGS_REP_USAGE, text)?;
     let EncTgsRepPart(part) = part;
-    taken_key(options, suite, part.key)
+    taken_key(rules, suite, part)
 }
 
 /// The octets of the key that an AS-REP brings, where nothing is allowed beyond the rules.
@@ -172,8 +187,8 @@ fn session_key_in_as_rep(
 ) -> Result<Secret<Octets>, Cause>
     ensures { Answers (BringsKey suite key.now as_rep.now) result }
 {
-    let options = Interoperability::none();
-    let brought = key_in_as_rep(alloc, options, suite, key, as_rep)?;
+    let rules = Rules::none();
+    let brought = key_in_as_rep(alloc, rules, suite, key, as_rep)?;
     Ok(brought.key)
 }
 
@@ -186,8 +201,8 @@ fn session_key_in_tgs_rep(
 ) -> Result<Secret<Octets>, Cause>
     ensures { Answers (HandsOnKey suite key.now tgs_rep.now) result }
 {
-    let options = Interoperability::none();
-    let brought = key_in_tgs_rep(alloc, options, suite, key, tgs_rep)?;
+    let rules = Rules::none();
+    let brought = key_in_tgs_rep(alloc, rules, suite, key, tgs_rep)?;
     Ok(brought.key)
 }
 

@@ -3,10 +3,11 @@
 //! Each call is a chain of ordered checks in `specs/`, one function a check: `Keys` for the keys in the replies of a KDC
 //! (RFC 4120, sections 3.1.5 and 3.3.4), `Salts` for the salts that it tells (section 5.2.7.5), `Answered` for what a service
 //! answers (section 5.5.2; RFC 3244, section 2), `Tickets` for the ticket of user-to-user, `Realms` for referrals (RFC 6806,
-//! section 8). What is sealed is told by 'is sealed' alone: nothing in `specs/` decrypts.
+//! section 8), `Fresh` for what ties a reply to its request (RFC 4120, sections 3.1.5 and 3.3.4). What is sealed is told by 'is sealed' alone: nothing in `specs/` decrypts.
 #![tactic(auto)]
 
 mod answered;
+mod facts;
 mod hints;
 mod keys;
 pub mod laws;
@@ -21,6 +22,7 @@ pub use answered::{
     extract_seq_number_from_ap_rep, extract_status_code_from_krb_priv_response,
     extract_sub_session_key_from_ap_rep,
 };
+pub use facts::{ReplyFacts, has_value, is_number};
 pub use keys::{
     ReplyKey, extract_session_key_from_as_rep, extract_session_key_from_as_rep_with_key,
     extract_session_key_from_tgs_rep, key_in_as_rep, key_in_tgs_rep,

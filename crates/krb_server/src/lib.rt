@@ -38,7 +38,7 @@ pub use bitflags::Flags;
 pub use krb_as::InitDone;
 pub use krb_conf::{ConfigFile, Env, KerberosConfig};
 pub use krb_context::{
-    AdditionalServiceKeys, ContextChange, EncryptionParams, Interoperability, Kerberos,
+    AdditionalServiceKeys, ContextChange, EncryptionParams, Rules, Kerberos,
     KerberosServerConfig, KerberosState, ProtocolConfig, ServerProperties,
 };
 pub use krb_der::{Bits, IntegerAsn1, Items, Name, Octets, OutOfMemory, Text, Time, TryCopy};

@@ -18,7 +18,7 @@ use crate::fault::Fault;
 use crate::message::{opened_message, part_octets, sealed_message};
 use crate::name::name_text;
 use crate::room::{put, put_both};
-use krb_context::{Interoperability, Kerberos};
+use krb_context::{Rules, Kerberos};
 use krb_der::Octets;
 use sspi_core::{Cause, Error, Part};
 use std::alloc::Global;
@@ -84,11 +84,11 @@ impl Session {
         self.connection.encryption_params.suite().number()
     }
 
-    /// What the context does beyond its own rules from now on: these options, and no others.
-    pub fn allow(&mut self, options: Interoperability)
-        ensures { self.new ≡ record self.old { connection = record self.old.connection { interoperability = options } } }
+    /// What the context does beyond its own rules from now on: these rules, and no others.
+    pub fn set_rules(&mut self, rules: Rules)
+        ensures { self.new ≡ record self.old { connection = record self.old.connection { rules = rules } } }
     {
-        self.connection.interoperability = options;
+        self.connection.rules = rules;
     }
 
     /// Seals a text into a message for the client. The confounder is 16 random octets.

@@ -8,8 +8,8 @@ use Rattle.sspi_core.specs.declared.cause.Cause.{Cause}
 use Rattle.sspi_core.specs.Checks.{Gives}
 use Rattle.sspi_generator.specs.declared.network.NetFault.{NetFault}
 use Rattle.sspi_core.specs.declared.identity.CredentialsBuffers.{CredentialsBuffers}
-use Rattle.krb_context.specs.declared.interoperability.Interoperability.{Interoperability}
-use Rattle.krb_context.specs.Interoperability.{no_options}
+use Rattle.krb_context.specs.declared.rules.Rules.{Rules}
+use Rattle.krb_context.specs.Rules.{no_rules}
 use Rattle.krb_replies.specs.declared.keys.ReplyKey.{ReplyKey}
 use Rattle.krb_replies.specs.Keys.{BringsNext}
 use Rattle.krb_replies.proofs.Suites.{next_keeps}
@@ -21,25 +21,25 @@ use Rattle.krb_as.specs.declared.key.Grant.{Grant}
 use Rattle.krb_tgs.specs.Taken.{TakesTgsRep}
 use Rattle.krb_tgs.specs.Chain.{HandsOn, IsChain}
 
-module _ (options : Interoperability) (reply : TgsRep) (middle last : ReplyKey) (opened : BringsNext options middle.suite middle.key reply (Ok last)) where
-  pub one_more : (shown : ReplyKey) (replies : List TgsRep) → HandsOn options shown replies middle → HandsOn options shown (replies ++ (reply ∷ [])) last
-  one_more shown [] h = (last, subst (λ (k : ReplyKey). BringsNext options k.suite k.key reply (Ok last)) (sym h) opened, refl)
+module _ (rules : Rules) (reply : TgsRep) (middle last : ReplyKey) (opened : BringsNext rules middle.suite middle.key reply (Ok last)) where
+  pub one_more : (shown : ReplyKey) (replies : List TgsRep) → HandsOn rules shown replies middle → HandsOn rules shown (replies ++ (reply ∷ [])) last
+  one_more shown [] h = (last, subst (λ (k : ReplyKey). BringsNext rules k.suite k.key reply (Ok last)) (sym h) opened, refl)
   one_more shown (first ∷ replies) h = (h.0, h.1, one_more h.0 replies h.2)
 
 -- the key of an AS-REP is a chain without TGS-REPs
-pub chain_begins : (options : Interoperability) (credentials : CredentialsBuffers) (used : List ℕ) (as_rep : AsRep) (start : ReplyKey)
-    → TakesReplyKey options credentials used as_rep (Ok start) → IsChain options credentials used as_rep [] start
-chain_begins options credentials used as_rep start h = record { start = start; begins = h; hands_on = refl }
+pub chain_begins : (rules : Rules) (credentials : CredentialsBuffers) (used : List ℕ) (as_rep : AsRep) (start : ReplyKey)
+    → TakesReplyKey rules credentials used as_rep (Ok start) → IsChain rules credentials used as_rep [] start
+chain_begins rules credentials used as_rep start h = record { start = start; begins = h; hands_on = refl }
 
 -- and goes on with each TGS-REP that is opened under its last key
-pub chain_goes_on : (options : Interoperability) (credentials : CredentialsBuffers) (used : List ℕ) (as_rep : AsRep) (replies : List TgsRep) (reply : TgsRep) (middle last : ReplyKey)
-    → IsChain options credentials used as_rep replies middle → BringsNext options middle.suite middle.key reply (Ok last)
-    → IsChain options credentials used as_rep (replies ++ (reply ∷ [])) last
-chain_goes_on options credentials used as_rep replies reply middle last chain opened =
-    record { start = chain.start; begins = chain.begins; hands_on = one_more options reply middle last opened chain.start replies chain.hands_on }
+pub chain_goes_on : (rules : Rules) (credentials : CredentialsBuffers) (used : List ℕ) (as_rep : AsRep) (replies : List TgsRep) (reply : TgsRep) (middle last : ReplyKey)
+    → IsChain rules credentials used as_rep replies middle → BringsNext rules middle.suite middle.key reply (Ok last)
+    → IsChain rules credentials used as_rep (replies ++ (reply ∷ [])) last
+chain_goes_on rules credentials used as_rep replies reply middle last chain opened =
+    record { start = chain.start; begins = chain.begins; hands_on = one_more rules reply middle last opened chain.start replies chain.hands_on }
 
--- without options one suite goes through the whole of it
-pub hands_on_suite : (shown : ReplyKey) (replies : List TgsRep) (last : ReplyKey) → HandsOn no_options shown replies last → last.suite ≡ shown.suite
+-- without rules one suite goes through the whole of it
+pub hands_on_suite : (shown : ReplyKey) (replies : List TgsRep) (last : ReplyKey) → HandsOn no_rules shown replies last → last.suite ≡ shown.suite
 hands_on_suite shown [] last h = ap (λ (k : ReplyKey). k.suite) (sym h)
 hands_on_suite shown (reply ∷ replies) last h = hands_on_suite h.0 replies last h.2 ∙ next_keeps shown.suite shown.key reply h.0 h.1
 
@@ -48,26 +48,26 @@ abbrev pub key_of : Grant → ReplyKey
 key_of shown = record { suite = shown.suite; key = shown.key }
 
 -- what was taken from a TGS-REP: the key that it hands on
-pub record TgsTaken (options : Interoperability) (protocol : NetworkProtocol) (suite : CipherSuite) (key : List ℕ) (reply : Result (List ℕ) NetFault) (shown : Grant) : Type 0 where
+pub record TgsTaken (rules : Rules) (protocol : NetworkProtocol) (suite : CipherSuite) (key : List ℕ) (reply : Result (List ℕ) NetFault) (shown : Grant) : Type 0 where
   pub rep : TgsRep
   pub granted : Grants protocol tgs_rep_layout reply (Ok rep)
-  pub opened : BringsNext options suite key rep (Ok (key_of shown))
+  pub opened : BringsNext rules suite key rep (Ok (key_of shown))
   pub brought : shown.rep ≡ rep.0
 
 tgs_given : (next : ReplyKey) (rep : TgsRep) (shown : Grant) → Gives {E = Cause} (record { suite = next.suite; key = next.key; rep = rep.0 }) (Ok shown)
     → shown ≡ record { suite = next.suite; key = next.key; rep = rep.0 }
 tgs_given next rep shown h = gave _ _ h
 
-pub taken_tgs : (options : Interoperability) (protocol : NetworkProtocol) (suite : CipherSuite) (key : List ℕ) (reply : Result (List ℕ) NetFault) (shown : Grant)
-    → TakesTgsRep options protocol suite key reply (Ok shown) → TgsTaken options protocol suite key reply shown
+pub taken_tgs : (rules : Rules) (protocol : NetworkProtocol) (suite : CipherSuite) (key : List ℕ) (reply : Result (List ℕ) NetFault) (shown : Grant)
+    → TakesTgsRep rules protocol suite key reply (Ok shown) → TgsTaken rules protocol suite key reply shown
 unfolding TakesTgsRep
-taken_tgs options protocol suite key reply shown h =
+taken_tgs rules protocol suite key reply shown h =
     let rep = passed _ _ _ h in
     let next = passed _ _ _ rep.rest_held in
     let is = tgs_given next.found rep.found shown next.rest_held in
     record {
       rep = rep.found;
       granted = rep.first_held;
-      opened = subst (λ (k : ReplyKey). BringsNext options suite key rep.found (Ok k)) (sym (ap (λ (s : Grant). key_of s) is)) next.first_held;
+      opened = subst (λ (k : ReplyKey). BringsNext rules suite key rep.found (Ok k)) (sym (ap (λ (s : Grant). key_of s) is)) next.first_held;
       brought = ap (λ (s : Grant). s.rep) is;
     }

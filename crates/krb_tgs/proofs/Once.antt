@@ -10,7 +10,7 @@ use Rattle.sspi_core.proofs.Once.{Once, then_once, holds_once, gives_once}
 use Rattle.sspi_core.specs.declared.draw.Draw.{Draw}
 use Rattle.sspi_core.specs.declared.protocol.NetworkProtocol.{NetworkProtocol}
 use Rattle.sspi_generator.specs.declared.network.NetFault.{NetFault}
-use Rattle.krb_context.specs.declared.interoperability.Interoperability.{Interoperability}
+use Rattle.krb_context.specs.declared.rules.Rules.{Rules}
 use Rattle.krb_replies.proofs.Once.{brings_next_once}
 use Rattle.krb_as.proofs.Once.{finds_kdc_once, grants_once}
 use Rattle.krb_as.specs.declared.asker.Asker.{Asker}
@@ -34,8 +34,8 @@ tgs_rep_once : HasOneResult tgs_rep_layout
 unfolding tgs_rep krb_error
 tgs_rep_once = one_result_of tgs_rep_layout (λ e. omega (arith, e))
 
-pub takes_tgs_rep_once : (options : Interoperability) (protocol : NetworkProtocol) (suite : CipherSuite) (key : List ℕ) (reply : Result (List ℕ) NetFault)
-    → Once (TakesTgsRep options protocol suite key reply)
+pub takes_tgs_rep_once : (rules : Rules) (protocol : NetworkProtocol) (suite : CipherSuite) (key : List ℕ) (reply : Result (List ℕ) NetFault)
+    → Once (TakesTgsRep rules protocol suite key reply)
 unfolding TakesTgsRep
-takes_tgs_rep_once options protocol suite key reply =
-    then_once _ _ (grants_once protocol tgs_rep_layout reply tgs_rep_once) (λ tgs_rep. then_once _ _ (brings_next_once options suite key tgs_rep) (λ next. gives_once _))
+takes_tgs_rep_once rules protocol suite key reply =
+    then_once _ _ (grants_once protocol tgs_rep_layout reply tgs_rep_once) (λ tgs_rep. then_once _ _ (brings_next_once rules suite key tgs_rep) (λ next. gives_once _))

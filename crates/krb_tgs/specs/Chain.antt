@@ -3,19 +3,19 @@ use Rattle.std.specs.Prelude.{◌≡◌, ℕ, List, [], ◌∷◌, Ok}
 use Rattle.krb_exchange.specs.declared.kdc_rep.AsRep.{AsRep}
 use Rattle.krb_exchange.specs.declared.kdc_rep.TgsRep.{TgsRep}
 use Rattle.sspi_core.specs.declared.identity.CredentialsBuffers.{CredentialsBuffers}
-use Rattle.krb_context.specs.declared.interoperability.Interoperability.{Interoperability}
+use Rattle.krb_context.specs.declared.rules.Rules.{Rules}
 use Rattle.krb_replies.specs.declared.keys.ReplyKey.{ReplyKey}
 use Rattle.krb_replies.specs.Keys.{BringsNext}
 use Rattle.krb_as.specs.ReplyKeys.{TakesReplyKey}
 
 -- these replies, in their order, lead from a key to the last one: each is sealed under the key before it and brings the next
-abbrev pub HandsOn : Interoperability → ReplyKey → List TgsRep → ReplyKey → Type 0
-HandsOn options shown [] last = shown ≡ last
-HandsOn options shown (reply ∷ replies) last = (next : ReplyKey) × BringsNext options shown.suite shown.key reply (Ok next) × HandsOn options next replies last
+abbrev pub HandsOn : Rules → ReplyKey → List TgsRep → ReplyKey → Type 0
+HandsOn rules shown [] last = shown ≡ last
+HandsOn rules shown (reply ∷ replies) last = (next : ReplyKey) × BringsNext rules shown.suite shown.key reply (Ok next) × HandsOn rules next replies last
 
--- a key that began with the credentials: the AS-REP is sealed under theirs, and the TGS-REPs lead from its key to this one. The options
+-- a key that began with the credentials: the AS-REP is sealed under theirs, and the TGS-REPs lead from its key to this one. The rules
 -- are those of the context that asked
-pub record IsChain (options : Interoperability) (credentials : CredentialsBuffers) (used : List ℕ) (as_rep : AsRep) (replies : List TgsRep) (last : ReplyKey) : Type 0 where
+pub record IsChain (rules : Rules) (credentials : CredentialsBuffers) (used : List ℕ) (as_rep : AsRep) (replies : List TgsRep) (last : ReplyKey) : Type 0 where
   pub start : ReplyKey
-  pub begins : TakesReplyKey options credentials used as_rep (Ok start)
-  pub hands_on : HandsOn options start replies last
+  pub begins : TakesReplyKey rules credentials used as_rep (Ok start)
+  pub hands_on : HandsOn rules start replies last

@@ -7,7 +7,7 @@ ghost use Rattle.krb_as.specs.Granted.{IsSendable};
 ghost use Rattle.krb_tgs.specs.Taken.{TakesTgsRep};
 
 use krb_as::{Grant, granted_tgs_rep};
-use krb_context::Interoperability;
+use krb_context::Rules;
 use krb_crypto::CipherSuite;
 use krb_der::Octets;
 use krb_exchange::TgsRep;
@@ -32,14 +32,14 @@ fn shown_by_tgs(next: ReplyKey, tgs_rep: TgsRep) -> Result<Grant, Cause>
 /// The session key that is sealed in a TGS-REP.
 fn next_key(
     alloc: Global,
-    options: Interoperability,
+    rules: Rules,
     suite: CipherSuite,
     key: &Secret<Octets>,
     tgs_rep: &TgsRep,
 ) -> Result<ReplyKey, Cause>
-    ensures { Answers (BringsNext options suite key.now tgs_rep.now) result }
+    ensures { Answers (BringsNext rules suite key.now tgs_rep.now) result }
 {
-    key_in_tgs_rep(alloc, options, suite, key.as_ref().as_slice(), tgs_rep)
+    key_in_tgs_rep(alloc, rules, suite, key.as_ref().as_slice(), tgs_rep)
 }
 
 /// What a TGS-REP brings: its ticket, and the session key that is sealed in it under that of the ticket that was shown.
@@ -49,16 +49,16 @@ fn next_key(
 #[tactic(auto, unfolding(crate::specs::Taken::TakesTgsRep))]
 pub fn take_tgs_rep(
     alloc: Global,
-    options: Interoperability,
+    rules: Rules,
     protocol: NetworkProtocol,
     suite: CipherSuite,
     key: &Secret<Octets>,
     reply: Result<Octets, NetFault>,
 ) -> Result<Grant, Cause>
-    ensures step { Answers (TakesTgsRep options protocol suite key.now reply) result }
+    ensures step { Answers (TakesTgsRep rules protocol suite key.now reply) result }
     ensures sendable { IfOk result (λ shown. IsSendable shown.rep) }
 {
     let tgs_rep = granted_tgs_rep(alloc, protocol, reply)?;
-    let next = next_key(alloc, options, suite, key, &tgs_rep)?;
+    let next = next_key(alloc, rules, suite, key, &tgs_rep)?;
     shown_by_tgs(next, tgs_rep)
 }

@@ -32,6 +32,7 @@ done_of acceptor grant = record {
     encryption_params = record acceptor.params { encryption_type = Some grant.suite };
     seq_number = acceptor.number;
     krb5_user_to_user = true;
+    asked_at = None;
     ticket_decryption_key = Some grant.key;
   };
 }

@@ -107,6 +107,7 @@ fn done_of(alloc: Global, acceptor: &Acceptor, grant: Grant) -> Result<InitDone,
             encryption_params,
             seq_number: acceptor.number,
             krb5_user_to_user: true,
+            asked_at: None,
             ticket_decryption_key: Some(key),
         },
     })

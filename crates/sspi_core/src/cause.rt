@@ -98,6 +98,13 @@ pub enum Cause {
     SameRealm,
     /// The address of the KDC takes no port.
     Port,
+    /// A reply of the KDC does not have the nonce of the request (RFC 4120 sections 3.1.5 and 3.3.4).
+    Nonce,
+    /// A reply of the KDC is for another client or another service than the request (RFC 4120 sections 3.1.5 and 3.3.4).
+    ReplyNames,
+    /// The ticket of a reply is not valid at this moment, or an AP-REP does not have the time of the authenticator (RFC 4120 sections
+    /// 3.1.5, 3.2.5 and 3.3.4).
+    ReplyTime,
     /// The answer to a password change has no result code (RFC 3244 section 2).
     UserData,
     /// The password was not changed, with this result code (RFC 3244 section 2).
@@ -175,10 +182,12 @@ impl Cause {
             | Cause::Direction
             | Cause::ExtraCount
             | Cause::Sealed
+            | Cause::Nonce
+            | Cause::ReplyNames
             | Cause::Bindings => ErrorKind::InvalidToken,
             Cause::Short | Cause::Reply | Cause::Room | Cause::NoKey => ErrorKind::DecryptFailure,
             Cause::Altered => ErrorKind::MessageAltered,
-            Cause::Skew => ErrorKind::TimeSkew,
+            Cause::Skew | Cause::ReplyTime => ErrorKind::TimeSkew,
             Cause::Credentials => ErrorKind::IncompleteCredentials,
             Cause::KeytabUser => ErrorKind::UnsupportedPreAuth,
             Cause::NotAscii | Cause::ReplyShort => ErrorKind::InternalError,
@@ -239,6 +248,9 @@ impl Cause {
             Cause::Hops => "Hops",
             Cause::SameRealm => "SameRealm",
             Cause::Port => "Port",
+            Cause::Nonce => "Nonce",
+            Cause::ReplyNames => "ReplyNames",
+            Cause::ReplyTime => "ReplyTime",
             Cause::UserData => "UserData",
             Cause::ResultCode(_) => "ResultCode",
             Cause::Buffers => "Buffers",

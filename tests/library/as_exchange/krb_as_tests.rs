@@ -21,7 +21,7 @@ use krb_as::{
     AsDone, AsExchange, Asker, Client, FirstService, client_of, first_body, reply_key, short_name,
 };
 use krb_conf::{Env, KerberosConfig};
-use krb_context::{Interoperability, Kerberos};
+use krb_context::{Rules, Kerberos};
 use krb_crypto::CipherSuite;
 use krb_der::{Octets, OutOfMemory, Text, TryCopy, boxed};
 use krb_exchange::KdcReqBody;
@@ -313,7 +313,7 @@ fn asker(alloc: Global, who: &Who) -> Result<Asker, Cause> {
         realm,
         suite: CipherSuite::Aes256CtsHmacSha196,
         credentials,
-        interoperability: Interoperability::none(),
+        rules: Rules::none(),
     })
 }
 

@@ -4,7 +4,7 @@ use crate::rows::is_row;
 use bitflags::Flags;
 use krb_as::{Asker, reply_key};
 use krb_conf::Env;
-use krb_context::Interoperability;
+use krb_context::Rules;
 use krb_crypto::CipherSuite;
 use krb_der::{Asn1, Name, Text, boxed};
 use krb_exchange::{AsRep, TgsRep};
@@ -47,24 +47,24 @@ fn realm(alloc: Global) -> Result<Name, Fail> {
     Ok(Name::new(realm).ok_or("not ASCII")?)
 }
 
-fn asker(alloc: Global, password: &str, options: Interoperability) -> Result<Asker, Fail> {
+fn asker(alloc: Global, password: &str, rules: Rules) -> Result<Asker, Fail> {
     Ok(Asker {
         kdc_url: None,
         env: Env::new(alloc),
         realm: realm(alloc)?,
         suite: CipherSuite::Aes256CtsHmacSha196,
         credentials: alice(alloc, password)?,
-        interoperability: options,
+        rules: rules,
     })
 }
 
-/// What the AS-REP brings alice with these options.
+/// What the AS-REP brings alice with these rules.
 fn brought(
     alloc: Global,
     password: &str,
-    options: Interoperability,
+    rules: Rules,
 ) -> Result<Result<ReplyKey, Cause>, Fail> {
-    let asker = asker(alloc, password, options)?;
+    let asker = asker(alloc, password, rules)?;
     let salt = Text::from_str(alloc, "EXAMPLE.COMalice")?;
     let octets = hex::decode(alloc, TAGGED_26)?;
     let as_rep = boxed(alloc, AsRep::read(alloc, &octets)?)?;
@@ -80,8 +80,8 @@ fn is_refused(answer: Result<ReplyKey, Cause>, wanted: Cause) -> bool {
 
 #[test]
 fn a_part_with_tag_26_is_opened_where_that_is_allowed(rt: HostRuntime) -> Result<(), Fail> {
-    let options = Interoperability::AS_REP_TAGGED_26;
-    match brought(rt.alloc(), "alice-password", options)? {
+    let rules = Rules::AS_REP_TAGGED_26;
+    match brought(rt.alloc(), "alice-password", rules)? {
         Ok(made) => {
             assert!(rt; is_row(made.key.as_ref().as_slice(), ITS_KEY));
             Ok(())
@@ -93,8 +93,8 @@ fn a_part_with_tag_26_is_opened_where_that_is_allowed(rt: HostRuntime) -> Result
 #[test]
 fn a_part_with_tag_26_is_refused_else(rt: HostRuntime) -> Result<(), Fail> {
     let alloc = rt.alloc();
-    let none = Interoperability::none();
-    let others = Interoperability::from_bits_retain(0x1fe);
+    let none = Rules::none();
+    let others = Rules::from_bits_retain(0x1fe);
     assert!(rt; is_refused(brought(alloc, "alice-password", none)?, Cause::Inner));
     assert!(rt; is_refused(brought(alloc, "alice-password", others)?, Cause::Inner));
     Ok(())
@@ -102,8 +102,8 @@ fn a_part_with_tag_26_is_refused_else(rt: HostRuntime) -> Result<(), Fail> {
 
 #[test]
 fn another_password_opens_no_part_with_tag_26(rt: HostRuntime) -> Result<(), Fail> {
-    let options = Interoperability::AS_REP_TAGGED_26;
-    assert!(rt; is_refused(brought(rt.alloc(), "alice", options)?, Cause::Altered));
+    let rules = Rules::AS_REP_TAGGED_26;
+    assert!(rt; is_refused(brought(rt.alloc(), "alice", rules)?, Cause::Altered));
     Ok(())
 }
 
@@ -129,13 +129,13 @@ const KEY_BEFORE: &str = "341f6ee3056fc044814f94df901bc04b985da5dffbb05cb12ac668
 /// The session key that is sealed in it, of type 17, as that implementation opens it.
 const KEY_BEHIND: &str = "88996aff6a987206049e905fe3de1c49";
 
-/// The key that the TGS-REP brings alice with these options.
-fn handed_on(alloc: Global, options: Interoperability) -> Result<Result<ReplyKey, Cause>, Fail> {
+/// The key that the TGS-REP brings alice with these rules.
+fn handed_on(alloc: Global, rules: Rules) -> Result<Result<ReplyKey, Cause>, Fail> {
     let before = hex::decode(alloc, KEY_BEFORE)?;
     let octets = hex::decode(alloc, OF_ANOTHER_SUITE)?;
     let tgs_rep = boxed(alloc, TgsRep::read(alloc, &octets)?)?;
     let suite = CipherSuite::Aes256CtsHmacSha196;
-    Ok(key_in_tgs_rep(alloc, options, suite, &before, &tgs_rep))
+    Ok(key_in_tgs_rep(alloc, rules, suite, &before, &tgs_rep))
 }
 
 fn is_key(answer: Result<ReplyKey, Cause>, suite: CipherSuite) -> bool {
@@ -148,8 +148,8 @@ fn is_key(answer: Result<ReplyKey, Cause>, suite: CipherSuite) -> bool {
 #[test]
 fn a_key_goes_by_its_own_suite_where_that_is_allowed(rt: HostRuntime) -> Result<(), Fail> {
     let alloc = rt.alloc();
-    let allowed = handed_on(alloc, Interoperability::SUITE_OF_EACH_KEY)?;
-    let kept = handed_on(alloc, Interoperability::none())?;
+    let allowed = handed_on(alloc, Rules::SUITE_OF_EACH_KEY)?;
+    let kept = handed_on(alloc, Rules::none())?;
     assert!(rt; is_key(allowed, CipherSuite::Aes128CtsHmacSha196));
     assert!(rt; is_key(kept, CipherSuite::Aes256CtsHmacSha196));
     Ok(())

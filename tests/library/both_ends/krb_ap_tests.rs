@@ -3,7 +3,7 @@
 use crate::krb_ends_tests::tokens::is_hex;
 use krb_ap::{Initiator, take_ap_rep};
 use krb_as::InitDone;
-use krb_context::{EncryptionParams, Interoperability};
+use krb_context::{EncryptionParams, Rules};
 use krb_crypto::CipherSuite;
 use krb_der::{Octets, boxed};
 use sspi_core::{Cause, ClientRequestFlags, Draw, Secret};
@@ -26,7 +26,7 @@ fn secret(alloc: Global, digits: &str) -> Result<Option<Secret<Octets>>, Fail> {
 }
 
 /// An initiator that showed the ticket, with the number 16909060 of its own.
-fn initiator(alloc: Global, options: Interoperability, kept: bool) -> Result<Initiator, Fail> {
+fn initiator(alloc: Global, rules: Rules, kept: bool) -> Result<Initiator, Fail> {
     let mut params = EncryptionParams::of_suite(CipherSuite::Aes256CtsHmacSha196);
     params.session_key = secret(alloc, SESSION_KEY)?;
     if kept {
@@ -38,17 +38,17 @@ fn initiator(alloc: Global, options: Interoperability, kept: bool) -> Result<Ini
         realm: None,
         user_to_user: false,
         flags: ClientRequestFlags::MUTUAL_AUTH,
-        interoperability: options,
+        rules: rules,
     })
 }
 
 /// What it makes of the answer.
 fn taken(
     alloc: Global,
-    options: Interoperability,
+    rules: Rules,
     kept: bool,
 ) -> Result<Result<InitDone, Cause>, Fail> {
-    let initiator = boxed(alloc, initiator(alloc, options, kept)?)?;
+    let initiator = boxed(alloc, initiator(alloc, rules, kept)?)?;
     let token = hex::decode(alloc, ANSWER)?;
     let draw = Draw {
         moment: 1_795_798_317_719_310,
@@ -83,8 +83,8 @@ fn is_established(alloc: Global, answer: &Result<InitDone, Cause>, number: u32) 
 #[test]
 fn an_answer_without_a_subkey_leaves_the_own_one(rt: HostRuntime) -> Result<(), Fail> {
     let alloc = rt.alloc();
-    let alone = Interoperability::AP_REP_WITHOUT_SUBKEY;
-    let with_number = alone | Interoperability::FIRST_NUMBER_AS_SHOWN;
+    let alone = Rules::AP_REP_WITHOUT_SUBKEY;
+    let with_number = alone | Rules::FIRST_NUMBER_AS_SHOWN;
     assert!(rt; is_established(alloc, &taken(alloc, alone, true)?, 16_909_061));
     assert!(rt; is_established(alloc, &taken(alloc, with_number, true)?, 16_909_060));
     Ok(())
@@ -93,8 +93,8 @@ fn an_answer_without_a_subkey_leaves_the_own_one(rt: HostRuntime) -> Result<(), 
 #[test]
 fn an_answer_without_a_subkey_is_refused_else(rt: HostRuntime) -> Result<(), Fail> {
     let alloc = rt.alloc();
-    let allowed = Interoperability::AP_REP_WITHOUT_SUBKEY;
-    assert!(rt; is_refused(taken(alloc, Interoperability::none(), true)?));
+    let allowed = Rules::AP_REP_WITHOUT_SUBKEY;
+    assert!(rt; is_refused(taken(alloc, Rules::none(), true)?));
     assert!(rt; is_refused(taken(alloc, allowed, false)?));
     Ok(())
 }

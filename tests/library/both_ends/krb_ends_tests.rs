@@ -7,7 +7,7 @@ pub mod sessions;
 mod talk;
 pub mod tokens;
 
-use krb_context::{Interoperability, Kerberos};
+use krb_context::{Rules, Kerberos};
 use krb_crypto::CipherSuite;
 use krb_der::Octets;
 use krb_replay::ReplayBook;
@@ -239,17 +239,17 @@ fn no_error_comes_where_that_is_allowed(rt: HostRuntime) -> Result<(), Fail> {
     let alloc = rt.alloc();
     let session = without_an_error();
     let mut initiator = initiator_of(alloc, &session)?;
-    initiator.interoperability = Interoperability::NO_PREAUTHENTICATION;
+    initiator.rules = Rules::NO_PREAUTHENTICATION;
     assert!(rt; holds_at(alloc, &session, Trial::Talks(&IN_ORDER), &mut initiator)?);
     Ok(())
 }
 
-/// Whether both ends are established by one token, and then understand each other, where the initiator has these options.
-fn talks_one_way(alloc: Global, options: Interoperability) -> Result<bool, Fail> {
+/// Whether both ends are established by one token, and then understand each other, where the initiator has these rules.
+fn talks_one_way(alloc: Global, rules: Rules) -> Result<bool, Fail> {
     let mut initiator = initiator_of(alloc, &FRAMED)?;
     let mut acceptor = acceptor_of(alloc, &FRAMED)?;
     let mut book = ReplayBook::new(alloc, 300)?;
-    initiator.interoperability = options;
+    initiator.rules = rules;
     let tokens = establishes_one_way(alloc, &FRAMED, &mut initiator, &mut acceptor, &mut book)?;
     Ok(tokens && understand(alloc, &mut initiator, &mut acceptor, &IN_ORDER)?)
 }
@@ -258,8 +258,8 @@ fn talks_one_way(alloc: Global, options: Interoperability) -> Result<bool, Fail>
 #[test]
 fn no_answer_is_awaited_where_that_is_allowed(rt: HostRuntime) -> Result<(), Fail> {
     let alloc = rt.alloc();
-    let alone = Interoperability::ONE_WAY_IS_SETTLED;
-    let more = Interoperability::FIRST_NUMBER_AS_SHOWN | Interoperability::SUBKEY_FLAG_BY_ORIGIN;
+    let alone = Rules::ONE_WAY_IS_SETTLED;
+    let more = Rules::FIRST_NUMBER_AS_SHOWN | Rules::SUBKEY_FLAG_BY_ORIGIN;
     assert!(rt; talks_one_way(alloc, alone)?);
     assert!(rt; talks_one_way(alloc, alone | more)?);
     assert!(rt; !talks_one_way(alloc, more)?);

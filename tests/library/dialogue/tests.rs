@@ -1,7 +1,7 @@
 //! What dialogues are asked, answer and hand out.
 
 use crate::conversation::{draw_at, first_wrong, of_alice, tell_alice, with_host};
-use krb_dialogue::{Cause, Dialogue, Error, Fault, Interoperability, MAX_MOMENT, Next};
+use krb_dialogue::{Cause, Dialogue, Error, Fault, Rules, MAX_MOMENT, Next};
 use std::alloc::Global;
 use std::test::Fail;
 
@@ -161,7 +161,7 @@ fn a_file_may_name_the_kdc(rt: HostRuntime) -> Result<(), Fail> {
 /// The first line that does not hold where a first reply that is an AS-REP is allowed while one is awaited.
 fn wrong_where_allowed(alloc: Global, dialogue: &mut Dialogue) -> Result<&'static str, Fail> {
     let _asks = dialogue.start(alloc, &draw_at(0))?;
-    dialogue.allow(Interoperability::NO_PREAUTHENTICATION);
+    dialogue.set_rules(Rules::NO_PREAUTHENTICATION);
     first_wrong(alloc, dialogue, ALLOWED_LATE)
 }
 

@@ -4,7 +4,7 @@ use crate::octets::octets;
 use crate::script::Script;
 use bitflags::Flags;
 use krb_conf::{Env, KerberosConfig};
-use krb_context::{Interoperability, Kerberos};
+use krb_context::{Rules, Kerberos};
 use krb_der::{Items, Name, Octets, OutOfMemory, Text, boxed};
 use sspi_core::{AuthIdentityBuffers, CredentialsBuffers, KeytabIdentity, Secret, Username};
 use std::alloc::Global;
@@ -41,9 +41,9 @@ impl Initiator {
     }
 
     /// What its context allows.
-    fn allowed(&self) -> Interoperability {
+    fn allowed(&self) -> Rules {
         let bits: u32 = self.allows.unwrap_or("").parse().unwrap_or(0);
-        Interoperability::from_bits_retain(bits)
+        Rules::from_bits_retain(bits)
     }
 
     /// The context before its exchange.
@@ -52,7 +52,7 @@ impl Initiator {
         let number: u32 = words.next().unwrap_or("").parse().unwrap_or(0);
         let config = config(alloc, self.kdc, words.next().unwrap_or(""))?;
         let mut client = Kerberos::new_client_from_config(config, number.to_be_bytes());
-        client.interoperability = self.allowed();
+        client.rules = self.allowed();
         boxed(alloc, client)
     }
 

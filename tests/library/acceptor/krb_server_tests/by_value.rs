@@ -1,7 +1,7 @@
 //! The last word of DCE style at an acceptor that compares its number by value, as other implementations spell it.
 
 use super::{answer, context_of};
-use krb_context::{Interoperability, Kerberos, KerberosState};
+use krb_context::{Rules, Kerberos, KerberosState};
 use krb_der::Octets;
 use sspi_core::{Cause, Secret, ServerRequestFlags};
 use std::alloc::Global;
@@ -46,11 +46,11 @@ fn words() -> &'static [Word] {
 }
 
 /// Lets an acceptor wait for the last word.
-fn wait(server: &mut Kerberos, key: Octets, options: Option<Interoperability>) {
+fn wait(server: &mut Kerberos, key: Octets, rules: Option<Rules>) {
     server.state = KerberosState::ApExchange;
     server.encryption_params.session_key = Some(Secret::new(key));
-    if let Some(options) = options {
-        server.interoperability = options;
+    if let Some(rules) = rules {
+        server.rules = rules;
     }
 }
 
@@ -59,12 +59,12 @@ fn refusal(
     alloc: Global,
     word: &Word,
     number: u32,
-    options: Option<Interoperability>,
+    rules: Option<Rules>,
 ) -> Result<Option<Cause>, Fail> {
     let key = Octets::new(hex::decode(alloc, word.key)?);
     let token = hex::decode(alloc, word.token)?;
     let mut server = context_of(alloc, number)?;
-    wait(&mut server, key, options);
+    wait(&mut server, key, rules);
     let answer = answer(
         alloc,
         &mut server,
@@ -76,7 +76,7 @@ fn refusal(
 
 #[test]
 fn a_last_word_is_taken_in_any_spelling(rt: HostRuntime) -> Result<(), Fail> {
-    let by_value = Some(Interoperability::THIRD_LEG_BY_VALUE);
+    let by_value = Some(Rules::THIRD_LEG_BY_VALUE);
     for word in words() {
         assert!(rt; refusal(rt.alloc(), word, word.number, by_value)?.is_none());
     }
@@ -85,7 +85,7 @@ fn a_last_word_is_taken_in_any_spelling(rt: HostRuntime) -> Result<(), Fail> {
 
 #[test]
 fn a_last_word_has_the_number_by_value_too(rt: HostRuntime) -> Result<(), Fail> {
-    let by_value = Some(Interoperability::THIRD_LEG_BY_VALUE);
+    let by_value = Some(Rules::THIRD_LEG_BY_VALUE);
     for word in words() {
         assert_eq!(rt;
             refusal(rt.alloc(), word, word.number.wrapping_add(1), by_value)?,
@@ -97,7 +97,7 @@ fn a_last_word_has_the_number_by_value_too(rt: HostRuntime) -> Result<(), Fail> 
 
 #[test]
 fn another_spelling_is_refused_else(rt: HostRuntime) -> Result<(), Fail> {
-    let another = Some(Interoperability::EXTRA_COUNT_BY_TOKEN);
+    let another = Some(Rules::EXTRA_COUNT_BY_TOKEN);
     for word in words() {
         assert_eq!(rt;
             refusal(rt.alloc(), word, word.number, None)?,

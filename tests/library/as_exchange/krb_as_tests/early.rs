@@ -2,7 +2,7 @@
 
 use super::exchanges::{ALICE, FIRST, SECOND, alices};
 use super::{Recorded, Turn, draws, exchange_at, is_end, kerberos, key_in, run};
-use krb_context::Interoperability;
+use krb_context::Rules;
 use krb_replies::ReplyKey;
 use sspi_core::Cause;
 use std::alloc::Global;
@@ -15,7 +15,7 @@ fn early_end(alloc: Global) -> Result<ReplyKey, Cause> {
     }];
     let draws = draws(&turns);
     let mut kerberos = kerberos(alloc, &ALICE)?;
-    kerberos.interoperability = Interoperability::NO_PREAUTHENTICATION;
+    kerberos.rules = Rules::NO_PREAUTHENTICATION;
     let exchange = exchange_at(alloc, &kerberos, &ALICE, &draws[0])?;
     let mut network = Recorded {
         alloc,

@@ -1,7 +1,7 @@
 //! Ends of established connections.
 
 use krb_conf::KerberosConfig;
-use krb_context::{Interoperability, Kerberos, KerberosState, ServerProperties};
+use krb_context::{Rules, Kerberos, KerberosState, ServerProperties};
 use krb_crypto::CipherSuite;
 use krb_der::{Octets, Text, boxed};
 use sspi_core::Secret;
@@ -18,7 +18,7 @@ pub struct End {
     pub ec: u16,
     pub number: u32,
     pub acceptor_subkey: bool,
-    pub options: Option<Interoperability>,
+    pub rules: Option<Rules>,
 }
 
 /// An initiator with a key of 32 octets.
@@ -29,7 +29,7 @@ pub const INITIATOR: End = End {
     ec: 0,
     number: 1234,
     acceptor_subkey: false,
-    options: None,
+    rules: None,
 };
 
 /// Its acceptor.
@@ -47,7 +47,7 @@ pub const SHORT_ACCEPTOR: End = End {
     ec: 16,
     number: 0,
     acceptor_subkey: false,
-    options: None,
+    rules: None,
 };
 
 pub fn octets(alloc: Global, text: &str) -> Result<Octets, Fail> {
@@ -86,8 +86,8 @@ fn establish(context: &mut Kerberos, end: &End, key: Octets) {
     context.encryption_params.sub_session_key = Some(Secret::new(key));
     context.encryption_params.ec = end.ec;
     context.encryption_params.acceptor_subkey = end.acceptor_subkey;
-    if let Some(options) = end.options {
-        context.interoperability = options;
+    if let Some(rules) = end.options {
+        context.rules = rules;
     }
 }
 

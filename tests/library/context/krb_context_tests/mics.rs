@@ -2,7 +2,7 @@
 
 use super::cause_of;
 use super::ends::{ACCEPTOR, End, INITIATOR, SHORT_ACCEPTOR, context_of, octets};
-use krb_context::Interoperability;
+use krb_context::Rules;
 use krb_der::Octets;
 use sspi_core::{Cause, Error, ErrorKind};
 use std::alloc::Global;
@@ -19,7 +19,7 @@ struct Mic {
 const JAVA: End = End {
     key: "31b73bcb960c1ae04a4789e9723cfb24d68b6f8f36ba8f6f2fc81c312e4b9309",
     number: 976321985,
-    options: Some(Interoperability::SUBKEY_FLAG_BY_ORIGIN),
+    rules: Some(Rules::SUBKEY_FLAG_BY_ORIGIN),
     ..INITIATOR
 };
 
@@ -68,7 +68,7 @@ static MICS: [Mic; 8] = [
     // By an acceptor where it came in none, and by one where it did.
     Mic {
         end: End {
-            options: Some(Interoperability::SUBKEY_FLAG_BY_ORIGIN),
+            rules: Some(Rules::SUBKEY_FLAG_BY_ORIGIN),
             ..ACCEPTOR
         },
         payload: "payload",
@@ -77,7 +77,7 @@ static MICS: [Mic; 8] = [
     Mic {
         end: End {
             acceptor_subkey: true,
-            options: Some(Interoperability::SUBKEY_FLAG_BY_ORIGIN),
+            rules: Some(Rules::SUBKEY_FLAG_BY_ORIGIN),
             ..ACCEPTOR
         },
         payload: "payload",

@@ -2,7 +2,7 @@
 
 use super::ends::{ACCEPTOR, End};
 use super::rows::Row;
-use krb_context::Interoperability;
+use krb_context::Rules;
 use krb_crypto::CipherSuite;
 use sspi_core::Cause;
 
@@ -18,7 +18,7 @@ const WINDOWS: End = End {
     ec: 16,
     number: 0,
     acceptor_subkey: false,
-    options: None,
+    rules: None,
 };
 
 /// An initiator whose acceptor does not seal.
@@ -29,7 +29,7 @@ const CLEAR_END: End = End {
     ec: 0,
     number: 0,
     acceptor_subkey: false,
-    options: None,
+    rules: None,
 };
 
 /// An acceptor in DCE style of a client of MIT krb5.
@@ -40,12 +40,12 @@ const PADDED: End = End {
     ec: 16,
     number: 0,
     acceptor_subkey: false,
-    options: None,
+    rules: None,
 };
 
 /// It takes the count of each token.
 const COUNTED: End = End {
-    options: Some(Interoperability::EXTRA_COUNT_BY_TOKEN),
+    rules: Some(Rules::EXTRA_COUNT_BY_TOKEN),
     ..PADDED
 };
 
@@ -270,7 +270,7 @@ static UNWRAPS: [Row; 36] = [
     // And at one that allows another thing.
     Row {
         end: End {
-            options: Some(Interoperability::SUBKEY_FLAG_BY_ORIGIN),
+            rules: Some(Rules::SUBKEY_FLAG_BY_ORIGIN),
             ..PADDED
         },
         before: "S:050406ff000f001c0000000034220cb489cf8ebf0e8b24f9006211c194c3fcf840c5807c5c39d4149375c7d845cfc2dbfd552d765d0e184a6b5b0a13c3bed42e4ef2cc393e2071cb7b367036 D::1",
@@ -281,7 +281,7 @@ static UNWRAPS: [Row; 36] = [
     Row {
         end: End {
             ec: 16,
-            options: Some(Interoperability::EXTRA_COUNT_BY_TOKEN),
+            rules: Some(Rules::EXTRA_COUNT_BY_TOKEN),
             ..ACCEPTOR
         },
         before: "T:050406ff0000001c00000000000004d337cfe6113628ffb62e5a44d02e1287dfa571feb04eef2994105a3614f51e1a956250a70b8338d587b858435e D:2df2883e99d74674c5dca867e964c6c0170f",
@@ -291,7 +291,7 @@ static UNWRAPS: [Row; 36] = [
     // A count of 1, as the token says and its sealed copy does not.
     Row {
         end: End {
-            options: Some(Interoperability::EXTRA_COUNT_BY_TOKEN),
+            rules: Some(Rules::EXTRA_COUNT_BY_TOKEN),
             ..ACCEPTOR
         },
         before: "T:050406ff0001001c00000000000004d30f37cfe6113628ffb62e5a44d02e1287dfa571feb04eef2994105a3614f51e1a956250a70b8338d587b85843 D:5e2df2883e99d74674c5dca867e964c6c017",
@@ -301,7 +301,7 @@ static UNWRAPS: [Row; 36] = [
     // A count of 18, as much as the body holds, and one of 19.
     Row {
         end: End {
-            options: Some(Interoperability::EXTRA_COUNT_BY_TOKEN),
+            rules: Some(Rules::EXTRA_COUNT_BY_TOKEN),
             ..ACCEPTOR
         },
         before: "T:050406ff0012001c00000000000004d337cfe6113628ffb62e5a44d02e1287dfa571feb04eef2994105a3614f51e1a956250a70b8338d587b858435e D:2df2883e99d74674c5dca867e964c6c0170f",
@@ -310,7 +310,7 @@ static UNWRAPS: [Row; 36] = [
     },
     Row {
         end: End {
-            options: Some(Interoperability::EXTRA_COUNT_BY_TOKEN),
+            rules: Some(Rules::EXTRA_COUNT_BY_TOKEN),
             ..ACCEPTOR
         },
         before: "T:050406ff0013001c00000000000004d337cfe6113628ffb62e5a44d02e1287dfa571feb04eef2994105a3614f51e1a956250a70b8338d587b858435e D:2df2883e99d74674c5dca867e964c6c0170f",

@@ -2,7 +2,7 @@
 
 use super::ends::{ACCEPTOR, End, INITIATOR, SHORT_ACCEPTOR};
 use super::rows::Row;
-use krb_context::Interoperability;
+use krb_context::Rules;
 use sspi_core::Cause;
 
 pub fn wraps() -> &'static [Row] {
@@ -82,7 +82,7 @@ static WRAPS: [Row; 13] = [
     // By an end whose key did not come in an AP-REP, which says so.
     Row {
         end: End {
-            options: Some(Interoperability::SUBKEY_FLAG_BY_ORIGIN),
+            rules: Some(Rules::SUBKEY_FLAG_BY_ORIGIN),
             ..INITIATOR
         },
         before: "T::60 D:736f6d6520706c61696e206d657373616765",
@@ -93,7 +93,7 @@ static WRAPS: [Row; 13] = [
     Row {
         end: End {
             number: 7,
-            options: Some(Interoperability::SUBKEY_FLAG_BY_ORIGIN),
+            rules: Some(Rules::SUBKEY_FLAG_BY_ORIGIN),
             ..ACCEPTOR
         },
         before: "T::60 D:736f6d6520706c61696e206d657373616765",
@@ -104,7 +104,7 @@ static WRAPS: [Row; 13] = [
     Row {
         end: End {
             acceptor_subkey: true,
-            options: Some(Interoperability::SUBKEY_FLAG_BY_ORIGIN),
+            rules: Some(Rules::SUBKEY_FLAG_BY_ORIGIN),
             ..INITIATOR
         },
         before: "T::60 D:736f6d6520706c61696e206d657373616765",
@@ -115,7 +115,7 @@ static WRAPS: [Row; 13] = [
         end: End {
             number: 7,
             acceptor_subkey: true,
-            options: Some(Interoperability::SUBKEY_FLAG_BY_ORIGIN),
+            rules: Some(Rules::SUBKEY_FLAG_BY_ORIGIN),
             ..ACCEPTOR
         },
         before: "T::60 D:736f6d6520706c61696e206d657373616765",
@@ -125,7 +125,7 @@ static WRAPS: [Row; 13] = [
     // By one that allows another thing.
     Row {
         end: End {
-            options: Some(Interoperability::EXTRA_COUNT_BY_TOKEN),
+            rules: Some(Rules::EXTRA_COUNT_BY_TOKEN),
             ..INITIATOR
         },
         before: "T::60 D:736f6d6520706c61696e206d657373616765",

@@ -4,7 +4,7 @@ use crate::rows::is_hex;
 use crate::services::{user_with_key, user_with_password};
 use krb_as::{Asker, reply_key};
 use krb_conf::Env;
-use krb_context::Interoperability;
+use krb_context::Rules;
 use krb_crypto::CipherSuite;
 use krb_der::{Asn1, Name, Text, boxed};
 use krb_exchange::AsRep;
@@ -117,7 +117,7 @@ fn asker_of(alloc: Global, row: &AsReply) -> Result<Box<Asker>, Fail> {
         realm,
         suite: CipherSuite::Aes256CtsHmacSha196,
         credentials: Box::into_inner(credentials),
-        interoperability: Interoperability::none(),
+        rules: Rules::none(),
     };
     Ok(boxed(alloc, asker)?)
 }

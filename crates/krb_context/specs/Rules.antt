@@ -1,8 +1,8 @@
--- What a caller allows a context beyond its own rules. Each is one case of the definition that has the rule, and named by the section of
--- the RFC there.
+-- The rules that a context may go by besides those that it always has. Each is one case of one definition, which names the section of the
+-- RFC too.
 use Rattle.std.specs.Prelude.{ℕ, Bool}
 use Rattle.sspi_core.specs.Flags.{has_flag}
-use Rattle.krb_context.specs.declared.interoperability.Interoperability.{Interoperability}
+use Rattle.krb_context.specs.declared.rules.Rules.{Rules}
 
 -- RFC 4120, section 5.4.2
 abbrev pub as_rep_tagged_26 : ℕ
@@ -40,9 +40,21 @@ one_way_is_settled = 0x80
 abbrev pub extra_count_by_token : ℕ
 extra_count_by_token = 0x100
 
--- what a new context has
-abbrev pub no_options : Interoperability
-no_options = record { 0 = 0 }
+-- RFC 4120, sections 3.1.5 and 3.3.4
+abbrev pub fresh_replies : ℕ
+fresh_replies = 0x10000
 
-abbrev pub allows : Interoperability → ℕ → Bool
-allows options option = has_flag options.0 option
+-- RFC 4120, section 3.2.5
+abbrev pub answers_its_authenticator : ℕ
+answers_its_authenticator = 0x20000
+
+-- what a new context has
+abbrev pub no_rules : Rules
+no_rules = record { 0 = 0 }
+
+-- each rule that there is
+abbrev pub rfc_rules : Rules
+rfc_rules = record { 0 = 0x301ff }
+
+abbrev pub has_rule : Rules → ℕ → Bool
+has_rule rules rule = has_flag rules.0 rule

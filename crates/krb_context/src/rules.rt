@@ -1,17 +1,19 @@
-//! What a context does beyond its own rules, for peers that keep to the RFCs in another way.
+//! The rules that a context goes by: what it takes from peers that keep to the RFCs in another way, and what it checks besides.
 
 ghost use Rattle.std.specs.Prelude.{⊤, [], ◌∷◌, ◌≡◌, codes};
-ghost use Rattle.krb_context.specs.Interoperability as bits;
-ghost use Rattle.krb_context.specs.Interoperability.{no_options, allows};
+ghost use Rattle.krb_context.specs.Rules as bits;
+ghost use Rattle.krb_context.specs.Rules.{no_rules, rfc_rules, has_rule};
 
 use bitflags::{Flag, Flags, bitflag_items};
 
-/// What a caller allows a context beyond its own rules. A new context allows nothing of it, and no exchange changes it.
+/// The rules that a context goes by besides those that it always has. A new context has none of them, and no exchange changes them.
+///
+/// Those below 0x10000 take what the RFCs allow; those from there on check what the RFCs ask to be checked.
 #[derive(Clone, Copy, Debug, PartialEq, Eq, PartialOrd, Ord, Hash)]
-pub struct Interoperability(u32);
+pub struct Rules(u32);
 
 bitflag_items! {
-    impl Interoperability: u32 {
+    impl Rules: u32 {
         /// The sealed part of an AS-REP may have application tag 26 in the place of 25, with the same fields (RFC 4120,
         /// section 5.4.2). Every AS-REP of MIT's KDC needs it.
         const AS_REP_TAGGED_26 = 0x1;
@@ -38,10 +40,16 @@ bitflag_items! {
         /// The extra count of a sealed message is its own, up to what its body holds (RFC 4121, section 4.2.3). `gss_wrap` of MIT
         /// krb5 and of Heimdal in DCE style needs it.
         const EXTRA_COUNT_BY_TOKEN = 0x100;
+        /// An AS-REP and a TGS-REP are taken only as the answer to the request of this exchange: with its nonce, its client and its service,
+        /// and with a ticket that is valid now (RFC 4120, sections 3.1.5 and 3.3.4). Without it a recorded log-in can be played back.
+        const FRESH_REPLIES = 0x10000;
+        /// An AP-REP is taken only with the time of the authenticator that it answers (RFC 4120, section 3.2.5). Without it a recorded
+        /// AP-REP of the same session key can be played back.
+        const ANSWERS_ITS_AUTHENTICATOR = 0x20000;
     }
 }
 
-impl Flags for Interoperability {
+impl Flags for Rules {
     type Bits = u32;
 
     ghost exact = { ⊤ };
@@ -50,35 +58,43 @@ impl Flags for Interoperability {
         ∷ (codes "SUITE_OF_EACH_KEY", bits.suite_of_each_key) ∷ (codes "SUBKEY_FLAG_BY_ORIGIN", bits.subkey_flag_by_origin)
         ∷ (codes "FIRST_NUMBER_AS_SHOWN", bits.first_number_as_shown) ∷ (codes "AP_REP_WITHOUT_SUBKEY", bits.ap_rep_without_subkey)
         ∷ (codes "THIRD_LEG_BY_VALUE", bits.third_leg_by_value) ∷ (codes "ONE_WAY_IS_SETTLED", bits.one_way_is_settled)
-        ∷ (codes "EXTRA_COUNT_BY_TOKEN", bits.extra_count_by_token) ∷ [] };
+        ∷ (codes "EXTRA_COUNT_BY_TOKEN", bits.extra_count_by_token) ∷ (codes "FRESH_REPLIES", bits.fresh_replies)
+        ∷ (codes "ANSWERS_ITS_AUTHENTICATOR", bits.answers_its_authenticator) ∷ [] };
 
-    ghost set_of = { λ options. options.0 };
+    ghost set_of = { λ rules. rules.0 };
 
-    fn flags<'a>() -> &'a [Flag<Interoperability>] {
-        Interoperability::FLAGS
+    fn flags<'a>() -> &'a [Flag<Rules>] {
+        Rules::FLAGS
     }
 
     fn bits(&self) -> u32 {
         self.0
     }
 
-    fn from_bits_retain(bits: u32) -> Interoperability {
-        Interoperability(bits)
+    fn from_bits_retain(bits: u32) -> Rules {
+        Rules(bits)
     }
 }
 
-impl Interoperability {
-    /// Nothing beyond a context's own rules.
-    pub fn none() -> Interoperability
-        ensures { result ≡ no_options }
+impl Rules {
+    /// No rule beyond those that a context always has: the specification to the letter.
+    pub fn none() -> Rules
+        ensures { result ≡ no_rules }
     {
-        Interoperability(0)
+        Rules(0)
     }
 
-    /// Whether this is allowed.
-    pub fn allows(self, option: Interoperability) -> bool
-        ensures { result ≡ allows self option.0 }
+    /// What RFC 4120 and RFC 4121 allow is taken, and what they ask to be checked is checked: every rule that there is.
+    pub fn rfc() -> Rules
+        ensures { result ≡ rfc_rules }
     {
-        self.contains(option)
+        Rules(0x3_01ff)
+    }
+
+    /// Whether this rule is one of them.
+    pub fn has(self, rule: Rules) -> bool
+        ensures { result ≡ has_rule self rule.0 }
+    {
+        self.contains(rule)
     }
 }

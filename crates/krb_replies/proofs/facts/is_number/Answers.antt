@@ -5,8 +5,8 @@ use Rattle.std.specs.Option.{option_eq}
 use Rattle.std.specs.Ordering.{int_eq}
 use Rattle.std.proofs.lemmas.Int.{to_z-of_z}
 use Rattle.krb_der.specs.Integer.{integer_value}
-use Rattle.krb_admission.proofs.Numbers.{found_number}
-use Rattle.krb_admission.proofs.third_leg.is_number.Goals as goal
+use Rattle.krb_replies.proofs.Numbers.{found_number}
+use Rattle.krb_replies.proofs.facts.is_number.Goals as goal
 
 pub returns : goal.returns
 returns c =
