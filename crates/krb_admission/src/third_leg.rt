@@ -9,7 +9,7 @@ ghost use Rattle.krb_replies.specs.Answered.{TellsNumber};
 ghost use Rattle.krb_admission.specs.ThirdLeg.{ReadsApRep, TellsLast, is_spelling, repeats, IsLastWord, concluded, last_answer, Concludes};
 
 use crate::admission::Answer;
-use krb_context::{Rules, Kerberos, KerberosState, ServerProperties};
+use krb_context::{Kerberos, KerberosState, Rules, ServerProperties};
 use krb_der::{IntegerAsn1, Octets};
 use krb_messages::ApRep;
 use krb_replies::{check_token_length, extract_seq_number_from_ap_rep, has_value, read_or};

@@ -5,6 +5,7 @@ use Rattle.sspi_core.specs.declared.cause.Cause.{Cause}
 use Rattle.sspi_core.specs.declared.cause.Cause.TheVariants.{Memory}
 use Rattle.sspi_core.specs.Checks.{Gives, Goes, Answers}
 use Rattle.krb_exchange.specs.declared.kdc_rep.AsRep.{AsRep}
+use Rattle.krb_exchange.specs.declared.kdc_req.KdcReqBody.{KdcReqBody}
 use Rattle.krb_context.specs.declared.rules.Rules.{Rules}
 use Rattle.krb_replies.specs.declared.keys.ReplyKey.{ReplyKey}
 use Rattle.krb_as.specs.declared.asker.Asker.{Asker}
@@ -14,7 +15,7 @@ use Rattle.krb_as.specs.declared.as_phase.AsPhase.{AsPhase}
 use Rattle.krb_as.specs.declared.key.Grant.{Grant}
 use Rattle.krb_as.specs.declared.turn.Turn.{Turn}
 use Rattle.krb_as.specs.Replied.{TakesEarly}
-use Rattle.krb_as.specs.ReplyKeys.{TakesReplyKey}
+use Rattle.krb_as.specs.Fresh.{TakesFreshKey}
 use Rattle.krb_as.specs.AsPhases.{grant_in, BringsGrant}
 use Rattle.krb_as.specs.AsExchanges.{end_in, EndsWith, LeavesEarly}
 
@@ -26,29 +27,29 @@ leads_on {A} {B} first whole into fails leads found answer h is = record {
   so = λ ne. subst (λ (r : Result B Cause). whole r) (sym is) (leads found (h.so (λ z. ne (is ∙ (ap into z ∙ fails Memory)))));
 }
 
-module _ (asker : Asker) (used : List ℕ) (rep : AsRep) where
-  keyed : (taken : Result ReplyKey Cause) → TakesReplyKey asker.rules asker.credentials used rep taken → BringsGrant asker used rep (grant_in rep taken)
+module _ (asker : Asker) (body : KdcReqBody) (moment : ℕ) (used : List ℕ) (rep : AsRep) where
+  keyed : (taken : Result ReplyKey Cause) → TakesFreshKey asker body moment used rep taken → BringsGrant asker body moment used rep (grant_in rep taken)
   unfolding BringsGrant
   keyed (Ok key) h = follows _ _ key _ h (gives _)
   keyed (Err e) h = record { middle = Err e; held = h; rest = refl }
 
   pub brings_grant : (taken : Result ReplyKey Cause) (answer : Result (Turn AsPhase Grant) Cause)
-      → Answers (TakesReplyKey asker.rules asker.credentials used rep) taken → answer ≡ grant_in rep taken → Answers (BringsGrant asker used rep) answer
+      → Answers (TakesFreshKey asker body moment used rep) taken → answer ≡ grant_in rep taken → Answers (BringsGrant asker body moment used rep) answer
   brings_grant taken answer h is = leads_on _ _ (grant_in rep) (λ e. refl) keyed taken answer h is
 
-  went : (m : Result (Unit {0}) Cause) (taken : Result ReplyKey Cause) → Goes (λ (x : Unit {0}). TakesReplyKey asker.rules asker.credentials used rep) m taken
-      → Goes (λ (x : Unit {0}). BringsGrant asker used rep) m (grant_in rep taken)
+  went : (m : Result (Unit {0}) Cause) (taken : Result ReplyKey Cause) → Goes (λ (x : Unit {0}). TakesFreshKey asker body moment used rep) m taken
+      → Goes (λ (x : Unit {0}). BringsGrant asker body moment used rep) m (grant_in rep taken)
   went (Ok x) taken h = keyed taken h
   went (Err e) taken h = ap (λ (r : Result ReplyKey Cause). grant_in rep r) h
 
-  early_keyed : (rules : Rules) (taken : Result ReplyKey Cause) → TakesEarly rules (TakesReplyKey asker.rules asker.credentials used) rep taken
-      → TakesEarly rules (BringsGrant asker used) rep (grant_in rep taken)
+  early_keyed : (rules : Rules) (taken : Result ReplyKey Cause) → TakesEarly rules (TakesFreshKey asker body moment used) rep taken
+      → TakesEarly rules (BringsGrant asker body moment used) rep (grant_in rep taken)
   unfolding TakesEarly
   early_keyed rules taken h = record { middle = h.middle; held = h.held; rest = went h.middle taken h.rest }
 
   pub brings_early : (rules : Rules) (taken : Result ReplyKey Cause) (answer : Result (Turn AsPhase Grant) Cause)
-      → Answers (TakesEarly rules (TakesReplyKey asker.rules asker.credentials used) rep) taken → answer ≡ grant_in rep taken
-      → Answers (TakesEarly rules (BringsGrant asker used) rep) answer
+      → Answers (TakesEarly rules (TakesFreshKey asker body moment used) rep) taken → answer ≡ grant_in rep taken
+      → Answers (TakesEarly rules (BringsGrant asker body moment used) rep) answer
   brings_early rules taken answer h is = leads_on _ _ (grant_in rep) (λ e. refl) (early_keyed rules) taken answer h is
 
 -- the exchange as a task

@@ -7,6 +7,7 @@ use Rattle.krb_exchange.specs.Layouts.{as_rep_layout, pa_data_layout, etype_info
 use Rattle.krb_exchange.specs.Results.{HasOneResult}
 use Rattle.krb_exchange.specs.declared.kdc_req.KdcReqBody.{KdcReqBody}
 use Rattle.krb_exchange.specs.declared.kdc_rep.AsRep.{AsRep}
+use Rattle.krb_exchange.specs.declared.kdc_rep.KdcRep.{KdcRep}
 use Rattle.krb_exchange.specs.declared.krb_error.KrbError.{KrbError}
 use Rattle.krb_exchange.specs.declared.result.KrbResult.{KrbResult}
 use Rattle.krb_exchange.specs.declared.result.KrbResult.TheVariants.{Ok as Reply, Err as Refusal}
@@ -16,7 +17,7 @@ use Rattle.krb_exchange.proofs.Results.{one_result_of}
 use Rattle.krb_exchange.proofs.Spelled.{same_record}
 use Rattle.krb_conf.specs.declared.env.Env.{Env}
 use Rattle.krb_context.specs.declared.rules.Rules.{Rules}
-use Rattle.krb_context.specs.Rules.{has_rule, suite_of_each_key}
+use Rattle.krb_context.specs.Rules.{has_rule, suite_of_each_key, fresh_replies}
 use Rattle.krb_as.specs.Kdcs.{FindsKdc}
 use Rattle.krb_as.specs.Replies.{Replies}
 use Rattle.krb_as.specs.declared.kdc.Kdc.{Kdc}
@@ -24,7 +25,8 @@ use Rattle.krb_as.proofs.Carrying.{unwraps_once}
 use Rattle.krb_replies.specs.Told.{Hands}
 use Rattle.krb_replies.specs.Hints.{etype_info2, IsInfo2}
 use Rattle.krb_replies.specs.Salts.{IsHints, NamesSalt, NamesSuite, TellsEtype}
-use Rattle.krb_replies.proofs.Once.{brings_first_once}
+use Rattle.krb_replies.specs.declared.facts.ReplyFacts.{ReplyFacts}
+use Rattle.krb_replies.proofs.Once.{brings_first_once, asked_for_once}
 use Rattle.sspi_core.proofs.Once.{Once, then_once, finds_once, takes_once, holds_once, gives_once}
 use Rattle.sspi_core.specs.Protocol.{scheme_of}
 use Rattle.sspi_core.specs.declared.cause.Cause.{Cause}
@@ -35,6 +37,8 @@ use Rattle.sspi_generator.specs.declared.network.NetFault.{NetFault}
 use Rattle.krb_as.specs.Replied.{LeavesSalt, TellsSuite, LeavesSuite, TakesEarly, TakesEither, TakesFirst, Grants}
 use Rattle.krb_as.specs.Clients.{NamesClient}
 use Rattle.krb_as.specs.ReplyKeys.{TakesReplyKey}
+use Rattle.krb_as.specs.Fresh.{AnswersAsReq, TakesFreshKey}
+use Rattle.krb_as.specs.declared.key.SealedTime.{SealedTime}
 use Rattle.krb_as.specs.Turns.{Within}
 use Rattle.krb_as.specs.AsPhases.{BeginsExchange, SealsTime, AsksSecond, BringsGrant, TakesAsRep, TakesReply, BeginsWithin, TakesReplyWithin}
 use Rattle.krb_as.specs.AsExchanges.{EndsWithAsRep, Starts, Next}
@@ -166,15 +170,24 @@ unfolding SealsTime
 seals_time_once asker kdc body draw error =
     then_once _ _ (leaves_salt_once _ error) (λ salt. then_once _ _ (leaves_suite_once (has_rule asker.rules suite_of_each_key) asker error) (λ suite. then_once _ _ (takes_once _ _) (λ key. gives_once _)))
 
-brings_grant_once : (asker : Asker) (used : List ℕ) (as_rep : AsRep) → Once (BringsGrant asker used as_rep)
-unfolding BringsGrant
-brings_grant_once asker used as_rep =
-    then_once _ _ (takes_reply_key_once asker.rules asker.credentials used as_rep) (λ taken. gives_once _)
+answers_as_req_once : (body : KdcReqBody) (moment : ℕ) (rep : KdcRep) (facts : ReplyFacts) → Once (AnswersAsReq body moment rep facts)
+unfolding AnswersAsReq
+answers_as_req_once body moment rep facts = then_once _ _ (holds_once _ _) (λ _. then_once _ _ (holds_once _ _) (λ _. holds_once _ _))
 
-takes_as_rep_once : (asker : Asker) (protocol : NetworkProtocol) (used : List ℕ) (reply : Result (List ℕ) NetFault) → Once (TakesAsRep asker protocol used reply)
+takes_fresh_key_once : (asker : Asker) (body : KdcReqBody) (moment : ℕ) (used : List ℕ) (as_rep : AsRep) → Once (TakesFreshKey asker body moment used as_rep)
+unfolding TakesFreshKey
+takes_fresh_key_once asker body moment used as_rep =
+    then_once _ _ (takes_reply_key_once asker.rules asker.credentials used as_rep)
+    (λ taken. then_once _ _ (asked_for_once (has_rule asker.rules fresh_replies) (AnswersAsReq body moment as_rep.0 taken.facts) (answers_as_req_once body moment as_rep.0 taken.facts)) (λ _. gives_once _))
+
+brings_grant_once : (asker : Asker) (body : KdcReqBody) (moment : ℕ) (used : List ℕ) (as_rep : AsRep) → Once (BringsGrant asker body moment used as_rep)
+unfolding BringsGrant
+brings_grant_once asker body moment used as_rep = then_once _ _ (takes_fresh_key_once asker body moment used as_rep) (λ taken. gives_once _)
+
+takes_as_rep_once : (asker : Asker) (sealed : SealedTime) (moment : ℕ) (reply : Result (List ℕ) NetFault) → Once (TakesAsRep asker sealed moment reply)
 unfolding TakesAsRep
-takes_as_rep_once asker protocol used reply =
-    then_once _ _ (grants_as_rep_once protocol reply) (brings_grant_once asker used)
+takes_as_rep_once asker sealed moment reply =
+    then_once _ _ (grants_as_rep_once sealed.kdc.protocol reply) (brings_grant_once asker sealed.body moment sealed.salt)
 
 module _ {P O : Type 0} (within : AsPhase → P) where
   pub begins_within_once : (asker : Asker) (body : KdcReqBody) → Once (BeginsWithin {P = P} {O = O} within asker body)
@@ -187,9 +200,9 @@ module _ {P O : Type 0} (within : AsPhase → P) where
 
 takes_reply_once : (asker : Asker) (phase : AsPhase) (reply : Result (List ℕ) NetFault) (draw : Draw) → Once (λ r. TakesReply asker phase reply draw r)
 takes_reply_once asker (AwaitsError kdc body) reply draw = record {
-  same = λ r s h k. (takes_first_once _ _ _ (asks_second_once (λ phase. phase) asker kdc body draw) (brings_grant_once asker _) kdc.protocol reply).same r s h k;
+  same = λ r s h k. (takes_first_once _ _ _ (asks_second_once (λ phase. phase) asker kdc body draw) (brings_grant_once asker body draw.moment _) kdc.protocol reply).same r s h k;
 }
-takes_reply_once asker (AwaitsAsRep sealed) reply draw = record { same = λ r s h k. (takes_as_rep_once asker sealed.kdc.protocol sealed.salt reply).same r s h k }
+takes_reply_once asker (AwaitsAsRep sealed) reply draw = record { same = λ r s h k. (takes_as_rep_once asker sealed draw.moment reply).same r s h k }
 
 module _ {P O : Type 0} (within : AsPhase → P) (next : Grant → Result (Turn P O) Cause → Type 0) (once : (grant : Grant) → Once (next grant)) where
   goes_on_once : (turn : Turn AsPhase Grant) → Once (λ r. Within within next turn r)

@@ -1,7 +1,7 @@
 -- Which checks refuse because the network failed: none but the first one on a reply.
 use Rattle.std.proofs.Common.{◌≡◌, ℕ, Bool, true, false, List, [], ◌∷◌, Option, Some, None, Result, Ok, Err, sym, ◌∙◌}
 use Rattle.sspi_core.specs.declared.cause.Cause.{Cause}
-use Rattle.sspi_core.specs.declared.cause.Cause.TheVariants.{Network, NoKdc, Scheme, ReplyShort, Shape, EarlyAsRep, KeyLength, Etype, Short, Altered, Inner}
+use Rattle.sspi_core.specs.declared.cause.Cause.TheVariants.{Network, NoKdc, Scheme, ReplyShort, Shape, EarlyAsRep, KeyLength, Etype, Short, Altered, Inner, Nonce, ReplyNames, ReplyTime}
 use Rattle.sspi_core.specs.declared.draw.Draw.{Draw}
 use Rattle.sspi_core.specs.declared.protocol.NetworkProtocol.{NetworkProtocol}
 use Rattle.sspi_core.specs.declared.protocol.NetworkProtocol.TheVariants.{Tcp, Udp, Http, Https}
@@ -16,15 +16,18 @@ use Rattle.krb_exchange.specs.declared.result.KrbResult.TheVariants.{Ok as Reply
 use Rattle.krb_exchange.specs.declared.kdc_req.KdcReqBody.{KdcReqBody}
 use Rattle.krb_exchange.specs.declared.krb_error.KrbError.{KrbError}
 use Rattle.krb_context.specs.declared.rules.Rules.{Rules}
-use Rattle.krb_context.specs.Rules.{has_rule, suite_of_each_key}
+use Rattle.krb_context.specs.Rules.{has_rule, suite_of_each_key, fresh_replies}
 use Rattle.krb_as.specs.declared.kdc.Kdc.{Kdc}
 use Rattle.krb_as.specs.Kdcs.{FindsKdc}
 use Rattle.krb_as.specs.Replies.{Brings, Unproxies, Strips, Skips, Unpacks, Unwraps, Replies}
 use Rattle.krb_replies.specs.Told.{Hands}
 use Rattle.krb_crypto.specs.declared.suite.CipherSuite.{CipherSuite}
-use Rattle.krb_messages.specs.declared.encryption.EncryptionKey.{EncryptionKey}
+use Rattle.krb_exchange.specs.declared.enc_kdc_rep_part.EncKdcRepPart.{EncKdcRepPart}
 use Rattle.krb_exchange.specs.declared.kdc_rep.AsRep.{AsRep}
+use Rattle.krb_exchange.specs.declared.kdc_rep.KdcRep.{KdcRep}
 use Rattle.krb_exchange.specs.declared.pa_data.EtypeInfo2Entry.{EtypeInfo2Entry}
+use Rattle.krb_replies.specs.declared.facts.ReplyFacts.{ReplyFacts}
+use Rattle.krb_replies.specs.Fresh.{AskedFor}
 use Rattle.krb_replies.specs.Keys.{OpensFirst, HasSuite, TakesKey, BringsFirst}
 use Rattle.krb_replies.specs.Salts.{NamesSalt, NamesSuite, entry_hint, first_hint, TellsEtype}
 use Rattle.krb_replies.specs.Unseals.{suite_of_integer, Unseals}
@@ -40,6 +43,8 @@ use Rattle.krb_as.specs.declared.turn.Turn.TheVariants.{Asks, Ends}
 use Rattle.krb_as.specs.Askers.{asker_suite}
 use Rattle.krb_as.specs.Replied.{reply_in, LeavesSalt, TellsSuite, LeavesSuite, TakesEarly, TakesEither, TakesFirst, Grants}
 use Rattle.krb_as.specs.ReplyKeys.{TakesReplyKey}
+use Rattle.krb_as.specs.Fresh.{AnswersAsReq, TakesFreshKey}
+use Rattle.krb_as.specs.declared.key.SealedTime.{SealedTime}
 use Rattle.krb_as.specs.Turns.{Within}
 use Rattle.krb_as.specs.AsPhases.{BeginsExchange, SealsTime, AsksSecond, BringsGrant, TakesAsRep, TakesReply, BeginsWithin, TakesReplyWithin}
 use Rattle.krb_as.specs.AsExchanges.{EndsWithAsRep, Starts, Next}
@@ -149,16 +154,16 @@ module _ (P : Type 0) where
   suite_refuses false suite key_type e h z = (gives_refuses P suite).not e h z
   suite_refuses true suite key_type e h z = (takes_refuses P Etype (suite_of_integer key_type) (λ y. let i = y.1 in absurd cc)).not e h z
 
-  pub takes_key_refuses : (rules : Rules) (suite : CipherSuite) (key : EncryptionKey) → Refuses P (TakesKey rules suite key)
+  pub takes_key_refuses : (rules : Rules) (suite : CipherSuite) (part : EncKdcRepPart) → Refuses P (TakesKey rules suite part)
   unfolding TakesKey
-  takes_key_refuses rules suite key = then_refuses P _ _ (record { not = suite_refuses (has_rule rules suite_of_each_key) suite key.key_type }) (λ own. gives_refuses P _)
+  takes_key_refuses rules suite part = then_refuses P _ _ (record { not = suite_refuses (has_rule rules suite_of_each_key) suite part.key.key_type }) (λ own. gives_refuses P _)
 
   brings_refuse : (rules : Rules) (suite : CipherSuite) (key : List ℕ) (as_rep : AsRep) → Refuses P (BringsFirst rules suite key as_rep)
   unfolding BringsFirst OpensFirst Unseals
   brings_refuse rules suite key as_rep =
       then_refuses P _ _ (then_refuses P _ _ (then_refuses P _ _ (holds_refuses P KeyLength _ (λ z. let e = z.1 in absurd cc))
       (λ _. then_refuses P _ _ (holds_refuses P Short _ (λ z. let e = z.1 in absurd cc)) (λ _. finds_refuses P Altered _ (λ z. let e = z.1 in absurd cc))))
-      (λ plain. finds_refuses P Inner _ (λ z. let e = z.1 in absurd cc))) (λ part. takes_key_refuses rules suite part.0.key)
+      (λ plain. finds_refuses P Inner _ (λ z. let e = z.1 in absurd cc))) (λ part. takes_key_refuses rules suite part.0)
 
   pub key_refuses : (rules : Rules) (credentials : CredentialsBuffers) (used : List ℕ) (as_rep : AsRep) → Refuses P (TakesReplyKey rules credentials used as_rep)
   unfolding TakesReplyKey
@@ -224,22 +229,46 @@ module _ (P : Type 0) where
   unfolding AsksSecond
   asks_second_refuses within asker kdc body draw error = then_refuses P _ _ (seals_refuse asker kdc body draw error) (λ sent. gives_refuses P _)
 
-  brings_grant_refuses : (asker : Asker) (used : List ℕ) (as_rep : AsRep) → Refuses P (BringsGrant asker used as_rep)
-  unfolding BringsGrant
-  brings_grant_refuses asker used as_rep =
-      then_refuses P _ _ (key_refuses P asker.rules asker.credentials used as_rep) (λ taken. gives_refuses P _)
+  -- nor does a check that a rule asks for, where that check does not
+  pub asked_for_refuses : (is_rule : Bool) (check : Result (Unit {0}) Cause → Type 0) → Refuses P check → Refuses P (λ r. AskedFor is_rule check r)
+  asked_for_refuses false check never = record { not = λ e h z. (gives_refuses P tt).not e h z }
+  asked_for_refuses true check never = record { not = λ e h z. never.not e h z }
 
-takes_as_rep_refuses : (asker : Asker) (protocol : NetworkProtocol) (used : List ℕ) (reply : Result (List ℕ) NetFault)
-    → Refuses (IsFailure reply) (TakesAsRep asker protocol used reply)
+  pub not_nonce : IsNetwork Nonce → P
+  not_nonce z = let e = z.1 in absurd cc
+
+  pub not_names : IsNetwork ReplyNames → P
+  not_names z = let e = z.1 in absurd cc
+
+  pub not_time : IsNetwork ReplyTime → P
+  not_time z = let e = z.1 in absurd cc
+
+  answers_refuse : (body : KdcReqBody) (moment : ℕ) (rep : KdcRep) (facts : ReplyFacts) → Refuses P (AnswersAsReq body moment rep facts)
+  unfolding AnswersAsReq
+  answers_refuse body moment rep facts =
+      then_refuses P _ _ (holds_refuses P Nonce _ not_nonce) (λ _. then_refuses P _ _ (holds_refuses P ReplyNames _ not_names) (λ _. holds_refuses P ReplyTime _ not_time))
+
+  fresh_key_refuses : (asker : Asker) (body : KdcReqBody) (moment : ℕ) (used : List ℕ) (as_rep : AsRep) → Refuses P (TakesFreshKey asker body moment used as_rep)
+  unfolding TakesFreshKey
+  fresh_key_refuses asker body moment used as_rep =
+      then_refuses P _ _ (key_refuses P asker.rules asker.credentials used as_rep)
+      (λ taken. then_refuses P _ _ (asked_for_refuses (has_rule asker.rules fresh_replies) (AnswersAsReq body moment as_rep.0 taken.facts) (answers_refuse body moment as_rep.0 taken.facts)) (λ _. gives_refuses P _))
+
+  brings_grant_refuses : (asker : Asker) (body : KdcReqBody) (moment : ℕ) (used : List ℕ) (as_rep : AsRep) → Refuses P (BringsGrant asker body moment used as_rep)
+  unfolding BringsGrant
+  brings_grant_refuses asker body moment used as_rep = then_refuses P _ _ (fresh_key_refuses asker body moment used as_rep) (λ taken. gives_refuses P _)
+
+takes_as_rep_refuses : (asker : Asker) (sealed : SealedTime) (moment : ℕ) (reply : Result (List ℕ) NetFault)
+    → Refuses (IsFailure reply) (TakesAsRep asker sealed moment reply)
 unfolding TakesAsRep
-takes_as_rep_refuses asker protocol used reply =
-    then_refuses _ _ _ (grants_refuse reply protocol _) (brings_grant_refuses _ asker used)
+takes_as_rep_refuses asker sealed moment reply =
+    then_refuses _ _ _ (grants_refuse reply sealed.kdc.protocol _) (brings_grant_refuses _ asker sealed.body moment sealed.salt)
 
 takes_reply_refuses : (asker : Asker) (phase : AsPhase) (reply : Result (List ℕ) NetFault) (draw : Draw) → Refuses (IsFailure reply) (λ r. TakesReply asker phase reply draw r)
 takes_reply_refuses asker (AwaitsError kdc body) reply draw = record {
-  not = λ e h z. (first_refuses reply kdc.protocol _ _ _ (asks_second_refuses _ (λ phase. phase) asker kdc body draw) (brings_grant_refuses _ asker _)).not e h z;
+  not = λ e h z. (first_refuses reply kdc.protocol _ _ _ (asks_second_refuses _ (λ phase. phase) asker kdc body draw) (brings_grant_refuses _ asker body draw.moment _)).not e h z;
 }
-takes_reply_refuses asker (AwaitsAsRep sealed) reply draw = record { not = λ e h z. (takes_as_rep_refuses asker sealed.kdc.protocol sealed.salt reply).not e h z }
+takes_reply_refuses asker (AwaitsAsRep sealed) reply draw = record { not = λ e h z. (takes_as_rep_refuses asker sealed draw.moment reply).not e h z }
 
 -- nor does what follows within a run, where none of its own checks does
 module _ {P O : Type 0} (within : AsPhase → P) (next : Grant → Result (Turn P O) Cause → Type 0) (reply : Result (List ℕ) NetFault)

@@ -30,7 +30,7 @@ use Rattle.krb_as.specs.Askers.{client_key, default_salt, sized_key}
 use Rattle.krb_as.specs.Granted.{IsSendable}
 use Rattle.krb_as.specs.Kdcs.{FindsKdc}
 use Rattle.krb_as.specs.Replied.{LeavesSalt, LeavesSuite, TakesFirst, Grants}
-use Rattle.krb_as.specs.ReplyKeys.{TakesReplyKey}
+use Rattle.krb_as.specs.Fresh.{TakesFreshKey}
 use Rattle.krb_as.specs.Turns.{Within}
 
 -- the start: the first request goes to the realm's KDC, and an error is awaited
@@ -40,8 +40,8 @@ BeginsExchange asker body = do
   Gives (first_request kdc body, AwaitsError kdc body)
 
 -- the second request, with this key
-abbrev pub sealed_time : Kdc → CipherSuite → List ℕ → List ℕ → SealedTime
-sealed_time kdc suite salt key = record { kdc = kdc; suite = suite; salt = salt; key = key }
+abbrev pub sealed_time : Kdc → KdcReqBody → CipherSuite → List ℕ → List ℕ → SealedTime
+sealed_time kdc body suite salt key = record { kdc = kdc; body = body; suite = suite; salt = salt; key = key }
 
 -- the error: the second request goes to the same KDC, with the same body
 unfoldable pub SealsTime : Asker → Kdc → KdcReqBody → Draw → KrbError → Result (NetworkRequest × SealedTime) Cause → Type 0
@@ -49,7 +49,7 @@ SealsTime asker kdc body draw error = do
   salt ← LeavesSalt (default_salt asker.credentials) error
   suite ← LeavesSuite (has_rule asker.rules suite_of_each_key) asker error
   key ← Takes KeyLength (sized_key asker suite salt)
-  Gives (second_request suite key draw kdc body, sealed_time kdc suite salt key)
+  Gives (second_request suite key draw kdc body, sealed_time kdc body suite salt key)
 
 -- and an AS-REP is awaited, within a run
 unfoldable pub AsksSecond : {P O : Type 0} → (AsPhase → P) → Asker → Kdc → KdcReqBody → Draw → KrbError
@@ -60,25 +60,27 @@ AsksSecond within asker kdc body draw error = do
 
 -- the ticket of an AS-REP, where its key was taken
 abbrev pub grant_in : AsRep → Result ReplyKey Cause → Result (Turn AsPhase Grant) Cause
-grant_in as_rep (Ok taken) = Ok (Ends (record { suite = taken.suite; key = taken.key; rep = as_rep.0 }))
+grant_in as_rep (Ok taken) = Ok (Ends (record { suite = taken.suite; key = taken.key; facts = taken.facts; rep = as_rep.0 }))
 grant_in as_rep (Err cause) = Err cause
 
--- an AS-REP brings a ticket, and the key that is sealed in it under that of the credentials; used is the salt of the request
-unfoldable pub BringsGrant : Asker → List ℕ → AsRep → Result (Turn AsPhase Grant) Cause → Type 0
-BringsGrant asker used as_rep = do
-  taken ← TakesReplyKey asker.rules asker.credentials used as_rep
-  Gives (Ends (record { suite = taken.suite; key = taken.key; rep = as_rep.0 }))
+-- an AS-REP brings a ticket, and the key that is sealed in it under that of the credentials; body is what the request asked for, and used
+-- its salt
+unfoldable pub BringsGrant : Asker → KdcReqBody → ℕ → List ℕ → AsRep → Result (Turn AsPhase Grant) Cause → Type 0
+BringsGrant asker body moment used as_rep = do
+  taken ← TakesFreshKey asker body moment used as_rep
+  Gives (Ends (record { suite = taken.suite; key = taken.key; facts = taken.facts; rep = as_rep.0 }))
 
-unfoldable pub TakesAsRep : Asker → NetworkProtocol → List ℕ → Result (List ℕ) NetFault → Result (Turn AsPhase Grant) Cause → Type 0
-TakesAsRep asker protocol used reply = do
-  as_rep ← Grants protocol as_rep_layout reply
-  BringsGrant asker used as_rep
+unfoldable pub TakesAsRep : Asker → SealedTime → ℕ → Result (List ℕ) NetFault → Result (Turn AsPhase Grant) Cause → Type 0
+TakesAsRep asker sealed moment reply = do
+  as_rep ← Grants sealed.kdc.protocol as_rep_layout reply
+  BringsGrant asker sealed.body moment sealed.salt as_rep
 
 -- what a reply leads to. No salt was used where the first reply is an AS-REP, so that is the one that the credentials have
 abbrev pub TakesReply : Asker → AsPhase → Result (List ℕ) NetFault → Draw → Result (Turn AsPhase Grant) Cause → Type 0
 TakesReply asker (AwaitsError kdc body) reply draw answer =
-    TakesFirst asker.rules kdc.protocol (AsksSecond (λ phase. phase) asker kdc body draw) (BringsGrant asker (default_salt asker.credentials)) reply answer
-TakesReply asker (AwaitsAsRep sealed) reply draw answer = TakesAsRep asker sealed.kdc.protocol sealed.salt reply answer
+    TakesFirst asker.rules kdc.protocol (AsksSecond (λ phase. phase) asker kdc body draw)
+    (BringsGrant asker body draw.moment (default_salt asker.credentials)) reply answer
+TakesReply asker (AwaitsAsRep sealed) reply draw answer = TakesAsRep asker sealed draw.moment reply answer
 
 -- ---- within a run
 

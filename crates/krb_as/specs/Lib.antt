@@ -10,4 +10,5 @@ pub mod AsPhases
 pub mod Clients
 pub mod FirstBodies
 pub mod ReplyKeys
+pub mod Fresh
 pub mod Granted

@@ -28,9 +28,11 @@ ghost use Rattle.krb_as.specs.AsPhases.{
   TakesAsRep,
   TakesReply,
 };
+ghost use Rattle.krb_as.specs.Fresh.{TakesFreshKey};
 ghost use Rattle.krb_as.specs.ReplyKeys.{TakesReplyKey};
 
 use crate::asker::{Asker, default_salt, sized_key};
+use crate::fresh::check_fresh;
 use crate::kdc::{Kdc, find_kdc};
 use crate::key::{Grant, SealedTime, kept_reply_key, reply_key};
 use crate::reply::{check_early, first_reply, granted_as_rep, left_salt, left_suite};
@@ -122,16 +124,18 @@ fn sent_second(
     requires moment { draw.now.moment ≤ last_moment }
     requires body { Fits kdc_req_body_layout (2 ^ 28) body.now }
     requires realm { length kdc.now.realm ≤ 2 ^ 24 }
-    ensures step { Answers (Gives (second_request suite key draw.now kdc.now body.now, sealed_time kdc.now suite salt key)) result }
+    ensures step { Answers (Gives (second_request suite key draw.now kdc.now body.now, sealed_time kdc.now body.now suite salt key)) result }
     ensures sealed { IfOk result (λ sent. IsSealed asker.now sent.1) }
 {
     let request = second_request(alloc, suite, &key, draw, kdc, body)?;
     let kdc = kdc.copy(alloc)?;
+    let body = body.copy(alloc)?;
     let key = Secret::new(key);
     Ok((
         request,
         SealedTime {
             kdc,
+            body,
             suite,
             salt,
             key,
@@ -197,6 +201,7 @@ fn grant_in(taken: Result<ReplyKey, Cause>, as_rep: AsRep) -> Result<Turn<AsPhas
         Ok(taken) => Ok(Turn::Ends(Grant {
             suite: taken.suite,
             key: taken.key,
+            facts: taken.facts,
             rep: as_rep.0,
         })),
         Err(cause) => Err(cause),
@@ -211,24 +216,52 @@ fn unsalted_key(alloc: Global, asker: &Asker, as_rep: &AsRep) -> Result<ReplyKey
     reply_key(alloc, asker, &salt, as_rep)
 }
 
+/// That key, where the AS-REP answers the request.
+#[tactic(auto, unfolding(crate::specs::Fresh::TakesFreshKey))]
+fn fresh_unsalted_key(
+    alloc: Global,
+    asker: &Asker,
+    body: &KdcReqBody,
+    moment: u64,
+    as_rep: &AsRep,
+) -> Result<ReplyKey, Cause>
+    ensures { Answers (TakesFreshKey asker.now body.now moment (default_salt asker.now.credentials) as_rep.now) result }
+{
+    let taken = unsalted_key(alloc, asker, as_rep)?;
+    check_fresh(asker.rules, body, moment, &as_rep.0, &taken.facts)?;
+    Ok(taken)
+}
+
 /// That key, where the AS-REP may come at once.
 #[tactic(auto, unfolding(crate::specs::Replied::TakesEarly))]
-fn early_key(alloc: Global, asker: &Asker, as_rep: &AsRep) -> Result<ReplyKey, Cause>
+fn early_key(
+    alloc: Global,
+    asker: &Asker,
+    body: &KdcReqBody,
+    moment: u64,
+    as_rep: &AsRep,
+) -> Result<ReplyKey, Cause>
     ensures { Answers (TakesEarly asker.now.rules
-        (TakesReplyKey asker.now.rules asker.now.credentials (default_salt asker.now.credentials)) as_rep.now) result }
+        (TakesFreshKey asker.now body.now moment (default_salt asker.now.credentials)) as_rep.now) result }
 {
     check_early(asker.rules)?;
-    unsalted_key(alloc, asker, as_rep)
+    fresh_unsalted_key(alloc, asker, body, moment, as_rep)
 }
 
 /// The ticket of an AS-REP that came at once, where it may.
-fn early_grant(alloc: Global, asker: &Asker, as_rep: AsRep) -> Result<Turn<AsPhase, Grant>, Cause>
+fn early_grant(
+    alloc: Global,
+    asker: &Asker,
+    body: &KdcReqBody,
+    moment: u64,
+    as_rep: AsRep,
+) -> Result<Turn<AsPhase, Grant>, Cause>
     requires sendable { IsSendable as_rep.0 }
-    ensures step { Answers (TakesEarly asker.now.rules (BringsGrant asker.now (default_salt asker.now.credentials)) as_rep) result }
+    ensures step { Answers (TakesEarly asker.now.rules (BringsGrant asker.now body.now moment (default_salt asker.now.credentials)) as_rep) result }
     ensures down { IfOk result (λ turn. GoesDown (IsAwaiting asker.now) turns_left 1 turn) }
     ensures sendable { IfOk result (λ turn. EndsSendable turn) }
 {
-    let taken = early_key(alloc, asker, &as_rep);
+    let taken = early_key(alloc, asker, body, moment, &as_rep);
     grant_in(taken, as_rep)
 }
 
@@ -246,13 +279,13 @@ fn take_either(
     requires realm { length kdc.now.realm ≤ 2 ^ 24 }
     requires sendable { IsSendableReply first }
     ensures step { Answers (TakesEither asker.now.rules (AsksSecond (λ phase. phase) asker.now kdc.now body.now draw.now)
-        (BringsGrant asker.now (default_salt asker.now.credentials)) first) result }
+        (BringsGrant asker.now body.now draw.now.moment (default_salt asker.now.credentials)) first) result }
     ensures down { IfOk result (λ turn. GoesDown (IsAwaiting asker.now) turns_left 1 turn) }
     ensures sendable { IfOk result (λ turn. EndsSendable turn) }
 {
     match first {
         KrbResult::Err(error) => ask_second(alloc, asker, kdc, body, &error, draw),
-        KrbResult::Ok(as_rep) => early_grant(alloc, asker, as_rep),
+        KrbResult::Ok(as_rep) => early_grant(alloc, asker, body, draw.moment, as_rep),
     }
 }
 
@@ -270,7 +303,7 @@ fn take_first(
     requires body { Fits kdc_req_body_layout (2 ^ 28) body.now }
     requires realm { length kdc.now.realm ≤ 2 ^ 24 }
     ensures step { Answers (TakesFirst asker.now.rules kdc.now.protocol (AsksSecond (λ phase. phase) asker.now kdc.now body.now draw.now)
-        (BringsGrant asker.now (default_salt asker.now.credentials)) reply) result }
+        (BringsGrant asker.now body.now draw.now.moment (default_salt asker.now.credentials)) reply) result }
     ensures down { IfOk result (λ turn. GoesDown (IsAwaiting asker.now) turns_left 1 turn) }
     ensures sendable { IfOk result (λ turn. EndsSendable turn) }
 {
@@ -278,20 +311,38 @@ fn take_first(
     take_either(alloc, asker, kdc, body, first, draw)
 }
 
+/// The key of the second reply, where it answers the request.
+#[tactic(auto, unfolding(crate::specs::Fresh::TakesFreshKey))]
+fn fresh_kept_key(
+    alloc: Global,
+    asker: &Asker,
+    sealed: &SealedTime,
+    moment: u64,
+    as_rep: &AsRep,
+) -> Result<ReplyKey, Cause>
+    requires sealed { IsSealed asker.now sealed.now }
+    ensures { Answers (TakesFreshKey asker.now sealed.now.body moment sealed.now.salt as_rep.now) result }
+{
+    let taken = kept_reply_key(alloc, asker, sealed, as_rep)?;
+    check_fresh(asker.rules, &sealed.body, moment, &as_rep.0, &taken.facts)?;
+    Ok(taken)
+}
+
 /// The ticket of the second reply.
 fn kept_grant(
     alloc: Global,
     asker: &Asker,
     sealed: &SealedTime,
+    moment: u64,
     as_rep: AsRep,
 ) -> Result<Turn<AsPhase, Grant>, Cause>
     requires sealed { IsSealed asker.now sealed.now }
     requires sendable { IsSendable as_rep.0 }
-    ensures step { Answers (BringsGrant asker.now sealed.now.salt as_rep) result }
+    ensures step { Answers (BringsGrant asker.now sealed.now.body moment sealed.now.salt as_rep) result }
     ensures down { IfOk result (λ turn. GoesDown (IsAwaiting asker.now) turns_left 0 turn) }
     ensures sendable { IfOk result (λ turn. EndsSendable turn) }
 {
-    let taken = kept_reply_key(alloc, asker, sealed, &as_rep);
+    let taken = fresh_kept_key(alloc, asker, sealed, moment, &as_rep);
     grant_in(taken, as_rep)
 }
 
@@ -301,15 +352,16 @@ fn take_as_rep(
     alloc: Global,
     asker: &Asker,
     sealed: &SealedTime,
+    moment: u64,
     reply: Result<Octets, NetFault>,
 ) -> Result<Turn<AsPhase, Grant>, Cause>
     requires sealed { IsSealed asker.now sealed.now }
-    ensures step { Answers (TakesAsRep asker.now sealed.now.kdc.protocol sealed.now.salt reply) result }
+    ensures step { Answers (TakesAsRep asker.now sealed.now moment reply) result }
     ensures down { IfOk result (λ turn. GoesDown (IsAwaiting asker.now) turns_left 0 turn) }
     ensures sendable { IfOk result (λ turn. EndsSendable turn) }
 {
     let as_rep = granted_as_rep(alloc, sealed.kdc.protocol, reply)?;
-    kept_grant(alloc, asker, sealed, as_rep)
+    kept_grant(alloc, asker, sealed, moment, as_rep)
 }
 
 /// What a reply leads to: the second request behind the first reply, and behind the second one the ticket that it brings. Where the
@@ -317,7 +369,8 @@ fn take_as_rep(
 ///
 /// The first reply is refused as `read_reply` refuses. An error is then refused as `left_salt` refuses, and as `KeyLength` where the key
 /// is a keytab's and has not the length of its suite's keys; an AS-REP as `EarlyAsRep` where it is not allowed, and as `reply_key`
-/// refuses. The second reply is refused as `granted_as_rep` refuses, and then as `reply_key` refuses.
+/// refuses. The second reply is refused as `granted_as_rep` refuses, and then as `reply_key` refuses. Where a reply has to answer its
+/// request, either AS-REP is then refused as `Nonce`, as `ReplyNames` and as `ReplyTime`.
 pub fn take_reply(
     alloc: Global,
     asker: &Asker,
@@ -333,6 +386,6 @@ pub fn take_reply(
 {
     match phase {
         AsPhase::AwaitsError(kdc, body) => take_first(alloc, asker, kdc, body, reply, draw),
-        AsPhase::AwaitsAsRep(sealed) => take_as_rep(alloc, asker, sealed, reply),
+        AsPhase::AwaitsAsRep(sealed) => take_as_rep(alloc, asker, sealed, draw.moment, reply),
     }
 }

@@ -9,7 +9,7 @@ ghost use Rattle.krb_as.specs.Askers.{suite_for, key_for, client_key, default_sa
 
 use crate::client::Client;
 use krb_conf::Env;
-use krb_context::{Rules, Kerberos};
+use krb_context::{Kerberos, Rules};
 use krb_crypto::{CipherSuite, generate_key_from_password};
 use krb_der::{Name, Octets, OutOfMemory, Text, TryCopy};
 use sspi_core::{Cause, CredentialsBuffers};

@@ -13,8 +13,8 @@ use crate::kdc::Kdc;
 use krb_context::Rules;
 use krb_crypto::{CipherSuite, generate_key_from_password};
 use krb_der::{Octets, Text};
-use krb_exchange::{AsRep, KdcRep};
-use krb_replies::{ReplyKey, key_in_as_rep, told_etype};
+use krb_exchange::{AsRep, KdcRep, KdcReqBody};
+use krb_replies::{ReplyFacts, ReplyKey, key_in_as_rep, told_etype};
 use sspi_core::{Cause, CredentialsBuffers, Secret};
 use std::alloc::Global;
 
@@ -23,6 +23,8 @@ use std::alloc::Global;
 pub struct SealedTime {
     /// Where it was sent.
     pub kdc: Kdc,
+    /// What it asked for.
+    pub body: KdcReqBody,
     /// The suite of the key.
     pub suite: CipherSuite,
     /// The salt of the key.
@@ -38,6 +40,8 @@ pub struct Grant {
     pub suite: CipherSuite,
     /// The session key of the ticket.
     pub key: Secret<Octets>,
+    /// What was sealed beside the key.
+    pub facts: ReplyFacts,
     /// The reply that brought the ticket.
     pub rep: KdcRep,
 }

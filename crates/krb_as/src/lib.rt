@@ -19,6 +19,7 @@ mod asker;
 mod body;
 mod client;
 mod done;
+mod fresh;
 mod kdc;
 mod key;
 pub mod laws;

@@ -115,10 +115,7 @@ pub(crate) fn first_reply(
 pub(crate) fn check_early(rules: Rules) -> Result<(), Cause>
     ensures { Holds causes.EarlyAsRep (has_rule rules no_preauthentication) result }
 {
-    hold(
-        rules.has(Rules::NO_PREAUTHENTICATION),
-        Cause::EarlyAsRep,
-    )
+    hold(rules.has(Rules::NO_PREAUTHENTICATION), Cause::EarlyAsRep)
 }
 
 /// The reply that was asked for. Refused as `read_reply` refuses, and as `Kdc` with the code of a KRB-ERROR in its place.

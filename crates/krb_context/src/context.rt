@@ -5,9 +5,9 @@ ghost use Rattle.std.specs.Int.{from_be_bytes, w32};
 ghost use Rattle.krb_context.specs.Params.{default_params};
 ghost use Rattle.krb_context.specs.Contexts.{new_context, next_number, settled, with_key, kdc_of};
 
-use crate::rules::Rules;
 use crate::kept::KeptKey;
 use crate::params::EncryptionParams;
+use crate::rules::Rules;
 use crate::server::ServerProperties;
 use crate::state::KerberosState;
 use crate::window::NumberWindow;

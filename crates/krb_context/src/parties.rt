@@ -8,8 +8,8 @@ ghost use Rattle.krb_context.specs.Unwraps.{has_key_size};
 ghost use Rattle.krb_context.specs.Parties.{ready_key, seal_usage, sign_usage, has_subkey_flag, seal_flags, sign_flags, own_seal_flags, own_sign_flags};
 
 use crate::context::Kerberos;
-use crate::rules::Rules;
 use crate::params::EncryptionParams;
+use crate::rules::Rules;
 use crate::state::KerberosState;
 use krb_der::Octets;
 use krb_messages::constants::{

@@ -52,10 +52,10 @@ module _ (seeker : Seeker) (reply : Result (List ℕ) NetFault) (draw : Draw) wh
   Taken phase turn = TakesReplyWithin InAsExchange AsksTgs seeker.asker phase reply draw (Ok turn)
 
   -- a ticket was taken, and the ticket-granting service of the client's realm was asked
-  asked_on : (before : List (Result (List ℕ) NetFault)) (salt : List ℕ) (protocol : NetworkProtocol) (replies : List (Result (List ℕ) NetFault)) (request : NetworkRequest) (next : InitPhase)
-      → replies ≡ before → LeaveSalt seeker before salt → WentOn AsksTgs seeker.asker protocol salt reply (Asks request next) → Came seeker (replies ++ (reply ∷ [])) next
+  asked_on : (before : List (Result (List ℕ) NetFault)) (salt : List ℕ) (protocol : NetworkProtocol) (body : KdcReqBody) (replies : List (Result (List ℕ) NetFault)) (request : NetworkRequest) (next : InitPhase)
+      → replies ≡ before → LeaveSalt seeker before salt → WentOn AsksTgs seeker.asker protocol body draw.moment salt reply (Asks request next) → Came seeker (replies ++ (reply ∷ [])) next
   unfolding AsksFirstTgs
-  asked_on before salt protocol replies request next are leave on =
+  asked_on before salt protocol body replies request next are leave on =
       let begun = passed _ _ _ on.rest in
       subst (λ (p : InitPhase). Came seeker (replies ++ (reply ∷ [])) p) (sym (asked _ request next _ (gave _ _ begun.rest_held)))
       (record {
@@ -70,6 +70,7 @@ module _ (seeker : Seeker) (reply : Result (List ℕ) NetFault) (draw : Draw) wh
           as_rep = on.taken.rep;
           grants = record { protocol = protocol; granted = on.taken.granted };
           granted = tt;
+          facts = on.grant.facts;
           chain = chain_begins seeker.asker.rules seeker.asker.credentials salt on.taken.rep (key_of on.grant) on.taken.opened;
         };
         referrals = refl;
@@ -81,7 +82,7 @@ module _ (seeker : Seeker) (reply : Result (List ℕ) NetFault) (draw : Draw) wh
       → Came seeker (replies ++ (reply ∷ [])) next
   second kdc body replies request next none h = go (error_taken InAsExchange AsksTgs seeker.asker reply draw (Asks request next) kdc body h)
     where
-      go : AskedSecond {O = InitDone} InAsExchange seeker.asker kdc reply (Asks request next) ⊎ WentOnEarly AsksTgs seeker.asker kdc reply (Asks request next) → Came seeker (replies ++ (reply ∷ [])) next
+      go : AskedSecond {O = InitDone} InAsExchange seeker.asker kdc body reply (Asks request next) ⊎ WentOnEarly AsksTgs seeker.asker kdc body draw.moment reply (Asks request next) → Came seeker (replies ++ (reply ∷ [])) next
       go (inl second) =
           subst (λ (p : InitPhase). Came seeker (replies ++ (reply ∷ [])) p) (sym (asked _ request next _ second.is))
           (record {
@@ -89,27 +90,27 @@ module _ (seeker : Seeker) (reply : Result (List ℕ) NetFault) (draw : Draw) wh
             are = ap (λ (r : List (Result (List ℕ) NetFault)). r ++ (reply ∷ [])) none;
             names = record { protocol = kdc.protocol; named = second.names };
           })
-      go (inr went) = asked_on [] (default_salt seeker.asker.credentials) kdc.protocol replies request next none (went.allowed, refl) went.on
+      go (inr went) = asked_on [] (default_salt seeker.asker.credentials) kdc.protocol body replies request next none (went.allowed, refl) went.on
 
   -- the AS-REP
   first : (sealed : SealedTime) (replies : List (Result (List ℕ) NetFault)) (request : NetworkRequest) (next : InitPhase) → CameWithSalt seeker replies sealed.salt → Taken (AwaitsAsRep sealed) (Asks request next)
       → Came seeker (replies ++ (reply ∷ [])) next
   first sealed replies request next came h =
-      asked_on (came.error ∷ []) sealed.salt sealed.kdc.protocol replies request next came.are came.names (as_rep_taken InAsExchange AsksTgs seeker.asker reply draw (Asks request next) sealed h)
+      asked_on (came.error ∷ []) sealed.salt sealed.kdc.protocol sealed.body replies request next came.are came.names (as_rep_taken InAsExchange AsksTgs seeker.asker reply draw (Asks request next) sealed h)
 
   -- neither ends the run
-  goes_on_asking : (protocol : NetworkProtocol) (salt : List ℕ) (done : InitDone) → WentOn AsksTgs seeker.asker protocol salt reply (Ends done) → ⊥
+  goes_on_asking : (protocol : NetworkProtocol) (body : KdcReqBody) (salt : List ℕ) (done : InitDone) → WentOn AsksTgs seeker.asker protocol body draw.moment salt reply (Ends done) → ⊥
   unfolding AsksFirstTgs
-  goes_on_asking protocol salt done on = let begun = passed _ _ _ on.rest in let f = gave _ _ begun.rest_held in absurd cc
+  goes_on_asking protocol body salt done on = let begun = passed _ _ _ on.rest in let f = gave _ _ begun.rest_held in absurd cc
 
   no_end : (phase : AsPhase) (done : InitDone) → Taken phase (Ends done) → ⊥
   no_end (AwaitsError kdc body) done h = go (error_taken InAsExchange AsksTgs seeker.asker reply draw (Ends done) kdc body h)
     where
-      go : AskedSecond {O = InitDone} InAsExchange seeker.asker kdc reply (Ends done) ⊎ WentOnEarly AsksTgs seeker.asker kdc reply (Ends done) → ⊥
+      go : AskedSecond {O = InitDone} InAsExchange seeker.asker kdc body reply (Ends done) ⊎ WentOnEarly AsksTgs seeker.asker kdc body draw.moment reply (Ends done) → ⊥
       go (inl second) = let f = second.is in absurd cc
-      go (inr went) = goes_on_asking kdc.protocol (default_salt seeker.asker.credentials) done went.on
+      go (inr went) = goes_on_asking kdc.protocol body (default_salt seeker.asker.credentials) done went.on
   no_end (AwaitsAsRep sealed) done h =
-      goes_on_asking sealed.kdc.protocol sealed.salt done (as_rep_taken InAsExchange AsksTgs seeker.asker reply draw (Ends done) sealed h)
+      goes_on_asking sealed.kdc.protocol sealed.body sealed.salt done (as_rep_taken InAsExchange AsksTgs seeker.asker reply draw (Ends done) sealed h)
 
   -- one more TGS-REP
   more_granted : (replies : List (Result (List ℕ) NetFault)) (reps : List TgsRep) (rep : TgsRep) → AreGranted replies reps → IsGranted reply rep → AreGranted (replies ++ (reply ∷ [])) (reps ++ (rep ∷ []))
@@ -127,7 +128,7 @@ module _ (seeker : Seeker) (reply : Result (List ℕ) NetFault) (draw : Draw) wh
       step false b c h goes = h
 
   module _ (leg : TgsLeg) (replies : List (Result (List ℕ) NetFault)) (shown : Grant) (came : CameWithKey seeker replies leg)
-      (taken : TgsTaken seeker.asker.rules leg.kdc.protocol leg.suite leg.key reply shown) where
+      (taken : TgsTaken seeker.asker.rules seeker.wanted.target leg.question draw.moment leg.kdc.protocol leg.suite leg.key reply shown) where
     one_more : HasChain seeker (replies ++ (reply ∷ [])) shown.suite (came.reps ++ (taken.rep ∷ [])) shown.key
     one_more = record {
       before = came.has.before;
@@ -141,8 +142,9 @@ module _ (seeker : Seeker) (reply : Result (List ℕ) NetFault) (draw : Draw) wh
       as_rep = came.has.as_rep;
       grants = came.has.grants;
       granted = more_granted came.has.rest came.reps taken.rep came.has.granted (record { protocol = leg.kdc.protocol; granted = taken.granted });
+      facts = shown.facts;
       chain =
-          chain_goes_on seeker.asker.rules seeker.asker.credentials came.has.salt came.has.as_rep came.reps taken.rep (record { suite = leg.suite; key = leg.key }) (key_of shown)
+          chain_goes_on seeker.asker.rules seeker.asker.credentials came.has.salt came.has.as_rep came.reps taken.rep (record { suite = leg.suite; key = leg.key; facts = came.has.facts }) (key_of shown)
           came.has.chain taken.opened;
     }
 
@@ -202,14 +204,14 @@ module _ (seeker : Seeker) (reply : Result (List ℕ) NetFault) (draw : Draw) wh
   unfolding TakesNext
   next_goes leg replies request next came h =
       let shown = passed _ _ _ h in
-      goes leg replies shown.found came (taken_tgs seeker.asker.rules leg.kdc.protocol leg.suite leg.key reply shown.found shown.first_held) _ request next refl shown.rest_held
+      goes leg replies shown.found came (taken_tgs seeker.asker.rules seeker.wanted.target leg.question draw.moment leg.kdc.protocol leg.suite leg.key reply shown.found shown.first_held) _ request next refl shown.rest_held
 
   next_ends : (leg : TgsLeg) (replies : List (Result (List ℕ) NetFault)) (done : InitDone) → CameWithKey seeker replies leg → TakesNext seeker leg reply draw (Ok (Ends done))
       → IsSession seeker (replies ++ (reply ∷ [])) done
   unfolding TakesNext
   next_ends leg replies done came h =
       let shown = passed _ _ _ h in
-      ends_at leg replies shown.found came (taken_tgs seeker.asker.rules leg.kdc.protocol leg.suite leg.key reply shown.found shown.first_held) _ done refl shown.rest_held
+      ends_at leg replies shown.found came (taken_tgs seeker.asker.rules seeker.wanted.target leg.question draw.moment leg.kdc.protocol leg.suite leg.key reply shown.found shown.first_held) _ done refl shown.rest_held
 
 pub goes_on : (seeker : Seeker) (replies : List (Result (List ℕ) NetFault)) (phase : InitPhase) (reply : Result (List ℕ) NetFault) (draw : Draw) (request : NetworkRequest) (next : InitPhase)
     → Came seeker replies phase → Next (Seeks seeker) phase reply draw (Ok (Asks request next)) → Came seeker (replies ++ (reply ∷ [])) next

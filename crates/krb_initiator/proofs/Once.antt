@@ -207,7 +207,7 @@ goes_to_once (Some realm) seeker leg shown draw = record { same = λ r s h k. (r
 takes_next_once : (seeker : Seeker) (leg : TgsLeg) (reply : Result (List ℕ) NetFault) (draw : Draw) → Once (TakesNext seeker leg reply draw)
 unfolding TakesNext
 takes_next_once seeker leg reply draw =
-    then_once _ _ (takes_tgs_rep_once seeker.asker.rules leg.kdc.protocol leg.suite leg.key reply) (λ shown. goes_to_once (referral_realm shown.rep.ticket.sname) seeker leg shown draw)
+    then_once _ _ (takes_tgs_rep_once seeker.asker.rules seeker.wanted.target leg.question draw.moment leg.kdc.protocol leg.suite leg.key reply) (λ shown. goes_to_once (referral_realm shown.rep.ticket.sname) seeker leg shown draw)
 
 hears_answer_once : (initiator : Initiator) (token : List ℕ) (draw : Draw) → Once (HearsAnswer initiator token draw)
 unfolding HearsAnswer

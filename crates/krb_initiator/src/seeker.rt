@@ -5,7 +5,7 @@ use krb_as::{AsPhase, Asker, Client, Kdc};
 use krb_crypto::CipherSuite;
 use krb_der::{Name, Octets};
 use krb_messages::Ticket;
-use krb_tgs::Wanted;
+use krb_tgs::{TgsQuestion, Wanted};
 use sspi_core::Secret;
 
 /// An initiator on its way to the ticket of a service. A step never changes it.
@@ -44,6 +44,8 @@ pub struct TgsLeg {
     pub key: Secret<Octets>,
     /// The client's own realm, by the AS-REP.
     pub home: Name,
+    /// What the request asked, as the reply has to repeat it.
+    pub question: TgsQuestion,
     /// How many referrals were followed.
     pub hops: u8,
 }

@@ -7,7 +7,9 @@ ghost use Rattle.krb_authenticators.specs.TgsRequests.{AreShortTickets};
 ghost use Rattle.krb_replies.specs.Realms.{referral_realm};
 ghost use Rattle.krb_as.specs.declared.turn.Turn.TheVariants as turns;
 ghost use Rattle.krb_as.specs.Granted.{IsSendable};
+ghost use Rattle.krb_as.specs.declared.key.Grant.{Grant};
 ghost use Rattle.krb_tgs.specs.TgsAsked.{AsksTgs};
+ghost use Rattle.krb_tgs.specs.Fresh.{question_of};
 ghost use Rattle.krb_initiator.specs.declared.seeker.InitPhase.TheVariants as phases;
 ghost use Rattle.krb_initiator.specs.Tgts.{first_tickets};
 ghost use Rattle.krb_initiator.specs.Seekers.{CanSeek};
@@ -23,7 +25,7 @@ use krb_der::{Items, Name, Octets, OutOfMemory, TryCopy, boxed};
 use krb_exchange::KdcRep;
 use krb_messages::Ticket;
 use krb_replies::referral_target_realm;
-use krb_tgs::{Begun, ask_tgs, follow, take_tgs_rep};
+use krb_tgs::{Begun, TgsQuestion, ask_tgs, follow, take_tgs_rep};
 use sspi_core::{Cause, Draw};
 use sspi_generator::NetFault;
 use std::alloc::Global;
@@ -64,18 +66,41 @@ fn begin_tgs(alloc: Global, seeker: &Seeker, shown: &Grant, draw: &Draw) -> Resu
     )
 }
 
+/// What a request asked that shows the ticket of this reply.
+fn question_of(rep: KdcRep, draw: &Draw) -> TgsQuestion
+    ensures { (shown : Grant) → shown.rep ≡ rep → result ≡ question_of shown draw.now }
+{
+    TgsQuestion {
+        nonce: u32::from_be_bytes(draw.octets::<4>(4)),
+        crealm: rep.crealm,
+        cname: rep.cname,
+    }
+}
+
 /// The phase behind the first request to a ticket-granting service.
-fn sent_first_tgs(begun: Begun, shown: Grant) -> Result<Turn<InitPhase, InitDone>, Cause>
-    ensures step { Answers (Gives (turns.Asks begun.request (phases.AwaitsTgsRep (leg_of begun.kdc shown shown.rep.crealm 0)))) result }
+fn sent_first_tgs(
+    alloc: Global,
+    begun: Begun,
+    shown: Grant,
+    draw: &Draw,
+) -> Result<Turn<InitPhase, InitDone>, Cause>
+    ensures step { Answers (Gives (turns.Asks begun.request (phases.AwaitsTgsRep (leg_of begun.kdc shown shown.rep.crealm draw.now 0)))) result }
     ensures down { IfOk result (λ turn. GoesDown IsAtTgs turns_left 10 turn) }
 {
+    let home = shown.rep.crealm.copy(alloc)?;
     let Begun { request, kdc } = begun;
-    let Grant { suite, key, rep } = shown;
+    let Grant {
+        suite,
+        key,
+        rep,
+        ..
+    } = shown;
     let leg = TgsLeg {
         kdc,
         suite,
         key,
-        home: rep.crealm,
+        home,
+        question: question_of(rep, draw),
         hops: 0,
     };
     Ok(Turn::Asks(request, InitPhase::AwaitsTgsRep(leg)))
@@ -96,7 +121,7 @@ pub(crate) fn ask_first_tgs(
     ensures down { IfOk result (λ turn. GoesDown IsAtTgs turns_left 10 turn) }
 {
     let begun = begin_tgs(alloc, seeker, &shown, draw)?;
-    sent_first_tgs(begun, shown)
+    sent_first_tgs(alloc, begun, shown, draw)
 }
 
 /// The phase behind a request that follows a referral.
@@ -105,21 +130,27 @@ fn sent_next_tgs(
     begun: Begun,
     shown: Grant,
     leg: &TgsLeg,
+    draw: &Draw,
 ) -> Result<Turn<InitPhase, InitDone>, Cause>
     requires few { leg.now.hops < 9 }
-    ensures step { Answers (Gives (turns.Asks begun.request (phases.AwaitsTgsRep (leg_of begun.kdc shown leg.now.home (leg.now.hops + 1))))) result }
+    ensures step { Answers (Gives (turns.Asks begun.request (phases.AwaitsTgsRep (leg_of begun.kdc shown leg.now.home draw.now (leg.now.hops + 1))))) result }
     ensures down { IfOk result (λ turn. GoesDown IsAtTgs turns_left (9 - leg.now.hops) turn) }
 {
     let shown = boxed(alloc, shown)?;
     let home = leg.home.copy(alloc)?;
     let Begun { request, kdc } = begun;
-    let Grant { suite, key, rep } = Box::into_inner(shown);
-    drop(rep);
+    let Grant {
+        suite,
+        key,
+        rep,
+        ..
+    } = Box::into_inner(shown);
     let next = TgsLeg {
         kdc,
         suite,
         key,
         home,
+        question: question_of(rep, draw),
         hops: leg.hops + 1,
     };
     Ok(Turn::Asks(request, InitPhase::AwaitsTgsRep(next)))
@@ -154,7 +185,7 @@ fn refer(
         realm,
         draw,
     )?;
-    sent_next_tgs(alloc, begun, shown, leg)
+    sent_next_tgs(alloc, begun, shown, leg, draw)
 }
 
 /// The service's ticket is shown to the service.
@@ -172,7 +203,12 @@ fn arrive(
     ensures step { Answers (Arrives seeker.now leg.now shown draw.now) result }
     ensures down { IfOk result (λ turn. GoesDown IsAtTgs turns_left (9 - leg.now.hops) turn) }
 {
-    let Grant { suite, key, rep } = shown;
+    let Grant {
+        suite,
+        key,
+        rep,
+        ..
+    } = shown;
     let done = show_ticket(alloc, &seeker.errand, suite, key, rep, &leg.home, draw)?;
     end(done)
 }
@@ -225,6 +261,16 @@ pub(crate) fn take_next(
 {
     let rules = seeker.asker.rules;
     let protocol = leg.kdc.protocol;
-    let shown = take_tgs_rep(alloc, rules, protocol, leg.suite, &leg.key, reply)?;
+    let shown = take_tgs_rep(
+        alloc,
+        rules,
+        &seeker.wanted.target,
+        &leg.question,
+        draw.moment,
+        protocol,
+        leg.suite,
+        &leg.key,
+        reply,
+    )?;
     go_to(alloc, seeker, leg, shown, draw)
 }

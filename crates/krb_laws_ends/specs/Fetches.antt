@@ -29,7 +29,8 @@ use Rattle.krb_initiator.specs.Beginnings.{identity_of, seeker_of}
 use Rattle.krb_initiator.specs.InitRuns.{Starts, Next}
 use Rattle.krb_initiator.specs.Tgts.{no_tgt}
 use Rattle.krb_laws_ends.specs.Answers.{Offered}
-use Rattle.krb_laws_ends.specs.HonestKdc.{Step, Answers, steps_of, service_of}
+use Rattle.krb_laws_ends.specs.HonestKdc.{Step, Answers, steps_of}
+use Rattle.krb_tgs.specs.TgsAsked.{service_of}
 use Rattle.krb_laws_ends.specs.Offers.{Offer, offered_token, IsHonest}
 
 -- an initiator before its exchange, whose caller asks for mutual authentication by a service of two parts, not for user-to-user, and

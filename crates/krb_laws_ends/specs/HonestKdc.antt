@@ -8,7 +8,6 @@ use Rattle.krb_context.specs.Rules.{has_rule, as_rep_tagged_26, no_preauthentica
 use Rattle.krb_crypto.specs.Sealed.{IsSealed}
 use Rattle.krb_crypto.specs.Suite.{key_size, suite_number}
 use Rattle.krb_crypto.specs.declared.suite.CipherSuite.{CipherSuite}
-use Rattle.krb_conf.specs.Names.{target_parts}
 use Rattle.krb_messages.specs.declared.enc_ticket_part.EncTicketPart.{EncTicketPart}
 use Rattle.krb_exchange.specs.declared.kdc_rep.AsRep.{AsRep}
 use Rattle.krb_exchange.specs.declared.kdc_rep.TgsRep.{TgsRep}
@@ -28,7 +27,7 @@ use Rattle.krb_replies.specs.Realms.{referral_realm}
 use Rattle.krb_as.specs.declared.asker.Asker.{Asker}
 use Rattle.krb_as.specs.Askers.{client_key, default_salt, sized_key}
 use Rattle.krb_as.specs.Replied.{LeavesSuite}
-use Rattle.krb_tgs.specs.TgsAsked.{parts_of, url_for, is_same_realm}
+use Rattle.krb_tgs.specs.TgsAsked.{service_of, url_for, is_same_realm}
 use Rattle.krb_initiator.specs.declared.seeker.Seeker.{Seeker}
 use Rattle.krb_laws_ends.specs.Offers.{Carries, IsServiceTicket}
 
@@ -94,10 +93,6 @@ pub record Refers (asker : Asker) (home : List ℕ) (suite : CipherSuite) (known
   pub named : referral_realm rep.0.ticket.sname ≡ Some next.kdc.realm
   pub other : is_same_realm known.kdc.realm next.kdc.realm ≡ false
   pub found : HasKdc asker home next.kdc.realm next.kdc
-
--- the service of a target, by the components of its name
-abbrev pub service_of : List ℕ → List (List ℕ)
-service_of target = (parts_of (target_parts target)).0 ∷ (parts_of (target_parts target)).1 ∷ []
 
 -- the service's ticket, sealed under the service's key, for the client of the reply and with the reply's key
 pub record Serves (rules : Rules) (target : List ℕ) (suite : CipherSuite) (service_key : List ℕ) (known : Known) (reply : List ℕ) (rep : TgsRep)

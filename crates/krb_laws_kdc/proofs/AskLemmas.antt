@@ -28,7 +28,7 @@ use Rattle.krb_authenticators.proofs.Lengths.{number_some}
 use Rattle.krb_tgs.specs.declared.wanted.Wanted.{Wanted}
 use Rattle.krb_tgs.specs.TgsAsked.{tgs_authenticator, drawn_number, drawn_nonce, drawn_confounder}
 use Rattle.krb_laws_ends.specs.Answers.{IsDraw}
-use Rattle.krb_laws_ends.specs.HonestKdc.{service_of}
+use Rattle.krb_tgs.specs.TgsAsked.{service_of}
 use Rattle.krb_laws_ends.proofs.AnswerLemmas.{moment_time, time_short}
 use Rattle.krb_laws_ends.proofs.GrantLemmas.{IsOctets-digest, short-unsigned, short-sign, sound_sign}
 use Rattle.krb_laws_ends.proofs.OctetsLemmas.{IsShort, IsOctets-drop, IsOctets-time, short-nothing, short-append, short-tlv, short-field, short-more, short-word}

@@ -34,7 +34,7 @@ use Rattle.sspi_core.specs.declared.protocol.NetworkProtocol.TheVariants.{Tcp}
 use Rattle.sspi_core.proofs.Chain.{follows, gives, takes_some}
 use Rattle.sspi_generator.specs.Draws.{AreInRange}
 use Rattle.krb_laws_ends.specs.Answers.{IsDraw}
-use Rattle.krb_laws_ends.specs.HonestKdc.{service_of}
+use Rattle.krb_tgs.specs.TgsAsked.{service_of}
 use Rattle.krb_kdc.specs.declared.grant.Grant.{Grant}
 use Rattle.krb_kdc.specs.declared.kdc.Kdc.{Kdc}
 use Rattle.krb_kdc.specs.declared.tgs_req.Target.{Target}

@@ -19,7 +19,7 @@ use Rattle.krb_requests.specs.Pieces.{principal as name_with, three_days_after}
 use Rattle.krb_tgs.specs.declared.wanted.Wanted.{Wanted}
 use Rattle.krb_tgs.specs.TgsAsked.{tgs_req_for, tgs_authenticator, drawn_nonce, drawn_confounder}
 use Rattle.krb_laws_ends.specs.Answers.{IsDraw}
-use Rattle.krb_laws_ends.specs.HonestKdc.{service_of}
+use Rattle.krb_tgs.specs.TgsAsked.{service_of}
 use Rattle.krb_laws_ends.proofs.OctetsLemmas.{IsOctets-drop}
 use Rattle.krb_kdc.specs.declared.kdc.Kdc.{Kdc}
 use Rattle.krb_kdc.specs.declared.tgs_req.Target.{Target}

@@ -23,7 +23,8 @@ use Rattle.krb_requests.specs.Pieces.{principal as name_with}
 use Rattle.krb_as.specs.declared.asker.Asker.{Asker}
 use Rattle.krb_tgs.specs.TgsAsked.{is_same_realm}
 use Rattle.krb_laws_ends.specs.Answers.{IsDraw}
-use Rattle.krb_laws_ends.specs.HonestKdc.{Known, GrantsNext, HasKdc, Refers, Serves, service_of}
+use Rattle.krb_laws_ends.specs.HonestKdc.{Known, GrantsNext, HasKdc, Refers, Serves}
+use Rattle.krb_tgs.specs.TgsAsked.{service_of}
 use Rattle.krb_laws_ends.proofs.OctetsLemmas.{IsShort, IsOctets-back, short-nothing, short-append, short-tlv, short-field, short-more}
 use Rattle.krb_laws_ends.proofs.HonestLemmas.{spells_itself, has_suite}
 use Rattle.krb_context.specs.declared.rules.Rules.{Rules}

@@ -42,7 +42,8 @@ use Rattle.krb_initiator.specs.declared.seeker.InitPhase.TheVariants.{AwaitsTgsR
 use Rattle.krb_initiator.specs.InitRuns.{Next, ResumesAt}
 use Rattle.krb_laws_ends.specs.Answers.{IsDraw}
 use Rattle.krb_laws_ends.specs.Fetches.{Leads}
-use Rattle.krb_laws_ends.specs.HonestKdc.{Known, HasKdc, Refers, Serves, Step, AreHonest, service_of}
+use Rattle.krb_laws_ends.specs.HonestKdc.{Known, HasKdc, Refers, Serves, Step, AreHonest}
+use Rattle.krb_tgs.specs.TgsAsked.{service_of}
 use Rattle.krb_laws_ends.proofs.FetchLemmas.{leg, refers, arrives}
 use Rattle.krb_kdc.specs.declared.grant.Grant.{Grant}
 use Rattle.krb_kdc.specs.declared.kdc.Kdc.{Kdc}

@@ -37,7 +37,8 @@ use Rattle.krb_initiator.specs.InitSteps.{body_of}
 use Rattle.krb_admission.specs.Clients.{client_of}
 use Rattle.krb_laws_ends.specs.Answers.{IsDraw}
 use Rattle.krb_laws_ends.specs.Fetches.{AsksMutual, EndsWithOffer}
-use Rattle.krb_laws_ends.specs.HonestKdc.{service_of, Answers, AreHonestKdcs}
+use Rattle.krb_laws_ends.specs.HonestKdc.{Answers, AreHonestKdcs}
+use Rattle.krb_tgs.specs.TgsAsked.{service_of}
 use Rattle.krb_kdc.specs.declared.grant.Grant.{Grant}
 use Rattle.krb_kdc.specs.declared.kdc.Kdc.{Kdc}
 use Rattle.krb_kdc.specs.declared.kdc.Principal.{Principal}

@@ -1,5 +1,5 @@
 -- What is sealed to a key is found in one way.
-use Rattle.std.proofs.Common.{◌≡◌, ℕ, Bool, true, false, List, ap}
+use Rattle.std.proofs.Common.{◌≡◌, ℕ, Bool, true, false, List, Result, ap}
 use Rattle.std.specs.Prelude.{◌&&◌}
 use Rattle.krb_der.specs.Layout.{Layout}
 use Rattle.krb_crypto.proofs.SealedLemmas.{sealed_once}
@@ -13,8 +13,10 @@ use Rattle.krb_exchange.specs.declared.enc_kdc_rep_part.EncKdcRepPart.{EncKdcRep
 use Rattle.krb_exchange.specs.declared.enc_kdc_rep_part.EncTgsRepPart.{EncTgsRepPart}
 use Rattle.krb_exchange.specs.Layouts.{enc_as_rep_part_layout, enc_tgs_rep_part_layout}
 use Rattle.krb_exchange.proofs.Spelled.{same_record}
+use Rattle.sspi_core.specs.declared.cause.Cause.{Cause}
 use Rattle.sspi_core.proofs.Once.{Once, then_once, finds_once, takes_once, holds_once, gives_once}
 use Rattle.krb_replies.specs.Keys.{is_tagged_26, IsFirstPart, OpensFirst, HasSuite, TakesKey, BringsFirst, BringsNext}
+use Rattle.krb_replies.specs.Fresh.{AskedFor}
 use Rattle.krb_replies.specs.Unseals.{Unseals, OpensSealed}
 use Rattle.krb_replies.specs.declared.unseal.Refusals.{Refusals}
 
@@ -61,3 +63,8 @@ pub brings_next_once : (rules : Rules) (suite : CipherSuite) (key : List ℕ) (t
 unfolding BringsNext
 brings_next_once rules suite key tgs_rep =
     then_once _ _ (opens_once enc_tgs_rep_part_layout _ suite key 8 tgs_rep.0.enc_part.cipher) (λ part. takes_key_once rules suite part.0)
+
+-- a check that a rule asks for
+pub asked_for_once : (is_rule : Bool) (check : Result (Unit {0}) Cause → Type 0) → Once check → Once (λ r. AskedFor is_rule check r)
+asked_for_once false check once = record { same = λ r s h k. (gives_once tt).same r s h k }
+asked_for_once true check once = record { same = λ r s h k. once.same r s h k }

@@ -1,9 +1,12 @@
 -- Whether a reply of a KDC answers the request of this exchange, by what is sealed in it (RFC 4120, sections 3.1.5, 3.3.4 and 5.4.2).
-use Rattle.std.specs.Prelude.{ℕ, ◌^◌, ◌&&◌, ◌||◌, Bool, false, not, ℤ, pos, ◌-ℤ◌, List, [], ◌∷◌, unwrap_or}
+use Rattle.std.specs.Prelude.{ℕ, ◌^◌, ◌==◌, ◌&&◌, ◌||◌, Bool, true, false, not, ℤ, pos, ◌-ℤ◌, List, [], ◌∷◌, unwrap_or, Result}
 use Rattle.std.specs.Int.{w32, from_be_bytes}
 use Rattle.std.specs.Ordering.{int_eq}
+use Rattle.std.specs.Cmp.Lexicographic.{pointwise}
 use Rattle.krb_der.specs.Integer.{integer_value}
 use Rattle.krb_replay.specs.Clock.{in_microseconds, is_later}
+use Rattle.sspi_core.specs.declared.cause.Cause.{Cause}
+use Rattle.sspi_core.specs.Checks.{Gives}
 use Rattle.krb_replies.specs.declared.facts.ReplyFacts.{ReplyFacts}
 
 -- how far the clocks of a client and of a KDC may differ, in seconds (RFC 4120, section 8.2: five minutes)
@@ -35,3 +38,12 @@ start_of facts = unwrap_or facts.starttime facts.authtime
 abbrev pub is_valid_at : ℕ → ReplyFacts → Bool
 is_valid_at moment facts =
     not (is_later (in_microseconds (start_of facts)) (pos moment) grace) && not (is_later (pos moment) (in_microseconds facts.endtime) grace)
+
+-- two names have the same components, whatever their types, which are hints (RFC 4120, section 6.2)
+abbrev pub same_components : List (List ℕ) → List (List ℕ) → Bool
+same_components one other = pointwise (pointwise ◌==◌) one other
+
+-- a check that a rule asks for: without the rule all passes
+abbrev pub AskedFor : Bool → (Result (Unit {0}) Cause → Type 0) → Result (Unit {0}) Cause → Type 0
+AskedFor false check answer = Gives tt answer
+AskedFor true check answer = check answer

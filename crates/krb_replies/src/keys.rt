@@ -69,11 +69,7 @@ fn read_first(alloc: Global, is_tagged: bool, plain: &Octets) -> Result<EncAsRep
 }
 
 /// What an AS-REP seals, by its tag.
-fn first_part(
-    alloc: Global,
-    rules: Rules,
-    plain: &Octets,
-) -> Result<EncAsRepPart, Cause>
+fn first_part(alloc: Global, rules: Rules, plain: &Octets) -> Result<EncAsRepPart, Cause>
     ensures { let is_tagged = has_rule rules as_rep_tagged_26 && is_tagged_26 plain.now in
         Answers (Finds causes.Inner (IsFirstPart is_tagged plain.now)) result }
 {

@@ -9,7 +9,9 @@ use Rattle.sspi_core.specs.Checks.{Gives}
 use Rattle.sspi_generator.specs.declared.network.NetFault.{NetFault}
 use Rattle.sspi_core.specs.declared.identity.CredentialsBuffers.{CredentialsBuffers}
 use Rattle.krb_context.specs.declared.rules.Rules.{Rules}
-use Rattle.krb_context.specs.Rules.{no_rules}
+use Rattle.krb_context.specs.Rules.{no_rules, has_rule, fresh_replies}
+use Rattle.krb_exchange.specs.declared.kdc_rep.KdcRep.{KdcRep}
+use Rattle.krb_replies.specs.Fresh.{AskedFor}
 use Rattle.krb_replies.specs.declared.keys.ReplyKey.{ReplyKey}
 use Rattle.krb_replies.specs.Keys.{BringsNext}
 use Rattle.krb_replies.proofs.Suites.{next_keeps}
@@ -18,7 +20,9 @@ use Rattle.krb_exchange.specs.Layouts.{tgs_rep_layout}
 use Rattle.krb_as.specs.Replied.{Grants}
 use Rattle.krb_as.specs.ReplyKeys.{TakesReplyKey}
 use Rattle.krb_as.specs.declared.key.Grant.{Grant}
-use Rattle.krb_tgs.specs.Taken.{TakesTgsRep}
+use Rattle.krb_tgs.specs.declared.fresh.TgsQuestion.{TgsQuestion}
+use Rattle.krb_tgs.specs.Fresh.{AnswersTgsReq}
+use Rattle.krb_tgs.specs.Taken.{BringsFresh, TakesTgsRep}
 use Rattle.krb_tgs.specs.Chain.{HandsOn, IsChain}
 
 module _ (rules : Rules) (reply : TgsRep) (middle last : ReplyKey) (opened : BringsNext rules middle.suite middle.key reply (Ok last)) where
@@ -45,29 +49,37 @@ hands_on_suite shown (reply ∷ replies) last h = hands_on_suite h.0 replies las
 
 -- the key that a ticket came with
 abbrev pub key_of : Grant → ReplyKey
-key_of shown = record { suite = shown.suite; key = shown.key }
+key_of shown = record { suite = shown.suite; key = shown.key; facts = shown.facts }
 
 -- what was taken from a TGS-REP: the key that it hands on
-pub record TgsTaken (rules : Rules) (protocol : NetworkProtocol) (suite : CipherSuite) (key : List ℕ) (reply : Result (List ℕ) NetFault) (shown : Grant) : Type 0 where
+pub record TgsTaken (rules : Rules) (target : List ℕ) (question : TgsQuestion) (moment : ℕ) (protocol : NetworkProtocol) (suite : CipherSuite) (key : List ℕ) (reply : Result (List ℕ) NetFault) (shown : Grant) : Type 0 where
   pub rep : TgsRep
   pub granted : Grants protocol tgs_rep_layout reply (Ok rep)
   pub opened : BringsNext rules suite key rep (Ok (key_of shown))
+  pub fresh : AskedFor (has_rule rules fresh_replies) (AnswersTgsReq target question moment shown.rep shown.facts) (Ok tt)
   pub brought : shown.rep ≡ rep.0
 
-tgs_given : (next : ReplyKey) (rep : TgsRep) (shown : Grant) → Gives {E = Cause} (record { suite = next.suite; key = next.key; rep = rep.0 }) (Ok shown)
-    → shown ≡ record { suite = next.suite; key = next.key; rep = rep.0 }
+tgs_given : (next : ReplyKey) (rep : TgsRep) (shown : Grant) → Gives {E = Cause} (record { suite = next.suite; key = next.key; facts = next.facts; rep = rep.0 }) (Ok shown)
+    → shown ≡ record { suite = next.suite; key = next.key; facts = next.facts; rep = rep.0 }
 tgs_given next rep shown h = gave _ _ h
 
-pub taken_tgs : (rules : Rules) (protocol : NetworkProtocol) (suite : CipherSuite) (key : List ℕ) (reply : Result (List ℕ) NetFault) (shown : Grant)
-    → TakesTgsRep rules protocol suite key reply (Ok shown) → TgsTaken rules protocol suite key reply shown
-unfolding TakesTgsRep
-taken_tgs rules protocol suite key reply shown h =
+pub taken_tgs : (rules : Rules) (target : List ℕ) (question : TgsQuestion) (moment : ℕ) (protocol : NetworkProtocol) (suite : CipherSuite) (key : List ℕ)
+    (reply : Result (List ℕ) NetFault) (shown : Grant)
+    → TakesTgsRep rules target question moment protocol suite key reply (Ok shown) → TgsTaken rules target question moment protocol suite key reply shown
+unfolding TakesTgsRep BringsFresh
+taken_tgs rules target question moment protocol suite key reply shown h =
     let rep = passed _ _ _ h in
     let next = passed _ _ _ rep.rest_held in
     let is = tgs_given next.found rep.found shown next.rest_held in
+    let own = passed _ _ _ next.first_held in
+    let answers = passed _ _ _ own.rest_held in
+    let same : key_of shown ≡ own.found = ap (λ (s : Grant). key_of s) is ∙ gave _ _ answers.rest_held in
     record {
       rep = rep.found;
       granted = rep.first_held;
-      opened = subst (λ (k : ReplyKey). BringsNext rules suite key rep.found (Ok k)) (sym (ap (λ (s : Grant). key_of s) is)) next.first_held;
+      opened = subst (λ (k : ReplyKey). BringsNext rules suite key rep.found (Ok k)) (sym same) own.first_held;
+      fresh =
+          subst (λ (r : KdcRep). AskedFor (has_rule rules fresh_replies) (AnswersTgsReq target question moment r shown.facts) (Ok tt)) (sym (ap (λ (s : Grant). s.rep) is))
+          (subst (λ (k : ReplyKey). AskedFor (has_rule rules fresh_replies) (AnswersTgsReq target question moment rep.found.0 k.facts) (Ok tt)) (sym same) answers.first_held);
       brought = ap (λ (s : Grant). s.rep) is;
     }

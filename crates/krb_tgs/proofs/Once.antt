@@ -11,13 +11,19 @@ use Rattle.sspi_core.specs.declared.draw.Draw.{Draw}
 use Rattle.sspi_core.specs.declared.protocol.NetworkProtocol.{NetworkProtocol}
 use Rattle.sspi_generator.specs.declared.network.NetFault.{NetFault}
 use Rattle.krb_context.specs.declared.rules.Rules.{Rules}
-use Rattle.krb_replies.proofs.Once.{brings_next_once}
+use Rattle.krb_exchange.specs.declared.kdc_rep.KdcRep.{KdcRep}
+use Rattle.krb_exchange.specs.declared.kdc_rep.TgsRep.{TgsRep}
+use Rattle.krb_context.specs.Rules.{has_rule, fresh_replies}
+use Rattle.krb_replies.specs.declared.facts.ReplyFacts.{ReplyFacts}
+use Rattle.krb_replies.proofs.Once.{brings_next_once, asked_for_once}
 use Rattle.krb_as.proofs.Once.{finds_kdc_once, grants_once}
 use Rattle.krb_as.specs.declared.asker.Asker.{Asker}
 use Rattle.krb_tgs.specs.declared.wanted.Wanted.{Wanted}
 use Rattle.krb_as.specs.declared.key.Grant.{Grant}
 use Rattle.krb_tgs.specs.TgsAsked.{AsksTgs, Follows}
-use Rattle.krb_tgs.specs.Taken.{TakesTgsRep}
+use Rattle.krb_tgs.specs.declared.fresh.TgsQuestion.{TgsQuestion}
+use Rattle.krb_tgs.specs.Fresh.{AnswersTgsReq}
+use Rattle.krb_tgs.specs.Taken.{BringsFresh, TakesTgsRep}
 
 pub asks_tgs_once : (asker : Asker) (wanted : Wanted) (shown : Grant) (home realm : List ℕ) (tickets : Option (List Ticket)) (draw : Draw) → Once (AsksTgs asker wanted shown home realm tickets draw)
 unfolding AsksTgs
@@ -34,8 +40,19 @@ tgs_rep_once : HasOneResult tgs_rep_layout
 unfolding tgs_rep krb_error
 tgs_rep_once = one_result_of tgs_rep_layout (λ e. omega (arith, e))
 
-pub takes_tgs_rep_once : (rules : Rules) (protocol : NetworkProtocol) (suite : CipherSuite) (key : List ℕ) (reply : Result (List ℕ) NetFault)
-    → Once (TakesTgsRep rules protocol suite key reply)
+answers_tgs_req_once : (target : List ℕ) (question : TgsQuestion) (moment : ℕ) (rep : KdcRep) (facts : ReplyFacts) → Once (AnswersTgsReq target question moment rep facts)
+unfolding AnswersTgsReq
+answers_tgs_req_once target question moment rep facts = then_once _ _ (holds_once _ _) (λ _. then_once _ _ (holds_once _ _) (λ _. holds_once _ _))
+
+brings_fresh_once : (rules : Rules) (target : List ℕ) (question : TgsQuestion) (moment : ℕ) (suite : CipherSuite) (key : List ℕ) (tgs_rep : TgsRep)
+    → Once (BringsFresh rules target question moment suite key tgs_rep)
+unfolding BringsFresh
+brings_fresh_once rules target question moment suite key tgs_rep =
+    then_once _ _ (brings_next_once rules suite key tgs_rep)
+    (λ next. then_once _ _ (asked_for_once (has_rule rules fresh_replies) (AnswersTgsReq target question moment tgs_rep.0 next.facts) (answers_tgs_req_once target question moment tgs_rep.0 next.facts)) (λ _. gives_once _))
+
+pub takes_tgs_rep_once : (rules : Rules) (target : List ℕ) (question : TgsQuestion) (moment : ℕ) (protocol : NetworkProtocol) (suite : CipherSuite) (key : List ℕ) (reply : Result (List ℕ) NetFault)
+    → Once (TakesTgsRep rules target question moment protocol suite key reply)
 unfolding TakesTgsRep
-takes_tgs_rep_once rules protocol suite key reply =
-    then_once _ _ (grants_once protocol tgs_rep_layout reply tgs_rep_once) (λ tgs_rep. then_once _ _ (brings_next_once rules suite key tgs_rep) (λ next. gives_once _))
+takes_tgs_rep_once rules target question moment protocol suite key reply =
+    then_once _ _ (grants_once protocol tgs_rep_layout reply tgs_rep_once) (λ tgs_rep. then_once _ _ (brings_fresh_once rules target question moment suite key tgs_rep) (λ next. gives_once _))

@@ -1,3 +1,4 @@
 pub mod TgsAsked
+pub mod Fresh
 pub mod Taken
 pub mod Chain

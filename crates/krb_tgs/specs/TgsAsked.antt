@@ -1,5 +1,5 @@
 -- What a client asks of ticket-granting services, one behind the other (RFC 4120, sections 3.3 and 5.4.1; RFC 6806, section 8).
-use Rattle.std.specs.Prelude.{ℕ, ◌==◌, Bool, not, nat_lt, List, [], take, drop, length, Option, Some, None, Result, bytes_eq, unwrap_or, if◌then◌else◌}
+use Rattle.std.specs.Prelude.{ℕ, ◌==◌, Bool, not, nat_lt, List, [], ◌∷◌, take, drop, length, Option, Some, None, Result, bytes_eq, unwrap_or, if◌then◌else◌}
 use Rattle.std.specs.Int.{w32, from_be_bytes}
 use Rattle.std.specs.Str.{str_to_ascii_lowercase}
 use Rattle.krb_der.specs.Layout.{spelling}
@@ -44,6 +44,10 @@ tgs_authenticator wanted rep draw = authenticator rep (Some (drawn_number draw))
 -- the service and the host of a target
 abbrev pub parts_of : Option (List ℕ × List ℕ) → List ℕ × List ℕ
 parts_of parts = unwrap_or parts ([], [])
+
+-- the service of a target, by the components of its name
+abbrev pub service_of : List ℕ → List (List ℕ)
+service_of target = (parts_of (target_parts target)).0 ∷ (parts_of (target_parts target)).1 ∷ []
 
 -- a ticket for the target is asked for
 abbrev pub wanted_body : Wanted → List ℕ → Option (List Ticket) → Draw → List ℕ → List ℕ → KdcReqBody

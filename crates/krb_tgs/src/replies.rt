@@ -4,12 +4,13 @@ ghost use Rattle.std.specs.Prelude.{IfOk};
 ghost use Rattle.sspi_core.specs.Checks.{Answers, Gives};
 ghost use Rattle.krb_replies.specs.Keys.{BringsNext};
 ghost use Rattle.krb_as.specs.Granted.{IsSendable};
-ghost use Rattle.krb_tgs.specs.Taken.{TakesTgsRep};
+ghost use Rattle.krb_tgs.specs.Taken.{BringsFresh, TakesTgsRep};
 
+use crate::fresh::{TgsQuestion, check_fresh};
 use krb_as::{Grant, granted_tgs_rep};
 use krb_context::Rules;
 use krb_crypto::CipherSuite;
-use krb_der::Octets;
+use krb_der::{Name, Octets};
 use krb_exchange::TgsRep;
 use krb_replies::{ReplyKey, key_in_tgs_rep};
 use sspi_core::{Cause, NetworkProtocol, Secret};
@@ -19,12 +20,13 @@ use std::alloc::Global;
 /// What a TGS-REP brought.
 fn shown_by_tgs(next: ReplyKey, tgs_rep: TgsRep) -> Result<Grant, Cause>
     requires { IsSendable tgs_rep.0 }
-    ensures made { Answers (Gives (record { suite = next.suite; key = next.key; rep = tgs_rep.0 })) result }
+    ensures made { Answers (Gives (record { suite = next.suite; key = next.key; facts = next.facts; rep = tgs_rep.0 })) result }
     ensures sendable { IfOk result (λ shown. IsSendable shown.rep) }
 {
     Ok(Grant {
         suite: next.suite,
         key: next.key,
+        facts: next.facts,
         rep: tgs_rep.0,
     })
 }
@@ -42,23 +44,46 @@ fn next_key(
     key_in_tgs_rep(alloc, rules, suite, key.as_ref().as_slice(), tgs_rep)
 }
 
+/// That key, where the reply answers the request.
+#[tactic(auto, unfolding(crate::specs::Taken::BringsFresh))]
+fn fresh_key(
+    alloc: Global,
+    rules: Rules,
+    target: &Name,
+    question: &TgsQuestion,
+    moment: u64,
+    suite: CipherSuite,
+    key: &Secret<Octets>,
+    tgs_rep: &TgsRep,
+) -> Result<ReplyKey, Cause>
+    ensures { Answers (BringsFresh rules target.now question.now moment suite key.now tgs_rep.now) result }
+{
+    let next = next_key(alloc, rules, suite, key, tgs_rep)?;
+    check_fresh(rules, target, question, moment, &tgs_rep.0, &next.facts)?;
+    Ok(next)
+}
+
 /// What a TGS-REP brings: its ticket, and the session key that is sealed in it under that of the ticket that was shown.
 ///
 /// Refused as `granted_tgs_rep` refuses; then as `Reply` where nothing is sealed to it under that key, as `Inner` where what is
-/// sealed is no EncTGSRepPart; as `Etype` where the key goes by its own suite, and that is not known.
+/// sealed is no EncTGSRepPart; as `Etype` where the key goes by its own suite, and that is not known; where a reply has to answer its request,
+/// as `Nonce`, as `ReplyNames` and as `ReplyTime`.
 #[tactic(auto, unfolding(crate::specs::Taken::TakesTgsRep))]
 pub fn take_tgs_rep(
     alloc: Global,
     rules: Rules,
+    target: &Name,
+    question: &TgsQuestion,
+    moment: u64,
     protocol: NetworkProtocol,
     suite: CipherSuite,
     key: &Secret<Octets>,
     reply: Result<Octets, NetFault>,
 ) -> Result<Grant, Cause>
-    ensures step { Answers (TakesTgsRep rules protocol suite key.now reply) result }
+    ensures step { Answers (TakesTgsRep rules target.now question.now moment protocol suite key.now reply) result }
     ensures sendable { IfOk result (λ shown. IsSendable shown.rep) }
 {
     let tgs_rep = granted_tgs_rep(alloc, protocol, reply)?;
-    let next = next_key(alloc, rules, suite, key, &tgs_rep)?;
+    let next = fresh_key(alloc, rules, target, question, moment, suite, key, &tgs_rep)?;
     shown_by_tgs(next, tgs_rep)
 }
