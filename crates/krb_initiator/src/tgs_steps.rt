@@ -7,7 +7,6 @@ ghost use Rattle.krb_authenticators.specs.TgsRequests.{AreShortTickets};
 ghost use Rattle.krb_replies.specs.Realms.{referral_realm};
 ghost use Rattle.krb_as.specs.declared.turn.Turn.TheVariants as turns;
 ghost use Rattle.krb_as.specs.Granted.{IsSendable};
-ghost use Rattle.krb_as.specs.declared.key.Grant.{Grant};
 ghost use Rattle.krb_tgs.specs.TgsAsked.{AsksTgs};
 ghost use Rattle.krb_tgs.specs.Fresh.{question_of};
 ghost use Rattle.krb_initiator.specs.declared.seeker.InitPhase.TheVariants as phases;
@@ -68,7 +67,7 @@ fn begin_tgs(alloc: Global, seeker: &Seeker, shown: &Grant, draw: &Draw) -> Resu
 
 /// What a request asked that shows the ticket of this reply.
 fn question_of(rep: KdcRep, draw: &Draw) -> TgsQuestion
-    ensures { (shown : Grant) → shown.rep ≡ rep → result ≡ question_of shown draw.now }
+    ensures { result ≡ question_of rep draw.now }
 {
     TgsQuestion {
         nonce: u32::from_be_bytes(draw.octets::<4>(4)),

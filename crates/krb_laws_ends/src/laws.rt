@@ -65,7 +65,7 @@ pub fn initiators_begin()
 /// the key that the last reply handed on. The context then awaits the answer, with that key in the suite of the exchange.
 pub fn honest_kdcs_lead_to_an_offer()
     ensures { (context : Kerberos) (seeker : Seeker) (suite : CipherSuite) (service_key : List ℕ) (draw : Draw) (answers : Answers) (rep : TgsRep)
-        (part : EncTicketPart) → context.server ≡ None → AsksMutual seeker → AreHonestKdcs seeker suite service_key answers rep part
+        (part : EncTicketPart) → context.server ≡ None → AsksMutual seeker → AreHonestKdcs seeker suite service_key draw answers rep part
         → IsDraw answers.last.draw → EndsWithOffer context seeker service_key suite draw answers rep part }
 {}
 
@@ -175,7 +175,7 @@ pub fn both_ends_reach_one_context<G: ReplayGate>()
         (client : Client) (suite : CipherSuite) (answers : Answers) (rep : TgsRep) (part : EncTicketPart) (user : UserName) (env : Env)
         (first own draw : Draw) (old new : G) (answer : Result Accepted Cause)
         → is_bare more.flags ≡ is_bare options.flags
-        → AreHonestKdcs (seeker_for initiator options target credentials client) suite service_key answers rep part
+        → AreHonestKdcs (seeker_for initiator options target credentials client) suite service_key first answers rep part
         → HoldsKey acceptor target service_key → client_of part.cname part.crealm ≡ Some user → AreNew initiator acceptor
         → IsDraw own → IsDraw draw
         → (end : EndsWithOffer initiator (seeker_for initiator options target credentials client) service_key suite first answers rep part)

@@ -9,13 +9,12 @@ use Rattle.sspi_core.specs.declared.draw.Draw.{Draw}
 use Rattle.sspi_core.specs.declared.cause.Cause.{Cause}
 use Rattle.sspi_core.specs.declared.cause.Cause.TheVariants.{Nonce, ReplyNames, ReplyTime}
 use Rattle.sspi_core.specs.Checks.{Holds, ◌>>◌}
-use Rattle.krb_as.specs.declared.key.Grant.{Grant}
 use Rattle.krb_tgs.specs.declared.fresh.TgsQuestion.{TgsQuestion}
 use Rattle.krb_tgs.specs.TgsAsked.{drawn_nonce, service_of}
 
--- what a request asked that shows a ticket: its nonce, and the client of the reply that brought the ticket
-abbrev pub question_of : Grant → Draw → TgsQuestion
-question_of shown draw = record { nonce = from_be_bytes w32 (drawn_nonce draw); crealm = shown.rep.crealm; cname = shown.rep.cname }
+-- what a request asked that shows the ticket of this reply: its nonce, and the client of the reply
+abbrev pub question_of : KdcRep → Draw → TgsQuestion
+question_of rep draw = record { nonce = from_be_bytes w32 (drawn_nonce draw); crealm = rep.crealm; cname = rep.cname }
 
 -- the ticket is for the same client
 abbrev pub names_client : TgsQuestion → KdcRep → Bool
