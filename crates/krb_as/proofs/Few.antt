@@ -47,7 +47,7 @@ module _ {P : Type 0} (O : Type 0) (within : AsPhase → P) (left : P → ℕ) (
         → TakesReplyWithin within next asker (AwaitsError kdc body) reply draw (Ok (Asks request phase)) → left phase < n
     second_down kdc body few early h = go (error_taken within next asker reply draw (Asks request phase) kdc body h)
       where
-        go : AskedSecond {O = O} within asker kdc reply (Asks request phase) ⊎ WentOnEarly next asker kdc reply (Asks request phase) → left phase < n
+        go : AskedSecond {O = O} within asker kdc body reply (Asks request phase) ⊎ WentOnEarly next asker kdc body draw.moment reply (Asks request phase) → left phase < n
         go (inl second) = subst (λ (p : P). left p < n) (asked {O = O} request second.request _ phase (sym second.is)) (few second.sealed)
         go (inr went) = early went.on.grant went.on.rest
 
