@@ -18,6 +18,7 @@ use Rattle.krb_context.specs.declared.context.Kerberos.{Kerberos}
 use Rattle.krb_context.specs.declared.server.ServerProperties.{ServerProperties}
 use Rattle.krb_context.specs.Contexts.{with_key, settled}
 use Rattle.sspi_core.proofs.Chain.{takes_some, holds_true, follows, gives}
+use Rattle.sspi_core.specs.Checks.{Gives}
 use Rattle.sspi_core.specs.declared.cause.Cause.{Cause}
 use Rattle.sspi_core.specs.declared.cause.Cause.TheVariants.{EarlyAsRep, KeyLength, Hops, SameRealm}
 use Rattle.sspi_core.specs.declared.results.SecurityStatus.TheVariants.{Ok as Complete, ContinueNeeded}
@@ -170,7 +171,7 @@ module _ (seeker : Seeker) (suite : CipherSuite) where
 
   -- the question of the leg is that of the request
   awaits_reply : (request : NetworkRequest) (known : Known) (home : List ℕ) (hops : ℕ) (question : TgsQuestion) → known.question ≡ question
-      → Gives {E = Cause} (Asks {O = InitDone} request (AwaitsTgsRep (record { kdc = known.kdc; suite = suite; key = known.key; home = home; question = question; hops = hops })))
+      → Gives {A = Turn InitPhase InitDone} {E = Cause} (Asks request (AwaitsTgsRep (record { kdc = known.kdc; suite = suite; key = known.key; home = home; question = question; hops = hops })))
       (Ok (Asks request (AwaitsTgsRep (leg known home hops))))
   awaits_reply request known home hops question asked =
       record { is = ap (λ (q : TgsQuestion). Ok (Asks request (AwaitsTgsRep (record { kdc = known.kdc; suite = suite; key = known.key; home = home; question = q; hops = hops })))) asked }
