@@ -62,7 +62,7 @@ use Rattle.krb_initiator.specs.declared.seeker.InitPhase.{InitPhase}
 use Rattle.krb_initiator.specs.declared.seeker.InitPhase.TheVariants.{InAsExchange, AwaitsTgsRep}
 use Rattle.krb_initiator.specs.InitSteps.{body_of, AsksFirstTgs, Refers as RefersOn, Arrives, GoesTo, TakesNext}
 use Rattle.krb_initiator.specs.Tgts.{first_tickets}
-use Rattle.krb_laws_ends.specs.Answers.{IsDraw, Offered}
+use Rattle.krb_laws_ends.specs.Answers.{IsDraw, KeepsTime, Offered}
 use Rattle.krb_laws_ends.specs.Fetches.{Leads, Fetches, AsksMutual, EndsWithOffer}
 use Rattle.krb_laws_ends.specs.HonestKdc.{Brings, AnswersError, GrantsFirst, Known, GrantsNext, HasKdc, Refers, Serves, Step, Answers, steps_behind, LeadsToKey, AreHonest, AreHonestKdcs}
 use Rattle.krb_laws_ends.specs.Offers.{Offer, octets_of, offered_token}
@@ -403,6 +403,10 @@ module _ (seeker : Seeker) (suite : CipherSuite) where
       unfolding shown_to message octets_of
       token_is = refl
 
+      keeps_moment : KeepsTime done.change.asked_at offer.authenticator
+      unfolding shown_to
+      keeps_moment = keeps_own_time offer.authenticator answers.last.draw.moment refl refl
+
       offered : (context : Kerberos) → context.server ≡ None → Offered (settled context done.change) offer
       unfolding shown_to
       offered context role = record {
@@ -410,7 +414,7 @@ module _ (seeker : Seeker) (suite : CipherSuite) where
         state = awaits;
         suite = refl;
         key = refl;
-        time = λ _. keeps_own_time offer.authenticator answers.last.draw.moment refl refl;
+        time = λ _. keeps_moment;
       }
 
       pub ends_with_offer : (context : Kerberos) → context.server ≡ None → EndsWithOffer context seeker service_key suite draw answers rep part
@@ -428,6 +432,7 @@ module _ (seeker : Seeker) (suite : CipherSuite) where
             style = refl;
             filler_stays = refl;
             number_stays = keeps;
+            time = keeps_moment;
             honest =
                 honest seeker.errand suite rep.0 answers.last.draw granted is part service_key serves.ticket serves.same_realm serves.same_name asks.asked asks.named asks.short;
             offered = offered context role;
