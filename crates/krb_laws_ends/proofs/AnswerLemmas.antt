@@ -24,6 +24,7 @@ use Rattle.krb_messages.specs.declared.authenticator.Authenticator.{Authenticato
 use Rattle.krb_context.specs.declared.context.Kerberos.{Kerberos}
 use Rattle.krb_context.specs.declared.state.KerberosState.{KerberosState}
 use Rattle.krb_context.specs.Params.{suite_of}
+use Rattle.krb_context.specs.Rules.{has_rule, answers_its_authenticator}
 use Rattle.sspi_core.proofs.Chain.{takes_some, holds_true, follows, gives}
 use Rattle.krb_replies.specs.Unseals.{IsRead}
 use Rattle.krb_replies.specs.Answered.{OpensApRep}
@@ -32,7 +33,7 @@ use Rattle.krb_as.specs.declared.done.InitDone.{InitDone}
 use Rattle.krb_as.specs.declared.turn.Turn.TheVariants.{Ends}
 use Rattle.krb_ap.specs.declared.initiator.Initiator.{Initiator}
 use Rattle.krb_ap.specs.Initiators.{is_bare}
-use Rattle.krb_ap.specs.Answered.{IsApRep as IsApRepToken, ReadsApRep as ReadsToken, confirmed, replied, Confirms, Replies, FinishesInitiation, TakesApRep}
+use Rattle.krb_ap.specs.Answered.{IsApRep as IsApRepToken, ReadsApRep as ReadsToken, confirmed, replied, Confirms, Replies, FinishesInitiation, answers_at, answers_authenticator, TakesApRep}
 use Rattle.krb_initiator.specs.declared.options.InitOptions.{InitOptions}
 use Rattle.krb_initiator.specs.declared.seeker.Initiation.TheVariants.{Hears as HearsToken}
 use Rattle.krb_initiator.specs.Beginnings.{initiator_of, BeginsIn}
@@ -40,7 +41,7 @@ use Rattle.krb_initiator.specs.InitSteps.{HearsAnswer}
 use Rattle.krb_admission.specs.declared.admission.Admission.{Admission}
 use Rattle.krb_context.specs.Drawn.{drawn_key}
 use Rattle.krb_admission.specs.Admission.{mechanism, ap_rep_id, ap_rep_with, ap_rep_part, drawn_confounder, next_number_octets, reply_message, token_with, mutual_admission}
-use Rattle.sspi_core.specs.declared.cause.Cause.TheVariants.{Shape, Reply}
+use Rattle.sspi_core.specs.declared.cause.Cause.TheVariants.{Shape, Reply, ReplyTime}
 use Rattle.sspi_core.specs.declared.draw.Draw.{Draw}
 use Rattle.sspi_core.specs.Usernames.{UserName}
 use Rattle.krb_context.proofs.DrawnLemmas.{key_size_small}
@@ -48,6 +49,7 @@ use Rattle.krb_laws_ends.specs.Answers.{IsDraw, Offered, Hears}
 use Rattle.krb_laws_ends.specs.Offers.{Offer, request_of, IsFor}
 use Rattle.krb_laws_ends.proofs.OctetsLemmas.{IsOctets-front, IsOctets-back, IsOctets-drop, IsOctets-inside, IsShort, short-word}
 use Rattle.krb_laws_ends.proofs.RepLemmas.{IsReadable, readable}
+use Rattle.krb_laws_ends.proofs.TimeLemmas.{if_asked, answers_in_time}
 
 -- ---- what is drawn
 
@@ -196,6 +198,12 @@ module _ (server : Kerberos) (draw : Draw) (client : UserName) (offer : Offer) (
         follows _ _ subkey _ (record { is = refl }) (follows _ _ (next_number_octets server.seq_number) _ (record { is = refl }) (gives (done_in true)))
     ends_so false = follows _ _ subkey _ (record { is = refl }) (gives (done_in false))
 
+    -- the AP-REP has the time of the authenticator
+    in_time : answers_authenticator caller part ≡ true
+    in_time =
+        if_asked (has_rule initiator.rules answers_its_authenticator) (answers_at initiator.asked_at part)
+        (λ asks. answers_in_time offer.suite initiator.asked_at offer.authenticator (next_number_octets server.seq_number) (Some subkey) (offered.time asks))
+
     takes : (dce : Bool) → is_bare options.flags ≡ dce → TakesApRep caller (made dce).token own (Ok (done_in dce))
     unfolding TakesApRep
     takes dce bare =
@@ -204,7 +212,8 @@ module _ (server : Kerberos) (draw : Draw) (client : UserName) (offer : Offer) (
         follows _ _ (ap_rep_with offer.suite cipher) _ (subst (λ (b : Bool). ReadsToken b (made dce).token (Ok (ap_rep_with offer.suite cipher))) (sym bare) (reads dce))
         (follows _ _ key _ (takes_some Reply initiator.encryption_params.session_key key offered.key)
         (follows _ _ part _ opened
-        (subst (λ (b : Bool). FinishesInitiation b caller key part own (Ok (done_in dce))) (sym bare) (ends_so dce))))
+        (follows _ _ tt _ (holds_true ReplyTime (answers_authenticator caller part) in_time)
+        (subst (λ (b : Bool). FinishesInitiation b caller key part own (Ok (done_in dce))) (sym bare) (ends_so dce)))))
 
     pub hears : (dce : Bool) → is_bare options.flags ≡ dce → Hears initiator options (made dce).token own (done_in dce)
     unfolding HearsAnswer

@@ -2,6 +2,7 @@ pub mod OrderLemmas
 pub mod ApartLemmas
 pub mod TalkLemmas
 pub mod OctetsLemmas
+pub mod TimeLemmas
 pub mod HonestLemmas
 pub mod RepLemmas
 pub mod AnswerLemmas

@@ -45,7 +45,7 @@ module _ (initiator acceptor acceptor' : Kerberos) (options more : InitOptions) 
   seeker = seeker_for initiator options target credentials client
 
   -- the offer is for the acceptor
-  is_for : AreHonestKdcs seeker suite service_key answers rep part → HoldsKey acceptor target service_key → client_of part.cname part.crealm ≡ Some user
+  is_for : AreHonestKdcs seeker suite service_key first answers rep part → HoldsKey acceptor target service_key → client_of part.cname part.crealm ≡ Some user
       → (end : EndsWithOffer initiator seeker service_key suite first answers rep part) → IsFor acceptor user end.offer
   is_for kdcs holds named end =
       let serves = (served seeker suite kdcs.as_rep.0.crealm service_key kdcs.known answers.referrals answers.last rep part kdcs.honest).1 in record {
@@ -69,7 +69,7 @@ module _ (initiator acceptor acceptor' : Kerberos) (options more : InitOptions) 
   }
 
   pub reach : {G : Type 0} (admits : G → Ask → Verdict → G → Type 0) (old new : G) (answer : Result Accepted Cause)
-      → is_bare more.flags ≡ is_bare options.flags → AreHonestKdcs seeker suite service_key answers rep part → HoldsKey acceptor target service_key
+      → is_bare more.flags ≡ is_bare options.flags → AreHonestKdcs seeker suite service_key first answers rep part → HoldsKey acceptor target service_key
       → client_of part.cname part.crealm ≡ Some user → AreNew initiator acceptor → IsDraw own → IsDraw draw
       → (end : EndsWithOffer initiator seeker service_key suite first answers rep part)
       → AcceptsWhole admits acceptor (is_bare options.flags) end.done.token env draw old answer acceptor' new

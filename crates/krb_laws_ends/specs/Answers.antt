@@ -1,9 +1,13 @@
 -- What an acceptor answers to an honest offer, and what both ends have once the answer was taken (RFC 4120, section 3.2.5; in DCE style
 -- MS-KILE, section 3.4.5.1).
-use Rattle.std.specs.Prelude.{◌≡◌, ℕ, ◌^◌, ◌<◌, ◌≤◌, Bool, true, false, List, [], length, Some, None, Result, Ok}
+use Rattle.std.specs.Prelude.{◌≡◌, ℕ, ◌^◌, ◌%◌, ◌<◌, ◌≤◌, pos, Bool, true, false, List, [], length, Option, Some, None, Result, Ok}
 use Rattle.krb_aes.specs.Octets.{IsOctets}
+use Rattle.krb_der.specs.Integer.{integer_value}
 use Rattle.krb_crypto.specs.declared.suite.CipherSuite.{CipherSuite}
 use Rattle.krb_conf.specs.declared.env.Env.{Env}
+use Rattle.krb_messages.specs.declared.authenticator.Authenticator.{Authenticator}
+use Rattle.krb_requests.specs.Pieces.{whole_second}
+use Rattle.krb_context.specs.Rules.{has_rule, answers_its_authenticator}
 use Rattle.krb_context.specs.declared.context.Kerberos.{Kerberos}
 use Rattle.krb_context.specs.declared.state.KerberosState.TheVariants.{ApExchange, Final}
 use Rattle.krb_context.specs.Contexts.{settled as with_change}
@@ -55,12 +59,21 @@ pub record IsDraw (draw : Draw) : Type 0 where
   pub octets : IsOctets draw.random
   pub moment : draw.moment ≤ 253402041599999999
 
--- an initiator that made this offer: it has the ticket's suite and session key, and awaits the answer
+-- a context keeps the moment of an authenticator, by the values of both fields of its time (RFC 4120, section 5.5.1)
+pub record KeepsTime (asked_at : Option ℕ) (authenticator : Authenticator) : Type 0 where
+  pub moment : ℕ
+  pub asked : asked_at ≡ Some moment
+  pub second : authenticator.ctime ≡ whole_second moment
+  pub microsecond : integer_value authenticator.cusec ≡ pos (moment % 1000000)
+
+-- an initiator that made this offer: it has the ticket's suite and session key, and awaits the answer. Where an AP-REP has to have the time
+-- of its authenticator, the context keeps that of the offer's
 pub record Offered (initiator : Kerberos) (offer : Offer) : Type 0 where
   pub role : initiator.server ≡ None
   pub state : initiator.state ≡ ApExchange
   pub suite : suite_of initiator.encryption_params ≡ offer.suite
   pub key : initiator.encryption_params.session_key ≡ Some offer.part.key.key_value
+  pub time : has_rule initiator.rules answers_its_authenticator ≡ true → KeepsTime initiator.asked_at offer.authenticator
 
 -- an initiator that is called with a token comes to its end at the start
 pub record Hears (context : Kerberos) (options : InitOptions) (token : List ℕ) (draw : Draw) (done : InitDone) : Type 0 where

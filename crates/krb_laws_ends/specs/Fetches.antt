@@ -28,7 +28,7 @@ use Rattle.krb_initiator.specs.declared.seeker.InitPhase.TheVariants.{New}
 use Rattle.krb_initiator.specs.Beginnings.{identity_of, seeker_of}
 use Rattle.krb_initiator.specs.InitRuns.{Starts, Next}
 use Rattle.krb_initiator.specs.Tgts.{no_tgt}
-use Rattle.krb_laws_ends.specs.Answers.{Offered}
+use Rattle.krb_laws_ends.specs.Answers.{KeepsTime, Offered}
 use Rattle.krb_laws_ends.specs.HonestKdc.{Step, Answers, steps_of}
 use Rattle.krb_tgs.specs.TgsAsked.{service_of}
 use Rattle.krb_laws_ends.specs.Offers.{Offer, offered_token, IsHonest}
@@ -70,7 +70,8 @@ pub record AsksMutual (seeker : Seeker) : Type 0 where
   pub named : 0 < length seeker.errand.mechanism
   pub short : length seeker.errand.mechanism ≤ 2 ^ 10
 
--- the run ends with a token, the AP-REQ of an honest offer with this ticket, and the context awaits the answer
+-- the run ends with a token, the AP-REQ of an honest offer with this ticket, and the context awaits the answer and keeps the moment of the
+-- authenticator
 pub record EndsWithOffer (context : Kerberos) (seeker : Seeker) (service_key : List ℕ) (suite : CipherSuite) (draw : Draw)
     (answers : Answers) (rep : TgsRep) (part : EncTicketPart) : Type 0 where
   pub done : InitDone
@@ -85,6 +86,7 @@ pub record EndsWithOffer (context : Kerberos) (seeker : Seeker) (service_key : L
   pub honest : IsHonest service_key offer
   pub filler_stays : done.change.encryption_params.ec ≡ seeker.errand.initiator.params.ec
   pub number_stays : done.change.seq_number ≡ seeker.errand.initiator.number
+  pub time : KeepsTime done.change.asked_at offer.authenticator
   pub offered : Offered (settled context done.change) offer
 
 -- an acceptor that waits for a token and holds this key of a target's service

@@ -62,7 +62,8 @@ pub fn initiators_begin()
 
 /// Over honest KDCs, with any number of referrals up to nine, the run of an initiator that asks for mutual authentication ends with
 /// ContinueNeeded and a token: the AP-REQ of an honest offer, which has the service's ticket, and whose authenticator is sealed under
-/// the key that the last reply handed on. The context then awaits the answer, with that key in the suite of the exchange.
+/// the key that the last reply handed on. The context then awaits the answer, with that key in the suite of the exchange, and keeps the
+/// moment of the authenticator. Honest KDCs answer what was asked, where a rule of the initiator has that checked.
 pub fn honest_kdcs_lead_to_an_offer()
     ensures { (context : Kerberos) (seeker : Seeker) (suite : CipherSuite) (service_key : List ℕ) (draw : Draw) (answers : Answers) (rep : TgsRep)
         (part : EncTicketPart) → context.server ≡ None → AsksMutual seeker → AreHonestKdcs seeker suite service_key draw answers rep part
@@ -91,7 +92,7 @@ pub fn honest_requests_are_answered<G: ReplayGate>()
 
 /// An honest AP-REQ that a gate admits ends the exchange well: the initiator that made it takes the acceptor's answer, and from there
 /// on the two are established with one session key, one sub-session key, one suite and one length of the filler, and each is the
-/// other's peer.
+/// other's peer. That holds under the rule that an AP-REP has the time of its authenticator, too.
 pub fn exchanges_end_well<G: ReplayGate>()
     ensures { (initiator server server' : Kerberos) (options : InitOptions) (env : Env) (own draw : Draw) (client : UserName) (offer : Offer)
         (old new : G) (answer : Result Accepted Cause) → IsFor server client offer → offer.dce ≡ false → Offered initiator offer
