@@ -54,4 +54,4 @@ pub takes_ap_rep_once : (initiator : Initiator) (token : List ℕ) (draw : Draw)
 unfolding TakesApRep
 takes_ap_rep_once initiator token draw =
     then_once _ _ (reads_once (is_bare initiator.flags) token) (λ message. then_once _ _ (takes_once _ _)
-    (λ key. then_once _ _ (opens_ap_rep_once _ key message) (λ part. finishes_once (is_bare initiator.flags) initiator key part draw)))
+    (λ key. then_once _ _ (opens_ap_rep_once _ key message) (λ part. then_once _ _ (holds_once _ _) (λ _. finishes_once (is_bare initiator.flags) initiator key part draw))))
