@@ -120,7 +120,10 @@ fn change_message(
     ensures fits { IfOk result FitsPriv }
 {
     let Grant {
-        suite, key, rep, ..
+        suite,
+        key,
+        rep,
+        ..
     } = grant;
     let number = number_after(changer.number);
     let authenticator = change_authenticator(alloc, number, *suite, rep, draw)?;

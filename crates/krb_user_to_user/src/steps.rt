@@ -94,7 +94,10 @@ fn done_of(alloc: Global, acceptor: &Acceptor, grant: Grant) -> Result<InitDone,
     ensures { IfOk result (λ done. done ≡ done_of acceptor.now grant) }
 {
     let Grant {
-        suite, key, rep, ..
+        suite,
+        key,
+        rep,
+        ..
     } = grant;
     let KdcRep { crealm, ticket, .. } = rep;
     let realm = text_of(alloc, &crealm)?;
