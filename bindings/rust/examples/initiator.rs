@@ -2,11 +2,12 @@
 //! and sends it messages:
 //!
 //!     cargo run --offline --example initiator 127.0.0.1:4444 host/server.example.com alice@EXAMPLE.COM - usual tcp://127.0.0.1:88 < password
-//!     cargo run --offline --example initiator 127.0.0.1:4444 host/server.example.com alice@EXAMPLE.COM keytab one-way udp://127.0.0.1:88 ALL
+//!     cargo run --offline --example initiator 127.0.0.1:4444 host/server.example.com alice@EXAMPLE.COM keytab one-way udp://127.0.0.1:88
 //!
 //! Behind the user stands a keytab file with its key, or `-` where its password is to be read from the standard input. `usual` asks the
 //! server to show who it is, `one-way` does not, and with `dce-style` the client has the last word. The KDCs are asked in turn, with
-//! commas between them, until one answers. Behind them are the options that these peers want, by name (docs/EMBEDDING.md), or `ALL`.
+//! commas between them, until one answers. The client goes by the RFCs. Who wants other rules names them behind the KDCs
+//! (docs/EMBEDDING.md), or `NONE`: then a recorded log-in can be played back to it.
 
 #[path = "parts/carrying.rs"]
 mod carrying;
@@ -16,8 +17,8 @@ mod frames;
 mod kdcs;
 #[path = "parts/keytab.rs"]
 mod keytab;
-#[path = "parts/options.rs"]
-mod options;
+#[path = "parts/rules.rs"]
+mod rules;
 #[path = "parts/sample_client.rs"]
 mod sample_client;
 
@@ -39,11 +40,13 @@ fn flags(word: &str) -> Answer<Flags> {
 
 fn run(arguments: &[String]) -> Answer<()> {
     let [address, service, user, keytab, asked, kdcs, words @ ..] = arguments else {
-        return Err("usage: initiator ADDRESS SERVICE USER KEYTAB|- usual|one-way|dce-style KDC[,KDC ..] [OPTION ..]".into());
+        return Err("usage: initiator ADDRESS SERVICE USER KEYTAB|- usual|one-way|dce-style KDC[,KDC ..] [RULE ..]".into());
     };
     let kdcs: Vec<&str> = kdcs.split(',').collect();
     let mut initiator = Initiator::new(service, "desk", flags(asked)?)?;
-    initiator.set_rules(options::named(words)?)?;
+    if let Some(rules) = rules::named(words)? {
+        initiator.set_rules(rules)?;
+    }
     initiator.kdc(kdcs[0])?;
     kdcs::identify(&mut initiator, user, keytab)?;
     let (mut session, stream) = sample_client::log_in(initiator, &kdcs[1..], address)?;

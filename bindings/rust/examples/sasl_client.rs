@@ -4,8 +4,8 @@
 //!     cargo run --offline --example sasl_client 127.0.0.1:1110 pop/server.example.com alice@EXAMPLE.COM - 4 5 tcp://127.0.0.1:88 < password
 //!
 //! Behind the user stands a keytab file with its key, or `-` where its password is to be read from the standard input. 4 is the layer that
-//! it wants: 1 (none), 2 (integrity) or 4 (confidentiality), and 5 how many times it asks. The KDCs, and the options behind them, are those
-//! of `initiator`.
+//! it wants: 1 (none), 2 (integrity) or 4 (confidentiality), and 5 how many times it asks. The KDCs, and the rules behind them, are those of
+//! `initiator`.
 
 #[path = "parts/base64.rs"]
 mod base64;
@@ -17,8 +17,8 @@ mod kdcs;
 mod keytab;
 #[path = "parts/layered.rs"]
 mod layered;
-#[path = "parts/options.rs"]
-mod options;
+#[path = "parts/rules.rs"]
+mod rules;
 #[path = "parts/until.rs"]
 mod until;
 
@@ -122,13 +122,15 @@ fn run(arguments: &[String]) -> Answer<()> {
     ] = arguments
     else {
         return Err(
-            "usage: sasl_client ADDRESS SERVICE USER KEYTAB|- LAYER COUNT KDC[,KDC ..] [OPTION ..]"
+            "usage: sasl_client ADDRESS SERVICE USER KEYTAB|- LAYER COUNT KDC[,KDC ..] [RULE ..]"
                 .into(),
         );
     };
     let kdcs: Vec<&str> = kdcs.split(',').collect();
     let mut initiator = Initiator::new(service, "desk", Flags::USUAL)?;
-    initiator.set_rules(options::named(words)?)?;
+    if let Some(rules) = rules::named(words)? {
+        initiator.set_rules(rules)?;
+    }
     initiator.kdc(kdcs[0])?;
     kdcs::identify(&mut initiator, user, keytab)?;
     let stream = TcpStream::connect(address)?;

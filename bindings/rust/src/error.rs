@@ -92,6 +92,12 @@ impl Cause {
     pub const NETWORK: Cause = Cause(34);
     /// A KDC answered a KRB-ERROR: the refusal's number is its code.
     pub const KDC: Cause = Cause(37);
+    /// A reply of the KDC does not have the nonce of the request: it is the reply to another one.
+    pub const NONCE: Cause = Cause(60);
+    /// A reply of the KDC is for another client or another service than the request.
+    pub const REPLY_NAMES: Cause = Cause(61);
+    /// The ticket of a reply is not valid now, or the service's answer has not the time of the authenticator.
+    pub const REPLY_TIME: Cause = Cause(62);
 }
 
 type NameCall = unsafe extern "C" fn(u32, *mut u8, usize) -> sys::Reply;

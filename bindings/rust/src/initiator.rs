@@ -1,7 +1,7 @@
 //! A client that is to reach a service.
 
 use crate::error::{Error, done};
-use crate::options::{Flags, Options};
+use crate::options::{Flags, Rules};
 use crate::session::Session;
 use crate::sys::{self, Handle, Reply};
 use crate::{filled, moment_of, random};
@@ -48,7 +48,9 @@ use std::time::SystemTime;
 /// A step out of its turn is refused as [`Cause::SEQUENCE`](crate::Cause::SEQUENCE), and changes nothing. An answer of a KDC that is
 /// refused, and a fault, end the exchange, and [`start`](Initiator::start) may come again. A start, or a token of the service, that is
 /// refused changes nothing. After [`Error::Memory`] the same step may come again. A KDC is asked at most twelve times in an exchange.
-/// Without [`Flags::MUTUAL_AUTH`] an initiator is established only where it allows [`Options::ONE_WAY_IS_SETTLED`].
+/// A KDC's reply to another request than that of this exchange is refused, and so is a service's answer to another token: a recorded log-in
+/// is not played back, unless [`set_rules`](Initiator::set_rules) gives that up. Without [`Flags::MUTUAL_AUTH`] an initiator is established
+/// at once; without [`Rules::ONE_WAY_IS_SETTLED`] among its rules it never is.
 pub struct Initiator(Handle);
 
 // SAFETY: the library's handle of an initiator may go to another thread (`Send` is proved of it), and each call takes `&mut self`.
@@ -119,10 +121,13 @@ impl Initiator {
         Ok(initiator)
     }
 
-    /// Allows it, and the session that it makes, these options and no others.
-    pub fn set_rules(&mut self, options: Options) -> Result<(), Error> {
+    /// Sets its rules, and those of the session that it makes: these, and no others. It begins with [`Rules::RFC`].
+    ///
+    /// # Security
+    /// Without [`Rules::FRESH_REPLIES`] and [`Rules::ANSWERS_ITS_AUTHENTICATOR`] a recorded log-in can be played back to it.
+    pub fn set_rules(&mut self, rules: Rules) -> Result<(), Error> {
         // SAFETY: the handle is ours.
-        done(unsafe { sys::mk_initiator_set_rules(&mut self.0, options.0) })?;
+        done(unsafe { sys::mk_initiator_set_rules(&mut self.0, rules.0) })?;
         Ok(())
     }
 

@@ -40,7 +40,7 @@ mod sys;
 pub use acceptor::{Acceptor, Judged};
 pub use error::{Cause, Error, Kind, LayerRefusal, Refusal};
 pub use initiator::{Initiator, Next, Step};
-pub use options::{Flags, Options};
+pub use options::{Flags, Rules};
 pub use sasl::{Layer, Layers, SaslClient, SaslServer};
 pub use session::{Opened, Session};
 

@@ -1,7 +1,7 @@
 //! A connection whose exchange is over, and its messages.
 
 use crate::error::{Error, done};
-use crate::options::Options;
+use crate::options::Rules;
 use crate::sys::{self, Handle, Times};
 use crate::{filled, random};
 use std::time::{Duration, SystemTime, UNIX_EPOCH};
@@ -102,10 +102,11 @@ impl Session {
         &self.answer
     }
 
-    /// Allows it these options from now on, and no others.
-    pub fn set_rules(&mut self, options: Options) -> Result<(), Error> {
+    /// Sets its rules: these from now on, and no others. It begins with [`Rules::RFC`], or with those of its initiator. Of a session only
+    /// [`Rules::SUBKEY_FLAG_BY_ORIGIN`] and [`Rules::EXTRA_COUNT_BY_TOKEN`] count.
+    pub fn set_rules(&mut self, rules: Rules) -> Result<(), Error> {
         // SAFETY: the handle is ours.
-        done(unsafe { sys::mk_session_set_rules(&mut self.handle, options.0) })?;
+        done(unsafe { sys::mk_session_set_rules(&mut self.handle, rules.0) })?;
         Ok(())
     }
 

@@ -111,7 +111,7 @@ unsafe extern "C" {
     pub fn mk_session_client(session: *mut Handle, out: *mut u8, room: usize) -> Reply;
     pub fn mk_session_times(session: *mut Handle, out: *mut Times) -> Reply;
     pub fn mk_session_key(session: *mut Handle, out: *mut u8, room: usize) -> Reply;
-    pub fn mk_session_set_rules(session: *mut Handle, options: u32) -> Reply;
+    pub fn mk_session_set_rules(session: *mut Handle, rules: u32) -> Reply;
     pub fn mk_session_free(session: *mut Handle);
     pub fn mk_wrap(
         session: *mut Handle,
@@ -160,7 +160,7 @@ unsafe extern "C" {
         number: *const u8,
         number_length: usize,
     ) -> Reply;
-    pub fn mk_initiator_set_rules(initiator: *mut Handle, options: u32) -> Reply;
+    pub fn mk_initiator_set_rules(initiator: *mut Handle, rules: u32) -> Reply;
     pub fn mk_initiator_kdc(
         initiator: *mut Handle,
         address: *const u8,

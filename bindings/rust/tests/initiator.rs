@@ -1,6 +1,6 @@
 //! An initiator, over a log-in at a KDC and a service that was recorded.
 
-use menolavuri::{Cause, Error, Flags, Initiator, Next, Options, Session, Step};
+use menolavuri::{Cause, Error, Flags, Initiator, Next, Rules, Session, Step};
 use std::time::{Duration, SystemTime, UNIX_EPOCH};
 
 /// What an initiator was told, up to its first message, and what it asked and showed.
@@ -75,17 +75,16 @@ fn a_service_is_reached() {
     assert_eq!(session.ends(), None);
     assert_eq!(session.key().unwrap().len(), 32);
     assert_eq!(session.wrap(b"A").unwrap().len(), 61);
-    session.set_rules(Options::ALL).unwrap();
+    session.set_rules(Rules::NONE).unwrap();
 }
 
 #[test]
-fn one_way_is_settled_where_that_is_allowed() {
+fn one_way_is_settled() {
     let user = only(TOLD, "user");
     let number = octets(user[6]).try_into().unwrap();
     let flags = Flags::USUAL.without(Flags::MUTUAL_AUTH);
     let mut initiator =
         Initiator::with_number("host/server.example.com", user[3], flags, number).unwrap();
-    initiator.set_rules(Options::ONE_WAY_IS_SETTLED).unwrap();
     initiator.kdc(user[4]).unwrap();
     initiator.password(user[1], user[2], user[5]).unwrap();
     let mut next = step(&mut initiator, Step::Start, 0).unwrap();
@@ -98,6 +97,42 @@ fn one_way_is_settled_where_that_is_allowed() {
     let session = initiator.into_session().unwrap();
     assert!(!token.is_empty());
     assert_eq!(session.answer(), token);
+}
+
+/// An initiator an hour later, that draws other octets: the replies and the answer that were recorded are not to it.
+fn play_back(rules: Option<Rules>) -> Result<Session, Error> {
+    let mut initiator = initiator();
+    if let Some(rules) = rules {
+        initiator.set_rules(rules)?;
+    }
+    let mut at = lines(TOLD, "step").into_iter();
+    let mut step = |initiator: &mut Initiator, step| {
+        let recorded = Duration::from_micros(at.next().unwrap()[1].parse().unwrap());
+        let later = UNIX_EPOCH + recorded + Duration::from_secs(3600);
+        initiator.step_at(step, later, [7; 64])
+    };
+    let mut next = step(&mut initiator, Step::Start)?;
+    for reply in lines(TOLD, "reply").iter().take(3) {
+        assert_eq!(next, Next::AskKdc);
+        next = step(&mut initiator, Step::Answer(&octets(reply[1])))?;
+    }
+    let answer = octets(only(TOLD, "answer")[2]);
+    assert_eq!(step(&mut initiator, Step::Hear(&answer))?, Next::Established);
+    initiator.into_session()
+}
+
+#[test]
+fn a_recorded_log_in_is_not_played_back() {
+    let error = play_back(None).err().unwrap();
+    assert_eq!(error.to_string(), "refused: InvalidToken Nonce");
+    assert_eq!(error.cause(), Some(Cause::NONCE));
+    // The AP-REP alone, to another authenticator.
+    let fresh = Rules::RFC.without(Rules::FRESH_REPLIES);
+    let error = play_back(Some(fresh)).err().unwrap();
+    assert_eq!(error.cause(), Some(Cause::REPLY_TIME));
+    // Who gives the checks up is fooled.
+    let session = play_back(Some(Rules::NONE)).unwrap();
+    assert_eq!(session.peer(), "host/server.example.com");
 }
 
 #[test]
@@ -139,7 +174,7 @@ fn a_file_names_the_kdc() {
     let text = "[realms]\nEXAMPLE.COM = {\nkdc = kdc.example.com:88\n}\n";
     initiator.file("/krb5.conf", text).unwrap();
     initiator.bind(b"tls-server-end-point:").unwrap();
-    initiator.set_rules(Options::AS_REP_TAGGED_26).unwrap();
+    initiator.set_rules(Rules::AS_REP_TAGGED_26).unwrap();
     assert_eq!(initiator.start().unwrap(), Next::AskKdc);
     assert_eq!(initiator.url().unwrap(), "tcp://kdc.example.com:88");
 }
@@ -170,19 +205,19 @@ fn another_thread_goes_on() {
 
 #[test]
 fn sets_have_their_bits() {
-    let options = Options::AS_REP_TAGGED_26 | Options::FIRST_NUMBER_AS_SHOWN;
-    assert!(options.contains(Options::AS_REP_TAGGED_26));
-    assert!(!options.contains(Options::ALL));
-    assert!(Options::ALL.contains(options));
+    let rules = Rules::AS_REP_TAGGED_26 | Rules::FIRST_NUMBER_AS_SHOWN;
+    assert!(rules.contains(Rules::AS_REP_TAGGED_26));
+    assert!(!rules.contains(Rules::RFC));
+    assert!(Rules::RFC.contains(rules) && Rules::RFC.contains(Rules::FRESH_REPLIES));
     assert_eq!(
-        options.without(Options::AS_REP_TAGGED_26),
-        Options::FIRST_NUMBER_AS_SHOWN
+        rules.without(Rules::AS_REP_TAGGED_26),
+        Rules::FIRST_NUMBER_AS_SHOWN
     );
     assert_eq!(
-        Options::named("ONE_WAY_IS_SETTLED"),
-        Some(Options::ONE_WAY_IS_SETTLED)
+        Rules::named("ONE_WAY_IS_SETTLED"),
+        Some(Rules::ONE_WAY_IS_SETTLED)
     );
-    assert_eq!(Options::named("one_way_is_settled"), None);
+    assert_eq!(Rules::named("one_way_is_settled"), None);
     assert_eq!(Flags::named("MUTUAL_AUTH"), Some(Flags::MUTUAL_AUTH));
     assert!(Flags::USUAL.contains(Flags::MUTUAL_AUTH));
 }

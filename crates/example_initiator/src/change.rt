@@ -7,16 +7,19 @@ ghost use Rattle.krb_password_change.specs.ChangeRuns.{IsNew, turns_left};
 use crate::line::User;
 use krb_client::{
     ChangePassword, ContextChange, Draw, Env, Error, Generator, GeneratorChangePassword, Kerberos,
-    KerberosConfig, NetworkClient, OutOfMemory, Secret, Text, change_password,
+    KerberosConfig, NetworkClient, OutOfMemory, Rules, Secret, Text, change_password,
 };
 use krb_der::boxed;
 use std::alloc::Global;
 
-/// A context before its exchange, on the heap: a call that can fail is lent it.
+/// A context before its exchange, on the heap: a call that can fail is lent it. It goes by the RFCs, so the KDC's replies have to answer the
+/// requests of this run.
 fn context_of(alloc: Global, user: &User, number: [u8; 4]) -> Result<Box<Kerberos>, OutOfMemory> {
     let machine = Text::from_str(alloc, user.machine)?;
     let config = KerberosConfig::new(alloc, user.kdc, machine)?;
-    boxed(alloc, Kerberos::new_client_from_config(config, number))
+    let mut context = Kerberos::new_client_from_config(config, number);
+    context.rules = Rules::rfc();
+    boxed(alloc, context)
 }
 
 /// What is asked of the KDC.

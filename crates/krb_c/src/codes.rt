@@ -104,6 +104,9 @@ pub(crate) fn cause_code(cause: Cause) -> u32
         Cause::BadUser => 57,
         Cause::Unsupported => 58,
         Cause::Suspended => 59,
+        Cause::Nonce => 60,
+        Cause::ReplyNames => 61,
+        Cause::ReplyTime => 62,
     }
 }
 
@@ -218,6 +221,9 @@ pub(crate) fn cause_at(code: u32) -> Option<Cause>
         57 => Some(Cause::BadUser),
         58 => Some(Cause::Unsupported),
         59 => Some(Cause::Suspended),
+        60 => Some(Cause::Nonce),
+        61 => Some(Cause::ReplyNames),
+        62 => Some(Cause::ReplyTime),
         _ => None,
     }
 }

@@ -1,10 +1,10 @@
-//! What a session or an initiator is allowed beyond its own rules.
+//! The rules of a session or an initiator.
 
-ghost use Rattle.std.specs.Prelude.{◌≡◌, ◌≤◌, ◌<◌, ℕ, Result, IfOk, IfErr, OnOk, OnErr};
+ghost use Rattle.std.specs.Prelude.{◌≡◌, true, false, ℕ, Result, IfOk, IfErr, OnOk, OnErr};
 ghost use Rattle.krb_c.specs.declared.reply.Failure.{Failure};
 ghost use Rattle.krb_c.specs.declared.reply.Failure.TheVariants as failures;
 ghost use Rattle.krb_c.specs.Replies.{reply_of};
-ghost use Rattle.krb_c.specs.Rules.{all_rules, rules_from, SetsSessionRules, SetsInitiatorRules, RefusesRules};
+ghost use Rattle.krb_c.specs.Rules.{knows, rules_from, SetsSessionRules, SetsInitiatorRules, RefusesRules};
 ghost use Rattle.krb_c.specs.Dialogues.{Sets, SetsNot, IsNever};
 
 use crate::handles::{Connection, Initiator};
@@ -13,24 +13,24 @@ use bitflags::Flags;
 use krb_context::Rules;
 use std::alloc::Global;
 
-/// All rules there are.
-const ALL_RULES: u32 = 0x1ff;
+/// All rules that there are.
+const ALL_RULES: u32 = 0x3_01ff;
 
 /// The rules of these bits, where each names one.
 fn rules_of(bits: u32) -> Result<Rules, Failure>
     ensures same { IfOk result (λ rules. rules ≡ rules_from bits) }
-    ensures known { OnOk result (bits ≤ all_rules) }
+    ensures known { OnOk result (knows bits ≡ true) }
     ensures failure { IfErr result (λ failure. failure ≡ failures.Argument) }
-    ensures unfit { OnErr result (all_rules < bits) }
+    ensures unfit { OnErr result (knows bits ≡ false) }
 {
-    if ALL_RULES < bits {
+    if ALL_RULES & bits != bits {
         return Err(Failure::Argument);
     }
     Ok(Rules::from_bits_retain(bits))
 }
 
 fn set_session_rules(alloc: Global, session: &mut Connection, rules: u32) -> Result<usize, Failure>
-    ensures allows { IfOk result (λ count. SetsSessionRules rules session.old.place.value count session.new.place.value) }
+    ensures set { IfOk result (λ count. SetsSessionRules rules session.old.place.value count session.new.place.value) }
     ensures fails { IfErr result (RefusesRules rules session.old.place.value) }
     ensures stays { OnErr result (session.new.place.value ≡ session.old.place.value) }
 {
@@ -43,8 +43,8 @@ fn set_session_rules(alloc: Global, session: &mut Connection, rules: u32) -> Res
     Ok(0)
 }
 
-/// Allows a session these rules, and no others: bits of `Rules`. ARGUMENT where a bit names no option. What is not done
-/// leaves the session.
+/// Sets the rules of a session: these bits of `Rules`, and no others. ARGUMENT where a bit names no rule. What is not done leaves
+/// the session.
 #[unsafe(no_mangle)]
 pub extern "C" fn mk_session_set_rules(alloc: Global, session: &mut Connection, rules: u32) -> Reply
     ensures { (answer : Result ℕ Failure) × (result ≡ reply_of answer)
@@ -57,7 +57,7 @@ pub extern "C" fn mk_session_set_rules(alloc: Global, session: &mut Connection, 
 
 fn set_initiator_rules(alloc: Global, initiator: &mut Initiator, rules: u32) -> Result<usize, Failure>
     ensures set { IfOk result (λ count. Sets (SetsInitiatorRules rules) initiator.old.place.value count initiator.new.place.value) }
-    ensures fails { IfErr result (SetsNot (all_rules < rules) IsNever initiator.old.place.value) }
+    ensures fails { IfErr result (SetsNot (knows rules ≡ false) IsNever initiator.old.place.value) }
     ensures stays { OnErr result (initiator.new.place.value ≡ initiator.old.place.value) }
 {
     let rules = rules_of(rules)?;
@@ -69,8 +69,8 @@ fn set_initiator_rules(alloc: Global, initiator: &mut Initiator, rules: u32) -> 
     Ok(0)
 }
 
-/// Allows an initiator, and the session that it makes, these rules and no others: bits of `Rules`. ARGUMENT where a bit
-/// names no option.
+/// Sets the rules of an initiator, and of the session that it makes: these bits of `Rules`, and no others. ARGUMENT where a bit names
+/// no rule.
 #[unsafe(no_mangle)]
 pub extern "C" fn mk_initiator_set_rules(
     alloc: Global,
@@ -79,7 +79,7 @@ pub extern "C" fn mk_initiator_set_rules(
 ) -> Reply
     ensures { (answer : Result ℕ Failure) × (result ≡ reply_of answer)
         × IfOk answer (λ count. Sets (SetsInitiatorRules rules) initiator.old.place.value count initiator.new.place.value)
-        × IfErr answer (SetsNot (all_rules < rules) IsNever initiator.old.place.value)
+        × IfErr answer (SetsNot (knows rules ≡ false) IsNever initiator.old.place.value)
         × OnErr answer (initiator.new.place.value ≡ initiator.old.place.value) }
 {
     reply_of(set_initiator_rules(alloc, initiator, rules))

@@ -4,6 +4,7 @@ use Rattle.krb_conf.specs.Kdc.{url_of, with_protocol}
 use Rattle.krb_context.specs.Contexts.{new_context}
 use Rattle.krb_context.specs.Params.{default_params}
 use Rattle.krb_context.specs.declared.context.Kerberos.{Kerberos}
+use Rattle.krb_context.specs.Rules.{rfc_rules}
 use Rattle.krb_context.specs.declared.rules.Rules.{Rules}
 use Rattle.krb_initiator.specs.declared.options.InitOptions.{InitOptions}
 use Rattle.sspi_core.specs.declared.bindings.ChannelBindings.{ChannelBindings}
@@ -19,9 +20,10 @@ use Rattle.sspi_core.specs.Usernames.{UserName, parsed}
 use Rattle.krb_dialogue.specs.declared.dialogue.Dialogue.{Dialogue}
 use Rattle.krb_dialogue.specs.declared.dialogue.Turn.TheVariants.{Rests}
 
--- an initiator at this machine, with no KDC of its own, before its exchange
+-- an initiator at this machine, with no KDC of its own, before its exchange, that goes by the RFCs
 abbrev pub first_context : List ℕ → ℕ → Kerberos
-first_context machine number = new_context (default_params 24 22) (record { kdc_url = None; client_computer_name = machine }) None number
+first_context machine number =
+    record (new_context (default_params 24 22) (record { kdc_url = None; client_computer_name = machine }) None number) { rules = rfc_rules }
 
 -- the service alone is asked for: by nobody, with no channel below, and with no variable and no file
 abbrev pub first_options : List ℕ → ClientRequestFlags → InitOptions
@@ -68,10 +70,10 @@ with_kdc address dialogue =
       };
     }
 
--- what the context may do beyond its own rules
+-- the context goes by these rules
 abbrev pub with_rules : Rules → Dialogue → Dialogue
-with_rules options dialogue =
-    record dialogue { session = record dialogue.session { connection = record dialogue.session.connection { rules = options } } }
+with_rules rules dialogue =
+    record dialogue { session = record dialogue.session { connection = record dialogue.session.connection { rules = rules } } }
 
 -- a user with a password, and one with a key
 abbrev pub password_of : List ℕ → List ℕ → List ℕ → CredentialsBuffers

@@ -29,7 +29,7 @@ ghost use Rattle.krb_dialogue.specs.Settings.{
 use crate::dialogue::{Dialogue, Turn};
 use crate::held::HeldSession;
 use krb_conf::{ConfigFile, Env, KerberosConfig, parse_kdc_url};
-use krb_context::{Rules, Kerberos};
+use krb_context::{Kerberos, Rules};
 use krb_der::{Items, Name, Octets, OutOfMemory, Text, boxed};
 use krb_initiator::InitOptions;
 use krb_requests::name_of;
@@ -55,7 +55,7 @@ fn first_options(alloc: Global, target: Name, flags: ClientRequestFlags) -> Init
     }
 }
 
-/// A context before its exchange, with no token.
+/// A context before its exchange, with no token. It goes by the RFCs.
 fn first_session(alloc: Global, machine: &str, number: [u8; 4]) -> Result<HeldSession, OutOfMemory>
     ensures context { IfOk result (λ session. session.connection ≡ first_context machine.now (from_be_bytes w32 number)) }
     ensures token { IfOk result (λ session. session.answer ≡ []) }
@@ -64,7 +64,8 @@ fn first_session(alloc: Global, machine: &str, number: [u8; 4]) -> Result<HeldSe
         kdc_url: None,
         client_computer_name: Text::from_str(alloc, machine)?,
     };
-    let connection = Kerberos::new_client_from_config(config, number);
+    let mut connection = Kerberos::new_client_from_config(config, number);
+    connection.rules = Rules::rfc();
     let answer = Octets::new(Vec::new(alloc));
     let client = None;
     HeldSession::new(
@@ -176,7 +177,8 @@ fn push<V: Drop>(
 
 impl Dialogue {
     /// A dialogue of an initiator at this machine with a service, as `host/server.example.com`. The number is the first sequence number
-    /// of this end, four random octets. Refused as NotAscii where the target is past ASCII.
+    /// of this end, four random octets. Refused as NotAscii where the target is past ASCII. It goes by the RFCs: `Rules::rfc()`, all
+    /// rules that there are.
     ///
     /// Who asks is told by `set_password` or `set_key`; where KDCs are by `set_kdc`, or by the variables and files that are added. Their
     /// calls may come at any time: an exchange that has begun goes on with what it began with.
@@ -207,14 +209,15 @@ impl Dialogue {
         Ok(())
     }
 
-    /// What the context may do beyond its own rules from now on: these options, and no others. A new dialogue's may do nothing of it.
+    /// Sets the rules of the context: these from now on, and no others. A new dialogue has those of `Rules::rfc()`. Without
+    /// `FRESH_REPLIES` and `ANSWERS_ITS_AUTHENTICATOR` a recorded log-in can be played back to it.
     ///
     /// `start` and `hear` read them when they begin, and an exchange with KDCs that has begun goes on with those that it began with.
     /// All that begins later goes by the new ones: the next `start` or `hear`, and the messages of the session.
-    pub fn set_rules(&mut self, options: Rules)
-        ensures set { self.new ≡ with_rules options self.old }
+    pub fn set_rules(&mut self, rules: Rules)
+        ensures set { self.new ≡ with_rules rules self.old }
     {
-        self.session.session.set_rules(options);
+        self.session.session.set_rules(rules);
     }
 
     /// A user, its realm, which may be empty, and its password.

@@ -2,9 +2,7 @@
 use Rattle.std.proofs.Common.{◌≡◌, ℕ, false, List, Option, Some, None, Result, Ok, Err, ap, ◌∙◌, subst}
 use Rattle.krb_conf.specs.declared.config.KerberosConfig.{KerberosConfig}
 use Rattle.krb_context.specs.declared.context.Kerberos.{Kerberos}
-use Rattle.krb_context.specs.declared.params.EncryptionParams.{EncryptionParams}
 use Rattle.krb_context.specs.declared.server.ServerProperties.{ServerProperties}
-use Rattle.krb_context.specs.Contexts.{new_context}
 use Rattle.krb_context.specs.Queries.{name_of}
 use Rattle.krb_exchange.specs.declared.user_to_user.TgtReq.{TgtReq}
 use Rattle.krb_replay.specs.Book.{Book, Follows, StandsFor}
@@ -18,14 +16,14 @@ use Rattle.krb_user_to_user.specs.declared.request.Beginning.{Beginning}
 use Rattle.sspi_core.specs.declared.cause.Cause.{Cause}
 use Rattle.sspi_core.specs.declared.cause.Cause.TheVariants.{Credentials}
 use Rattle.sspi_core.specs.declared.draw.Draw.{Draw}
-use Rattle.krb_entrance.specs.Admits.{Waits, no_env, answer_in, Judges, HasName}
+use Rattle.krb_entrance.specs.Admits.{Waits, new_connection, no_env, answer_in, Judges, HasName}
 
-made_named : (params : EncryptionParams) (config : KerberosConfig) (service : ServerProperties) (number : ℕ)
+made_named : (config : KerberosConfig) (service : ServerProperties) (number : ℕ)
     (outcome : Result Admission Cause) (answer : Answer) (connection : Kerberos)
-    → MakesAnswer (new_context params config (Some service) number) outcome (Ok answer) connection → HasName connection
+    → MakesAnswer (new_connection config service number) outcome (Ok answer) connection → HasName connection
 unfolding settled
-made_named params config service number (Ok admission) answer connection made = (admission.client, ap name_of made.1)
-made_named params config service number (Err cause) answer connection made = let e = made.0 in absurd cc
+made_named config service number (Ok admission) answer connection made = (admission.client, ap name_of made.1)
+made_named config service number (Err cause) answer connection made = let e = made.0 in absurd cc
 
 -- a TGT-REQ admits nobody
 runs_not : (beginning : Result Beginning Cause) (accepted : Result Accepted Cause) (answer : List ℕ) → RunsAs beginning accepted
@@ -42,7 +40,7 @@ module _ (service : ServerProperties) (waiting connection : Kerberos) (old new :
   judged_named (Ok judged) accepts is =
       let P : Kerberos → Type 0 = λ w. Accepts (Follows StandsFor) w false token draw old (Ok judged) connection new in
       let there = subst P waits.waits accepts in
-      made_named _ waits.config service waits.number there.outcome judged connection there.made
+      made_named waits.config service waits.number there.outcome judged connection there.made
   judged_named (Err cause) accepts is = absurd cc
 
   whole_named : (found : Option TgtReq) (accepted : Result Accepted Cause)

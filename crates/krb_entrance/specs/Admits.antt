@@ -7,6 +7,7 @@ use Rattle.krb_context.specs.declared.server.ServerProperties.{ServerProperties}
 use Rattle.krb_context.specs.Contexts.{new_context}
 use Rattle.krb_context.specs.Params.{default_params}
 use Rattle.krb_context.specs.Queries.{name_of}
+use Rattle.krb_context.specs.Rules.{rfc_rules}
 use Rattle.krb_replay.specs.Book.{Book, Follows, StandsFor}
 use Rattle.krb_server.specs.Whole.{AcceptsWhole}
 use Rattle.krb_server.specs.declared.accept.Accepted.{Accepted}
@@ -16,11 +17,15 @@ use Rattle.sspi_core.specs.declared.cause.Cause.TheVariants.{Credentials}
 use Rattle.sspi_core.specs.declared.draw.Draw.{Draw}
 use Rattle.sspi_core.specs.Usernames.{UserName}
 
+-- a new connection of the service, which goes by the RFCs
+abbrev pub new_connection : KerberosConfig → ServerProperties → ℕ → Kerberos
+new_connection config service number = record (new_context (default_params 22 24) config (Some service) number) { rules = rfc_rules }
+
 -- a connection of the service that waits for its client's token
 pub record Waits (service : ServerProperties) (connection : Kerberos) : Type 0 where
   pub config : KerberosConfig
   pub number : ℕ
-  pub waits : connection ≡ new_context (default_params 22 24) config (Some service) number
+  pub waits : connection ≡ new_connection config service number
 
 -- no variable and no file
 abbrev pub no_env : Env

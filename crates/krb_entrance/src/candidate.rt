@@ -14,7 +14,7 @@ ghost use Rattle.krb_entrance.specs.Candidates.{Passes, Stops, IsLetIn, TurnsAwa
 use krb_der::{Copier, boxed};
 use krb_server::{
     Answer, AuthorizationData, Draw, Error, Flags, Judged, Kerberos, KerberosConfig, OutOfMemory,
-    ReplayBook, ServerProperties, ServerRequestFlags, Text, TryCopy,
+    ReplayBook, Rules, ServerProperties, ServerRequestFlags, Text, TryCopy,
 };
 use krb_sessions::{Client, Session};
 use std::alloc::Global;
@@ -30,7 +30,7 @@ pub struct Candidate {
     pub client: Box<Client>,
 }
 
-/// A connection that waits for its client's token. Its first sequence number is drawn.
+/// A connection that waits for its client's token, and goes by the RFCs. Its first sequence number is drawn.
 pub(crate) fn waiting(
     alloc: Global,
     properties: &ServerProperties,
@@ -44,7 +44,9 @@ pub(crate) fn waiting(
     };
     let [.., a, b, c, d] = draw.random;
     let properties = properties.copy(alloc)?;
-    Kerberos::new_server_from_config(config, properties, [a, b, c, d])
+    let mut connection = Kerberos::new_server_from_config(config, properties, [a, b, c, d])?;
+    connection.rules = Rules::rfc();
+    Ok(connection)
 }
 
 fn copied_data(

@@ -111,7 +111,8 @@ impl Service {
         self.book.kept()
     }
 
-    /// A session that waits for its client's token. Its first sequence number is drawn.
+    /// A session that waits for its client's token. Its first sequence number is drawn. It goes by the RFCs, as each session that is
+    /// made here: `Rules::rfc()`, which `Session::set_rules` changes.
     pub fn session(&self, alloc: Global, draw: &Draw) -> Result<Session, OutOfMemory>
         ensures { IfOk result (λ session. Waits self.now.properties session.connection) }
     {

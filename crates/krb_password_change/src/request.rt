@@ -119,7 +119,12 @@ fn change_message(
     ensures made { IfOk result (λ message. message ≡ change_message changer.now grant.now draw.now) }
     ensures fits { IfOk result FitsPriv }
 {
-    let Grant { suite, key, rep } = grant;
+    let Grant {
+        suite,
+        key,
+        rep,
+        ..
+    } = grant;
     let number = number_after(changer.number);
     let authenticator = change_authenticator(alloc, number, *suite, rep, draw)?;
     let ticket = rep.ticket.copy(alloc)?;

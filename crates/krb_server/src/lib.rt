@@ -38,8 +38,8 @@ pub use bitflags::Flags;
 pub use krb_as::InitDone;
 pub use krb_conf::{ConfigFile, Env, KerberosConfig};
 pub use krb_context::{
-    AdditionalServiceKeys, ContextChange, EncryptionParams, Rules, Kerberos,
-    KerberosServerConfig, KerberosState, ProtocolConfig, ServerProperties,
+    AdditionalServiceKeys, ContextChange, EncryptionParams, Kerberos, KerberosServerConfig,
+    KerberosState, ProtocolConfig, Rules, ServerProperties,
 };
 pub use krb_der::{Bits, IntegerAsn1, Items, Name, Octets, OutOfMemory, Text, Time, TryCopy};
 pub use krb_exchange::{TgtRep, TgtReq};

@@ -18,7 +18,7 @@ use crate::fault::Fault;
 use crate::message::{opened_message, part_octets, sealed_message};
 use crate::name::name_text;
 use crate::room::{put, put_both};
-use krb_context::{Rules, Kerberos};
+use krb_context::{Kerberos, Rules};
 use krb_der::Octets;
 use sspi_core::{Cause, Error, Part};
 use std::alloc::Global;
@@ -84,7 +84,7 @@ impl Session {
         self.connection.encryption_params.suite().number()
     }
 
-    /// What the context does beyond its own rules from now on: these rules, and no others.
+    /// Sets the rules of the context: these from now on, and no others. They replace those that it began with.
     pub fn set_rules(&mut self, rules: Rules)
         ensures { self.new ≡ record self.old { connection = record self.old.connection { rules = rules } } }
     {

@@ -93,7 +93,12 @@ fn done_of(alloc: Global, acceptor: &Acceptor, grant: Grant) -> Result<InitDone,
     requires { IsSendable grant.rep }
     ensures { IfOk result (λ done. done ≡ done_of acceptor.now grant) }
 {
-    let Grant { suite, key, rep } = grant;
+    let Grant {
+        suite,
+        key,
+        rep,
+        ..
+    } = grant;
     let KdcRep { crealm, ticket, .. } = rep;
     let realm = text_of(alloc, &crealm)?;
     let encryption_params = acceptor.params.copy_for(alloc, suite)?;
