@@ -5,3 +5,4 @@ pub mod Chains
 pub mod Once
 pub mod Seeking
 pub mod Few
+pub mod FreshLemmas

@@ -5,3 +5,4 @@ pub mod Beginnings
 pub mod InitSteps
 pub mod InitRuns
 pub mod Came
+pub mod FreshRuns

@@ -1,6 +1,7 @@
 //! Laws of an initiation, for all values.
 
-ghost use Rattle.std.specs.Prelude.{◌≡◌, ℕ, List, [], ◌∷◌, ◌++◌, take, Result, Ok};
+ghost use Rattle.std.specs.Prelude.{◌≡◌, ℕ, true, List, [], ◌∷◌, ◌++◌, take, Result, Ok};
+ghost use Rattle.krb_context.specs.Rules.{has_rule, fresh_replies, answers_its_authenticator};
 ghost use Rattle.krb_context.specs.declared.context.Kerberos.{Kerberos};
 ghost use Rattle.sspi_core.specs.declared.cause.Cause.{Cause};
 ghost use Rattle.sspi_core.specs.declared.draw.Draw.{Draw};
@@ -21,6 +22,9 @@ ghost use Rattle.krb_initiator.specs.declared.seeker.InitPhase.TheVariants.{New}
 ghost use Rattle.krb_initiator.specs.Beginnings.{BeginsInitiation};
 ghost use Rattle.krb_initiator.specs.InitRuns.{Starts, Next, BeginsSo, IsNew, StartsAt, ResumesAt};
 ghost use Rattle.krb_initiator.specs.Came.{Came, IsSession};
+ghost use Rattle.krb_initiator.specs.FreshRuns.{Arrival, CameFresh, IsFreshSession, AnswersAuthenticator};
+ghost use Rattle.krb_initiator.specs.InitSteps.{HearsAnswer};
+ghost use Rattle.krb_ap.specs.declared.initiator.Initiator.{Initiator};
 
 use sspi_generator::NetworkClient;
 
@@ -35,6 +39,26 @@ pub fn the_keys_of_the_replies_are_a_chain()
     ensures ends { (seeker : Seeker) (replies : List (Result (List ℕ) NetFault)) (phase : InitPhase) (reply : Result (List ℕ) NetFault) (draw : Draw)
         (done : InitDone)
         → Came seeker replies phase → Next (Seeks seeker) phase reply draw (Ok (Ends done)) → IsSession seeker (replies ++ (reply ∷ [])) done }
+{}
+
+/// Where the rules have `FRESH_REPLIES`, each reply that a run takes answers the request that this very run made: the AS-REP has the nonce
+/// that was drawn at the start, and each TGS-REP the one that was drawn at the step to which the reply before it came, with the names
+/// that were asked for, and a ticket that is valid then. And where they have `ANSWERS_ITS_AUTHENTICATOR`, the service's answer has the
+/// time of the authenticator that was shown.
+pub fn each_reply_answers_its_request()
+    ensures begins { (seeker : Seeker) (start : Draw) (request : NetworkRequest) (phase : InitPhase)
+        → Starts (Seeks seeker) New start (Ok (Asks request phase)) → CameFresh seeker start [] phase }
+    ensures goes_on { (seeker : Seeker) (start : Draw) → has_rule seeker.asker.rules fresh_replies ≡ true → (arrivals : List Arrival)
+        (arrival : Arrival) (phase : InitPhase) (request : NetworkRequest) (next : InitPhase) → CameFresh seeker start arrivals phase
+        → Next (Seeks seeker) phase arrival.reply arrival.draw (Ok (Asks request next))
+        → CameFresh seeker start (arrivals ++ (arrival ∷ [])) next }
+    ensures ends { (seeker : Seeker) (start : Draw) → has_rule seeker.asker.rules fresh_replies ≡ true → (arrivals : List Arrival)
+        (arrival : Arrival) (phase : InitPhase) (done : InitDone) → CameFresh seeker start arrivals phase
+        → Next (Seeks seeker) phase arrival.reply arrival.draw (Ok (Ends done))
+        → IsFreshSession seeker start (arrivals ++ (arrival ∷ [])) done }
+    ensures answered { (initiator : Initiator) (token : List ℕ) (draw : Draw) (done : InitDone)
+        → has_rule initiator.rules answers_its_authenticator ≡ true → HearsAnswer initiator token draw (Ok (Ends done))
+        → AnswersAuthenticator initiator token }
 {}
 
 /// What an initiator begins is one, by its context and what its caller asks for, and so is the run or the refusal that it is handed
