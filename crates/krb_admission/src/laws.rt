@@ -46,7 +46,7 @@ pub fn one_last_word()
         → Concludes server token r a → Concludes server token s b → (r ≡ s) × (a ≡ b) }
 {}
 
-/// Where nothing is allowed beyond the rules, the number of a last word is compared by its octets.
+/// Without rules, the number of a last word is compared by its octets.
 pub fn without_rules_last_words_are_compared_by_octets()
     ensures { (own : ℕ) (number : List ℕ) → repeats no_rules own number ≡ pointwise ◌==◌ number (next_number_octets own) }
 {}

@@ -21,7 +21,7 @@ pub fn first_numbers()
         → next_number (confirmed initiator from_service subkey).change.seq_number ≡ next_number (next_number initiator.number) }
 {}
 
-/// Where nothing is allowed beyond the rules, an initiator awaits the service's answer behind its AP-REQ, whether it asked for one or not,
+/// Without rules, an initiator awaits the service's answer behind its AP-REQ, whether it asked for one or not,
 /// and that answer has the key of messages.
 pub fn without_rules_an_answer_is_awaited()
     ensures state { (initiator : Initiator) → initiator.rules ≡ no_rules → shown_state initiator ≡ states.ApExchange }

@@ -1,4 +1,4 @@
--- The suite of the key that the time is sealed under, where nothing is allowed beyond the rules.
+-- The suite of the key that the time is sealed under, without rules.
 use Rattle.std.proofs.Common.{◌≡◌, Result, Ok, subst}
 use Rattle.krb_crypto.specs.declared.suite.CipherSuite.{CipherSuite}
 use Rattle.krb_exchange.specs.declared.krb_error.KrbError.{KrbError}

@@ -28,7 +28,7 @@ pub struct Asker {
     /// The suite of a password's key.
     pub suite: CipherSuite,
     pub credentials: CredentialsBuffers,
-    /// What the client's context allows beyond its own rules.
+    /// The rules of the client's context.
     pub rules: Rules,
 }
 

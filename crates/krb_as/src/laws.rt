@@ -67,7 +67,7 @@ pub fn early_as_reps_are_refused()
         → answer ≡ Err EarlyAsRep }
 {}
 
-/// Where nothing is allowed beyond the rules, the time is sealed in the suite of the client's own key, whatever suite an error names.
+/// Without rules, the time is sealed in the suite of the client's own key, whatever suite an error names.
 pub fn without_rules_the_time_is_in_the_own_suite()
     ensures { (asker : Asker) (error : KrbError) (answer : Result CipherSuite Cause) → asker.rules ≡ no_rules
         → LeavesSuite (has_rule asker.rules suite_of_each_key) asker error answer → answer ≡ Ok (asker_suite asker) }

@@ -130,7 +130,7 @@ pub fn own_mic_tokens_are_refused()
     ensures { (maker : Kerberos) (payload token : List ℕ) → MakesMic maker payload (Ok token) → ChecksMic maker token payload (Err Direction) }
 {}
 
-/// Where nothing is allowed beyond the rules, each end says in all that it seals and signs that the acceptor chose the key.
+/// Without rules, each end says in all that it seals and signs that the acceptor chose the key.
 pub fn without_rules_the_subkey_is_the_acceptors()
     ensures sealed { (context : Kerberos) → context.rules ≡ no_rules → own_seal_flags context ≡ (if is_acceptor context then 7 else 6) }
     ensures signed { (context : Kerberos) → context.rules ≡ no_rules → own_sign_flags context ≡ (if is_acceptor context then 5 else 4) }
@@ -142,7 +142,7 @@ pub fn the_subkey_flag_goes_by_its_origin()
         → writes_subkey context ≡ context.encryption_params.acceptor_subkey }
 {}
 
-/// Where nothing is allowed beyond the rules, a text is opened by the context's own length of the filler; where it is allowed, a text by
+/// Without rules, a text is opened by the context's own length of the filler; where it is allowed, a text by
 /// that of its own header.
 pub fn texts_are_opened_by_a_count()
     ensures own { (context : Kerberos) (text : List ℕ) → context.rules ≡ no_rules → params_for context text ≡ context.encryption_params }

@@ -41,7 +41,7 @@ leaves seeker error octets salt is h =
     let named : NamesFirst seeker (Ok octets) salt = subst (λ (a : Answer). NamesFirst seeker a salt) is h in
     record { protocol = named.protocol; named = named.named }
 
--- where nothing is allowed beyond the rules, an error came before the AS-REP
+-- without rules, an error came before the AS-REP
 pub record CameError (seeker : Seeker) (before : List Answer) (salt : List ℕ) : Type 0 where
   pub error : Answer
   pub are : before ≡ error ∷ []

@@ -77,7 +77,7 @@ pub record HasOrigin (identity : Option CredentialsBuffers) (id : ℕ) (events :
   pub brought : AreBrought id replies events
   pub lead : LeadTo credentials replies key
 
--- an initiator without a session key that awaits no KDC, and is allowed nothing beyond the rules
+-- an initiator without a session key that awaits no KDC, and goes by no rules
 pub record IsKeyless (connection : Connection) : Type 0 where
   pub role : connection.context.server ≡ None
   pub none_set : connection.context.rules ≡ no_rules

@@ -1,4 +1,4 @@
--- The suite of a key that a reply brings, where nothing is allowed beyond the rules.
+-- The suite of a key that a reply brings, without rules.
 use Rattle.std.proofs.Common.{◌≡◌, ℕ, false, List, Result, Ok, Err, sym, ap, ◌∙◌, subst}
 use Rattle.krb_crypto.specs.declared.suite.CipherSuite.{CipherSuite}
 use Rattle.krb_context.specs.Rules.{no_rules}

@@ -73,7 +73,7 @@ BringsNext rules suite key tgs_rep = do
   part ← OpensSealed enc_tgs_rep_part_layout session_key suite key 8 tgs_rep.0.enc_part.cipher
   TakesKey rules suite part.0
 
--- the octets of these keys, where nothing is allowed beyond the rules
+-- the octets of these keys, without rules
 unfoldable pub BringsKey : CipherSuite → List ℕ → AsRep → Result (List ℕ) Cause → Type 0
 BringsKey suite key as_rep = do
   brought ← BringsFirst no_rules suite key as_rep

@@ -174,7 +174,7 @@ pub fn key_in_tgs_rep(
     taken_key(rules, suite, part)
 }
 
-/// The octets of the key that an AS-REP brings, where nothing is allowed beyond the rules.
+/// The octets of the key that an AS-REP brings, without rules.
 fn session_key_in_as_rep(
     alloc: Global,
     suite: CipherSuite,

@@ -6,7 +6,7 @@ ghost use Rattle.krb_exchange.specs.declared.kdc_rep.TgsRep.{TgsRep};
 ghost use Rattle.krb_replies.specs.declared.keys.ReplyKey.{ReplyKey};
 ghost use Rattle.krb_tgs.specs.Chain.{HandsOn};
 
-/// Where nothing is allowed beyond the rules, one suite goes through a whole chain of replies.
+/// Without rules, one suite goes through a whole chain of replies.
 pub fn without_rules_chains_have_one_suite()
     ensures { (shown : ReplyKey) (replies : List TgsRep) (last : ReplyKey) → HandsOn no_rules shown replies last → last.suite ≡ shown.suite }
 {}

@@ -1,4 +1,4 @@
-//! What a client takes from replies of the KDCs of MIT krb5 and of Heimdal, with what its context allows beyond its own rules.
+//! What a client takes from replies of the KDCs of MIT krb5 and of Heimdal, by the rules of its context.
 
 use crate::rows::is_row;
 use bitflags::Flags;

@@ -1,4 +1,4 @@
-//! What an initiator makes of the answer of a service in Java, with what its context allows beyond its own rules.
+//! What an initiator makes of the answer of a service in Java, by the rules of its context.
 
 use crate::krb_ends_tests::tokens::is_hex;
 use krb_ap::{Initiator, take_ap_rep};
