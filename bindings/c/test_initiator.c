@@ -103,10 +103,10 @@ static int asks(const login *l, mk_initiator *initiator, const octets *request) 
            gives(mk_initiator_request(initiator, out, sizeof out), out, request->at, request->length);
 }
 
-/* Begins with these flags and options, and takes the three replies of the KDC. */
-static mk_reply ask_all(const login *l, mk_initiator *to, uint32_t flags, uint32_t options) {
+/* Begins with these flags and rules, and takes the three replies of the KDC. They were recorded with these draws, so all rules may hold. */
+static mk_reply ask_all(const login *l, mk_initiator *to, uint32_t flags, uint32_t rules) {
     CHECK(mk_initiator_new(to, text(l->target), strlen(l->target), text(l->machine), strlen(l->machine), flags, l->number, 4).status == MK_OK);
-    CHECK(mk_initiator_set_rules(to, options).status == MK_OK);
+    CHECK(mk_initiator_set_rules(to, rules).status == MK_OK);
     CHECK(mk_initiator_kdc(to, text(l->url), strlen(l->url)).status == MK_OK);
     set_password(l, to);
     mk_reply reply = mk_initiator_start(to, &l->steps[0]);
@@ -127,24 +127,53 @@ static int seals_so(const login *l, mk_initiator *initiator, uint8_t flags, uint
     return out[2] == flags && out[15] == number;
 }
 
-/* The log-in with options, and without mutual authentication. */
+/* The log-in with other rules, and without mutual authentication. */
 static void log_in_otherwise(const login *l) {
     const uint32_t one_way = ALL_FLAGS & ~(uint32_t)MK_MUTUAL_AUTH;
     mk_initiator initiator = MK_EMPTY;
     mk_session session = MK_EMPTY;
     uint8_t out[4096];
-    CHECK(leads_to(ask_all(l, &initiator, ALL_FLAGS, MK_FIRST_NUMBER_AS_SHOWN), MK_SEND_TOKEN));
+    CHECK(leads_to(ask_all(l, &initiator, ALL_FLAGS, MK_RULES_NONE), MK_SEND_TOKEN));
     CHECK(leads_to(mk_initiator_hear(&initiator, l->answer.at, l->answer.length, &l->steps[13]), MK_ESTABLISHED));
-    CHECK(seals_so(l, &initiator, 6, l->sealed.at[15] - 1));
-    CHECK(leads_to(ask_all(l, &initiator, one_way, 0), MK_SEND_TOKEN));
+    CHECK(seals_so(l, &initiator, 6, l->sealed.at[15] + 1));
+    CHECK(leads_to(ask_all(l, &initiator, one_way, MK_RULES_NONE), MK_SEND_TOKEN));
     CHECK(is_refused(mk_initiator_session(&initiator, &session), MK_CAUSE_SEQUENCE));
     mk_initiator_free(&initiator);
-    CHECK(leads_to(ask_all(l, &initiator, one_way, MK_ONE_WAY_IS_SETTLED), MK_ESTABLISHED));
+    CHECK(leads_to(ask_all(l, &initiator, one_way, MK_ONE_WAY_IS_SETTLED | MK_FRESH_REPLIES), MK_ESTABLISHED));
     mk_reply reply = mk_initiator_token(&initiator, out, sizeof out);
     CHECK(reply.status == MK_OK && reply.length > 0);
-    CHECK(seals_so(l, &initiator, 6, l->sealed.at[15]));
-    CHECK(leads_to(ask_all(l, &initiator, one_way, 0x1ff), MK_ESTABLISHED));
-    CHECK(seals_so(l, &initiator, 2, l->sealed.at[15] - 1));
+    CHECK(seals_so(l, &initiator, 6, l->sealed.at[15] + 1));
+    CHECK(leads_to(ask_all(l, &initiator, one_way, MK_RULES_RFC), MK_ESTABLISHED));
+    CHECK(seals_so(l, &initiator, 2, l->sealed.at[15]));
+}
+
+/* The recorded log-in is played back, an hour later, to an initiator that draws other octets: up to the step that is refused, or the end. */
+static mk_reply play_back(const login *l, mk_initiator *to, const uint32_t *rules) {
+    mk_moment later = l->steps[0];
+    later.moment += UINT64_C(3600000000);
+    memset(later.random, 7, sizeof later.random);
+    make_ready(l, to);
+    CHECK(rules == NULL || mk_initiator_set_rules(to, *rules).status == MK_OK);
+    mk_reply reply = mk_initiator_start(to, &later);
+    for (size_t i = 0; i < 3 && reply.status == MK_OK; i++) {
+        reply = mk_initiator_answer(to, l->replies[i].at, l->replies[i].length, &later);
+    }
+    if (leads_to(reply, MK_SEND_TOKEN)) {
+        reply = mk_initiator_hear(to, l->answer.at, l->answer.length, &later);
+    }
+    return reply;
+}
+
+/* By default a recorded log-in is refused: the KDC's replies are to another request, and the AP-REP is to another authenticator. */
+static void refuse_recordings(const login *l) {
+    static const uint32_t none = MK_RULES_NONE, answer_alone = MK_ANSWERS_ITS_AUTHENTICATOR;
+    mk_initiator initiator = MK_EMPTY;
+    CHECK(is_refused(play_back(l, &initiator, NULL), MK_CAUSE_NONCE));
+    mk_initiator_free(&initiator);
+    CHECK(is_refused(play_back(l, &initiator, &answer_alone), MK_CAUSE_REPLY_TIME));
+    mk_initiator_free(&initiator);
+    CHECK(leads_to(play_back(l, &initiator, &none), MK_ESTABLISHED)); /* what the two rules are for */
+    mk_initiator_free(&initiator);
 }
 
 /* The session seals as it was recorded, and keeps what it is. */
@@ -161,9 +190,9 @@ static void use_session(const login *l, mk_session *session) {
     reply = mk_wrap(session, l->text.at, l->text.length, l->confounder.at, l->confounder.length, out, sizeof out);
     CHECK(gives(reply, out, l->sealed.at, l->sealed.length));
     CHECK(is_refused(mk_unwrap(session, out, reply.length, out + 2048, 2048), MK_CAUSE_DIRECTION));
-    CHECK(mk_session_set_rules(session, 0x1ff).status == MK_OK);
+    CHECK(mk_session_set_rules(session, MK_RULES_RFC).status == MK_OK);
     CHECK(mk_session_set_rules(session, 0x200).status == MK_ARGUMENT);
-    CHECK(mk_session_set_rules(session, 0).status == MK_OK);
+    CHECK(mk_session_set_rules(session, MK_RULES_NONE).status == MK_OK);
 }
 
 /* The whole log-in, octet for octet. */
@@ -212,7 +241,7 @@ static void refuse_handles(const login *l, mk_initiator *full) {
     uint8_t out[64] = {0};
     const uint8_t *a = text("a");
     CHECK(make(l, full).status == MK_HANDLE && full->count != 0);
-    CHECK(mk_initiator_set_rules(&empty, 0).status == MK_HANDLE);
+    CHECK(mk_initiator_set_rules(&empty, MK_RULES_NONE).status == MK_HANDLE);
     CHECK(mk_initiator_kdc(&empty, a, 1).status == MK_HANDLE);
     CHECK(mk_initiator_password(&empty, a, 1, a, 1, a, 1).status == MK_HANDLE);
     CHECK(mk_initiator_key(&empty, a, 1, 18, out, 32).status == MK_HANDLE);
@@ -228,7 +257,7 @@ static void refuse_handles(const login *l, mk_initiator *full) {
     CHECK(mk_initiator_token(&empty, out, sizeof out).status == MK_HANDLE);
     CHECK(mk_initiator_peer(&empty, out, sizeof out).status == MK_HANDLE);
     CHECK(mk_initiator_session(&empty, &session).status == MK_HANDLE);
-    CHECK(mk_session_set_rules(&session, 0).status == MK_HANDLE);
+    CHECK(mk_session_set_rules(&session, MK_RULES_NONE).status == MK_HANDLE);
     mk_initiator_free(&empty);
     CHECK(empty.count == 0 && empty.at == NULL && session.count == 0);
 }
@@ -244,10 +273,12 @@ static void refuse_arguments(const login *l, mk_initiator *initiator) {
     CHECK(mk_initiator_new(&none, a, 1, a, 1, ALL_FLAGS, key, 5).status == MK_ARGUMENT);
     CHECK(is_refused(mk_initiator_new(&none, text("\xc3\xa4"), 2, a, 1, ALL_FLAGS, l->number, 4), MK_CAUSE_NOT_ASCII));
     CHECK(none.count == 0 && none.at == NULL);
-    CHECK(mk_initiator_set_rules(initiator, 0x1ff).status == MK_OK);
-    CHECK(mk_initiator_set_rules(initiator, 0x200).status == MK_ARGUMENT);
-    CHECK(mk_initiator_set_rules(initiator, 0x80000000).status == MK_ARGUMENT);
-    CHECK(mk_initiator_set_rules(initiator, 0).status == MK_OK);
+    CHECK(mk_initiator_set_rules(initiator, MK_RULES_NONE).status == MK_OK);
+    for (int i = 0; i < 32; i++) {
+        uint32_t rule = (uint32_t)1 << i;
+        CHECK(mk_initiator_set_rules(initiator, rule).status == ((MK_RULES_RFC & rule) != 0 ? MK_OK : MK_ARGUMENT));
+    }
+    CHECK(mk_initiator_set_rules(initiator, MK_RULES_RFC).status == MK_OK);
     CHECK(mk_initiator_kdc(initiator, bad, 1).status == MK_ARGUMENT);
     CHECK(mk_initiator_password(initiator, bad, 1, a, 1, a, 1).status == MK_ARGUMENT);
     CHECK(mk_initiator_password(initiator, a, 1, bad, 1, a, 1).status == MK_ARGUMENT);
@@ -288,6 +319,7 @@ static void refuse_steps(const login *l, mk_initiator *initiator) {
     CHECK(is_refused(mk_initiator_fault(initiator, 77, &l->steps[0]), MK_CAUSE_SEQUENCE));
     CHECK(leads_to(mk_initiator_start(initiator, &l->steps[0]), MK_ASK_KDC) && asks(l, initiator, ask));
     CHECK(is_refused(mk_initiator_answer(initiator, out, 3, &l->steps[1]), MK_CAUSE_REPLY_SHORT));
+    CHECK(mk_initiator_set_rules(initiator, MK_RULES_NONE).status == MK_OK); /* without MK_NO_PREAUTHENTICATION */
     CHECK(leads_to(mk_initiator_start(initiator, &l->steps[0]), MK_ASK_KDC) && asks(l, initiator, ask));
     CHECK(is_refused(mk_initiator_answer(initiator, l->replies[1].at, l->replies[1].length, &l->steps[1]), MK_CAUSE_EARLY_AS_REP));
 }
@@ -330,6 +362,7 @@ int main(int count, char **words) {
     for (int i = 0; i <= rounds / 1000; i++) {
         log_in(&l);
         log_in_otherwise(&l);
+        refuse_recordings(&l);
     }
     for (int i = 0; i < rounds; i++) {
         refuse_initiators(&l);

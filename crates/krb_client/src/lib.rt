@@ -6,7 +6,8 @@
 //! [`NetworkClient`]:
 //!
 //! ```
-//! let context = Kerberos::new_client_from_config(config, number);
+//! let mut context = Kerberos::new_client_from_config(config, number);
+//! context.rules = Rules::rfc(); // without rules a recorded log-in can be played back to it
 //! let run = initialize_security_context(alloc, &context, options)?; // `options` name the service and the credentials
 //! let done: InitDone = Generator::new(run).resolve_with_client(&mut network, draws)?;
 //! context.settle(done.change); // and `done.token` goes to the service
@@ -46,8 +47,8 @@ pub use krb_requests::{
 pub use bitflags::Flags;
 pub use krb_conf::{ConfigFile, Env, KerberosConfig};
 pub use krb_context::{
-    ApOptions, ContextChange, EncryptionParams, GssFlags, Rules, KdcOptions, Kerberos,
-    KerberosState, ProtocolConfig,
+    ApOptions, ContextChange, EncryptionParams, GssFlags, KdcOptions, Kerberos, KerberosState,
+    ProtocolConfig, Rules,
 };
 pub use krb_crypto::CipherSuite;
 pub use krb_der::{Asn1, IntegerAsn1, Items, Name, Octets, OutOfMemory, Text, Time, TryCopy};

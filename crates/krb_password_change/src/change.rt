@@ -96,7 +96,7 @@ fn changer_of(
 }
 
 /// Looks at what is asked for, as a chain of checks. Refused as `change_password` refuses.
-#[tactic(auto, unfolding(crate::specs::Changes::BeginsChange))]
+#[tactic(auto, using(sspi_core::proofs::Chain::chain), unfolding(crate::specs::Changes::BeginsChange))]
 pub fn begin_change(
     alloc: Global,
     context: &Kerberos,

@@ -8,6 +8,7 @@
 //! let mut book = ReplayBook::new(alloc, 300)?; // one for all clients
 //! let service = ServerProperties::new(alloc, &["host", "server.example.com"], None, 300, Some(key))?;
 //! let mut context = Kerberos::new_server_from_config(config, service, number)?; // one for each connection
+//! context.rules = Rules::rfc(); // it takes what the RFCs allow
 //! let flags = ServerRequestFlags::empty();
 //! match accept_security_context(alloc, &mut context, &mut book, token, flags, &env, &draw)? {
 //!     Accepted::Done { token, .. } => token, // goes back to the client; `context` knows who it is, and opens its messages
