@@ -1,5 +1,5 @@
 -- How a service fetches its ticket: an AS exchange (RFC 4120, section 3.1), whose end is a TGT-REP.
-use Rattle.std.specs.Prelude.{true, Some, Result}
+use Rattle.std.specs.Prelude.{true, Some, None, Result}
 use Rattle.krb_exchange.specs.declared.kdc_req.KdcReqBody.{KdcReqBody}
 use Rattle.krb_context.specs.declared.state.KerberosState.TheVariants.{Preauthentication}
 use Rattle.sspi_core.specs.declared.results.SecurityStatus.TheVariants.{ContinueNeeded}
