@@ -1,12 +1,10 @@
 -- What an initiator begins, as far as it matters for the freshness of its replies.
-use Rattle.std.proofs.Common.{◌≡◌, ℕ, Bool, true, false, List, Option, Some, Ok, refl, sym, ap, ◌∙◌, subst}
+use Rattle.std.proofs.Common.{◌≡◌, ℕ, Bool, true, false, List, Some, Ok, refl, sym, ap, ◌∙◌, subst}
 use Rattle.sspi_core.proofs.Chain.{passed, gave, took}
 use Rattle.krb_context.specs.declared.context.Kerberos.{Kerberos}
-use Rattle.krb_context.specs.declared.rules.Rules.{Rules}
 use Rattle.krb_context.specs.declared.state.KerberosState.{KerberosState}
 use Rattle.krb_context.specs.declared.state.KerberosState.TheVariants.{TgtExchange, Preauthentication, ApExchange, Final}
 use Rattle.krb_as.specs.Clients.{NamesClient}
-use Rattle.krb_as.specs.declared.client.Client.{Client}
 use Rattle.krb_ap.specs.declared.initiator.Initiator.{Initiator}
 use Rattle.krb_initiator.specs.Beginnings.{initiator_of, identity_of, seeker_of, ChecksTarget, NamesTarget, NamesIdentity, Identifies, SeeksTicket, RequestsTgt, BeginsNew, BeginsIn, BeginsInitiation}
 use Rattle.krb_initiator.specs.declared.begin.Identity.{Identity}
@@ -15,7 +13,6 @@ use Rattle.krb_initiator.specs.declared.seeker.Initiation.{Initiation}
 use Rattle.krb_initiator.specs.declared.seeker.Initiation.TheVariants.{Requests, Seeks, Hears}
 use Rattle.krb_initiator.specs.declared.seeker.Seeker.{Seeker}
 use Rattle.krb_machine.specs.Initiations.{is_before}
-use Rattle.sspi_core.specs.declared.flags.ClientRequestFlags.{ClientRequestFlags}
 
 -- a ticket is sought for its caller's credentials and to its caller's target, by the context's rules
 pub record IsSought (context : Kerberos) (options : InitOptions) (seeker : Seeker) : Type 0 where

@@ -1,10 +1,8 @@
 -- What is known of an initiator that takes fresh replies alone, behind the events of a run.
-use Rattle.std.proofs.Common.{◌≡◌, ℕ, inl, inr, Bool, true, false, List, [], ◌∷◌, ◌++◌, map, Option, Some, None, Result, refl, sym, ap, ◌∙◌, subst, append_assoc}
-use Rattle.std.specs.Prelude.{◌⊎◌, IfSome, option_map, if◌then◌else◌}
+use Rattle.std.proofs.Common.{◌≡◌, ℕ, inl, inr, true, List, [], ◌∷◌, ◌++◌, map, Option, Some, None, Result, refl, sym, ap, ◌∙◌, subst, append_assoc}
+use Rattle.std.specs.Prelude.{IfSome}
 use Rattle.std.proofs.lemmas.List.{append-nil}
-use Rattle.krb_context.specs.Contexts.{with_key}
 use Rattle.krb_context.specs.declared.context.Kerberos.{Kerberos}
-use Rattle.krb_context.specs.declared.server.ServerProperties.{ServerProperties}
 use Rattle.krb_context.specs.declared.state.KerberosState.{KerberosState}
 use Rattle.krb_context.specs.declared.state.KerberosState.TheVariants.{TgtExchange, Preauthentication, ApExchange, Final}
 use Rattle.krb_machine.specs.declared.run.Run.{Run}
@@ -114,7 +112,7 @@ module _ (first : Connection) (id : ℕ) (events : List Event) (event : Event) w
   abbrev now : List Event
   now = events ++ event ∷ []
 
-  exchange_before : (start : Event) (arrivals : List Arrival) → IsExchange id start arrivals events → IsExchange id start arrivals now
+  pub exchange_before : (start : Event) (arrivals : List Arrival) → IsExchange id start arrivals events → IsExchange id start arrivals now
   exchange_before start arrivals h = record {
     earlier = h.earlier;
     during = h.during;
@@ -127,7 +125,7 @@ module _ (first : Connection) (id : ℕ) (events : List Event) (event : Event) w
     brought = h.brought;
   }
 
-  log_in_before : (key : List ℕ) (shown_at : ℕ) → IsFreshLogIn first id events key shown_at → IsFreshLogIn first id now key shown_at
+  unfoldable pub log_in_before : (key : List ℕ) (shown_at : ℕ) → IsFreshLogIn first id events key shown_at → IsFreshLogIn first id now key shown_at
   log_in_before key shown_at h = record {
     start = h.start;
     seeker = h.seeker;
@@ -146,12 +144,13 @@ module _ (first : Connection) (id : ℕ) (events : List Event) (event : Event) w
   pub key_before : (key : Option (List ℕ)) (shown_at : Option ℕ) → HasFreshKey first id events key shown_at → HasFreshKey first id now key shown_at
   key_before key shown_at h = record { octets = h.octets; has_key = h.has_key; moment = h.moment; was_shown = h.was_shown; log_in = log_in_before h.octets h.moment h.log_in }
 
-  answered_before : (key : List ℕ) (moment : ℕ) → IsAnswered id events key moment → IsAnswered id now key moment
-  answered_before key moment h = record {
+  answered_before : (start : Event) (arrivals : List Arrival) (key : List ℕ) (moment : ℕ) → IsAnswered id start arrivals events key moment → IsAnswered id start arrivals now key moment
+  answered_before start arrivals key moment h = record {
     earlier = h.earlier;
     event = h.event;
     later = h.later ++ event ∷ [];
     are = ap (λ (e : List Event). e ++ event ∷ []) h.are ∙ append_assoc h.earlier (h.event ∷ h.later) (event ∷ []);
+    behind = h.behind;
     is_for = h.is_for;
     token = h.token;
     brings = h.brings;
@@ -166,7 +165,7 @@ module _ (first : Connection) (id : ℕ) (events : List Event) (event : Event) w
   established_before : (key : Option (List ℕ)) (shown_at : Option ℕ) → IsEstablished first id events key shown_at → IsEstablished first id now key shown_at
   unfolding key_before log_in_before
   established_before key shown_at h =
-      record { fresh = key_before key shown_at h.fresh; answered = λ rule asked. answered_before h.fresh.octets h.fresh.moment (h.answered rule asked) }
+      record { fresh = key_before key shown_at h.fresh; answered = λ rule asked. answered_before h.fresh.log_in.start h.fresh.log_in.arrivals h.fresh.octets h.fresh.moment (h.answered rule asked) }
 
   at_stage_before : (state : KerberosState) (key : Option (List ℕ)) (shown_at : Option ℕ) → IsAtStage first id events state key shown_at → IsAtStage first id now state key shown_at
   at_stage_before TgtExchange key shown_at h = h

@@ -1,6 +1,6 @@
 -- How an initiator that takes fresh replies alone comes from one state to the next.
-use Rattle.std.proofs.Common.{◌≡◌, ℕ, Bool, true, false, List, [], ◌∷◌, ◌++◌, Option, Some, None, Result, Ok, Err, refl, sym, ap, ◌∙◌, subst}
-use Rattle.std.specs.Prelude.{◌==◌, bit_or, not, ◌&&◌, IfSome, option_map, if◌then◌else◌}
+use Rattle.std.proofs.Common.{◌≡◌, ℕ, Bool, true, false, List, Option, Some, None, Result, Ok, Err, refl, sym, ap, ◌∙◌, subst}
+use Rattle.std.specs.Prelude.{◌==◌, bit_or, not, option_map, if◌then◌else◌}
 use Rattle.std.proofs.lemmas.Bool.{and_right, true≢false}
 use Rattle.std.proofs.lemmas.Nat.{and_or_apart}
 use Rattle.sspi_core.specs.Flags.{has_flag, mutual_auth, use_session_key}
@@ -22,7 +22,7 @@ use Rattle.krb_script.specs.declared.input.Input.TheVariants.{Token, Start, KdcR
 use Rattle.krb_script.specs.declared.item.Event.{Event}
 use Rattle.krb_machine.specs.Initiations.{is_before, token_heard}
 use Rattle.krb_machine.specs.declared.connection.Connection.{Connection}
-use Rattle.krb_laws_origin.specs.Freshness.{IsFreshLogIn, HasFreshKey, IsEstablished}
+use Rattle.krb_laws_origin.specs.Freshness.{IsFreshLogIn, HasFreshKey}
 use Rattle.krb_laws_origin.proofs.FreshKnown.{IsAtStage, IsStill, StandsFresh}
 
 -- ---- mutual authentication

@@ -1,5 +1,5 @@
 -- An event at its own connection keeps what is known of an initiator that takes fresh replies alone.
-use Rattle.std.proofs.Common.{◌≡◌, ℕ, Bool, true, List, [], ◌∷◌, ◌++◌, map, Option, Some, None, Result, Ok, Err, refl, sym, ap, ◌∙◌, subst}
+use Rattle.std.proofs.Common.{◌≡◌, ℕ, true, List, [], ◌∷◌, ◌++◌, map, Option, Some, None, Result, Ok, Err, refl, sym, ap, ◌∙◌, subst}
 use Rattle.std.specs.Prelude.{IfSome, nat_le}
 use Rattle.std.proofs.lemmas.Bool.{eq-eqb}
 use Rattle.krb_conf.specs.declared.config.KerberosConfig.{KerberosConfig}
@@ -9,7 +9,7 @@ use Rattle.krb_context.specs.Rules.{has_rule, fresh_replies, answers_its_authent
 use Rattle.krb_context.specs.declared.context.Kerberos.{Kerberos}
 use Rattle.krb_context.specs.declared.rules.Rules.{Rules}
 use Rattle.krb_context.specs.declared.state.KerberosState.{KerberosState}
-use Rattle.krb_context.specs.declared.state.KerberosState.TheVariants.{ApExchange, Final}
+use Rattle.krb_context.specs.declared.state.KerberosState.TheVariants.{ApExchange}
 use Rattle.krb_as.specs.Clients.{NamesClient}
 use Rattle.krb_as.specs.declared.done.InitDone.{InitDone}
 use Rattle.krb_as.specs.declared.turn.Turn.TheVariants.{Asks, Ends}
@@ -45,7 +45,7 @@ use Rattle.krb_laws_origin.specs.Freshness.{arrival_at, SeeksFor, IsFreshLogIn, 
 use Rattle.krb_laws_origin.proofs.AnsweredLemmas.{hears_end, hears_ends}
 use Rattle.krb_laws_origin.proofs.CallLemmas.{calls_keep}
 use Rattle.krb_laws_origin.proofs.FreshBegun.{IsSought, IsRequested, IsBegun, is_begun}
-use Rattle.krb_laws_origin.proofs.FreshKnown.{IsComing, coming_first, coming_on, coming_over, IsFetchingFresh, IsUnderWay, IsAtStage, StageOf, IsStill, StandsFresh, key_before, stage_before, fresh_before, fresh_free, fresh_waiting, fresh_still}
+use Rattle.krb_laws_origin.proofs.FreshKnown.{IsComing, coming_first, coming_on, coming_over, IsFetchingFresh, IsUnderWay, IsAtStage, StageOf, StandsFresh, log_in_before, stage_before, fresh_free, fresh_waiting, fresh_still}
 use Rattle.krb_laws_origin.proofs.FreshStages.{fresh_settled, fresh_shown, key_none, key_awaiting, token_brought}
 use Rattle.krb_laws_origin.proofs.PhaseLemmas.{starts_not_ended}
 use Rattle.krb_laws_origin.proofs.ReplyLemmas.{come}
@@ -183,13 +183,14 @@ module _ (first : Connection) (id : ℕ) (events : List Event) (event : Event) (
       same_moment : (x y : ℕ) (o : Option ℕ) → o ≡ Some x → o ≡ Some y → x ≡ y
       same_moment x y o p q = let e : Some x ≡ Some y = sym p ∙ q in cc
 
-      answered : (key : HasFreshKey first id now connection.context.encryption_params.session_key connection.context.asked_at) → connection.context.state ≡ ApExchange → AnswersAuthenticator hearer token
-          → IsAnswered id now key.octets key.moment
+      answered : (key : HasFreshKey first id events connection.context.encryption_params.session_key connection.context.asked_at) → connection.context.state ≡ ApExchange → AnswersAuthenticator hearer token
+          → IsAnswered id key.log_in.start key.log_in.arrivals now key.octets key.moment
       answered key awaits a = record {
         earlier = events;
         event = event;
         later = [];
         are = refl;
+        behind = key.log_in.exchange;
         is_for = is_for;
         token = token;
         brings = token_brought connection.context.state event.input token awaits heard_is;
@@ -205,13 +206,14 @@ module _ (first : Connection) (id : ℕ) (events : List Event) (event : Event) (
 
       hears_settled : (done : InitDone) → connection.context.state ≡ ApExchange → HearsAnswer hearer token (draw_of event) (Ok (Ends done))
           → IsAtStage first id now done.change.state done.change.encryption_params.session_key done.change.asked_at
+      unfolding log_in_before
       hears_settled done awaits h =
-          let key : HasFreshKey first id now connection.context.encryption_params.session_key connection.context.asked_at =
-          key_awaiting first id now connection.context.state connection.context.encryption_params.session_key connection.context.asked_at awaits stage_now in
+          let key : HasFreshKey first id events connection.context.encryption_params.session_key connection.context.asked_at =
+          key_awaiting first id events connection.context.state connection.context.encryption_params.session_key connection.context.asked_at awaits stands.stage in
           let end = hears_end hearer token (draw_of event) done h in
           let over : IsEstablished first id now done.change.encryption_params.session_key done.change.asked_at =
           record {
-            fresh = record { octets = key.octets; has_key = end.key ∙ key.has_key; moment = key.moment; was_shown = end.shown_at ∙ key.was_shown; log_in = key.log_in };
+            fresh = record { octets = key.octets; has_key = end.key ∙ key.has_key; moment = key.moment; was_shown = end.shown_at ∙ key.was_shown; log_in = log_in_before first id events event key.octets key.moment key.log_in };
             answered = λ rule asked.
                 answered key awaits (hears_answer hearer token (draw_of event) done (ap (λ (r : Rules). has_rule r answers_its_authenticator) stands.still.rules ∙ rule) h);
           } in

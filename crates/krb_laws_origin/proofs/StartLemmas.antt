@@ -1,5 +1,5 @@
 -- An event at which an initiator begins, or hears its peer, keeps what is known of it.
-use Rattle.std.proofs.Common.{◌≡◌, ℕ, Bool, true, false, List, [], Option, Some, None, Result, Ok, Err, refl, sym, ap, ◌∙◌, subst}
+use Rattle.std.proofs.Common.{◌≡◌, ℕ, List, [], Option, Some, None, Result, Ok, Err, refl, sym, ap, ◌∙◌, subst}
 use Rattle.krb_context.specs.Rules.{no_rules}
 use Rattle.krb_as.specs.declared.turn.Turn.TheVariants.{Asks, Ends}
 use Rattle.krb_machine.specs.declared.run.Run.TheVariants.{Initiates}

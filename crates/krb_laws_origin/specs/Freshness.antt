@@ -82,13 +82,14 @@ pub record HasFreshKey (first : Connection) (id : ℕ) (events : List Event) (ke
   pub was_shown : shown_at ≡ Some moment
   pub log_in : IsFreshLogIn first id events octets moment
 
--- one of these events brings the connection a token: an AP-REP that is sealed under this key, and has the time of an authenticator of this
--- moment, by the values of both its fields (RFC 4120, section 3.2.5)
-pub record IsAnswered (id : ℕ) (events : List Event) (key : List ℕ) (moment : ℕ) : Type 0 where
+-- behind that exchange, of this start and these replies, one of the events brings the connection a token: an AP-REP that is sealed under this
+-- key, and has the time of an authenticator of this moment, by the values of both its fields (RFC 4120, section 3.2.5)
+pub record IsAnswered (id : ℕ) (start : Event) (arrivals : List Arrival) (events : List Event) (key : List ℕ) (moment : ℕ) : Type 0 where
   pub earlier : List Event
   pub event : Event
   pub later : List Event
   pub are : events ≡ earlier ++ (event ∷ later)
+  pub behind : IsExchange id start arrivals earlier
   pub is_for : is_heard id event ≡ true
   pub token : List ℕ
   pub brings : event.input ≡ Token token
@@ -104,7 +105,7 @@ pub record IsAnswered (id : ℕ) (events : List Event) (key : List ℕ) (moment 
 pub record IsEstablished (first : Connection) (id : ℕ) (events : List Event) (key : Option (List ℕ)) (shown_at : Option ℕ) : Type 0 where
   pub fresh : HasFreshKey first id events key shown_at
   pub answered : has_rule first.context.rules answers_its_authenticator ≡ true → has_flag fresh.log_in.start.flags.0 mutual_auth ≡ true
-      → IsAnswered id events fresh.octets fresh.moment
+      → IsAnswered id fresh.log_in.start fresh.log_in.arrivals events fresh.octets fresh.moment
 
 -- an initiator that is to begin: it has no session key, awaits no KDC, and takes no reply but one to its own request
 pub record IsToBegin (connection : Connection) : Type 0 where

@@ -36,13 +36,17 @@ pub fn session_keys_come_from_credentials<G: ReplayGate>()
 /// was asked for, it is established only by an AP-REP, sealed under that session key, with the time of its own authenticator.
 pub fn log_ins_are_fresh<G: ReplayGate>()
     ensures fresh { (before after : State G) (events : List Event) (replies : List Reply) (id : ℕ) (first last : Connection)
+        (key : List ℕ)
         → Runs G.admits before events replies after → at_id id before.connections ≡ Some first → IsToBegin first
-        → at_id id after.connections ≡ Some last → (key : List ℕ) → last.context.encryption_params.session_key ≡ Some key
+        → at_id id after.connections ≡ Some last → last.context.encryption_params.session_key ≡ Some key
         → HasFreshKey first id events last.context.encryption_params.session_key last.context.asked_at }
     ensures answered { (before after : State G) (events : List Event) (replies : List Reply) (id : ℕ) (first last : Connection)
         → Runs G.admits before events replies after → at_id id before.connections ≡ Some first → IsToBegin first
         → at_id id after.connections ≡ Some last → last.context.state ≡ Final
         → IsEstablished first id events last.context.encryption_params.session_key last.context.asked_at }
+    ensures stays { (before after : State G) (events : List Event) (replies : List Reply) (id : ℕ) (first : Connection)
+        → Runs G.admits before events replies after → at_id id before.connections ≡ Some first → IsToBegin first
+        → (last : Connection) × (at_id id after.connections ≡ Some last) × IsSameInitiator first last }
 {}
 
 /// Over every input: each initiator that its lines declare begins without a session key and awaits no KDC; and behind the events that
