@@ -1,5 +1,5 @@
 -- Each reply of a run answers the request that the run made, and so does the service's answer.
-use Rattle.std.proofs.Common.{◌≡◌, inl, inr, ℕ, Bool, true, false, List, [], ◌∷◌, ◌++◌, Option, Some, None, Result, Ok, refl, sym, ap, ◌∙◌, subst, append_assoc}
+use Rattle.std.proofs.Common.{◌≡◌, inl, inr, ℕ, Bool, true, List, [], ◌∷◌, ◌++◌, Option, Some, None, Result, Ok, refl, sym, ap, ◌∙◌, subst, append_assoc}
 use Rattle.std.specs.Prelude.{◌⊎◌, ◌||◌, is_some, not}
 use Rattle.std.proofs.lemmas.Bool.{and_parts}
 use Rattle.krb_crypto.specs.declared.suite.CipherSuite.{CipherSuite}

@@ -83,8 +83,9 @@ ends_with seeker replies done set led =
         are_referrals = session.are_referrals;
         is_service = session.is_service;
         suite = session.suite;
+        facts = has.facts;
         chain =
-            subst (λ (o : Rules). IsChain o seeker.asker.credentials has.salt has.as_rep (session.referrals ++ (session.last ∷ [])) (record { suite = session.suite; key = session.key }))
+            subst (λ (o : Rules). IsChain o seeker.asker.credentials has.salt has.as_rep (session.referrals ++ (session.last ∷ [])) (record { suite = session.suite; key = session.key; facts = has.facts }))
             set has.chain;
       };
     }

@@ -5,8 +5,15 @@ pub mod PhaseLemmas
 pub mod LeadLemmas
 pub mod Known
 pub mod TurnLemmas
+pub mod AnsweredLemmas
 pub mod StartLemmas
 pub mod ReplyLemmas
 pub mod CallLemmas
+pub mod EachEvent
 pub mod EventLemmas
 pub mod DeclaredLemmas
+pub mod FreshKnown
+pub mod FreshBegun
+pub mod FreshStages
+pub mod FreshSteps
+pub mod FreshEvents

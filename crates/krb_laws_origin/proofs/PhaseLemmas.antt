@@ -85,7 +85,7 @@ module _ (seeker : Seeker) (reply : Result (List ℕ) NetFault) (draw : Draw) (r
   as_few : (phase : AsPhase) → TakesReplyWithin InAsExchange (λ grant. AsksFirstTgs seeker grant draw) seeker.asker phase reply draw (Ok (Asks request next)) → IsFew next
   as_few (AwaitsError kdc body) h = go (error_taken InAsExchange (λ grant. AsksFirstTgs seeker grant draw) seeker.asker reply draw (Asks request next) kdc body h)
     where
-      go : AskedSecond {O = InitDone} InAsExchange seeker.asker kdc reply (Asks request next) ⊎ WentOnEarly (λ grant. AsksFirstTgs seeker grant draw) seeker.asker kdc reply (Asks request next) → IsFew next
+      go : AskedSecond {O = InitDone} InAsExchange seeker.asker kdc body reply (Asks request next) ⊎ WentOnEarly (λ grant. AsksFirstTgs seeker grant draw) seeker.asker kdc body draw.moment reply (Asks request next) → IsFew next
       go (inl second) = subst (λ (p : InitPhase). IsFew p) (sym (asked _ request next _ second.is)) tt
       go (inr went) = tgs_few went.on.grant went.on.rest
   as_few (AwaitsAsRep sealed) h =
@@ -145,7 +145,7 @@ module _ (fault : NetFault) where
     no_as : (phase : AsPhase) → TakesReplyWithin InAsExchange (λ grant. AsksFirstTgs seeker grant draw) seeker.asker phase (Err fault) draw (Ok turn) → ⊥
     no_as (AwaitsError kdc body) h = go (error_taken InAsExchange (λ grant. AsksFirstTgs seeker grant draw) seeker.asker (Err fault) draw turn kdc body h)
       where
-        go : AskedSecond InAsExchange seeker.asker kdc (Err fault) turn ⊎ WentOnEarly (λ grant. AsksFirstTgs seeker grant draw) seeker.asker kdc (Err fault) turn → ⊥
+        go : AskedSecond InAsExchange seeker.asker kdc body (Err fault) turn ⊎ WentOnEarly (λ grant. AsksFirstTgs seeker grant draw) seeker.asker kdc body draw.moment (Err fault) turn → ⊥
         go (inl second) = no_reply kdc.protocol _ (Refusal second.names.error) second.names.replies
         go (inr went) = no_grant kdc.protocol _ went.on.taken.rep went.on.taken.granted
     no_as (AwaitsAsRep sealed) h =

@@ -115,12 +115,32 @@ ready_there connections event connection e =
 abbrev pub hears : Input → Connection → Result (Connection × List ℕ) Cause
 hears input connection = token_heard connection.context.state input >>= (λ token. Ok (connection, token))
 
-pub heard_there : (connections : List (ℕ × Connection)) (event : Event) (found : Connection × List ℕ) → heard connections event ≡ Ok found → IsReady connections event found.0
-heard_there connections event found e =
+called_in_range : (connections : List (ℕ × Connection)) (event : Event) (connection : Connection) → called connections event ≡ Ok connection → nat_le event.moment last_moment ≡ true
+called_in_range connections event connection e =
+    let in_range = bound (check causes.Moment (nat_le event.moment last_moment)) (λ u. ok_or causes.Connection (at_id event.connection connections)) connection e in
+    allowed causes.Moment (nat_le event.moment last_moment) in_range.found in_range.first_is
+
+ready_in_range : (connections : List (ℕ × Connection)) (event : Event) (connection : Connection) → ready connections event ≡ Ok connection → nat_le event.moment last_moment ≡ true
+ready_in_range connections event connection e =
+    let calls = bound (called connections event) freed connection e in called_in_range connections event calls.found calls.first_is
+
+-- at a moment in range, and for which it is the time, where the peer is heard,
+pub record IsHearing (connections : List (ℕ × Connection)) (event : Event) (connection : Connection) (token : List ℕ) : Type 0 where
+  pub there : at_id event.connection connections ≡ Some connection
+  pub free : connection.exchange ≡ None
+  pub in_range : nat_le event.moment last_moment ≡ true
+  pub token_is : token_heard connection.context.state event.input ≡ Ok token
+
+pub hearing_there : (connections : List (ℕ × Connection)) (event : Event) (found : Connection × List ℕ) → heard connections event ≡ Ok found → IsHearing connections event found.0 found.1
+hearing_there connections event found e =
     let is_ready = bound (ready connections event) (hears event.input) found e in
-    let hearing = bound (token_heard is_ready.found.context.state event.input) (λ token. Ok (is_ready.found, token)) found is_ready.next_is in
-    let is : is_ready.found ≡ found.0 = ap (λ (f : Connection × List ℕ). f.0) (same_ok (is_ready.found, hearing.found) found hearing.next_is) in
-    subst (λ (c : Connection). IsReady connections event c) is (ready_there connections event is_ready.found is_ready.first_is)
+    let here : Connection = is_ready.found in
+    let hearing = bound (token_heard here.context.state event.input) (λ token. Ok (here, token)) found is_ready.next_is in
+    let is : (here, hearing.found) ≡ found = same_ok (here, hearing.found) found hearing.next_is in
+    let waits = ready_there connections event here is_ready.first_is in
+    let hearing_here : IsHearing connections event here hearing.found =
+    record { there = waits.there; free = waits.free; in_range = ready_in_range connections event here is_ready.first_is; token_is = hearing.first_is } in
+    subst (λ (f : Connection × List ℕ). IsHearing connections event f.0 f.1) is hearing_here
 
 abbrev pub judges : Option (List ℕ) → Connection → Result (Connection × List ℕ) Cause
 judges brought connection = check causes.Sequence (is_acceptor connection.context) >>= (λ u. ok_or causes.Sequence brought >>= (λ token. Ok (connection, token)))
@@ -151,11 +171,6 @@ waits_for connection exchange = ok_or causes.Sequence exchange >>= (λ run. Ok (
 
 abbrev pub waits : Connection → Result (Connection × Run) Cause
 waits connection = waits_for connection connection.exchange
-
-called_in_range : (connections : List (ℕ × Connection)) (event : Event) (connection : Connection) → called connections event ≡ Ok connection → nat_le event.moment last_moment ≡ true
-called_in_range connections event connection e =
-    let in_range = bound (check causes.Moment (nat_le event.moment last_moment)) (λ u. ok_or causes.Connection (at_id event.connection connections)) connection e in
-    allowed causes.Moment (nat_le event.moment last_moment) in_range.found in_range.first_is
 
 pub awaited_there : (connections : List (ℕ × Connection)) (event : Event) (found : Connection × Run) → awaited connections event ≡ Ok found → IsAwaiting connections event found.0 found.1
 awaited_there connections event found e =

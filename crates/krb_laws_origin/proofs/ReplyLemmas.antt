@@ -26,7 +26,7 @@ use Rattle.krb_laws_origin.proofs.PhaseLemmas.{Led, led_next, led_to_end, faults
 use Rattle.krb_laws_origin.proofs.TurnLemmas.{Answer, gone_on, Lands, lands}
 
 -- what comes at a moment in range
-come : (id : ℕ) (event : Event) (answer : Result (List ℕ) NetFault) → event.connection ≡ id → nat_le event.moment last_moment ≡ true → answer_of event.input ≡ Some answer → answer_to id event ≡ answer ∷ []
+pub come : (id : ℕ) (event : Event) (answer : Result (List ℕ) NetFault) → event.connection ≡ id → nat_le event.moment last_moment ≡ true → answer_of event.input ≡ Some answer → answer_to id event ≡ answer ∷ []
 come id event answer here in_range is = rw (eq-eqb event.connection id here, in_range, is) refl
 
 module _ (identity : Option CredentialsBuffers) (id : ℕ) (events : List Event) (event : Event) (here : event.connection ≡ id) (in_range : nat_le event.moment last_moment ≡ true) (connection : Connection) (stands : Stands identity id events connection) where

@@ -1,9 +1,6 @@
 -- An event at which an initiator begins, or hears its peer, keeps what is known of it.
-use Rattle.std.proofs.Common.{◌≡◌, ℕ, Bool, true, false, List, [], Option, Some, None, Result, Ok, Err, refl, sym, ap, ◌∙◌, subst}
-use Rattle.sspi_core.proofs.Chain.{passed, gave}
+use Rattle.std.proofs.Common.{◌≡◌, ℕ, List, [], Option, Some, None, Result, Ok, Err, refl, sym, ap, ◌∙◌, subst}
 use Rattle.krb_context.specs.Rules.{no_rules}
-use Rattle.krb_as.specs.declared.done.InitDone.{InitDone}
-use Rattle.krb_as.specs.declared.turn.Turn.{Turn}
 use Rattle.krb_as.specs.declared.turn.Turn.TheVariants.{Asks, Ends}
 use Rattle.krb_machine.specs.declared.run.Run.TheVariants.{Initiates}
 use Rattle.krb_initiator.specs.Beginnings.{BeginsInitiation}
@@ -16,11 +13,7 @@ use Rattle.krb_initiator.specs.declared.seeker.InitPhase.TheVariants.{New}
 use Rattle.krb_initiator.specs.declared.seeker.Initiation.{Initiation}
 use Rattle.krb_initiator.specs.declared.seeker.Initiation.TheVariants.{Requests, Seeks, Hears}
 use Rattle.krb_initiator.specs.declared.seeker.Seeker.{Seeker}
-use Rattle.krb_ap.specs.Answered.{Confirms, Replies, FinishesInitiation, TakesApRep}
-use Rattle.krb_ap.specs.Initiators.{is_bare}
 use Rattle.krb_ap.specs.declared.initiator.Initiator.{Initiator}
-use Rattle.krb_messages.specs.declared.ap_rep.EncApRepPart.{EncApRepPart}
-use Rattle.krb_messages.specs.declared.encryption.EncryptionKey.{EncryptionKey}
 use Rattle.krb_script.specs.declared.item.Event.{Event}
 use Rattle.sspi_core.specs.declared.cause.Cause.{Cause}
 use Rattle.sspi_core.specs.declared.draw.Draw.{Draw}
@@ -29,53 +22,12 @@ use Rattle.krb_machine.specs.Exchanges.{OpensExchange}
 use Rattle.krb_machine.specs.Initiations.{SetsOut, Undertakes}
 use Rattle.krb_machine.specs.declared.connection.Connection.{Connection}
 use Rattle.krb_machine.specs.declared.reply.Reply.{Reply}
+use Rattle.krb_laws_origin.proofs.AnsweredLemmas.{hears_end, hears_ends}
 use Rattle.krb_laws_origin.proofs.BegunLemmas.{IsFor, begins_for}
 use Rattle.krb_laws_origin.proofs.BroughtLemmas.{none_coming}
 use Rattle.krb_laws_origin.proofs.Known.{IsFetching, Speaks, Stands, stands_still, stands_free, stands_waiting, stands_kept}
 use Rattle.krb_laws_origin.proofs.PhaseLemmas.{Led, led_first, starts_not_ended}
 use Rattle.krb_laws_origin.proofs.TurnLemmas.{Answer, begun, Lands, lands}
-
--- ---- the service's answer keeps the session key
-
--- the session key of an initiator's end
-abbrev key_at : InitDone → Option (List ℕ)
-key_at done = done.change.encryption_params.session_key
-
-confirms_same : (initiator : Initiator) (subkey : Option EncryptionKey) (done : InitDone) → Confirms initiator subkey (Ok done) → key_at done ≡ initiator.params.session_key
-unfolding Confirms
-confirms_same initiator subkey done h = let key = passed _ _ _ h in ap key_at (gave _ _ key.rest_held)
-
-replies_same : (initiator : Initiator) (key : List ℕ) (subkey : Option EncryptionKey) (number : Option (List ℕ)) (draw : Draw) (done : InitDone) → Replies initiator key subkey number draw (Ok done)
-    → key_at done ≡ initiator.params.session_key
-unfolding Replies
-replies_same initiator key subkey number draw done h =
-    let taken = passed _ _ _ h in let counted = passed _ _ _ taken.rest_held in ap key_at (gave _ _ counted.rest_held)
-
-finishes_same : (dce : Bool) (initiator : Initiator) (key : List ℕ) (part : EncApRepPart) (draw : Draw) (done : InitDone) → FinishesInitiation dce initiator key part draw (Ok done)
-    → key_at done ≡ initiator.params.session_key
-finishes_same true initiator key part draw done h = replies_same initiator key part.subkey part.seq_number draw done h
-finishes_same false initiator key part draw done h = confirms_same initiator part.subkey done h
-
-takes_same : (initiator : Initiator) (token : List ℕ) (draw : Draw) (done : InitDone) → TakesApRep initiator token draw (Ok done) → key_at done ≡ initiator.params.session_key
-unfolding TakesApRep
-takes_same initiator token draw done h =
-    let message = passed _ _ _ h in
-    let key = passed _ _ _ message.rest_held in
-    let part = passed _ _ _ key.rest_held in
-    finishes_same (is_bare initiator.flags) initiator key.found part.found draw done part.rest_held
-
-ended : (x y : InitDone) → ◌≡◌ {A = Turn InitPhase InitDone} (Ends x) (Ends y) → x ≡ y
-ended x y e = cc
-
-hears_same : (initiator : Initiator) (token : List ℕ) (draw : Draw) (done : InitDone) → HearsAnswer initiator token draw (Ok (Ends done)) → key_at done ≡ initiator.params.session_key
-unfolding HearsAnswer
-hears_same initiator token draw done h =
-    let made = passed _ _ _ h in
-    ap key_at (ended done made.found (gave _ _ made.rest_held)) ∙ takes_same initiator token draw made.found made.first_held
-
-hears_ends : (initiator : Initiator) (token : List ℕ) (draw : Draw) (turn : Turn InitPhase InitDone) → HearsAnswer initiator token draw (Ok turn) → (done : InitDone) × (turn ≡ Ends done)
-unfolding HearsAnswer
-hears_ends initiator token draw turn h = let made = passed _ _ _ h in (made.found, gave _ _ made.rest_held)
 
 -- ---- the start
 
@@ -91,7 +43,7 @@ module _ (identity : Option CredentialsBuffers) (id : ℕ) (events : List Event)
       → HearsAnswer initiator token draw answer → Lands connection later answer next → Holds next
   hears_lands initiator token draw later (Ok (Asks request phase)) next same h l = let e = (hears_ends initiator token draw (Asks request phase) h).1 in absurd cc
   hears_lands initiator token draw later (Ok (Ends done)) next same h l =
-      subst Holds (sym l) (stands_kept identity id events connection speaks done.change (hears_same initiator token draw done h ∙ ap (λ p. p.session_key) same))
+      subst Holds (sym l) (stands_kept identity id events connection speaks done.change ((hears_end initiator token draw done h).key ∙ ap (λ p. p.session_key) same))
   hears_lands initiator token draw later (Err cause) next same h l = subst Holds (sym l) (stands_free identity id events connection speaks)
 
   -- it asks the service for its own ticket

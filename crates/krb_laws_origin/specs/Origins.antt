@@ -10,6 +10,7 @@ use Rattle.sspi_core.specs.declared.identity.CredentialsBuffers.{CredentialsBuff
 use Rattle.sspi_core.specs.declared.protocol.NetworkProtocol.{NetworkProtocol}
 use Rattle.sspi_generator.specs.declared.network.NetFault.{NetFault}
 use Rattle.krb_context.specs.Rules.{no_rules}
+use Rattle.krb_replies.specs.declared.facts.ReplyFacts.{ReplyFacts}
 use Rattle.krb_as.specs.Askers.{default_salt}
 use Rattle.krb_as.specs.Replied.{LeavesFirst}
 use Rattle.krb_tgs.specs.Chain.{IsChain}
@@ -67,7 +68,8 @@ pub record LeadTo (credentials : CredentialsBuffers) (replies : List (List ℕ))
   pub are_referrals : list_all is_referral referrals ≡ true
   pub is_service : is_referral last ≡ false
   pub suite : CipherSuite
-  pub chain : IsChain no_rules credentials salt as_rep (referrals ++ last ∷ []) (record { suite = suite; key = key })
+  pub facts : ReplyFacts
+  pub chain : IsChain no_rules credentials salt as_rep (referrals ++ last ∷ []) (record { suite = suite; key = key; facts = facts })
 
 -- who has this identity has credentials, and from them replies that these events brought lead to the key
 pub record HasOrigin (identity : Option CredentialsBuffers) (id : ℕ) (events : List Event) (key : List ℕ) : Type 0 where
