@@ -200,7 +200,7 @@ module _ (moment later : ℕ) (draw : Draw) (near : AreNear grace moment draw.mo
     valid = record { begun = has_begun; lives = ap (λ (t : ℤ). is_later (pos later) (in_microseconds (granted_end t draw.moment)) grace) asks.till ∙ granted_outlives };
   }
 
-pub nonce_size : (own : Draw) → IsDraw own → length (drawn_nonce own) ≡ 4
+nonce_size : (own : Draw) → IsDraw own → length (drawn_nonce own) ≡ 4
 nonce_size own d = omega (arith, length-take 4 (drop 4 own.random), length-drop 4 own.random, d.size)
 
 pub next_answer : (kdc : Kdc) (wanted : Wanted) (rep : KdcRep) (part : EncTicketPart) (own draw : Draw) (later : ℕ) (target : Target) → IsDraw own
