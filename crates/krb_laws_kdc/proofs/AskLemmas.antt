@@ -1,11 +1,12 @@
 -- A client's TGS-REQ asks a KDC that gives the ticket, and its authenticator is its holder's.
-use Rattle.std.proofs.Common.{◌≡◌, ℕ, ◌+◌, ◌/◌, ◌%◌, ◌<◌, ◌^◌, pos, Bool, true, false, List, [], ◌∷◌, length, drop, Some, refl, sym, subst, arith, lit<, lit≤, length-drop}
+use Rattle.std.proofs.Common.{◌≡◌, ℕ, ◌+◌, ◌/◌, ◌%◌, ◌<◌, ◌^◌, pos, Bool, true, false, List, [], ◌∷◌, length, drop, Option, Some, refl, sym, subst, arith, lit<, lit≤, length-drop}
 use Rattle.std.specs.Prelude.{bit_or, if◌then◌else◌}
 use Rattle.std.specs.Int.{w32, to_be_bytes}
 use Rattle.std.proofs.lemmas.List.{length-take}
 use Rattle.std.proofs.lemmas.Int.{ints}
 use Rattle.krb_aes.proofs.InjectiveLemmas.{none_octets, more_octets, IsOctets-append}
 use Rattle.krb_crypto.proofs.CtsInjective.{IsOctets-take}
+use Rattle.krb_crypto.specs.declared.suite.CipherSuite.{CipherSuite}
 use Rattle.krb_der.specs.Moment.{IsTime, time_octets}
 use Rattle.krb_der.specs.Schema.{IsSound}
 use Rattle.krb_der.specs.Layout.{spelling}
@@ -13,6 +14,7 @@ use Rattle.krb_messages.specs.Layouts.{authenticator_layout, authenticator_row, 
 use Rattle.krb_messages.specs.Table.{authenticator as authenticator_kind, checksum as checksum_kind, principal_name}
 use Rattle.krb_messages.specs.declared.authenticator.Authenticator.{Authenticator}
 use Rattle.krb_messages.specs.declared.enc_ticket_part.EncTicketPart.{EncTicketPart}
+use Rattle.krb_messages.specs.declared.ticket.Ticket.{Ticket}
 use Rattle.krb_exchange.specs.Table.{kdc_req_body}
 use Rattle.krb_exchange.specs.Layouts.{kdc_req_body_row}
 use Rattle.krb_exchange.specs.declared.kdc_rep.KdcRep.{KdcRep}
@@ -21,14 +23,15 @@ use Rattle.sspi_core.specs.declared.draw.Draw.{Draw}
 use Rattle.sspi_core.specs.Flags.{has_flag, delegate, use_session_key}
 use Rattle.md5.specs.Md5.{md5}
 use Rattle.md5.proofs.StandardFacts.{length-md5}
+use Rattle.krb_as.specs.declared.kdc.Kdc.{Kdc as Address}
+use Rattle.krb_replies.specs.declared.facts.ReplyFacts.{ReplyFacts}
 use Rattle.krb_requests.specs.Pieces.{principal as name_with, whole_second}
 use Rattle.krb_authenticators.specs.Authenticators.{microseconds, number_octets}
 use Rattle.krb_authenticators.specs.TgsRequests.{over, always, tgs_options, body_checksum}
 use Rattle.krb_authenticators.proofs.Lengths.{number_some}
 use Rattle.krb_tgs.specs.declared.wanted.Wanted.{Wanted}
-use Rattle.krb_tgs.specs.TgsAsked.{tgs_authenticator, drawn_number, drawn_nonce, drawn_confounder}
+use Rattle.krb_tgs.specs.TgsAsked.{service_of, tgs_authenticator, drawn_number, drawn_nonce, drawn_confounder, tgs_req_for, tgs_request}
 use Rattle.krb_laws_ends.specs.Answers.{IsDraw}
-use Rattle.krb_tgs.specs.TgsAsked.{service_of}
 use Rattle.krb_laws_ends.proofs.AnswerLemmas.{moment_time, time_short}
 use Rattle.krb_laws_ends.proofs.GrantLemmas.{IsOctets-digest, short-unsigned, short-sign, sound_sign}
 use Rattle.krb_laws_ends.proofs.OctetsLemmas.{IsShort, IsOctets-drop, IsOctets-time, short-nothing, short-append, short-tlv, short-field, short-more, short-word}
@@ -40,6 +43,13 @@ use Rattle.krb_laws_kdc.specs.Granting.{IsSoundClient}
 use Rattle.krb_laws_kdc.specs.Showing.{IsHolder, AsksNext}
 use Rattle.krb_laws_kdc.proofs.ErrorLemmas.{ascii_octets}
 use Rattle.krb_laws_kdc.proofs.NameLemmas.{AreNames, target_names}
+
+-- what was sealed beside the key of a ticket goes into no request
+pub same_request : (wanted : Wanted) (suite : CipherSuite) (key : List ℕ) (facts others : ReplyFacts) (rep : KdcRep) (tickets : Option (List Ticket)) (draw : Draw) (kdc : Address)
+    → tgs_request wanted (record { suite = suite; key = key; facts = facts; rep = rep }) tickets draw kdc
+    ≡ tgs_request wanted (record { suite = suite; key = key; facts = others; rep = rep }) tickets draw kdc
+unfolding tgs_request tgs_req_for
+same_request wanted suite key facts others rep tickets draw kdc = refl
 
 -- no session key of another ticket is asked for
 asks_alone : (flags : ℕ) → has_flag flags use_session_key ≡ false → has_key_bit (to_be_bytes w32 (tgs_options flags)) ≡ false

@@ -22,11 +22,13 @@ use Rattle.krb_requests.specs.Pieces.{principal as name_with}
 use Rattle.krb_requests.proofs.Lengths.{plain_fits, timed_fits}
 use Rattle.krb_authenticators.specs.ApRequests.{ap_req}
 use Rattle.krb_authenticators.specs.TgsRequests.{over}
+use Rattle.krb_context.specs.declared.rules.Rules.{Rules}
 use Rattle.krb_as.specs.FirstBodies.{first_body}
 use Rattle.krb_as.specs.declared.kdc.Kdc.{Kdc as Address}
 use Rattle.krb_as.specs.Kdcs.{FindsKdc}
 use Rattle.krb_replies.specs.Realms.{referral_realm}
-use Rattle.krb_tgs.specs.TgsAsked.{tgs_req_for, tgs_authenticator, drawn_nonce, drawn_confounder, drawn_number}
+use Rattle.krb_tgs.specs.TgsAsked.{service_of, tgs_req_for, tgs_authenticator, drawn_nonce, drawn_confounder, drawn_number}
+use Rattle.krb_initiator.specs.declared.seeker.Seeker.{Seeker}
 use Rattle.krb_initiator.specs.InitSteps.{body_of}
 use Rattle.krb_admission.specs.Clients.{client_of}
 use Rattle.sspi_core.specs.declared.cause.Cause.TheVariants.{NoKdc}
@@ -34,7 +36,6 @@ use Rattle.sspi_core.specs.declared.protocol.NetworkProtocol.TheVariants.{Tcp}
 use Rattle.sspi_core.proofs.Chain.{follows, gives, takes_some}
 use Rattle.sspi_generator.specs.Draws.{AreInRange}
 use Rattle.krb_laws_ends.specs.Answers.{IsDraw}
-use Rattle.krb_tgs.specs.TgsAsked.{service_of}
 use Rattle.krb_kdc.specs.declared.grant.Grant.{Grant}
 use Rattle.krb_kdc.specs.declared.kdc.Kdc.{Kdc}
 use Rattle.krb_kdc.specs.declared.tgs_req.Target.{Target}
@@ -88,9 +89,9 @@ moments = (lit≤ tt, (lit≤ tt, (lit≤ tt, all_in_range 10)))
 
 -- ---- the client and its KDC
 
-asks : AsksForService example_seeker
+asks : (rules : Rules) → AsksForService (example_seeker rules)
 unfolding referral_realm
-asks = record { asks_mutual = record { asked = refl; named = lit< tt; short = lit≤ tt }; under_its_own_key = refl; without_tgt = refl; no_referral = refl }
+asks rules = record { asks_mutual = record { asked = refl; named = lit< tt; short = lit≤ tt }; under_its_own_key = refl; without_tgt = refl; no_referral = refl }
 
 abbrev address : Address
 address = record { protocol = Tcp; url = example_url; realm = example_realm }
@@ -99,12 +100,15 @@ found : FindsKdc (Some example_url) (record { vars = []; files = [] }) example_r
 unfolding FindsKdc
 found = follows _ _ example_url _ (takes_some NoKdc (Some example_url) example_url refl) (follows _ _ Tcp _ (record { is = refl }) (gives address))
 
-user_named : client_of (name_of example_seeker) example_realm ≡ Some example_user
+user_named : (rules : Rules) → client_of (name_of (example_seeker rules)) example_realm ≡ Some example_user
 unfolding client_of
-user_named = refl
+user_named rules = refl
 
-module _ (alloc : Global) where
-  stands : StandsAt example_seeker.asker (Some example_url) (example_kdc alloc).suite 2 (example_pairs alloc) example_realm (example_kdc alloc)
+module _ (alloc : Global) (rules : Rules) where
+  abbrev seeker : Seeker
+  seeker = example_seeker rules
+
+  stands : StandsAt seeker.asker (Some example_url) (example_kdc alloc).suite 2 (example_pairs alloc) example_realm (example_kdc alloc)
   stands = record {
     address = address;
     found = found;
@@ -117,8 +121,8 @@ module _ (alloc : Global) where
     least = lit≤ tt;
   }
 
-  abbrev has : HasClient example_seeker (example_kdc alloc) example_user
-  has = record { realm_is = refl; client = example_client; known = refl; keyed = refl; user_named = user_named }
+  abbrev has : HasClient seeker (example_kdc alloc) example_user
+  has = record { realm_is = refl; client = example_client; known = refl; keyed = refl; user_named = user_named rules }
 
   -- ---- the first exchange
 
@@ -129,12 +133,12 @@ module _ (alloc : Global) where
   suite = Aes256CtsHmacSha196
 
   abbrev grant : Grant
-  grant = first_granted example_seeker kdc example_client example_draw example_draw
+  grant = first_granted seeker kdc example_client example_draw example_draw
 
   abbrev body : KdcReqBody
-  body = body_of example_seeker example_draw
+  body = body_of seeker example_draw
 
-  name_le : length (spelling principal_name_layout (name_of example_seeker)) ≤ 64
+  name_le : length (spelling principal_name_layout (name_of seeker)) ≤ 64
   unfolding tlv length_octets principal_name principal_name_row
   name_le = lit≤ tt
 
@@ -149,14 +153,14 @@ module _ (alloc : Global) where
   small : IsSmall grant
   small = record { crealm = lit≤ tt; cname = name_le; sname = granting_le }
 
-  name_short : length (spelling principal_name_layout (name_of example_seeker)) ≤ 2 ^ 24
+  name_short : length (spelling principal_name_layout (name_of seeker)) ≤ 2 ^ 24
   name_short = let h = name_le in omega (arith, h)
 
-  client : IsSoundClient example_realm (name_of example_seeker)
-  client = first_client example_seeker example_draws example_user kdc has refl start 2 timely timely name_short
+  client : IsSoundClient example_realm (name_of seeker)
+  client = first_client seeker example_draws example_user kdc has refl start 2 timely timely name_short
 
   sound : IsSoundGrant example_realm body.nonce grant
-  sound = first_sound example_seeker example_draws example_user kdc has refl start 2 timely timely name_short
+  sound = first_sound seeker example_draws example_user kdc has refl start 2 timely timely name_short
 
   nonce_le : length body.nonce ≤ 4
   unfolding first_body
@@ -177,7 +181,7 @@ module _ (alloc : Global) where
   unfolding ticket
   first_ticket_le = ticket_le suite example_realm (lit≤ tt) example_draw is_draw grant small ticket_cipher ticket_cipher_le
 
-  reply_le : length (spelling as_rep_layout (first_given example_seeker kdc example_client example_draw example_draw)) ≤ 8192
+  reply_le : length (spelling as_rep_layout (first_given seeker kdc example_client example_draw example_draw)) ≤ 8192
   unfolding as_rep
   reply_le =
       let plain = as-part suite example_realm example_draw is_draw body.nonce grant sound in
@@ -202,7 +206,7 @@ module _ (alloc : Global) where
       le_trans _ _ _ (data_le suite (sealed suite client_octets 1 confounder (spelling pa_enc_ts_enc_layout (timestamp example_draw.moment))) 92
       (sealed_le suite client_octets 1 confounder _ 64 refl (IsOctets-append _ _ (IsOctets-take 16 example_draw.random is_draw.octets) plain.octets) plain.short)) (lit≤ tt)
 
-  first_sizes : AreFirstSizes example_seeker kdc example_client example_draw example_draw example_draw example_draw
+  first_sizes : AreFirstSizes seeker kdc example_client example_draw example_draw example_draw example_draw
   first_sizes =
       let plain = as_req_le plain_pa_datas body plain_fits body_le in
       let timed = as_req_le (timed_pa_datas suite client_octets example_draw.moment confounder) body (timed_fits suite client_octets example_draw.moment confounder time_value_le) body_le in
@@ -212,19 +216,19 @@ module _ (alloc : Global) where
   -- ---- the second exchange
 
   abbrev held : Held
-  held = held_first example_seeker kdc example_client example_draw example_draw
+  held = held_first seeker kdc example_client example_draw example_draw
 
   is_held : IsHeld suite start held
-  is_held = first_held example_seeker example_draws example_user kdc has refl start 2 timely timely name_short
+  is_held = first_held seeker example_draws example_user kdc has refl start 2 timely timely name_short
 
   abbrev service : List (List ℕ)
-  service = service_of example_seeker.wanted.target
+  service = service_of seeker.wanted.target
 
   abbrev target : Target
   target = service_target service service_octets
 
   abbrev next_body : KdcReqBody
-  next_body = body_at example_seeker.wanted example_realm example_draw
+  next_body = body_at seeker.wanted example_realm example_draw
 
   next_body_le : length (spelling kdc_req_body_layout next_body) ≤ 1024
   unfolding tlv length_octets time_octets kdc_req_body kdc_req_body_row principal_name principal_name_row
@@ -243,7 +247,7 @@ module _ (alloc : Global) where
       record { sound = name_sound 2 service names; octets = name_octets 2 (lit< tt) service names (omega (arith, h)); short = omega (arith, h) }
 
   abbrev next_grant : Grant
-  next_grant = granted suite example_seeker.wanted kdc held target example_draw example_draw
+  next_grant = granted suite seeker.wanted kdc held target example_draw example_draw
 
   next_small : IsSmall next_grant
   unfolding ticket_part
@@ -251,7 +255,7 @@ module _ (alloc : Global) where
 
   next_is_sound : IsSoundGrant example_realm (drawn_nonce example_draw) next_grant
   next_is_sound =
-      next_sound start 2 example_seeker.wanted refl kdc held example_draw example_draw target timely timely (record { some = lit≤ tt; fair = lit≤ tt }) (lit≤ tt) suite is_held service_sound
+      next_sound start 2 seeker.wanted refl kdc held example_draw example_draw target timely timely (record { some = lit≤ tt; fair = lit≤ tt }) (lit≤ tt) suite is_held service_sound
 
   next_client : IsSoundClient next_grant.crealm next_grant.cname
   unfolding ticket_part
@@ -272,7 +276,7 @@ module _ (alloc : Global) where
   unfolding ticket
   next_ticket_le = ticket_le suite example_realm (lit≤ tt) example_draw is_draw next_grant next_small next_cipher next_cipher_le
 
-  next_reply_le : length (spelling tgs_rep_layout (given suite example_seeker.wanted kdc held target example_draw example_draw)) ≤ 8192
+  next_reply_le : length (spelling tgs_rep_layout (given suite seeker.wanted kdc held target example_draw example_draw)) ≤ 8192
   unfolding tgs_rep
   next_reply_le =
       let plain = tgs-part suite example_realm example_draw is_draw (drawn_nonce example_draw) next_grant next_is_sound in
@@ -284,31 +288,32 @@ module _ (alloc : Global) where
       (IsOctets-append _ _ (reply-confounder-octets suite example_realm example_draw is_draw) plain.octets)
       (tgs_part_le suite example_realm (lit≤ tt) example_draw is_draw next_grant next_small (drawn_nonce example_draw) (lit≤ tt))) (lit≤ tt))
 
-  shows : IsHolder (ticket_part suite example_draw grant) example_draw.moment next_body (tgs_authenticator example_seeker.wanted held.rep example_draw) (drawn_confounder example_draw)
+  shows : IsHolder (ticket_part suite example_draw grant) example_draw.moment next_body (tgs_authenticator seeker.wanted held.rep example_draw) (drawn_confounder example_draw)
   unfolding as_rep ticket_part
-  shows = is_holder example_seeker.wanted held.rep example_draw next_body client is_draw (ticket_part suite example_draw grant) refl refl
+  shows = is_holder seeker.wanted held.rep example_draw next_body client is_draw (ticket_part suite example_draw grant) refl refl
 
-  next_request_le : length (spelling tgs_req_layout (tgs_req_for example_seeker.wanted (shown_of suite held) example_realm None example_draw)) ≤ 16384
+  next_request_le : length (spelling tgs_req_layout (tgs_req_for seeker.wanted (shown_of suite held) example_realm None example_draw)) ≤ 16384
   unfolding tgs_req_for as_rep
   next_request_le =
-      let authenticator : Authenticator = over next_body (tgs_authenticator example_seeker.wanted held.rep example_draw) in
+      let authenticator : Authenticator = over next_body (tgs_authenticator seeker.wanted held.rep example_draw) in
       let message : ApReq = ap_req suite (drawn_key suite example_draw) 7 (drawn_confounder example_draw) 0 held.rep.ticket authenticator in
       tgs_req_le next_body message next_body_le
       (ap_req_le suite 0 held.rep.ticket (sealed suite (drawn_key suite example_draw) 7 (drawn_confounder example_draw) (spelling authenticator_layout authenticator)) first_ticket_le
       (le_trans _ _ _ (sealed_le suite (drawn_key suite example_draw) 7 (drawn_confounder example_draw) (spelling authenticator_layout authenticator) 1024 shows.size shows.octets
       (authenticator_le next_body held.rep (drawn_number example_draw) example_draw.moment (lit≤ tt) name_le)) (lit≤ tt)))
 
-  next_sizes : AreNextSizes suite example_seeker.wanted kdc held target example_draw example_draw
+  next_sizes : AreNextSizes suite seeker.wanted kdc held target example_draw example_draw
   next_sizes = let asked = next_request_le in let told = next_reply_le in record { request = omega (arith, asked); reply = omega (arith, told) }
 
   has_service : HasService service service_octets kdc
   has_service = record { principal = example_service; known = refl; key_is = refl }
 
-  pub can : CanFetch example_seeker (example_pairs alloc) example_draws service_octets example_user
+  pub can : CanFetch seeker (example_pairs alloc) example_draws service_octets example_user
   can = record {
-    asks = asks;
+    asks = asks rules;
     span = 2;
     drawn = drawn;
+    near = λ _. lit≤ tt;
     kdc = kdc;
     stands = stands;
     has = has;

@@ -53,7 +53,7 @@ module _ (seeker : Seeker) (draws : Draws) (user : UserName) (kdc : Kdc) (has : 
       granted_lives start draws.first.moment (three_days_after draws.start.moment) (three_days_live start span draws.start begun)
       (ten_hours_live start span draws.first given)
 
-  nonce_size : length body.nonce ≡ 4
+  pub nonce_size : length body.nonce ≡ 4
   unfolding first_body
   nonce_size = omega (arith, length-take 4 draws.start.random, begun.is.size)
 

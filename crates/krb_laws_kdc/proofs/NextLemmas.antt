@@ -1,5 +1,7 @@
 -- The TGS-REP of a KDC is an honest one: a referral, or the service's ticket.
-use Rattle.std.proofs.Common.{◌≡◌, ℕ, ◌/◌, ◌≤◌, ◌^◌, pos, false, List, [], ◌∷◌, length, take, replicate, None, refl, sym, subst, ap, ◌∙◌, arith, lit<, lit≤, Ok}
+use Rattle.std.specs.Prelude.{◌||◌, is_some}
+use Rattle.std.proofs.Common.{◌≡◌, ℕ, ◌/◌, ◌≤◌, ◌^◌, pos, true, false, List, [], ◌∷◌, length, take, replicate, None, refl, sym, subst, ap, ◌∙◌, arith, lit<, lit≤, Ok}
+use Rattle.std.proofs.lemmas.Bool.{or_left}
 use Rattle.krb_aes.specs.Octets.{IsOctets}
 use Rattle.krb_aes.proofs.InjectiveLemmas.{IsOctets-append}
 use Rattle.krb_crypto.specs.Suite.{key_size}
@@ -18,23 +20,25 @@ use Rattle.sspi_core.specs.declared.protocol.NetworkProtocol.{NetworkProtocol}
 use Rattle.sspi_core.specs.declared.protocol.NetworkProtocol.TheVariants.{Tcp}
 use Rattle.krb_as.specs.declared.kdc.Kdc.{Kdc as Address}
 use Rattle.krb_as.specs.Replies.{Unwraps}
+use Rattle.krb_replies.specs.Fresh.{same_components}
 use Rattle.krb_replies.specs.Realms.{referral_realm}
 use Rattle.krb_requests.specs.Pieces.{principal as name_with}
 use Rattle.krb_as.specs.declared.asker.Asker.{Asker}
-use Rattle.krb_tgs.specs.TgsAsked.{is_same_realm}
+use Rattle.krb_tgs.specs.Fresh.{question_of}
+use Rattle.krb_tgs.specs.TgsAsked.{is_same_realm, service_of}
 use Rattle.krb_laws_ends.specs.Answers.{IsDraw}
 use Rattle.krb_laws_ends.specs.HonestKdc.{Known, GrantsNext, HasKdc, Refers, Serves}
-use Rattle.krb_tgs.specs.TgsAsked.{service_of}
 use Rattle.krb_laws_ends.proofs.OctetsLemmas.{IsShort, IsOctets-back, short-nothing, short-append, short-tlv, short-field, short-more}
 use Rattle.krb_laws_ends.proofs.HonestLemmas.{spells_itself, has_suite}
 use Rattle.krb_context.specs.declared.rules.Rules.{Rules}
-use Rattle.krb_context.specs.Rules.{has_rule, suite_of_each_key}
+use Rattle.krb_context.specs.Rules.{has_rule, suite_of_each_key, fresh_replies}
 use Rattle.krb_kdc.specs.declared.grant.Grant.{Grant}
 use Rattle.krb_context.specs.Drawn.{drawn_key}
 use Rattle.krb_kdc.specs.Grants.{reply_confounder, reply_part, ticket_part, ticket, tgs_rep}
 use Rattle.krb_kdc.specs.Requests.{granting}
-use Rattle.krb_laws_kdc.specs.Granting.{IsSoundGrant, IsSoundClient}
+use Rattle.krb_laws_kdc.specs.Granting.{IsSoundGrant, IsSoundClient, IsNextAnswer}
 use Rattle.krb_laws_kdc.proofs.ErrorLemmas.{unwraps_tcp, ascii_octets, short-octet}
+use Rattle.krb_laws_kdc.proofs.FreshLemmas.{answers_tgs_req, target_named}
 use Rattle.krb_laws_kdc.proofs.RepLemmas.{short-time, data_sound, confounder_size, confounder_octets, drawn_fits, now_is_time, short-key, short-flags, ticket_sound}
 use Rattle.krb_laws_kdc.proofs.TicketLemmas.{is_service_ticket}
 
@@ -73,9 +77,11 @@ module _ (suite : CipherSuite) (realm : List ℕ) (draw : Draw) (d : IsDraw draw
     abbrev reply : List ℕ
     reply = with_length (spelling tgs_rep_layout (tgs_rep suite realm draw nonce known.key grant))
 
-    pub grants_next : (rules : Rules) → GrantsNext rules suite known reply (tgs_rep suite realm draw nonce known.key grant) (drawn_key suite draw)
+    pub grants_next : (rules : Rules) (target : List ℕ) (own : Draw) → (has_rule rules fresh_replies ≡ true → IsNextAnswer known.question own.moment nonce draw grant)
+        → (is_some (referral_realm grant.sname) || same_components grant.sname.name_string (service_of target)) ≡ true
+        → GrantsNext rules target suite known (record { reply = reply; draw = own }) (tgs_rep suite realm draw nonce known.key grant) (drawn_key suite draw)
     unfolding tgs_rep reply_part
-    grants_next rules =
+    grants_next rules target own fresh named =
         let plain : List ℕ = spelling enc_tgs_rep_part_layout (record { 0 = reply_part suite realm draw nonce grant }) in
         let message : List ℕ = spelling tgs_rep_layout (tgs_rep suite realm draw nonce known.key grant) in
         let whole = short-part in
@@ -98,22 +104,35 @@ module _ (suite : CipherSuite) (realm : List ℕ) (draw : Draw) (d : IsDraw draw
           same_suite = has_suite (has_rule rules suite_of_each_key) suite;
           key_is = refl;
           fits = drawn_fits suite realm draw d;
+          answers = λ asks. answers_tgs_req suite realm nonce draw grant own.moment known.key target known.question (fresh asks) named;
         }
 
     -- to a route: a referral
-    unfoldable pub refers_on : (asker : Asker) (home : List ℕ) (address : Address) → grant.sname ≡ name_with 2 (granting address.realm) → is_same_realm known.kdc.realm address.realm ≡ false
-        → HasKdc asker home address.realm address → Refers asker home suite known reply (record { key = drawn_key suite draw; kdc = address })
+    unfoldable pub refers_on : (asker : Asker) (target home : List ℕ) (address : Address) (own : Draw)
+        → (has_rule asker.rules fresh_replies ≡ true → IsNextAnswer known.question own.moment nonce draw grant) → grant.sname ≡ name_with 2 (granting address.realm)
+        → is_same_realm known.kdc.realm address.realm ≡ false → HasKdc asker home address.realm address
+        → Refers asker target home suite known (record { reply = reply; draw = own })
+        (record { key = drawn_key suite draw; kdc = address; question = question_of (tgs_rep suite realm draw nonce known.key grant).0 own })
     unfolding tgs_rep ticket referral_realm
-    refers_on asker home address named other found =
-        record { rep = tgs_rep suite realm draw nonce known.key grant; grants = grants_next asker.rules; named = ap referral_realm named; other = other; found = found }
+    refers_on asker target home address own fresh named other found = record {
+      rep = tgs_rep suite realm draw nonce known.key grant;
+      grants =
+          grants_next asker.rules target own fresh
+          (or_left (is_some (referral_realm grant.sname)) (same_components grant.sname.name_string (service_of target)) (ap (λ n. is_some (referral_realm n)) named));
+      asked = refl;
+      named = ap referral_realm named;
+      other = other;
+      found = found;
+    }
 
     -- to a principal: the service's ticket
-    unfoldable pub serves : (rules : Rules) (target : List ℕ) → IsSoundClient grant.crealm grant.cname → length grant.key ≡ key_size suite → grant.sname ≡ name_with 2 (service_of target)
+    unfoldable pub serves : (rules : Rules) (target : List ℕ) (own : Draw) → (has_rule rules fresh_replies ≡ true → IsNextAnswer known.question own.moment nonce draw grant)
+        → IsSoundClient grant.crealm grant.cname → length grant.key ≡ key_size suite → grant.sname ≡ name_with 2 (service_of target)
         → referral_realm (name_with 2 (service_of target)) ≡ None
-        → Serves rules target suite grant.key known reply (tgs_rep suite realm draw nonce known.key grant) (ticket_part suite draw grant)
+        → Serves rules target suite grant.key known (record { reply = reply; draw = own }) (tgs_rep suite realm draw nonce known.key grant) (ticket_part suite draw grant)
     unfolding tgs_rep ticket ticket_part
-    serves rules target client fits named no_referral = record {
-      grants = grants_next rules;
+    serves rules target own fresh client fits named no_referral = record {
+      grants = grants_next rules target own fresh (target_named grant.sname target named);
       named = ap (λ n. n.name_string) named;
       refers_no_more = ap referral_realm named ∙ no_referral;
       ticket = is_service_ticket suite realm draw d grant client g.authtime g.endtime fits;

@@ -36,12 +36,14 @@ use Rattle.krb_context.proofs.DrawnLemmas.{key_size_small}
 use Rattle.krb_kdc.specs.Grants.{reply_confounder, reply_part, ticket, as_rep}
 use Rattle.krb_kdc.proofs.Lengths.{time_short}
 use Rattle.krb_laws_ends.specs.Answers.{IsDraw}
-use Rattle.krb_context.specs.Rules.{has_rule, as_rep_tagged_26, suite_of_each_key}
+use Rattle.krb_context.specs.Rules.{has_rule, as_rep_tagged_26, suite_of_each_key, fresh_replies}
 use Rattle.krb_exchange.specs.declared.enc_kdc_rep_part.EncAsRepPart.{EncAsRepPart}
+use Rattle.krb_exchange.specs.declared.kdc_req.KdcReqBody.{KdcReqBody}
 use Rattle.krb_replies.specs.Keys.{is_tagged_26, IsFirstPart}
 use Rattle.krb_laws_ends.specs.HonestKdc.{GrantsFirst}
-use Rattle.krb_laws_kdc.specs.Granting.{IsSoundGrant}
+use Rattle.krb_laws_kdc.specs.Granting.{IsSoundGrant, IsFirstAnswer}
 use Rattle.krb_laws_kdc.proofs.ErrorLemmas.{unwraps_tcp, ascii_octets, short-octet}
+use Rattle.krb_laws_kdc.proofs.FreshLemmas.{answers_as_req}
 use Rattle.krb_laws_ends.proofs.OctetsLemmas.{IsShort, IsOctets-back, IsOctets-drop, IsOctets-time, short-nothing, short-append, short-tlv, short-field, short-more}
 
 pub short-time : (t : ℤ) → IsTime t → IsShort 15 (time_octets t)
@@ -130,12 +132,13 @@ module _ (suite : CipherSuite) (realm : List ℕ) (draw : Draw) (d : IsDraw draw
     and_false false = refl
 
     -- the second reply of an honest KDC, to a client whose key this is
-    pub grants_first : (asker : Asker) (used key : List ℕ) → client_key suite used asker.credentials ≡ key → length key ≡ key_size suite
+    pub grants_first : (asker : Asker) (used key : List ℕ) (body : KdcReqBody) (moment : ℕ) → client_key suite used asker.credentials ≡ key → length key ≡ key_size suite
         → IsOctets (with_length (spelling as_rep_layout (as_rep suite realm draw nonce key grant)))
         → length (spelling as_rep_layout (as_rep suite realm draw nonce key grant)) ≤ 2 ^ 23
-        → GrantsFirst asker suite Tcp used (with_length (spelling as_rep_layout (as_rep suite realm draw nonce key grant))) (as_rep suite realm draw nonce key grant) (drawn_key suite draw)
+        → (has_rule asker.rules fresh_replies ≡ true → IsFirstAnswer body moment realm nonce draw grant)
+        → GrantsFirst asker body moment suite Tcp used (with_length (spelling as_rep_layout (as_rep suite realm draw nonce key grant))) (as_rep suite realm draw nonce key grant) (drawn_key suite draw)
     unfolding as_rep reply_part
-    grants_first asker used key is fits octets short =
+    grants_first asker used key body moment is fits octets short fresh =
         let plain : List ℕ = spelling enc_as_rep_part_layout (record { 0 = reply_part suite realm draw nonce grant }) in
         let whole = short-part in
         let sealed_in : IsSealed suite key 3 (sealed suite key 3 (reply_confounder suite draw) plain) plain =
@@ -164,4 +167,5 @@ module _ (suite : CipherSuite) (realm : List ℕ) (draw : Draw) (d : IsDraw draw
           same_suite = has_suite (has_rule asker.rules suite_of_each_key) suite;
           key_is = refl;
           fits = drawn_fits;
+          answers = λ asks. answers_as_req suite realm nonce draw grant moment key body (fresh asks);
         }

@@ -1,5 +1,5 @@
 -- KDCs that lead to a service bring a run to its end, by induction on the referrals.
-use Rattle.std.proofs.Common.{◌≡◌, ℕ, suc, ◌+◌, ◌<◌, ◌≤◌, ◌^◌, false, List, [], ◌∷◌, length, Option, Some, None, refl, sym, subst, ap, ◌∙◌, arith, lit<, Result, Ok, Err}
+use Rattle.std.proofs.Common.{◌≡◌, ℕ, suc, ◌+◌, ◌<◌, ◌≤◌, ◌^◌, true, false, List, [], ◌∷◌, length, Option, Some, None, refl, sym, subst, ap, ◌∙◌, arith, lit<, Result, Ok, Err}
 use Rattle.std.specs.Prelude.{option_map}
 use Rattle.krb_der.specs.Layout.{spelling}
 use Rattle.url.specs.Parts.{Parts}
@@ -27,12 +27,16 @@ use Rattle.sspi_generator.specs.declared.task.GeneratorState.TheVariants.{Suspen
 use Rattle.krb_as.specs.declared.kdc.Kdc.{Kdc as Address}
 use Rattle.krb_as.specs.Kdcs.{FindsKdc}
 use Rattle.krb_as.specs.Requests.{carried}
+use Rattle.krb_context.specs.Rules.{has_rule, fresh_replies}
+use Rattle.krb_replies.specs.Fresh.{grace}
+use Rattle.krb_replies.specs.Keys.{facts_in}
 use Rattle.krb_replies.specs.Realms.{referral_realm}
 use Rattle.krb_requests.specs.Pieces.{principal as name_with}
 use Rattle.krb_as.specs.declared.done.InitDone.{InitDone}
 use Rattle.krb_as.specs.declared.turn.Turn.TheVariants.{Asks, Ends}
 use Rattle.krb_as.specs.Turns.{IsWant}
-use Rattle.krb_tgs.specs.TgsAsked.{url_for, is_same_realm, tgs_req_for, tgs_request, drawn_nonce}
+use Rattle.krb_tgs.specs.Fresh.{question_of}
+use Rattle.krb_tgs.specs.TgsAsked.{service_of, url_for, is_same_realm, tgs_req_for, tgs_request, drawn_nonce}
 use Rattle.krb_ap.specs.Shown.{shown as shown_to}
 use Rattle.krb_initiator.specs.declared.init_run.InitRun.{InitRun}
 use Rattle.krb_initiator.specs.declared.seeker.Seeker.{Seeker}
@@ -43,7 +47,6 @@ use Rattle.krb_initiator.specs.InitRuns.{Next, ResumesAt}
 use Rattle.krb_laws_ends.specs.Answers.{IsDraw}
 use Rattle.krb_laws_ends.specs.Fetches.{Leads}
 use Rattle.krb_laws_ends.specs.HonestKdc.{Known, HasKdc, Refers, Serves, Step, AreHonest}
-use Rattle.krb_tgs.specs.TgsAsked.{service_of}
 use Rattle.krb_laws_ends.proofs.FetchLemmas.{leg, refers, arrives}
 use Rattle.krb_kdc.specs.declared.grant.Grant.{Grant}
 use Rattle.krb_kdc.specs.declared.kdc.Kdc.{Kdc}
@@ -55,14 +58,16 @@ use Rattle.krb_kdc.specs.Requests.{granting}
 use Rattle.krb_kdc.specs.TgsChecks.{ticket_key, target_of, served as served_by, routed, referral_to}
 use Rattle.krb_kdc.proofs.Found.{principal_found, trust_found, key_of}
 use Rattle.krb_laws_kdc.specs.Fetching.{IsTimely, AreTimely, Held, shown_of, granted, given, held_next, AreNextSizes, StandsAt, RefersTo, HasService, target_at, service_target, LeadsTo, SendsTo}
-use Rattle.krb_laws_kdc.specs.Granting.{AreAscii, IsSoundGrant, IsSoundName}
+use Rattle.krb_laws_kdc.specs.Granting.{AreAscii, IsSoundGrant, IsSoundName, IsNextAnswer}
 use Rattle.krb_laws_kdc.proofs.AddressLemmas.{address_realm}
 use Rattle.krb_laws_kdc.proofs.ErrorLemmas.{short-sname}
 use Rattle.krb_laws_kdc.proofs.NameLemmas.{AreNames, principal_names, name_sound, name_octets}
-use Rattle.krb_laws_kdc.proofs.HeldLemmas.{IsHeld, replied, service_short, next_sound, next_held}
+use Rattle.krb_laws_kdc.proofs.AskLemmas.{same_request}
+use Rattle.krb_laws_kdc.proofs.FreshLemmas.{next_answer}
+use Rattle.krb_laws_kdc.proofs.HeldLemmas.{IsHeld, near, replied, service_short, next_sound, next_held}
 use Rattle.krb_laws_kdc.proofs.NextLemmas.{refers_on, serves}
 use Rattle.krb_laws_kdc.proofs.RepLemmas.{drawn_fits}
-use Rattle.krb_laws_kdc.proofs.TicketLemmas.{differ, next_key}
+use Rattle.krb_laws_kdc.proofs.TicketLemmas.{lives, differ, next_key}
 use Rattle.krb_laws_kdc.proofs.TurnLemmas.{IsTurned, Runs, resumed, no_memory, next_wants, IsAnswered, answered}
 
 -- ---- what a KDC gives a ticket for
@@ -105,16 +110,17 @@ pub record Comes (seeker : Seeker) (suite : CipherSuite) (home service_key : Lis
 -- a referral was taken, and the next request is underway
 pub record IsReferred (seeker : Seeker) (suite : CipherSuite) (home : List ℕ) (known next_known : Known) (hops : ℕ) (message : List ℕ) (own : Draw) (request : NetworkRequest)
     (state : GeneratorState NetworkRequest (Result InitDone Error)) (next : InitRun) : Type 0 where
-  pub refers : Refers seeker.asker home suite known message next_known
+  pub refers : Refers seeker.asker seeker.wanted.target home suite known (record { reply = message; draw = own }) next_known
   pub leads : Next (Seeks seeker) (AwaitsTgsRep (leg seeker suite known home hops)) (Ok message) own (Ok (Asks request (AwaitsTgsRep (leg seeker suite next_known home (hops + 1)))))
   pub turned : IsTurned seeker (Ok (Asks request (AwaitsTgsRep (leg seeker suite next_known home (hops + 1))))) state next
 
 module _ (seeker : Seeker) (pairs : List (List ℕ × Kdc)) (suite : CipherSuite) (home service_key : List ℕ) (start span : ℕ)
     (unset : has_flag seeker.wanted.flags.0 use_session_key ≡ false)
     (no_referral : referral_realm (name_with 2 (service_of seeker.wanted.target)) ≡ None)
+    (fresh : has_rule seeker.asker.rules fresh_replies ≡ true → span ≤ grace)
     (out : Result InitDone Error) (run' : InitRun) (net' : Net) (wanting : IsWant out → ⊥) where
-  abbrev known_of : Held → Address → Known
-  known_of held address = record { key = drawn_key suite held.draw; kdc = address }
+  abbrev known_of : Held → Address → Draw → Known
+  known_of held address own = record { key = drawn_key suite held.draw; kdc = address; question = question_of held.rep own }
 
   abbrev payload : Held → Kdc → Draw → List ℕ
   payload held kdc own = with_length (spelling tgs_req_layout (tgs_req_for seeker.wanted (shown_of suite held) kdc.realm None own))
@@ -125,9 +131,19 @@ module _ (seeker : Seeker) (pairs : List (List ℕ × Kdc)) (suite : CipherSuite
   module _ (held : Held) (kdc : Kdc) (url : Option Parts) (realm : List ℕ) (stands : StandsAt seeker.asker url suite span pairs realm kdc) (own next_own draw : Draw) (hops : ℕ)
       (h : IsHeld suite start held) (knows : ticket_key kdc (ticket suite held.realm held.draw held.grant) ≡ Some held.grant.key)
       (t : IsTimely start span own) (u : IsTimely start span draw) (run next : InitRun) (after : Net) (state : GeneratorState NetworkRequest (Result InitDone Error))
-      (owns draws : List Draw) (is : run.initiation ≡ Seeks seeker) (phase : run.phase ≡ AwaitsTgsRep (leg seeker suite (known_of held stands.address) home hops)) where
+      (owns draws : List Draw) (is : run.initiation ≡ Seeks seeker) (phase : run.phase ≡ AwaitsTgsRep (leg seeker suite (known_of held stands.address own) home hops)) where
     abbrev known : Known
-    known = known_of held stands.address
+    known = known_of held stands.address own
+
+    -- what the KDC grants is what was asked, and comes in time
+    answers_it : (target : Target) → IsTimely start span next_own → has_rule seeker.asker.rules fresh_replies ≡ true
+        → IsNextAnswer known.question next_own.moment (drawn_nonce own) draw (granted suite seeker.wanted kdc held target own draw)
+    unfolding ticket_part
+    answers_it target v asks =
+        let living = h.living in
+        next_answer kdc seeker.wanted held.rep (ticket_part suite held.draw held.grant) own draw next_own.moment target t.is
+        (near start span grace own draw t u (fresh asks)) (near start span grace next_own draw v u (fresh asks)) h.crealm_is h.cname_is
+        (lives start span grace next_own.moment living.second held.grant.endtime living.is living.after v.upto (fresh asks))
 
     payload_is : (request held stands.address own).payload ≡ payload held kdc own
     unfolding tgs_request
@@ -146,7 +162,7 @@ module _ (seeker : Seeker) (pairs : List (List ℕ × Kdc)) (suite : CipherSuite
         (next_wants seeker (leg seeker suite known home hops) next_own)
 
     -- the service's ticket
-    last_turn : IsDraw next_own → HasService (service_of seeker.wanted.target) service_key kdc
+    last_turn : IsTimely start span next_own → HasService (service_of seeker.wanted.target) service_key kdc
         → AreNextSizes suite seeker.wanted kdc held (service_target (service_of seeker.wanted.target) service_key) own draw
         → (reply : Result (List ℕ) NetFault) → AnswersWith kdc (payload held kdc own) (draw ∷ draws) reply → ResumesAt run reply next_own state next
         → Runs seeker out run' net' wanting state next after owns → Comes seeker suite home service_key out known hops 0 held.grant.crealm held.grant.cname
@@ -173,9 +189,10 @@ module _ (seeker : Seeker) (pairs : List (List ℕ × Kdc)) (suite : CipherSuite
         let sound : IsSoundGrant kdc.realm (drawn_nonce own) grant =
         next_sound start span seeker.wanted unset kdc held own draw target t u stands.fair stands.least suite h service_sound in
         let part : EncTicketPart = ticket_part suite draw grant in
-        let served : Serves seeker.asker.rules seeker.wanted.target suite service_key known message rep part =
-        serves suite kdc.realm draw u.is (drawn_nonce own) grant sound known stands.tcp octets sizes.reply seeker.asker.rules seeker.wanted.target h.client fits refl no_referral in
         let step : Step = record { reply = message; draw = next_own } in
+        let served : Serves seeker.asker.rules seeker.wanted.target suite service_key known step rep part =
+        serves suite kdc.realm draw u.is (drawn_nonce own) grant sound known stands.tcp octets sizes.reply seeker.asker.rules seeker.wanted.target next_own (answers_it target d) h.client fits
+        refl no_referral in
         let done : InitDone = shown_to seeker.errand suite part.key.key_value rep.0 home next_own in
         let arrived : Next (Seeks seeker) (AwaitsTgsRep (leg seeker suite known home hops)) (Ok message) next_own (Ok (Ends done)) =
         arrives seeker suite service_key known home hops step rep part (drawn_fits suite kdc.realm held.draw h.d) served in
@@ -185,12 +202,12 @@ module _ (seeker : Seeker) (pairs : List (List ℕ × Kdc)) (suite : CipherSuite
         (subst (λ (p : InitPhase). Next (Seeks seeker) p (Ok message) next_own (Ok (Ends done))) (sym phase) arrived) ends in
         let end : Runs seeker out run' net' wanting (Completed (Ok done)) next after owns =
         subst (λ (s : GeneratorState NetworkRequest (Result InitDone Error)). Runs seeker out run' net' wanting s next after owns) turned.state_is ends in
-        record { steps = []; last = step; rep = rep; part = part; done = done; honest = served; leads = arrived; count_is = refl; out_is = end.0; last_is = d; crealm_is = refl; cname_is = refl }
+        record { steps = []; last = step; rep = rep; part = part; done = done; honest = served; leads = arrived; count_is = refl; out_is = end.0; last_is = d.is; crealm_is = refl; cname_is = refl }
 
     -- a referral
     module _ (next_kdc : Kdc) (to : RefersTo (service_of seeker.wanted.target) kdc next_kdc)
         (next_stands : StandsAt seeker.asker (url_for seeker.asker.kdc_url home next_kdc.realm) suite span pairs next_kdc.realm next_kdc)
-        (sizes : AreNextSizes suite seeker.wanted kdc held (target_at to) own draw) (few : hops < 9) where
+        (sizes : AreNextSizes suite seeker.wanted kdc held (target_at to) own draw) (few : hops < 9) (v : IsTimely start span next_own) where
       abbrev grant : Grant
       grant = granted suite seeker.wanted kdc held (target_at to) own draw
 
@@ -231,7 +248,7 @@ module _ (seeker : Seeker) (pairs : List (List ℕ × Kdc)) (suite : CipherSuite
 
       refer_turn : (reply : Result (List ℕ) NetFault) → AnswersWith kdc (payload held kdc own) (draw ∷ draws) reply → ResumesAt run reply next_own state next
           → Runs seeker out run' net' wanting state next after owns
-          → IsReferred seeker suite home known (known_of held_then next_stands.address) hops message next_own (request held_then next_stands.address next_own) state next
+          → IsReferred seeker suite home known (known_of held_then next_stands.address next_own) hops message next_own (request held_then next_stands.address next_own) state next
       unfolding ticket_part refers_on
       refer_turn (Err fault) answers resumes ends = absurd (no_memory seeker out run' net' wanting run next fault next_own state after owns is answers resumes wants ends)
       refer_turn (Ok reply) answers resumes ends =
@@ -239,13 +256,17 @@ module _ (seeker : Seeker) (pairs : List (List ℕ × Kdc)) (suite : CipherSuite
           replied start span seeker.wanted unset kdc held own draw (target_at to) t u stands.fair stands.least
           (refers_target (service_of seeker.wanted.target) kdc next_kdc to) suite stands.suite_is h knows sizes.request reply answers.0 in
           let octets : IsOctets message = subst IsOctets reply_is answers.1 in
-          let referred : Refers seeker.asker home suite known message (known_of held_then next_stands.address) =
-          refers_on suite kdc.realm draw u.is (drawn_nonce own) grant sound known stands.tcp octets sizes.reply seeker.asker home next_stands.address
-          (ap (λ (r : List ℕ). name_with 2 (granting r)) (to.to ∙ sym (address_realm next_stands))) other found in
           let step : Step = record { reply = message; draw = next_own } in
+          let next_known : Known = known_of held_then next_stands.address next_own in
+          let referred : Refers seeker.asker seeker.wanted.target home suite known step next_known =
+          refers_on suite kdc.realm draw u.is (drawn_nonce own) grant sound known stands.tcp octets sizes.reply seeker.asker seeker.wanted.target home next_stands.address next_own
+          (answers_it (target_at to) v) (ap (λ (r : List ℕ). name_with 2 (granting r)) (to.to ∙ sym (address_realm next_stands))) other found in
           let asked : Next (Seeks seeker) (AwaitsTgsRep (leg seeker suite known home hops)) (Ok message) next_own
-          (Ok (Asks (request held_then next_stands.address next_own) (AwaitsTgsRep (leg seeker suite (known_of held_then next_stands.address) home (hops + 1))))) =
-          refers seeker suite known home hops step (known_of held_then next_stands.address) (drawn_fits suite kdc.realm held.draw h.d) few referred in
+          (Ok (Asks (request held_then next_stands.address next_own) (AwaitsTgsRep (leg seeker suite next_known home (hops + 1))))) =
+          subst (λ (q : NetworkRequest). Next (Seeks seeker) (AwaitsTgsRep (leg seeker suite known home hops)) (Ok message) next_own
+          (Ok (Asks q (AwaitsTgsRep (leg seeker suite next_known home (hops + 1))))))
+          (same_request seeker.wanted suite next_known.key (facts_in referred.grants.part.0) (shown_of suite held_then).facts referred.rep.0 None next_own next_stands.address)
+          (refers seeker suite known home hops step next_known (drawn_fits suite kdc.realm held.draw h.d) few referred) in
           record {
             refers = referred;
             leads = asked;
@@ -253,7 +274,7 @@ module _ (seeker : Seeker) (pairs : List (List ℕ × Kdc)) (suite : CipherSuite
                 resumed seeker out run' net' wanting run next (Ok message) next_own state _ after owns is
                 (subst (λ (r : List ℕ). ResumesAt run (Ok r) next_own state next) reply_is resumes)
                 (subst (λ (p : InitPhase). Next (Seeks seeker) p (Ok message) next_own
-                (Ok (Asks (request held_then next_stands.address next_own) (AwaitsTgsRep (leg seeker suite (known_of held_then next_stands.address) home (hops + 1)))))) (sym phase) asked) ends;
+                (Ok (Asks (request held_then next_stands.address next_own) (AwaitsTgsRep (leg seeker suite next_known home (hops + 1)))))) (sym phase) asked) ends;
           }
 
   -- any number of referrals up to nine
@@ -261,26 +282,26 @@ module _ (seeker : Seeker) (pairs : List (List ℕ × Kdc)) (suite : CipherSuite
       (owns draws : List Draw) (hops : ℕ) → IsHeld suite start held → ticket_key kdc (ticket suite held.realm held.draw held.grant) ≡ Some held.grant.key
       → LeadsTo seeker.asker seeker.wanted home suite span pairs service_key held kdc kdcs own owns draws
       → IsTimely start span own → AreTimely start span owns → AreTimely start span draws → hops + length kdcs ≤ 9
-      → (run : InitRun) (net : Net) → run.initiation ≡ Seeks seeker → run.phase ≡ AwaitsTgsRep (leg seeker suite (known_of held stands.address) home hops)
+      → (run : InitRun) (net : Net) → run.initiation ≡ Seeks seeker → run.phase ≡ AwaitsTgsRep (leg seeker suite (known_of held stands.address own) home hops)
       → net.pairs ≡ pairs → net.draws ≡ draws → Runs seeker out run' net' wanting (Suspended (request held stands.address own)) run net owns
-      → Comes seeker suite home service_key out (known_of held stands.address) hops (length kdcs) held.grant.crealm held.grant.cname
+      → Comes seeker suite home service_key out (known_of held stands.address own) hops (length kdcs) held.grant.crealm held.grant.cname
   unfolding ticket_part
   walk kdcs held kdc url realm stands own [] draws hops h knows leads t ts us few run net is phase p q ends = absurd leads
   walk kdcs held kdc url realm stands own (next_own ∷ owns) [] hops h knows leads t ts us few run net is phase p q ends = absurd leads
   walk [] held kdc url realm stands own (next_own ∷ owns) (draw ∷ draws) hops h knows leads t ts us few run net is phase p q ends =
       let sent_to = sent held kdc url realm stands own next_own draw hops h knows t us.0 run ends.3 ends.1 ends.2 owns draws is phase net ends.0 p q ends.4 in
-      last_turn held kdc url realm stands own next_own draw hops h knows t us.0 run ends.3 ends.1 ends.2 owns draws is phase ts.0.is leads.0 leads.1 ends.0 sent_to.answers ends.5 ends.6
+      last_turn held kdc url realm stands own next_own draw hops h knows t us.0 run ends.3 ends.1 ends.2 owns draws is phase ts.0 leads.0 leads.1 ends.0 sent_to.answers ends.5 ends.6
   walk (next_kdc ∷ kdcs) held kdc url realm stands own (next_own ∷ owns) (draw ∷ draws) hops h knows leads t ts us few run net is phase p q ends =
       let sent_to = sent held kdc url realm stands own next_own draw hops h knows t us.0 run ends.3 ends.1 ends.2 owns draws is phase net ends.0 p q ends.4 in
       let to : RefersTo (service_of seeker.wanted.target) kdc next_kdc = leads.0 in
       let less : hops < 9 = omega (arith, few) in
       let held_then : Held = held_next suite seeker.wanted kdc held (target_at to) own draw in
-      let referred = refer_turn held kdc url realm stands own next_own draw hops h knows t us.0 run ends.3 ends.1 ends.2 owns draws is phase next_kdc to leads.1 leads.2 less ends.0
+      let referred = refer_turn held kdc url realm stands own next_own draw hops h knows t us.0 run ends.3 ends.1 ends.2 owns draws is phase next_kdc to leads.1 leads.2 less ts.0 ends.0
       sent_to.answers ends.5 ends.6 in
       let next_stands : StandsAt seeker.asker (url_for seeker.asker.kdc_url home next_kdc.realm) suite span pairs next_kdc.realm next_kdc = leads.1 in
       let more = walk kdcs held_then next_kdc (url_for seeker.asker.kdc_url home next_kdc.realm) next_kdc.realm next_stands next_own owns draws (hops + 1)
-      (then_held held kdc url realm stands own next_own draw hops h knows t us.0 run ends.3 ends.1 ends.2 owns draws is phase next_kdc to leads.1 leads.2 less)
-      (then_knows held kdc url realm stands own next_own draw hops h knows t us.0 run ends.3 ends.1 ends.2 owns draws is phase next_kdc to leads.1 leads.2 less)
+      (then_held held kdc url realm stands own next_own draw hops h knows t us.0 run ends.3 ends.1 ends.2 owns draws is phase next_kdc to leads.1 leads.2 less ts.0)
+      (then_knows held kdc url realm stands own next_own draw hops h knows t us.0 run ends.3 ends.1 ends.2 owns draws is phase next_kdc to leads.1 leads.2 less ts.0)
       leads.3 ts.0 ts.1 us.1 (omega (arith, few)) ends.3 ends.1 referred.turned.stays referred.turned.phase_is sent_to.pairs_are sent_to.draws_are
       (subst (λ (s : GeneratorState NetworkRequest (Result InitDone Error)). Runs seeker out run' net' wanting s ends.3 ends.1 owns) referred.turned.state_is ends.6) in
       record {
@@ -289,8 +310,8 @@ module _ (seeker : Seeker) (pairs : List (List ℕ × Kdc)) (suite : CipherSuite
         rep = more.rep;
         part = more.part;
         done = more.done;
-        honest = (known_of held_then next_stands.address, referred.refers, more.honest);
-        leads = (request held_then next_stands.address next_own, AwaitsTgsRep (leg seeker suite (known_of held_then next_stands.address) home (hops + 1)), referred.leads, more.leads);
+        honest = (known_of held_then next_stands.address next_own, referred.refers, more.honest);
+        leads = (request held_then next_stands.address next_own, AwaitsTgsRep (leg seeker suite (known_of held_then next_stands.address next_own) home (hops + 1)), referred.leads, more.leads);
         count_is = ap suc more.count_is;
         out_is = more.out_is;
         last_is = more.last_is;

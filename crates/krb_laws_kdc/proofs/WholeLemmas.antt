@@ -42,10 +42,13 @@ use Rattle.krb_as.specs.Asked.{first_request, second_request}
 use Rattle.krb_as.specs.AsPhases.{sealed_time}
 use Rattle.krb_as.specs.declared.asker.Asker.{Asker}
 use Rattle.krb_as.specs.Askers.{suite_for, asker_suite, time_suite, client_key, default_salt, key_for}
-use Rattle.krb_context.specs.Rules.{has_rule, suite_of_each_key}
+use Rattle.krb_context.specs.Rules.{has_rule, suite_of_each_key, fresh_replies}
 use Rattle.krb_as.specs.declared.as_phase.AsPhase.TheVariants.{AwaitsError, AwaitsAsRep}
 use Rattle.krb_as.specs.declared.key.SealedTime.{SealedTime}
 use Rattle.krb_as.specs.Turns.{IsWant}
+use Rattle.krb_replies.specs.Fresh.{grace}
+use Rattle.krb_replies.specs.Keys.{facts_in}
+use Rattle.krb_tgs.specs.Fresh.{question_of}
 use Rattle.krb_tgs.specs.TgsAsked.{url_for, tgs_request}
 use Rattle.krb_initiator.specs.declared.init_run.InitRun.{InitRun}
 use Rattle.krb_initiator.specs.declared.seeker.Seeker.{Seeker}
@@ -72,11 +75,13 @@ use Rattle.krb_kdc.specs.TgsChecks.{ticket_key}
 use Rattle.krb_kdc.proofs.Found.{principal_found, key_of}
 use Rattle.krb_laws_kdc.specs.Asking.{AsksFirst}
 use Rattle.krb_laws_kdc.specs.Fetching.{IsTimely, Held, shown_of, name_of, first_granted, held_first, Draws, of_client, of_kdcs, CanFetch, HasFetched, SendsTo}
-use Rattle.krb_laws_kdc.specs.Granting.{AreAscii, IsSoundGrant}
+use Rattle.krb_laws_kdc.specs.Granting.{AreAscii, IsSoundGrant, IsFirstAnswer}
+use Rattle.krb_laws_kdc.proofs.AskLemmas.{same_request}
 use Rattle.krb_laws_kdc.proofs.AsLemmas.{name_short, asked_for_key, granted_ticket}
 use Rattle.krb_laws_kdc.proofs.ErrorLemmas.{answers_error}
 use Rattle.krb_laws_kdc.proofs.FirstLemmas.{asks_first}
-use Rattle.krb_laws_kdc.proofs.FirstGrantLemmas.{first_sound, first_held}
+use Rattle.krb_laws_kdc.proofs.FirstGrantLemmas.{nonce_size, first_sound, first_held}
+use Rattle.krb_laws_kdc.proofs.FreshLemmas.{first_answer}
 use Rattle.krb_laws_kdc.proofs.HeldLemmas.{IsHeld, near}
 use Rattle.krb_laws_kdc.proofs.NameLemmas.{salt_names}
 use Rattle.krb_laws_kdc.proofs.RepLemmas.{grants_first}
@@ -117,7 +122,7 @@ own_url own realm = ap (λ (b : Bool). if b then own else None) (same_octets rea
 -- the second reply, and where it leads
 record IsGiven (seeker : Seeker) (suite : CipherSuite) (sealed : SealedTime) (message : List ℕ) (rep : AsRep) (known : Known) (own : Draw)
     (request : NetworkRequest) (state : GeneratorState NetworkRequest (Result InitDone Error)) (next : InitRun) : Type 0 where
-  grants : GrantsFirst seeker.asker suite sealed.kdc.protocol sealed.salt message rep known.key
+  grants : GrantsFirst seeker.asker sealed.body own.moment suite sealed.kdc.protocol sealed.salt message rep known.key
   leads : Next (Seeks seeker) (InAsExchange (AwaitsAsRep sealed)) (Ok message) own (Ok (Asks request (AwaitsTgsRep (leg seeker suite known rep.0.crealm 0))))
   turned : IsTurned seeker (Ok (Asks request (AwaitsTgsRep (leg seeker suite known rep.0.crealm 0)))) state next
 
@@ -139,7 +144,7 @@ module _ (seeker : Seeker) (pairs : List (List ℕ × Kdc)) (draws : Draws) (ser
   salt = unwrap_or c.has.client.salt (default_salt seeker.asker.credentials)
 
   abbrev sealed : SealedTime
-  sealed = sealed_time address suite salt c.has.client.key
+  sealed = sealed_time address body suite salt c.has.client.key
 
   abbrev plain_message : List ℕ
   plain_message = spelling as_req_layout (as_req_with plain_pa_datas body)
@@ -163,7 +168,7 @@ module _ (seeker : Seeker) (pairs : List (List ℕ × Kdc)) (draws : Draws) (ser
   held = held_first seeker kdc c.has.client draws.start draws.first
 
   abbrev known : Known
-  known = record { key = drawn_key suite draws.first; kdc = address }
+  known = record { key = drawn_key suite draws.first; kdc = address; question = question_of held.rep draws.third }
 
   starts_timely : IsTimely c.drawn.start c.span draws.start
   starts_timely = c.drawn.by_client.0
@@ -176,6 +181,9 @@ module _ (seeker : Seeker) (pairs : List (List ℕ × Kdc)) (draws : Draws) (ser
 
   first_timely : IsTimely c.drawn.start c.span draws.first
   first_timely = c.drawn.by_kdcs.1.0
+
+  third_timely : IsTimely c.drawn.start c.span draws.third
+  third_timely = c.drawn.by_client.1.1.0
 
   asks : AsksFirst kdc (name_of seeker) c.has.client draws.start.moment body
   asks =
@@ -225,11 +233,19 @@ module _ (seeker : Seeker) (pairs : List (List ℕ × Kdc)) (draws : Draws) (ser
   unfolding ticket
   first_knows = own_key kdc (ticket suite held.realm held.draw held.grant) refl refl
 
-  first_grants : IsOctets (rep_message suite) → GrantsFirst seeker.asker suite address.protocol salt (rep_message suite) (rep_in suite) known.key
+  -- what the KDC grants is what was asked, and comes in time
+  answers_it : has_rule seeker.asker.rules fresh_replies ≡ true → IsFirstAnswer body draws.third.moment kdc.realm body.nonce draws.first grant
+  answers_it fresh =
+      first_answer draws.start.moment draws.third.moment draws.first (near c.drawn.start c.span grace draws.start draws.first starts_timely first_timely (c.near fresh))
+      (near c.drawn.start c.span grace draws.third draws.first third_timely first_timely (c.near fresh)) kdc (name_of seeker) c.has.client body asks
+      (nonce_size seeker draws user kdc c.has c.stands.suite_is c.drawn.start c.span starts_timely first_timely client_short)
+
+  first_grants : IsOctets (rep_message suite)
+      → GrantsFirst seeker.asker body draws.third.moment suite address.protocol salt (rep_message suite) (rep_in suite) known.key
   first_grants octets =
-      subst (λ (p : NetworkProtocol). GrantsFirst seeker.asker suite p salt (rep_message suite) (rep_in suite) known.key) (sym c.stands.tcp)
-      (grants_first suite kdc.realm draws.first first_timely.is body.nonce grant sound seeker.asker salt c.has.client.key
-      (key_is_its suite salt c.has.client.key seeker.asker.credentials c.has.keyed) (client_fits ∙ ap key_size c.stands.suite_is) octets c.sizes.reply)
+      subst (λ (p : NetworkProtocol). GrantsFirst seeker.asker body draws.third.moment suite p salt (rep_message suite) (rep_in suite) known.key) (sym c.stands.tcp)
+      (grants_first suite kdc.realm draws.first first_timely.is body.nonce grant sound seeker.asker salt c.has.client.key body draws.third.moment
+      (key_is_its suite salt c.has.client.key seeker.asker.credentials c.has.keyed) (client_fits ∙ ap key_size c.stands.suite_is) octets c.sizes.reply answers_it)
 
   found : HasKdc seeker.asker kdc.realm kdc.realm address
   found =
@@ -289,13 +305,17 @@ module _ (seeker : Seeker) (pairs : List (List ℕ × Kdc)) (draws : Draws) (ser
         (subst (λ (p : InitPhase). Next (Seeks seeker) p (Err OutOfMemory) draws.third (Err Memory)) (sym phase) (as_wants seeker (AwaitsAsRep sealed) draws.third)) ends)
     second_turn phase (Ok reply) answers resumes ends =
         let reply_is : reply ≡ rep_message suite = rep_replied suite c.stands.suite_is reply c.sizes.again answers.0 in
-        let granted : GrantsFirst seeker.asker suite address.protocol salt (rep_message suite) (rep_in suite) known.key = first_grants (subst IsOctets reply_is answers.1) in
+        let granted : GrantsFirst seeker.asker body draws.third.moment suite address.protocol salt (rep_message suite) (rep_in suite) known.key =
+        first_grants (subst IsOctets reply_is answers.1) in
         let step : Step = record { reply = rep_message suite; draw = draws.third } in
         let taken : Next (Seeks seeker) (InAsExchange (AwaitsAsRep sealed)) (Ok (rep_message suite)) draws.third
         (Ok (Asks tgs_request_first (AwaitsTgsRep (leg seeker suite known kdc.realm 0)))) =
         subst (λ (tickets : Option (List Ticket)). Next (Seeks seeker) (InAsExchange (AwaitsAsRep sealed)) (Ok (rep_message suite)) draws.third
         (Ok (Asks (tgs_request seeker.wanted (shown_of suite held) tickets draws.third address) (AwaitsTgsRep (leg seeker suite known kdc.realm 0))))) (ap first_tickets c.asks.without_tgt)
-        (takes_first seeker suite sealed step (rep_in suite) known granted found) in
+        (subst (λ (q : NetworkRequest). Next (Seeks seeker) (InAsExchange (AwaitsAsRep sealed)) (Ok (rep_message suite)) draws.third
+        (Ok (Asks q (AwaitsTgsRep (leg seeker suite known kdc.realm 0)))))
+        (same_request seeker.wanted suite known.key (facts_in granted.part.0) (shown_of suite held).facts held.rep (first_tickets seeker.tgt) draws.third address)
+        (takes_first seeker suite sealed step (rep_in suite) known granted refl found)) in
         record {
           grants = granted;
           leads = taken;
@@ -326,16 +346,16 @@ module _ (seeker : Seeker) (pairs : List (List ℕ × Kdc)) (draws : Draws) (ser
       let three : Runs seeker out run' net' wanting (Suspended tgs_request_first) two.3 two.1 draws.owns =
       subst (λ (s : GeneratorState NetworkRequest (Result InitDone Error)). Runs seeker out run' net' wanting s two.3 two.1 draws.owns) two_turn.turned.state_is two.6 in
       let comes : Comes seeker suite kdc.realm service_key out known 0 (length c.kdcs) kdc.realm (name_of seeker) =
-      walk seeker pairs suite kdc.realm service_key c.drawn.start c.span c.asks.under_its_own_key c.asks.no_referral out run' net' wanting
+      walk seeker pairs suite kdc.realm service_key c.drawn.start c.span c.asks.under_its_own_key c.asks.no_referral c.near out run' net' wanting
       c.kdcs held kdc seeker.asker.kdc_url seeker.asker.realm c.stands draws.third draws.owns draws.rest 0 held_then first_knows c.leads
-      c.drawn.by_client.1.1.0 c.drawn.by_client.1.1.1 c.drawn.by_kdcs.1.1 (omega (arith, c.few)) two.3 two.1 two_turn.turned.stays two_turn.turned.phase_is two_sent.pairs_are two_sent.draws_are three in
+      third_timely c.drawn.by_client.1.1.1 c.drawn.by_kdcs.1.1 (omega (arith, c.few)) two.3 two.1 two_turn.turned.stays two_turn.turned.phase_is two_sent.pairs_are two_sent.draws_are three in
       let all : AllAnswers = record {
         error = Some (record { reply = error_message suite; draw = draws.second });
         first = record { reply = rep_message suite; draw = draws.third };
         referrals = comes.steps;
         last = comes.last;
       } in
-      let honest : AreHonestKdcs seeker suite service_key all comes.rep comes.part = record {
+      let honest : AreHonestKdcs seeker suite service_key draws.start all comes.rep comes.part = record {
         first_kdc = address;
         first_found = c.stands.found;
         salt = salt;
@@ -343,6 +363,7 @@ module _ (seeker : Seeker) (pairs : List (List ℕ × Kdc)) (draws : Draws) (ser
         as_rep = rep_in suite;
         known = known;
         grants = two_turn.grants;
+        asked = refl;
         found = found;
         few = omega (arith, comes.count_is, c.few);
         honest = comes.honest;

@@ -4,7 +4,7 @@ use Rattle.std.proofs.Common.{refl, lit≤, Global}
 use Rattle.std.specs.Prelude.{ℕ, List, [], ◌∷◌, codes, replicate, Some, None, false}
 use Rattle.url.specs.Parts.{Parts, serialize}
 use Rattle.url.specs.declared.host.Host.TheVariants.{Domain}
-use Rattle.krb_context.specs.Rules.{no_rules}
+use Rattle.krb_context.specs.declared.rules.Rules.{Rules}
 use Rattle.krb_crypto.specs.declared.suite.CipherSuite.TheVariants.{Aes256CtsHmacSha196}
 use Rattle.sspi_core.specs.declared.draw.Draw.{Draw}
 use Rattle.sspi_core.specs.declared.identity.CredentialsBuffers.{CredentialsBuffers}
@@ -60,15 +60,16 @@ example_draws = record {
 abbrev pub example_credentials : CredentialsBuffers
 example_credentials = Keytab (record { principal = UserPrincipal (codes "alice") example_realm; key = client_octets; key_enctype = 18; known = refl })
 
-abbrev pub example_seeker : Seeker
-example_seeker = record {
+-- the client, which goes by these rules
+abbrev pub example_seeker : Rules → Seeker
+example_seeker rules = record {
   asker = record {
     kdc_url = Some example_url;
     env = record { vars = []; files = [] };
     realm = example_realm;
     suite = Aes256CtsHmacSha196;
     credentials = example_credentials;
-    rules = no_rules;
+    rules = rules;
   };
   client = record { name = codes "alice"; name_type = 1; realm = example_realm; host = codes "PC" };
   wanted = record { target = codes "host/b"; flags = record { 0 = mutual_auth }; channel_bindings = None };
@@ -88,7 +89,8 @@ example_seeker = record {
       realm = None;
       user_to_user = false;
       flags = record { 0 = mutual_auth };
-      rules = no_rules;
+      rules = rules;
+      asked_at = None;
     };
     bindings = None;
     mechanism = 0x2a ∷ 0x86 ∷ 0x48 ∷ 0x86 ∷ 0xf7 ∷ 0x12 ∷ 0x01 ∷ 0x02 ∷ 0x02 ∷ [];

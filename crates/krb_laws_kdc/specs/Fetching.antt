@@ -1,5 +1,5 @@
 -- A client and the KDCs that lead it to a service: what each is asked, with which draws, and what it gives.
-use Rattle.std.specs.Prelude.{◌≡◌, ℕ, ◌+◌, ◌*◌, ◌≤◌, ◌^◌, false, List, [], ◌∷◌, length, take, Option, Some, None, Result, Ok, unwrap_or}
+use Rattle.std.specs.Prelude.{◌≡◌, ℕ, ◌+◌, ◌*◌, ◌≤◌, ◌^◌, false, true, List, [], ◌∷◌, length, take, Option, Some, None, Result, Ok, unwrap_or}
 use Rattle.std.specs.List.{AllByRecursion}
 use Rattle.krb_der.specs.Layout.{spelling}
 use Rattle.url.specs.Parts.{Parts, serialize}
@@ -13,6 +13,7 @@ use Rattle.krb_exchange.specs.declared.kdc_rep.TgsRep.{TgsRep}
 use Rattle.krb_exchange.specs.declared.kdc_req.KdcReqBody.{KdcReqBody}
 use Rattle.krb_exchange.specs.Layouts.{as_req_layout, as_rep_layout, tgs_req_layout, tgs_rep_layout}
 use Rattle.krb_context.specs.declared.context.Kerberos.{Kerberos}
+use Rattle.krb_context.specs.Rules.{has_rule, fresh_replies}
 use Rattle.sspi_core.specs.declared.draw.Draw.{Draw}
 use Rattle.sspi_core.specs.declared.error.Error.{Error}
 use Rattle.sspi_core.specs.declared.protocol.NetworkProtocol.TheVariants.{Tcp}
@@ -22,6 +23,8 @@ use Rattle.sspi_generator.specs.declared.network.NetFault.{NetFault}
 use Rattle.sspi_generator.specs.declared.network.NetworkRequest.{NetworkRequest}
 use Rattle.krb_as.specs.declared.kdc.Kdc.{Kdc as Address}
 use Rattle.krb_as.specs.Kdcs.{FindsKdc}
+use Rattle.krb_replies.specs.Fresh.{grace}
+use Rattle.krb_replies.specs.Keys.{facts_in}
 use Rattle.krb_replies.specs.Realms.{referral_realm}
 use Rattle.krb_requests.specs.Bodies.{user_components, as_req_with}
 use Rattle.krb_requests.specs.PaDatas.{plain_pa_datas, timed_pa_datas}
@@ -31,14 +34,13 @@ use Rattle.krb_as.specs.declared.done.InitDone.{InitDone}
 use Rattle.krb_as.specs.Askers.{asker_suite, default_salt, sized_key}
 use Rattle.krb_as.specs.declared.key.Grant.{Grant as Shown}
 use Rattle.krb_tgs.specs.declared.wanted.Wanted.{Wanted}
-use Rattle.krb_tgs.specs.TgsAsked.{url_for, is_same_realm, parts_of, wanted_body, tgs_req_for}
+use Rattle.krb_tgs.specs.TgsAsked.{url_for, is_same_realm, service_of, parts_of, drawn_nonce, wanted_body, tgs_req_for}
 use Rattle.krb_initiator.specs.declared.seeker.Seeker.{Seeker}
 use Rattle.krb_initiator.specs.InitSteps.{body_of}
 use Rattle.krb_admission.specs.Clients.{client_of}
 use Rattle.krb_laws_ends.specs.Answers.{IsDraw}
 use Rattle.krb_laws_ends.specs.Fetches.{AsksMutual, EndsWithOffer}
 use Rattle.krb_laws_ends.specs.HonestKdc.{Answers, AreHonestKdcs}
-use Rattle.krb_tgs.specs.TgsAsked.{service_of}
 use Rattle.krb_kdc.specs.declared.grant.Grant.{Grant}
 use Rattle.krb_kdc.specs.declared.kdc.Kdc.{Kdc}
 use Rattle.krb_kdc.specs.declared.kdc.Principal.{Principal}
@@ -47,7 +49,7 @@ use Rattle.krb_kdc.specs.declared.kdc.Trust.{Trust}
 use Rattle.krb_kdc.specs.declared.tgs_req.Target.{Target}
 use Rattle.krb_kdc.specs.Answering.{first_grant, next_grant}
 use Rattle.krb_context.specs.Drawn.{drawn_key}
-use Rattle.krb_kdc.specs.Grants.{ticket_part, as_rep, tgs_rep}
+use Rattle.krb_kdc.specs.Grants.{ticket_part, reply_part, as_rep, tgs_rep}
 use Rattle.krb_kdc.specs.Nets.{Net, kdc_at, Sends}
 use Rattle.krb_kdc.specs.Refusals.{hint, refusal}
 use Rattle.krb_kdc.specs.Registers.{principal_with, trust_in, route_to}
@@ -67,15 +69,21 @@ AreTimely start span draws = AllByRecursion (IsTimely start span) draws
 
 -- ---- a ticket, and what is asked with it
 
--- a ticket that a client has: the reply that brought it, and what was granted there, of which realm and by which draw
+-- a ticket that a client has: the reply that brought it, and what was granted there, of which realm, by which draw and for which nonce
 pub record Held : Type 0 where
   pub realm : List ℕ
   pub draw : Draw
+  pub nonce : List ℕ
   pub grant : Grant
   pub rep : KdcRep
 
 abbrev pub shown_of : CipherSuite → Held → Shown
-shown_of suite held = record { suite = suite; key = drawn_key suite held.draw; rep = held.rep }
+shown_of suite held = record {
+  suite = suite;
+  key = drawn_key suite held.draw;
+  facts = facts_in (reply_part suite held.realm held.draw held.nonce held.grant);
+  rep = held.rep;
+}
 
 -- the body that asks a realm for the service
 abbrev pub body_at : Wanted → List ℕ → Draw → KdcReqBody
@@ -95,6 +103,7 @@ abbrev pub held_next : CipherSuite → Wanted → Kdc → Held → Target → Dr
 held_next suite wanted kdc held target own draw = record {
   realm = kdc.realm;
   draw = draw;
+  nonce = drawn_nonce own;
   grant = granted suite wanted kdc held target own draw;
   rep = (given suite wanted kdc held target own draw).0;
 }
@@ -175,6 +184,7 @@ abbrev pub held_first : Seeker → Kdc → Principal → Draw → Draw → Held
 held_first seeker kdc principal own draw = record {
   realm = kdc.realm;
   draw = draw;
+  nonce = (body_of seeker own).nonce;
   grant = first_granted seeker kdc principal own draw;
   rep = (first_given seeker kdc principal own draw).0;
 }
@@ -229,11 +239,13 @@ pub record AreDrawnWithin (span : ℕ) (draws : Draws) : Type 0 where
   pub by_kdcs : AreTimely start span (of_kdcs draws)
 
 -- the premises: an initiator that asks for a service, whose KDC has its client, and KDCs that lead from that one to the service, over
--- nine routes at most. All draws lie within the least skew of these KDCs, less one second, and no message is too long
+-- nine routes at most. All draws lie within the least skew of these KDCs, less one second, and no message is too long. Where replies have to
+-- be fresh, the draws lie within the client's grace, too
 pub record CanFetch (seeker : Seeker) (pairs : List (List ℕ × Kdc)) (draws : Draws) (service_key : List ℕ) (user : UserName) : Type 0 where
   pub asks : AsksForService seeker
   pub span : ℕ
   pub drawn : AreDrawnWithin span draws
+  pub near : has_rule seeker.asker.rules fresh_replies ≡ true → span ≤ grace
   pub kdc : Kdc
   pub stands : StandsAt seeker.asker seeker.asker.kdc_url (asker_suite seeker.asker) span pairs seeker.asker.realm kdc
   pub has : HasClient seeker kdc user
@@ -248,7 +260,7 @@ pub record HasFetched (context : Kerberos) (seeker : Seeker) (draw : Draw) (serv
   pub answers : Answers
   pub rep : TgsRep
   pub part : EncTicketPart
-  pub honest : AreHonestKdcs seeker (asker_suite seeker.asker) service_key answers rep part
+  pub honest : AreHonestKdcs seeker (asker_suite seeker.asker) service_key draw answers rep part
   pub named : client_of part.cname part.crealm ≡ Some user
   pub end : EndsWithOffer context seeker service_key (asker_suite seeker.asker) draw answers rep part
   pub out_is : out ≡ Ok end.done

@@ -1,6 +1,6 @@
 //! Laws of a client and its KDCs, for all values.
 
-ghost use Rattle.std.specs.Prelude.{◌≡◌, ◌+◌, ◌≤◌, ◌<◌, ◌^◌, ℕ, List, length, Some, unwrap_or, Result, None, false, pos};
+ghost use Rattle.std.specs.Prelude.{◌≡◌, ◌+◌, ◌≤◌, ◌<◌, ◌^◌, ℕ, List, length, Some, unwrap_or, Result, None, true, false, pos};
 ghost use Rattle.krb_aes.specs.Octets.{IsOctets};
 ghost use Rattle.krb_crypto.specs.declared.suite.CipherSuite.{CipherSuite};
 ghost use Rattle.krb_messages.specs.declared.principal_name.PrincipalName.{PrincipalName};
@@ -35,8 +35,7 @@ ghost use Rattle.krb_kdc.specs.declared.grant.Grant.{Grant};
 ghost use Rattle.krb_as.specs.Askers.{time_suite, client_key, default_salt};
 ghost use Rattle.krb_laws_ends.specs.Answers.{IsDraw, AdmitsOnly, AreNew, EndsWellIn};
 ghost use Rattle.krb_laws_ends.specs.HonestKdc.{AnswersError, GrantsFirst, Known, HasKdc, Refers, Serves};
-ghost use Rattle.krb_tgs.specs.TgsAsked.{service_of};
-ghost use Rattle.krb_laws_kdc.specs.Granting.{IsSoundGrant, IsSoundClient};
+ghost use Rattle.krb_laws_kdc.specs.Granting.{IsSoundGrant, IsSoundClient, IsFirstAnswer, IsNextAnswer};
 ghost use Rattle.krb_laws_kdc.specs.Showing.{OpensAtKdc, IsHolder, AsksNext};
 ghost use Rattle.sspi_core.specs.declared.cause.Cause.{Cause};
 ghost use Rattle.sspi_core.specs.declared.error.Error.{Error};
@@ -48,14 +47,17 @@ ghost use Rattle.krb_conf.specs.declared.env.Env.{Env};
 ghost use Rattle.krb_context.specs.declared.context.Kerberos.{Kerberos};
 ghost use Rattle.krb_context.specs.declared.rules.Rules.{Rules};
 ghost use Rattle.krb_context.specs.Contexts.{settled};
+ghost use Rattle.krb_context.specs.Rules.{has_rule, fresh_replies};
 ghost use Rattle.krb_exchange.specs.declared.kdc_rep.KdcRep.{KdcRep};
 ghost use Rattle.krb_replay.specs.Clock.{in_microseconds, is_later};
 ghost use Rattle.krb_as.specs.declared.kdc.Kdc.{Kdc as Address};
+ghost use Rattle.krb_replies.specs.Fresh.{grace};
 ghost use Rattle.krb_replies.specs.Realms.{referral_realm};
 ghost use Rattle.krb_as.specs.declared.done.InitDone.{InitDone};
 ghost use Rattle.krb_as.specs.Turns.{IsWant};
 ghost use Rattle.krb_tgs.specs.declared.wanted.Wanted.{Wanted};
-ghost use Rattle.krb_tgs.specs.TgsAsked.{is_same_realm, tgs_authenticator, drawn_confounder};
+ghost use Rattle.krb_tgs.specs.Fresh.{question_of};
+ghost use Rattle.krb_tgs.specs.TgsAsked.{is_same_realm, service_of, tgs_authenticator, drawn_nonce, drawn_confounder};
 ghost use Rattle.krb_ap.specs.Initiators.{is_bare};
 ghost use Rattle.krb_initiator.specs.declared.options.InitOptions.{InitOptions};
 ghost use Rattle.krb_initiator.specs.declared.init_run.InitRun.{InitRun};
@@ -120,13 +122,15 @@ pub fn requests_for_a_key_are_honest()
         (time_suite asker (Some kdc.suite)) (unwrap_or principal.salt (default_salt asker.credentials)) }
 {}
 
-/// The AS-REP that grants a client its first ticket is, over TCP, an honest KDC's to a client with that key.
+/// The AS-REP that grants a client its first ticket is, over TCP, an honest KDC's to a client with that key. Where the client takes fresh
+/// replies alone, it has to answer the client's request.
 pub fn first_replies_are_honest()
-    ensures { (suite : CipherSuite) (realm nonce key used : List ℕ) (draw : Draw) (grant : Grant) (asker : Asker) → IsDraw draw → IsSoundGrant realm nonce grant
-        → client_key suite used asker.credentials ≡ key → length key ≡ key_size suite
+    ensures { (suite : CipherSuite) (realm nonce key used : List ℕ) (draw : Draw) (grant : Grant) (asker : Asker) (body : KdcReqBody) (moment : ℕ) → IsDraw draw
+        → IsSoundGrant realm nonce grant → client_key suite used asker.credentials ≡ key → length key ≡ key_size suite
         → IsOctets (with_length (spelling as_rep_layout (as_rep suite realm draw nonce key grant)))
         → length (spelling as_rep_layout (as_rep suite realm draw nonce key grant)) ≤ 2 ^ 23
-        → GrantsFirst asker suite Tcp used (with_length (spelling as_rep_layout (as_rep suite realm draw nonce key grant)))
+        → (has_rule asker.rules fresh_replies ≡ true → IsFirstAnswer body moment realm nonce draw grant)
+        → GrantsFirst asker body moment suite Tcp used (with_length (spelling as_rep_layout (as_rep suite realm draw nonce key grant)))
         (as_rep suite realm draw nonce key grant) (drawn_key suite draw) }
 {}
 
@@ -149,24 +153,40 @@ pub fn tgs_requests_ask_their_kdc()
         → IsHolder part own.moment body (tgs_authenticator wanted rep own) (drawn_confounder own) }
 {}
 
-/// The TGS-REP that grants a ticket is, over TCP, an honest KDC's: one to a route refers to its realm, and one to a principal serves.
+/// The TGS-REP that grants a ticket is, over TCP, an honest KDC's: one to a route refers to its realm, and one to a principal serves. Where
+/// the client takes fresh replies alone, it has to answer what the client asked.
 pub fn next_replies_are_honest()
-    ensures refers { (suite : CipherSuite) (realm nonce : List ℕ) (draw : Draw) (grant : Grant) (known : Known) (asker : Asker) (home : List ℕ) (address : Address)
-        → IsDraw draw → IsSoundGrant realm nonce grant → known.kdc.protocol ≡ Tcp
+    ensures refers { (suite : CipherSuite) (realm nonce : List ℕ) (draw own : Draw) (grant : Grant) (known : Known) (asker : Asker)
+        (target home : List ℕ) (address : Address) → IsDraw draw → IsSoundGrant realm nonce grant → known.kdc.protocol ≡ Tcp
         → IsOctets (with_length (spelling tgs_rep_layout (tgs_rep suite realm draw nonce known.key grant)))
         → length (spelling tgs_rep_layout (tgs_rep suite realm draw nonce known.key grant)) ≤ 2 ^ 23
+        → (has_rule asker.rules fresh_replies ≡ true → IsNextAnswer known.question own.moment nonce draw grant)
         → grant.sname ≡ name_with 2 (granting address.realm) → is_same_realm known.kdc.realm address.realm ≡ false
         → HasKdc asker home address.realm address
-        → Refers asker home suite known (with_length (spelling tgs_rep_layout (tgs_rep suite realm draw nonce known.key grant)))
-        (record { key = drawn_key suite draw; kdc = address }) }
-    ensures serves { (suite : CipherSuite) (realm nonce : List ℕ) (draw : Draw) (grant : Grant) (known : Known) (options : Rules)
+        → Refers asker target home suite known
+        (record { reply = with_length (spelling tgs_rep_layout (tgs_rep suite realm draw nonce known.key grant)); draw = own })
+        (record { key = drawn_key suite draw; kdc = address; question = question_of (tgs_rep suite realm draw nonce known.key grant).0 own }) }
+    ensures serves { (suite : CipherSuite) (realm nonce : List ℕ) (draw own : Draw) (grant : Grant) (known : Known) (options : Rules)
         (target : List ℕ) → IsDraw draw → IsSoundGrant realm nonce grant → known.kdc.protocol ≡ Tcp
         → IsOctets (with_length (spelling tgs_rep_layout (tgs_rep suite realm draw nonce known.key grant)))
         → length (spelling tgs_rep_layout (tgs_rep suite realm draw nonce known.key grant)) ≤ 2 ^ 23
+        → (has_rule options fresh_replies ≡ true → IsNextAnswer known.question own.moment nonce draw grant)
         → IsSoundClient grant.crealm grant.cname → length grant.key ≡ key_size suite → grant.sname ≡ name_with 2 (service_of target)
         → referral_realm (name_with 2 (service_of target)) ≡ None
-        → Serves options target suite grant.key known (with_length (spelling tgs_rep_layout (tgs_rep suite realm draw nonce known.key grant)))
+        → Serves options target suite grant.key known
+        (record { reply = with_length (spelling tgs_rep_layout (tgs_rep suite realm draw nonce known.key grant)); draw = own })
         (tgs_rep suite realm draw nonce known.key grant) (ticket_part suite draw grant) }
+{}
+
+/// A KDC grants what was asked for: where the clocks of both ends are apart by no more than the client's grace, its replies are fresh.
+pub fn grants_answer_what_was_asked()
+    ensures first { (kdc : Kdc) (name : PrincipalName) (principal : Principal) (moment later : ℕ) (body : KdcReqBody) (draw : Draw)
+        → AsksFirst kdc name principal moment body → length body.nonce ≡ 4 → AreNear grace moment draw.moment → AreNear grace later draw.moment
+        → IsFirstAnswer body later kdc.realm body.nonce draw (first_grant kdc draw.moment body (client_with kdc name principal)) }
+    ensures next { (kdc : Kdc) (wanted : Wanted) (rep : KdcRep) (part : EncTicketPart) (own draw : Draw) (later : ℕ) (target : Target) → IsDraw own
+        → AreNear grace own.moment draw.moment → AreNear grace later draw.moment → rep.crealm ≡ part.crealm → rep.cname ≡ part.cname
+        → is_later (pos later) (in_microseconds part.endtime) grace ≡ false
+        → IsNextAnswer (question_of rep own) later (drawn_nonce own) draw (next_grant draw.moment (body_at wanted kdc.realm own) part target) }
 {}
 
 /// A KDC opens its own ticket to its ticket-granting service, and the KDC that it refers to opens the ticket that it gave.
@@ -191,10 +211,10 @@ pub fn runs_over_kdcs_fetch_their_ticket()
         → (IsWant out → ⊥) → HasFetched context seeker draws.start service_key user out }
 {}
 
-/// There is a client with all that this needs: alice of EXAMPLE.COM, who asks the KDC of her realm for the ticket of host/b, and has a
-/// draw for each turn of her run.
+/// There is a client with all that this needs, whatever rules it goes by, those that check everything among them: alice of EXAMPLE.COM, who
+/// asks the KDC of her realm for the ticket of host/b, and has a draw for each turn of her run.
 pub fn some_client_can_fetch()
-    ensures can { (alloc : Global) → CanFetch example_seeker (example_pairs alloc) example_draws service_octets example_user }
+    ensures can { (alloc : Global) (rules : Rules) → CanFetch (example_seeker rules) (example_pairs alloc) example_draws service_octets example_user }
     ensures enough { 12 < length (of_client example_draws) }
     ensures moments { AreInRange (of_client example_draws) }
 {}

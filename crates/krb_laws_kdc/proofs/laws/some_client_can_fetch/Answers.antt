@@ -3,4 +3,4 @@ use Rattle.krb_laws_kdc.proofs.ExampleLemmas.{can, moments}
 use Rattle.krb_laws_kdc.proofs.laws.some_client_can_fetch.Goals as goal
 
 pub returns : goal.returns
-returns c = record { can = λ alloc. can alloc; enough = lit< tt; moments = moments }
+returns c = record { can = λ alloc rules. can alloc rules; enough = lit< tt; moments = moments }
