@@ -38,7 +38,8 @@ fn initiator(alloc: Global, rules: Rules, kept: bool) -> Result<Initiator, Fail>
         realm: None,
         user_to_user: false,
         flags: ClientRequestFlags::MUTUAL_AUTH,
-        rules: rules,
+        rules,
+        asked_at: None,
     })
 }
 

@@ -133,8 +133,8 @@ fn answers_and_seals(
     Ok(answers(alloc, server, exchange)? && seals(alloc, server, exchange)?)
 }
 
-fn allow(server: &mut Kerberos, exchange: &Exchange) {
-    if let Some(rules) = exchange.options {
+fn set_rules(server: &mut Kerberos, exchange: &Exchange) {
+    if let Some(rules) = exchange.rules {
         server.rules = rules;
     }
 }
@@ -147,7 +147,7 @@ fn goes_so(
     exchange: &Exchange,
 ) -> Result<bool, Fail> {
     let mut server = context_with(alloc, service, number)?;
-    allow(&mut server, exchange);
+    set_rules(&mut server, exchange);
     answers_and_seals(alloc, &mut server, exchange)
 }
 

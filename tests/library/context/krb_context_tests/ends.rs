@@ -86,7 +86,7 @@ fn establish(context: &mut Kerberos, end: &End, key: Octets) {
     context.encryption_params.sub_session_key = Some(Secret::new(key));
     context.encryption_params.ec = end.ec;
     context.encryption_params.acceptor_subkey = end.acceptor_subkey;
-    if let Some(rules) = end.options {
+    if let Some(rules) = end.rules {
         context.rules = rules;
     }
 }

@@ -54,7 +54,7 @@ fn asker(alloc: Global, password: &str, rules: Rules) -> Result<Asker, Fail> {
         realm: realm(alloc)?,
         suite: CipherSuite::Aes256CtsHmacSha196,
         credentials: alice(alloc, password)?,
-        rules: rules,
+        rules,
     })
 }
 
