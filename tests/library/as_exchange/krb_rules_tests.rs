@@ -59,11 +59,7 @@ fn asker(alloc: Global, password: &str, rules: Rules) -> Result<Asker, Fail> {
 }
 
 /// What the AS-REP brings alice with these rules.
-fn brought(
-    alloc: Global,
-    password: &str,
-    rules: Rules,
-) -> Result<Result<ReplyKey, Cause>, Fail> {
+fn brought(alloc: Global, password: &str, rules: Rules) -> Result<Result<ReplyKey, Cause>, Fail> {
     let asker = asker(alloc, password, rules)?;
     let salt = Text::from_str(alloc, "EXAMPLE.COMalice")?;
     let octets = hex::decode(alloc, TAGGED_26)?;

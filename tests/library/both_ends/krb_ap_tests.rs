@@ -44,11 +44,7 @@ fn initiator(alloc: Global, rules: Rules, kept: bool) -> Result<Initiator, Fail>
 }
 
 /// What it makes of the answer.
-fn taken(
-    alloc: Global,
-    rules: Rules,
-    kept: bool,
-) -> Result<Result<InitDone, Cause>, Fail> {
+fn taken(alloc: Global, rules: Rules, kept: bool) -> Result<Result<InitDone, Cause>, Fail> {
     let initiator = boxed(alloc, initiator(alloc, rules, kept)?)?;
     let token = hex::decode(alloc, ANSWER)?;
     let draw = Draw {

@@ -1,7 +1,7 @@
 //! What dialogues are asked, answer and hand out.
 
 use crate::conversation::{draw_at, first_wrong, of_alice, tell_alice, with_host};
-use krb_dialogue::{Cause, Dialogue, Error, Fault, Rules, MAX_MOMENT, Next};
+use krb_dialogue::{Cause, Dialogue, Error, Fault, MAX_MOMENT, Next, Rules};
 use std::alloc::Global;
 use std::test::Fail;
 

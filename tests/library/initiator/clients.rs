@@ -4,7 +4,7 @@ use crate::octets::octets;
 use crate::script::Script;
 use bitflags::Flags;
 use krb_conf::{Env, KerberosConfig};
-use krb_context::{Rules, Kerberos};
+use krb_context::{Kerberos, Rules};
 use krb_der::{Items, Name, Octets, OutOfMemory, Text, boxed};
 use sspi_core::{AuthIdentityBuffers, CredentialsBuffers, KeytabIdentity, Secret, Username};
 use std::alloc::Global;

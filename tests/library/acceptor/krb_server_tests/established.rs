@@ -3,7 +3,7 @@
 
 use super::{answer, context_with, octets, properties};
 use bitflags::Flags;
-use krb_context::{Rules, Kerberos, ServerProperties};
+use krb_context::{Kerberos, Rules, ServerProperties};
 use krb_der::{Items, Octets, boxed};
 use sspi_core::{Message, Part, Secret, SecurityBufferRef, ServerRequestFlags};
 use std::alloc::{AllocError, Global};

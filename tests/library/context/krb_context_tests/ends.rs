@@ -1,7 +1,7 @@
 //! Ends of established connections.
 
 use krb_conf::KerberosConfig;
-use krb_context::{Rules, Kerberos, KerberosState, ServerProperties};
+use krb_context::{Kerberos, KerberosState, Rules, ServerProperties};
 use krb_crypto::CipherSuite;
 use krb_der::{Octets, Text, boxed};
 use sspi_core::Secret;
