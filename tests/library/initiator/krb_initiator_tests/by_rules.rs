@@ -1,5 +1,5 @@
-//! Initiators whose contexts allow more than their own rules, over replies and answers that were recorded with KDCs and services
-//! of others. What was not asked or said then is that of a second implementation. A line `allows` has the bits.
+//! Initiators whose contexts go by rules of their own, over replies and answers that were recorded with KDCs and services of others.
+//! What was not asked or said then is that of a second implementation. A line `rules` has the bits.
 
 mod kdcs;
 mod services;
