@@ -9,7 +9,7 @@ mod as_replies;
 mod beginnings;
 mod by_rules;
 mod established;
-// mod fresh;
+mod fresh;
 mod protocols;
 mod recorded;
 mod referrals;
@@ -214,12 +214,7 @@ fn printed(alloc: Global, client: &Kerberos) -> Result<String, AllocError> {
 }
 
 /// What a line with this word says; by the rules of the RFCs what the next line says, where it has the other word.
-fn line_by(
-    client: &Kerberos,
-    script: &mut Script,
-    word: &str,
-    word_by_rfc: &str,
-) -> &'static str {
+fn line_by(client: &Kerberos, script: &mut Script, word: &str, word_by_rfc: &str) -> &'static str {
     let line = script.take(word).unwrap_or("");
     match script.take(word_by_rfc) {
         Some(by_rfc) if client.rules == Rules::rfc() => by_rfc,

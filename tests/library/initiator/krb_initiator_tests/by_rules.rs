@@ -4,8 +4,10 @@
 mod kdcs;
 mod services;
 
-use kdcs::{EARLY, OF_AES_128, OF_AN_AES_128_USER, TAGGED_26, TAGGED_26_AT_ONCE};
-use services::{ONE_WAY, WITHOUT_A_SUBKEY, WITHOUT_A_SUBKEY_AS_SHOWN};
+use kdcs::{EARLY, OF_AN_AES_128_USER};
+pub use kdcs::{OF_AES_128, TAGGED_26, TAGGED_26_AT_ONCE};
+use services::ONE_WAY;
+pub use services::{WITHOUT_A_SUBKEY, WITHOUT_A_SUBKEY_AS_SHOWN};
 
 pub static SESSIONS: [&str; 8] = [
     OF_AES_128,
