@@ -54,7 +54,7 @@ fn wait(server: &mut Kerberos, key: Octets, rules: Option<Rules>) {
     }
 }
 
-/// How an acceptor with this number that allows this answers the word.
+/// How an acceptor with this number and these rules answers the word.
 fn refusal(
     alloc: Global,
     word: &Word,

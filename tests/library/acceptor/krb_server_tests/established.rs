@@ -13,7 +13,7 @@ const CONFOUNDER: [u8; 16] = [0, 1, 2, 3, 4, 5, 6, 7, 8, 9, 10, 11, 12, 13, 14, 
 
 /// A token, its answer, and the first message that the acceptor seals then, `some plain message`: its token and its data.
 struct Exchange {
-    /// What the acceptor allows beyond its own rules.
+    /// The rules that the acceptor goes by, if any.
     rules: Option<Rules>,
     token: &'static str,
     answer: &'static str,

@@ -9,7 +9,7 @@ use std::alloc::Global;
 use std::test::Fail;
 
 /// One end: its side, its suite and its key in hex, its filler, the number before that of its next message, whether its key came in an
-/// AP-REP, and what it allows beyond its own rules.
+/// AP-REP, and the rules that it goes by, if any.
 #[derive(Clone, Copy)]
 pub struct End {
     pub acceptor: bool,
