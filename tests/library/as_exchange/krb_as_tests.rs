@@ -21,7 +21,7 @@ use krb_as::{
     AsDone, AsExchange, Asker, Client, FirstService, client_of, first_body, reply_key, short_name,
 };
 use krb_conf::{Env, KerberosConfig};
-use krb_context::{Rules, Kerberos};
+use krb_context::{Kerberos, Rules};
 use krb_crypto::CipherSuite;
 use krb_der::{Octets, OutOfMemory, Text, TryCopy, boxed};
 use krb_exchange::KdcReqBody;

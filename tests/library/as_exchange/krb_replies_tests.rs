@@ -1,6 +1,7 @@
 //! What a client takes from replies, and octets from which it takes nothing.
 
 mod answers;
+mod facts;
 pub mod replies;
 
 use crate::rows::{is_row, octets};

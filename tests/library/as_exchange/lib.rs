@@ -8,8 +8,8 @@ mod krb_as_sending_tests;
 #[cfg(test)]
 mod krb_as_tests;
 #[cfg(test)]
-mod krb_rules_tests;
-#[cfg(test)]
 mod krb_replies_tests;
+#[cfg(test)]
+mod krb_rules_tests;
 #[cfg(test)]
 mod rows;

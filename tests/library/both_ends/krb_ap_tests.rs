@@ -1,4 +1,4 @@
-//! What an initiator makes of the answer of a service in Java, by the rules of its context.
+//! What an initiator makes of the answer of a service in Java, by rules that its context goes by.
 
 use crate::krb_ends_tests::tokens::is_hex;
 use krb_ap::{Initiator, take_ap_rep};
@@ -38,16 +38,29 @@ fn initiator(alloc: Global, rules: Rules, kept: bool) -> Result<Initiator, Fail>
         realm: None,
         user_to_user: false,
         flags: ClientRequestFlags::MUTUAL_AUTH,
-        rules: rules,
+        rules,
+        asked_at: None,
     })
 }
 
-/// What it makes of the answer.
-fn taken(
+/// What it makes of the answer where it showed its authenticator at this moment.
+fn taken_at(
     alloc: Global,
     rules: Rules,
-    kept: bool,
+    asked_at: Option<u64>,
 ) -> Result<Result<InitDone, Cause>, Fail> {
+    let mut initiator = boxed(alloc, initiator(alloc, rules, true)?)?;
+    initiator.asked_at = asked_at;
+    let token = hex::decode(alloc, ANSWER)?;
+    let draw = Draw {
+        moment: 1_795_798_317_719_310,
+        random: [0; 64],
+    };
+    Ok(take_ap_rep(alloc, &initiator, &token, &draw))
+}
+
+/// What it makes of the answer.
+fn taken(alloc: Global, rules: Rules, kept: bool) -> Result<Result<InitDone, Cause>, Fail> {
     let initiator = boxed(alloc, initiator(alloc, rules, kept)?)?;
     let token = hex::decode(alloc, ANSWER)?;
     let draw = Draw {
@@ -93,8 +106,59 @@ fn an_answer_without_a_subkey_leaves_the_own_one(rt: HostRuntime) -> Result<(), 
 #[test]
 fn an_answer_without_a_subkey_is_refused_else(rt: HostRuntime) -> Result<(), Fail> {
     let alloc = rt.alloc();
-    let allowed = Rules::AP_REP_WITHOUT_SUBKEY;
+    let rule = Rules::AP_REP_WITHOUT_SUBKEY;
     assert!(rt; is_refused(taken(alloc, Rules::none(), true)?));
-    assert!(rt; is_refused(taken(alloc, allowed, false)?));
+    assert!(rt; is_refused(taken(alloc, rule, false)?));
+    Ok(())
+}
+
+/// When an authenticator was shown, and whether the answer, of 2026-11-27, 16:51:57, and 52807 microseconds, is its own.
+static MOMENTS: [(Option<u64>, bool); 8] = [
+    (Some(1_795_798_317_052_807), true),
+    (Some(1_795_798_317_052_806), false),
+    (Some(1_795_798_317_052_808), false),
+    (Some(1_795_798_316_052_807), false),
+    (Some(1_795_798_318_052_807), false),
+    // The moment at which the answer comes.
+    (Some(1_795_798_317_719_310), false),
+    (Some(0), false),
+    (None, false),
+];
+
+fn moments() -> &'static [(Option<u64>, bool)] {
+    &MOMENTS
+}
+
+fn cause_of(answer: Result<InitDone, Cause>) -> Option<Cause> {
+    match answer {
+        Ok(_) => None,
+        Err(cause) => Some(cause),
+    }
+}
+
+#[test]
+fn an_answer_has_the_time_of_its_authenticator(rt: HostRuntime) -> Result<(), Fail> {
+    let without = Rules::AP_REP_WITHOUT_SUBKEY;
+    let with = without | Rules::ANSWERS_ITS_AUTHENTICATOR;
+    for (moment, is_own) in moments() {
+        let refusal = if *is_own {
+            None
+        } else {
+            Some(Cause::ReplyTime)
+        };
+        assert_eq!(rt; cause_of(taken_at(rt.alloc(), with, *moment)?), refusal);
+        assert_eq!(rt; cause_of(taken_at(rt.alloc(), without, *moment)?), None);
+    }
+    Ok(())
+}
+
+/// The time is looked at before the subkey.
+#[test]
+fn an_answer_of_another_time_is_refused_before_its_subkey(rt: HostRuntime) -> Result<(), Fail> {
+    let rules = Rules::ANSWERS_ITS_AUTHENTICATOR;
+    let own = taken_at(rt.alloc(), rules, Some(1_795_798_317_052_807))?;
+    assert_eq!(rt; cause_of(own), Some(Cause::NoSubKey));
+    let other = taken_at(rt.alloc(), rules, Some(0))?;
+    assert_eq!(rt; cause_of(other), Some(Cause::ReplyTime));
     Ok(())
 }

@@ -7,11 +7,11 @@ pub mod sessions;
 mod talk;
 pub mod tokens;
 
-use krb_context::{Rules, Kerberos};
+use krb_context::{Kerberos, Rules};
 use krb_crypto::CipherSuite;
 use krb_der::Octets;
 use krb_replay::ReplayBook;
-use parties::{acceptor_of, initiator_of};
+use parties::{acceptor_of, both_rules, initiator_of};
 use sessions::{
     FRAMED, IN_DCE_STYLE, OF_A_KEYTAB, OVER_A_REFERRAL, OVER_A_REFERRAL_IN_DCE_STYLE,
     OVER_NINE_REFERRALS, without_an_error,
@@ -151,14 +151,24 @@ fn holds_at(
     trial: Trial,
     initiator: &mut Kerberos,
 ) -> Result<bool, Fail> {
-    let mut acceptor = acceptor_of(alloc, session)?;
+    let mut acceptor = acceptor_of(alloc, session, initiator.rules)?;
     holds_at_both(alloc, session, trial, initiator, &mut acceptor)
 }
 
-/// Whether that holds between two new ends.
-fn holds(alloc: Global, session: &Session, trial: Trial) -> Result<bool, Fail> {
-    let mut initiator = initiator_of(alloc, session)?;
+/// Whether that holds between two new ends with these rules.
+fn holds_by(alloc: Global, session: &Session, trial: Trial, rules: Rules) -> Result<bool, Fail> {
+    let mut initiator = initiator_of(alloc, session, rules)?;
     holds_at(alloc, session, trial, &mut initiator)
+}
+
+/// Whether it holds without a rule and by those of the RFCs.
+fn holds(alloc: Global, session: &Session, trial: Trial) -> Result<bool, Fail> {
+    for rules in both_rules() {
+        if !holds_by(alloc, session, trial, rules)? {
+            return Ok(false);
+        }
+    }
+    Ok(true)
 }
 
 /// An initiator begins to ask; over honest KDCs it asks for all their replies, and ends with one offer and no other.
@@ -233,35 +243,35 @@ fn established_ends_understand_each_other(rt: HostRuntime) -> Result<(), Fail> {
     Ok(())
 }
 
-/// Where that is allowed, a KDC asks for no pre-authentication, and both ends are the same.
+/// Where a rule says so, a KDC asks for no pre-authentication, and both ends are the same.
 #[test]
-fn no_error_comes_where_that_is_allowed(rt: HostRuntime) -> Result<(), Fail> {
+fn no_error_comes_where_that_is_a_rule(rt: HostRuntime) -> Result<(), Fail> {
     let alloc = rt.alloc();
     let session = without_an_error();
-    let mut initiator = initiator_of(alloc, &session)?;
-    initiator.rules = Rules::NO_PREAUTHENTICATION;
-    assert!(rt; holds_at(alloc, &session, Trial::Talks(&IN_ORDER), &mut initiator)?);
+    for rules in [Rules::NO_PREAUTHENTICATION, Rules::rfc()] {
+        assert!(rt; holds_by(alloc, &session, Trial::Talks(&IN_ORDER), rules)?);
+    }
     Ok(())
 }
 
 /// Whether both ends are established by one token, and then understand each other, where the initiator has these rules.
 fn talks_one_way(alloc: Global, rules: Rules) -> Result<bool, Fail> {
-    let mut initiator = initiator_of(alloc, &FRAMED)?;
-    let mut acceptor = acceptor_of(alloc, &FRAMED)?;
+    let mut initiator = initiator_of(alloc, &FRAMED, rules)?;
+    let mut acceptor = acceptor_of(alloc, &FRAMED, Rules::none())?;
     let mut book = ReplayBook::new(alloc, 300)?;
-    initiator.rules = rules;
     let tokens = establishes_one_way(alloc, &FRAMED, &mut initiator, &mut acceptor, &mut book)?;
     Ok(tokens && understand(alloc, &mut initiator, &mut acceptor, &IN_ORDER)?)
 }
 
-/// Who asks for no answer is established where that is allowed.
+/// Who asks for no answer is established where that is a rule.
 #[test]
-fn no_answer_is_awaited_where_that_is_allowed(rt: HostRuntime) -> Result<(), Fail> {
+fn no_answer_is_awaited_where_that_is_a_rule(rt: HostRuntime) -> Result<(), Fail> {
     let alloc = rt.alloc();
     let alone = Rules::ONE_WAY_IS_SETTLED;
     let more = Rules::FIRST_NUMBER_AS_SHOWN | Rules::SUBKEY_FLAG_BY_ORIGIN;
     assert!(rt; talks_one_way(alloc, alone)?);
     assert!(rt; talks_one_way(alloc, alone | more)?);
+    assert!(rt; talks_one_way(alloc, Rules::rfc())?);
     assert!(rt; !talks_one_way(alloc, more)?);
     Ok(())
 }

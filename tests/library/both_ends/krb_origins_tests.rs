@@ -1,9 +1,10 @@
 //! Where the session key of an initiator comes from: the replies that its own events brought.
 
 use crate::krb_ends_tests::Session;
-use crate::krb_ends_tests::parties::{add_initiator, client_draw, env, octets};
+use crate::krb_ends_tests::parties::{add_initiator, both_rules, client_draw, env, octets};
 use crate::krb_ends_tests::sessions::OVER_A_REFERRAL;
 use crate::krb_ends_tests::tokens::is_hex;
+use krb_context::Rules;
 use krb_der::Octets;
 use krb_machine::{Event, Input, Reply, Service};
 use krb_replay::ReplayBook;
@@ -161,10 +162,11 @@ fn keys_come(
     alloc: Global,
     service: &mut Service<ReplayBook>,
     session: &Session,
+    rules: Rules,
 ) -> Result<bool, Fail> {
     service.set_env(env(alloc)?);
-    add_initiator(alloc, service, session, 10)?;
-    add_initiator(alloc, service, session, 11)?;
+    add_initiator(alloc, service, session, rules, 10)?;
+    add_initiator(alloc, service, session, rules, 11)?;
     let begins = are_keys(alloc, service, session, false);
     for stretch in stretches() {
         if !leads_to_keys(alloc, service, session, stretch)? {
@@ -175,13 +177,15 @@ fn keys_come(
 }
 
 /// Whether initiators of a new service have keys by their own replies alone.
-fn keys_come_so(alloc: Global, session: &Session) -> Result<bool, Fail> {
+fn keys_come_so(alloc: Global, session: &Session, rules: Rules) -> Result<bool, Fail> {
     let mut service = Service::new(alloc, ReplayBook::new(alloc, 300)?);
-    keys_come(alloc, &mut service, session)
+    keys_come(alloc, &mut service, session, rules)
 }
 
 #[test]
 fn session_keys_come_from_credentials(rt: HostRuntime) -> Result<(), Fail> {
-    assert!(rt; keys_come_so(rt.alloc(), &OVER_A_REFERRAL)?);
+    for rules in both_rules() {
+        assert!(rt; keys_come_so(rt.alloc(), &OVER_A_REFERRAL, rules)?);
+    }
     Ok(())
 }

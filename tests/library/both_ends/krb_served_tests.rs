@@ -2,11 +2,12 @@
 //! the laws of `krb_laws_service` tell.
 
 use crate::krb_ends_tests::parties::{
-    acceptor_of, add_initiator, client_draw, client_flags, env, octets, service_draw,
+    acceptor_of, add_initiator, both_rules, client_draw, client_flags, env, octets, service_draw,
 };
 use crate::krb_ends_tests::sessions::{FRAMED, IN_DCE_STYLE};
 use crate::krb_ends_tests::tokens::is_hex;
 use crate::krb_ends_tests::{Session, is_established};
+use krb_context::Rules;
 use krb_machine::{Event, Input, Reply, Service};
 use krb_replay::ReplayBook;
 use sspi_core::{Draw, SecurityStatus};
@@ -186,11 +187,12 @@ fn add_all(
     alloc: Global,
     service: &mut Service<ReplayBook>,
     session: &Session,
+    rules: Rules,
 ) -> Result<(), Fail> {
     service.set_env(env(alloc)?);
-    add_initiator(alloc, service, session, 10)?;
-    add_initiator(alloc, service, session, 11)?;
-    let acceptor = acceptor_of(alloc, session)?;
+    add_initiator(alloc, service, session, rules, 10)?;
+    add_initiator(alloc, service, session, rules, 11)?;
+    let acceptor = acceptor_of(alloc, session, rules)?;
     Ok(service.add_acceptor(20, Box::into_inner(acceptor))?)
 }
 
@@ -199,23 +201,26 @@ fn reach_one_context(
     alloc: Global,
     service: &mut Service<ReplayBook>,
     session: &Session,
+    rules: Rules,
 ) -> Result<bool, Fail> {
-    add_all(alloc, service, session)?;
+    add_all(alloc, service, session, rules)?;
     let before = have_one_context(alloc, session, service);
     let told = answers(alloc, service, session, &EVENTS)?;
     let last = !session.dce || answers(alloc, service, session, &LAST)?;
     Ok(!before && told && last && have_one_context(alloc, session, service))
 }
 
-/// Whether the ends of a new service reach one context.
-fn holds(alloc: Global, session: &Session) -> Result<bool, Fail> {
+/// Whether the ends of a new service reach one context with these rules.
+fn holds(alloc: Global, session: &Session, rules: Rules) -> Result<bool, Fail> {
     let mut service = Service::new(alloc, ReplayBook::new(alloc, 300)?);
-    reach_one_context(alloc, &mut service, session)
+    reach_one_context(alloc, &mut service, session, rules)
 }
 
 #[test]
 fn one_list_of_events_brings_both_to_one_context(rt: HostRuntime) -> Result<(), Fail> {
-    assert!(rt; holds(rt.alloc(), &FRAMED)?);
-    assert!(rt; holds(rt.alloc(), &IN_DCE_STYLE)?);
+    for rules in both_rules() {
+        assert!(rt; holds(rt.alloc(), &FRAMED, rules)?);
+        assert!(rt; holds(rt.alloc(), &IN_DCE_STYLE, rules)?);
+    }
     Ok(())
 }

@@ -24,6 +24,17 @@ pub fn draw_at(moment: u64) -> Draw {
     Draw { moment, random }
 }
 
+/// What a start may use: the octets 0 to 63, or, with the word `other`, from 64 on.
+fn draw_at_start(word: &str) -> Draw {
+    let mut draw = draw_at(MOMENT);
+    if word == "other" {
+        for octet in draw.random.iter_mut() {
+            *octet ^= 0x40;
+        }
+    }
+    draw
+}
+
 /// An initiator's dialogue with the host's own service, mutual and sealed, with nobody who asks yet.
 pub fn with_host(alloc: Global) -> Result<Box<Dialogue>, Error> {
     let flags = ClientRequestFlags::MUTUAL_AUTH
@@ -82,7 +93,7 @@ fn step(
 ) -> Result<Result<Next, Error>, Fail> {
     let draw = draw_at(MOMENT);
     match word {
-        "start" => Ok(dialogue.start(alloc, &draw)),
+        "start" => Ok(dialogue.start(alloc, &draw_at_start(says))),
         "answer" => Ok(dialogue.answer(alloc, &octets(alloc, says)?, &draw)),
         "hear" => Ok(dialogue.hear(alloc, &octets(alloc, says)?, &draw)),
         "fault" => Ok(dialogue.fault(says.parse()?, &draw)),

@@ -1,7 +1,7 @@
 //! What dialogues are asked, answer and hand out.
 
 use crate::conversation::{draw_at, first_wrong, of_alice, tell_alice, with_host};
-use krb_dialogue::{Cause, Dialogue, Error, Fault, Rules, MAX_MOMENT, Next};
+use krb_dialogue::{Cause, Dialogue, Error, Fault, MAX_MOMENT, Next, Rules};
 use std::alloc::Global;
 use std::test::Fail;
 
@@ -27,7 +27,8 @@ const WHOLE: &str = "\
      shows -\n\
      hear FRAMED_AP_REP OutOfSequence Sequence";
 
-/// A refusal, or a failure of the network, ends an exchange, and another can begin.
+/// A refusal, or a failure of the network, ends an exchange, and another can begin: without a rule, so that the first reply may not be
+/// an AS-REP.
 const REFUSED: &str = "\
      start - ask\n\
      answer AS_REP_WITH_SALT InvalidToken EarlyAsRep\n\
@@ -56,8 +57,24 @@ const ASKS: &str = "\
      start - ask\n\
      asks tcp://kdc.example:88 HOSTNAME_ASKS";
 
-/// What is allowed while an answer is awaited counts from the next start on.
-const ALLOWED_LATE: &str = "\
+/// Where nobody said by which rules, it goes by the RFCs: the first reply may be an AS-REP, and each has to repeat what was asked in this
+/// very exchange.
+const BY_RFC: &str = "\
+     start other ask\n\
+     answer AS_REP_WITH_SALT InvalidToken Nonce\n\
+     start other ask\n\
+     answer NEEDS_PREAUTHENTICATION ask\n\
+     answer AS_REP_WITH_SALT InvalidToken Nonce\n\
+     answer AS_REP_WITH_SALT OutOfSequence Sequence\n\
+     start - ask\n\
+     answer AS_REP_WITH_SALT ask\n\
+     asks tcp://kdc.example:88 HOSTNAME_ASKS_FOR_SERVICE\n\
+     answer TGS_REP send\n\
+     shows FRAMED_AP_REQ\n\
+     hear FRAMED_AP_REP established";
+
+/// Rules that are set while an answer is awaited count from the next start on.
+const RULES_SET_LATE: &str = "\
      answer AS_REP_WITH_SALT InvalidToken EarlyAsRep\n\
      start - ask\n\
      answer AS_REP_WITH_SALT ask\n\
@@ -114,8 +131,17 @@ fn an_established_context_seals(rt: HostRuntime) -> Result<(), Fail> {
 fn a_refusal_ends_the_exchange(rt: HostRuntime) -> Result<(), Fail> {
     let alloc = rt.alloc();
     let mut dialogue = of_alice(alloc)?;
+    dialogue.set_rules(Rules::none());
     assert_eq!(rt; first_wrong(alloc, &mut dialogue, REFUSED)?, "");
     assert!(rt; Dialogue::into_session(dialogue).is_err());
+    Ok(())
+}
+
+#[test]
+fn a_dialogue_goes_by_the_rfcs(rt: HostRuntime) -> Result<(), Fail> {
+    let alloc = rt.alloc();
+    let mut dialogue = of_alice(alloc)?;
+    assert_eq!(rt; first_wrong(alloc, &mut dialogue, BY_RFC)?, "");
     Ok(())
 }
 
@@ -158,18 +184,19 @@ fn a_file_may_name_the_kdc(rt: HostRuntime) -> Result<(), Fail> {
     Ok(())
 }
 
-/// The first line that does not hold where a first reply that is an AS-REP is allowed while one is awaited.
-fn wrong_where_allowed(alloc: Global, dialogue: &mut Dialogue) -> Result<&'static str, Fail> {
+/// The first line that does not hold where a rule takes a first reply that is an AS-REP, and is set while one is awaited.
+fn wrong_where_set_late(alloc: Global, dialogue: &mut Dialogue) -> Result<&'static str, Fail> {
+    dialogue.set_rules(Rules::none());
     let _asks = dialogue.start(alloc, &draw_at(0))?;
     dialogue.set_rules(Rules::NO_PREAUTHENTICATION);
-    first_wrong(alloc, dialogue, ALLOWED_LATE)
+    first_wrong(alloc, dialogue, RULES_SET_LATE)
 }
 
 #[test]
-fn more_may_be_allowed(rt: HostRuntime) -> Result<(), Fail> {
+fn rules_may_be_set_late(rt: HostRuntime) -> Result<(), Fail> {
     let alloc = rt.alloc();
     let mut dialogue = of_alice(alloc)?;
-    assert_eq!(rt; wrong_where_allowed(alloc, &mut dialogue)?, "");
+    assert_eq!(rt; wrong_where_set_late(alloc, &mut dialogue)?, "");
     Ok(())
 }
 

@@ -4,7 +4,7 @@ use crate::octets::octets;
 use crate::script::Script;
 use bitflags::Flags;
 use krb_conf::{Env, KerberosConfig};
-use krb_context::{Rules, Kerberos};
+use krb_context::{Kerberos, Rules};
 use krb_der::{Items, Name, Octets, OutOfMemory, Text, boxed};
 use sspi_core::{AuthIdentityBuffers, CredentialsBuffers, KeytabIdentity, Secret, Username};
 use std::alloc::Global;
@@ -14,17 +14,21 @@ use std::test::Fail;
 #[derive(Clone, Copy)]
 pub struct Initiator {
     /// Its number, the name of its machine, and the service and its host.
-    itself: &'static str,
-    /// The bits of what its context allows beside its own rules.
-    allows: Option<&'static str>,
+    pub itself: &'static str,
+    /// The rules that its context goes by: a line `rules` has their bits.
+    pub rules: Rules,
     /// The URL of its KDC.
-    kdc: Option<&'static str>,
+    pub kdc: Option<&'static str>,
     /// A user, its realm and its password.
-    password: Option<&'static str>,
+    pub password: Option<&'static str>,
     /// A principal, the number of its key's suite, and the key in hex.
-    keytab: Option<&'static str>,
+    pub keytab: Option<&'static str>,
     /// Two variables of its environment, each with its value.
-    variables: [Option<&'static str>; 2],
+    pub variables: [Option<&'static str>; 2],
+}
+
+fn rules_of(bits: Option<&str>) -> Rules {
+    Rules::from_bits_retain(bits.unwrap_or("").parse().unwrap_or(0))
 }
 
 impl Initiator {
@@ -32,18 +36,12 @@ impl Initiator {
     pub fn next(script: &mut Script) -> Initiator {
         Initiator {
             itself: script.take("initiator").unwrap_or(""),
-            allows: script.take("allows"),
+            rules: rules_of(script.take("rules")),
             kdc: script.take("kdc"),
             password: script.take("password"),
             keytab: script.take("keytab"),
             variables: [script.take("env"), script.take("env")],
         }
-    }
-
-    /// What its context allows.
-    fn allowed(&self) -> Rules {
-        let bits: u32 = self.allows.unwrap_or("").parse().unwrap_or(0);
-        Rules::from_bits_retain(bits)
     }
 
     /// The context before its exchange.
@@ -52,7 +50,7 @@ impl Initiator {
         let number: u32 = words.next().unwrap_or("").parse().unwrap_or(0);
         let config = config(alloc, self.kdc, words.next().unwrap_or(""))?;
         let mut client = Kerberos::new_client_from_config(config, number.to_be_bytes());
-        client.rules = self.allowed();
+        client.rules = self.rules;
         boxed(alloc, client)
     }
 

@@ -4,11 +4,12 @@ ghost use Rattle.std.specs.Prelude.{◌≡◌, IfOk};
 ghost use Rattle.sspi_generator.specs.Draws.{IsInRange, AreInRange};
 ghost use Rattle.krb_initiator.specs.InitRuns.{IsNew, turns_left};
 
-mod allowed;
 mod ap_reps;
 mod as_replies;
 mod beginnings;
+mod by_rules;
 mod established;
+mod fresh;
 mod protocols;
 mod recorded;
 mod referrals;
@@ -22,7 +23,7 @@ use crate::octets::{are_octets, octets};
 use crate::script::Script;
 use bitflags::Flags;
 use krb_conf::Env;
-use krb_context::Kerberos;
+use krb_context::{Kerberos, Rules};
 use krb_der::{Octets, boxed};
 use krb_initiator::{GeneratorInitSecurityContext, InitOptions, initialize_security_context};
 use sspi_core::{Cause, ClientRequestFlags, Draw, Error, MAX_MOMENT, SecurityStatus};
@@ -212,10 +213,19 @@ fn printed(alloc: Global, client: &Kerberos) -> Result<String, AllocError> {
     )
 }
 
+/// What a line with this word says; by the rules of the RFCs what the next line says, where it has the other word.
+fn line_by(client: &Kerberos, script: &mut Script, word: &str, word_by_rfc: &str) -> &'static str {
+    let line = script.take(word).unwrap_or("");
+    match script.take(word_by_rfc) {
+        Some(by_rfc) if client.rules == Rules::rfc() => by_rfc,
+        _ => line,
+    }
+}
+
 /// Whether the context is as the lines `context` and `key` say. The key is the subkey where there is one, else the session key.
 fn is_as(alloc: Global, client: &Kerberos, script: &mut Script) -> bool {
-    let context = script.take("context").unwrap_or("");
-    let key = script.take("key").unwrap_or("");
+    let context = line_by(client, script, "context", "rfc-context");
+    let key = line_by(client, script, "key", "rfc-key");
     match printed(alloc, client) {
         Ok(text) => text.as_str() == context && has_key(alloc, client, key),
         Err(_) => false,
@@ -305,17 +315,45 @@ fn left_of(
     Ok("")
 }
 
+fn left_at(
+    alloc: Global,
+    initiator: &Initiator,
+    script: &mut Script,
+) -> Result<&'static str, Fail> {
+    let mut client = initiator.client(alloc)?;
+    left_of(alloc, &mut client, initiator, script)
+}
+
 /// The same of a text that begins with its initiator.
 fn left(alloc: Global, text: &'static str) -> Result<&'static str, Fail> {
     let mut script = Script::new(text);
     let initiator = Initiator::next(&mut script);
-    let mut client = initiator.client(alloc)?;
-    left_of(alloc, &mut client, &initiator, &mut script)
+    left_at(alloc, &initiator, &mut script)
+}
+
+/// The same where the initiator goes by the rules of the RFCs.
+fn left_by_rfc(alloc: Global, text: &'static str) -> Result<&'static str, Fail> {
+    let mut script = Script::new(text);
+    let initiator = Initiator {
+        rules: Rules::rfc(),
+        ..Initiator::next(&mut script)
+    };
+    left_at(alloc, &initiator, &mut script)
 }
 
 fn assert_all(rt: &(impl Abort + AllocGlobal), sessions: &[&'static str]) -> Result<(), Fail> {
     for session in sessions {
         assert_eq!(rt; left(rt.alloc(), session)?, "");
+    }
+    Ok(())
+}
+
+fn assert_all_by_rfc(
+    rt: &(impl Abort + AllocGlobal),
+    sessions: &[&'static str],
+) -> Result<(), Fail> {
+    for session in sessions {
+        assert_eq!(rt; left_by_rfc(rt.alloc(), session)?, "");
     }
     Ok(())
 }
@@ -331,8 +369,21 @@ fn kdcs_of_others_are_understood(rt: HostRuntime) -> Result<(), Fail> {
 }
 
 #[test]
-fn what_a_context_allows_is_taken(rt: HostRuntime) -> Result<(), Fail> {
-    assert_all(&rt, &allowed::SESSIONS)
+fn what_the_rules_take_is_taken(rt: HostRuntime) -> Result<(), Fail> {
+    assert_all(&rt, &by_rules::SESSIONS)
+}
+
+/// Each reply repeats what its request asked, and each AP-REP the time of its authenticator.
+#[test]
+fn log_ins_go_as_they_were_recorded_by_the_rules_of_the_rfcs(rt: HostRuntime) -> Result<(), Fail> {
+    assert_all_by_rfc(&rt, &recorded::HONEST)?;
+    assert_all_by_rfc(&rt, &by_rules::SESSIONS)
+}
+
+#[test]
+fn an_initiator_is_established_by_the_rules_of_the_rfcs(rt: HostRuntime) -> Result<(), Fail> {
+    assert_all_by_rfc(&rt, &established::HONEST)?;
+    assert_all_by_rfc(&rt, &user_to_user::HONEST)
 }
 
 #[test]

@@ -11,6 +11,7 @@ mod tgs_rows;
 
 use as_rows::AS_ROWS;
 use journeys::{JOURNEYS, Journey, ends_so};
+use krb_context::Rules;
 use krb_kdc::Kdc;
 use registers::{REGISTERS, are_taken, sizes_are_told};
 use requests::{TO_LONG, TO_NEITHER, cuts_are_refused, example, is_answered, long_is_answered};
@@ -68,13 +69,14 @@ fn front_taken(alloc: Global, kdc: &Kdc, rows: &'static str) -> Result<Option<&'
     Ok(None)
 }
 
-/// The first journey that has another end.
+/// The first journey that has another end by these rules.
 fn ended_otherwise(
     alloc: Global,
     journeys: &'static [Journey],
+    rules: Rules,
 ) -> Result<Option<&'static str>, Fail> {
     for journey in journeys {
-        if !ends_so(alloc, journey)? {
+        if !ends_so(alloc, journey, rules)? {
             return Ok(Some(journey.name));
         }
     }
@@ -116,6 +118,16 @@ fn what_is_there_is_not_taken_again(rt: HostRuntime) -> Result<(), Fail> {
 /// From a password, or a key of a keytab, to a token that the service admits, and to messages between both ends.
 #[test]
 fn initiators_get_through(rt: HostRuntime) -> Result<(), Fail> {
-    assert_eq!(rt; ended_otherwise(rt.alloc(), &JOURNEYS)?, None);
+    assert_eq!(rt;
+        ended_otherwise(rt.alloc(), &JOURNEYS, Rules::none())?,
+        None
+    );
+    Ok(())
+}
+
+/// The KDC repeats the nonces and the names that it was asked by, and its tickets are valid: the same ways lead to the same tokens.
+#[test]
+fn initiators_get_through_by_the_rules_of_the_rfcs(rt: HostRuntime) -> Result<(), Fail> {
+    assert_eq!(rt; ended_otherwise(rt.alloc(), &JOURNEYS, Rules::rfc())?, None);
     Ok(())
 }

@@ -1,7 +1,7 @@
 //! The last word of DCE style at an acceptor that compares its number by value, as other implementations spell it.
 
 use super::{answer, context_of};
-use krb_context::{Rules, Kerberos, KerberosState};
+use krb_context::{Kerberos, KerberosState, Rules};
 use krb_der::Octets;
 use sspi_core::{Cause, Secret, ServerRequestFlags};
 use std::alloc::Global;
@@ -54,7 +54,7 @@ fn wait(server: &mut Kerberos, key: Octets, rules: Option<Rules>) {
     }
 }
 
-/// How an acceptor with this number that allows this answers the word.
+/// How an acceptor with this number and these rules answers the word.
 fn refusal(
     alloc: Global,
     word: &Word,

@@ -3,7 +3,7 @@
 
 use super::{answer, context_with, octets, properties};
 use bitflags::Flags;
-use krb_context::{Rules, Kerberos, ServerProperties};
+use krb_context::{Kerberos, Rules, ServerProperties};
 use krb_der::{Items, Octets, boxed};
 use sspi_core::{Message, Part, Secret, SecurityBufferRef, ServerRequestFlags};
 use std::alloc::{AllocError, Global};
@@ -13,7 +13,7 @@ const CONFOUNDER: [u8; 16] = [0, 1, 2, 3, 4, 5, 6, 7, 8, 9, 10, 11, 12, 13, 14, 
 
 /// A token, its answer, and the first message that the acceptor seals then, `some plain message`: its token and its data.
 struct Exchange {
-    /// The rules of the acceptor.
+    /// The rules that the acceptor goes by, if any.
     rules: Option<Rules>,
     token: &'static str,
     answer: &'static str,
@@ -133,8 +133,8 @@ fn answers_and_seals(
     Ok(answers(alloc, server, exchange)? && seals(alloc, server, exchange)?)
 }
 
-fn allow(server: &mut Kerberos, exchange: &Exchange) {
-    if let Some(rules) = exchange.options {
+fn set_rules(server: &mut Kerberos, exchange: &Exchange) {
+    if let Some(rules) = exchange.rules {
         server.rules = rules;
     }
 }
@@ -147,7 +147,7 @@ fn goes_so(
     exchange: &Exchange,
 ) -> Result<bool, Fail> {
     let mut server = context_with(alloc, service, number)?;
-    allow(&mut server, exchange);
+    set_rules(&mut server, exchange);
     answers_and_seals(alloc, &mut server, exchange)
 }
 

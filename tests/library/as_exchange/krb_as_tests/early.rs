@@ -1,4 +1,4 @@
-//! A first reply that is an AS-REP, where that is allowed.
+//! A first reply that is an AS-REP, where a rule takes it.
 
 use super::exchanges::{ALICE, FIRST, SECOND, alices};
 use super::{Recorded, Turn, draws, exchange_at, is_end, kerberos, key_in, run};
@@ -7,7 +7,7 @@ use krb_replies::ReplyKey;
 use sspi_core::Cause;
 use std::alloc::Global;
 
-/// What an exchange of alice ends with whose first reply is an AS-REP, where her context allows that.
+/// What an exchange of alice ends with whose first reply is an AS-REP, where a rule takes that.
 fn early_end(alloc: Global) -> Result<ReplyKey, Cause> {
     let turns = [Turn {
         reply: SECOND.reply,
@@ -31,7 +31,7 @@ fn early_end(alloc: Global) -> Result<ReplyKey, Cause> {
 }
 
 #[test]
-fn a_first_as_rep_is_taken_where_that_is_allowed(rt: HostRuntime) {
+fn a_first_as_rep_is_taken_where_that_is_a_rule(rt: HostRuntime) {
     let alloc = rt.alloc();
     assert!(rt; is_end(&early_end(alloc), &Ok(alices().end)));
 }

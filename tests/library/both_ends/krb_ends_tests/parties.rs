@@ -5,7 +5,7 @@ ghost use Rattle.sspi_generator.specs.Draws.{IsInRange, AreInRange};
 use super::{Has, Session};
 use bitflags::Flags;
 use krb_conf::{Env, KerberosConfig};
-use krb_context::{Kerberos, ServerProperties};
+use krb_context::{Kerberos, Rules, ServerProperties};
 use krb_der::{Items, Octets, OutOfMemory, Text};
 use krb_initiator::InitOptions;
 use krb_machine::Service;
@@ -148,10 +148,20 @@ fn config(alloc: Global, machine: &str) -> Result<KerberosConfig, OutOfMemory> {
     KerberosConfig::new(alloc, "tcp://kdc.example:88", name)
 }
 
-/// A session's client before its exchange.
-pub fn initiator_of(alloc: Global, session: &Session) -> Result<Box<Kerberos>, OutOfMemory> {
+/// The rules by which both ends go: none, and those of the RFCs.
+pub fn both_rules() -> [Rules; 2] {
+    [Rules::none(), Rules::rfc()]
+}
+
+/// A session's client before its exchange, with these rules.
+pub fn initiator_of(
+    alloc: Global,
+    session: &Session,
+    rules: Rules,
+) -> Result<Box<Kerberos>, OutOfMemory> {
     let config = config(alloc, session.machine)?;
-    let initiator = Kerberos::new_client_from_config(config, session.number);
+    let mut initiator = Kerberos::new_client_from_config(config, session.number);
+    initiator.rules = rules;
     Ok(Box::new(alloc, initiator)?)
 }
 
@@ -171,12 +181,14 @@ fn acceptor_with(
     }
 }
 
-/// The service that a session's client asks for.
-pub fn acceptor_of(alloc: Global, session: &Session) -> Result<Box<Kerberos>, Fail> {
+/// The service that a session's client asks for, with these rules.
+pub fn acceptor_of(alloc: Global, session: &Session, rules: Rules) -> Result<Box<Kerberos>, Fail> {
     let key = octets(alloc, session.key)?;
     let config = config(alloc, "server")?;
     let properties = properties(alloc, key)?;
-    Ok(acceptor_with(alloc, config, properties)?)
+    let mut acceptor = acceptor_with(alloc, config, properties)?;
+    acceptor.rules = rules;
+    Ok(acceptor)
 }
 
 /// A session's client at a connection of a service, as an initiator.
@@ -184,10 +196,11 @@ pub fn add_initiator(
     alloc: Global,
     service: &mut Service<ReplayBook>,
     session: &Session,
+    rules: Rules,
     connection: u32,
 ) -> Result<(), Fail> {
     let target = name_of(alloc, "host/server.example.com")?;
-    let mut initiator = initiator_of(alloc, session)?;
+    let mut initiator = initiator_of(alloc, session, rules)?;
     initiator.auth_identity = Some(credentials(alloc, &session.has)?);
     Ok(service.add_initiator(connection, Box::into_inner(initiator), Some(target))?)
 }

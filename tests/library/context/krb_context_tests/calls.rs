@@ -87,6 +87,7 @@ fn change(realm: Text) -> ContextChange {
         encryption_params: EncryptionParams::default_for_client(),
         seq_number: 7,
         krb5_user_to_user: false,
+        asked_at: None,
         ticket_decryption_key: None,
     }
 }

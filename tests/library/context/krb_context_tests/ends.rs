@@ -1,7 +1,7 @@
 //! Ends of established connections.
 
 use krb_conf::KerberosConfig;
-use krb_context::{Rules, Kerberos, KerberosState, ServerProperties};
+use krb_context::{Kerberos, KerberosState, Rules, ServerProperties};
 use krb_crypto::CipherSuite;
 use krb_der::{Octets, Text, boxed};
 use sspi_core::Secret;
@@ -9,7 +9,7 @@ use std::alloc::Global;
 use std::test::Fail;
 
 /// One end: its side, its suite and its key in hex, its filler, the number before that of its next message, whether its key came in an
-/// AP-REP, and its rules.
+/// AP-REP, and the rules that it goes by, if any.
 #[derive(Clone, Copy)]
 pub struct End {
     pub acceptor: bool,
@@ -86,7 +86,7 @@ fn establish(context: &mut Kerberos, end: &End, key: Octets) {
     context.encryption_params.sub_session_key = Some(Secret::new(key));
     context.encryption_params.ec = end.ec;
     context.encryption_params.acceptor_subkey = end.acceptor_subkey;
-    if let Some(rules) = end.options {
+    if let Some(rules) = end.rules {
         context.rules = rules;
     }
 }

@@ -260,14 +260,14 @@ static UNWRAPS: [Row; 36] = [
         after: "S: D:fc1b1af75abc7f354fcdfb02067585",
         refusal: None,
     },
-    // The first at an end that allows nothing.
+    // The first at an end without a rule.
     Row {
         end: PADDED,
         before: "S:050406ff000f001c0000000034220cb489cf8ebf0e8b24f9006211c194c3fcf840c5807c5c39d4149375c7d845cfc2dbfd552d765d0e184a6b5b0a13c3bed42e4ef2cc393e2071cb7b367036 D::1",
         after: "S:050406ff000f001c0000000034220cb489cf8ebf0e8b24f9006211c194c3fcf840c5807c5c39d4149375c7d845cfc2dbfd552d765d0e184a6b5b0a13c3bed42e4ef2cc393e2071cb7b367036 D:",
         refusal: Some(Cause::ExtraCount),
     },
-    // And at one that allows another thing.
+    // And at one with another rule.
     Row {
         end: End {
             rules: Some(Rules::SUBKEY_FLAG_BY_ORIGIN),

@@ -122,7 +122,7 @@ static WRAPS: [Row; 13] = [
         after: "T:050407ff0000001c00000000000000081d27ab3544cd8faddc61d037d96a91329de0d8924449daf3abdb742d23bd1f2824d7dc953587493a6b0cedd5 D:1c5f2b9995cdc376d2f6d39064ce25057cf9",
         refusal: None,
     },
-    // By one that allows another thing.
+    // By one with another rule.
     Row {
         end: End {
             rules: Some(Rules::EXTRA_COUNT_BY_TOKEN),

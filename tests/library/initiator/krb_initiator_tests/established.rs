@@ -15,9 +15,11 @@ const WITH_A_PASSWORD: &str = "\
      continue FRAMED_AP_REQ\n\
      context ApExchange 1234 EXAMPLE.COM - 0\n\
      key b769a1ae576139333854a9afee9e05a056becabeb30e20a4ad65383ad83f2a76\n\
+     rfc-key 000102030405060708090a0b0c0d0e0f101112131415161718191a1b1c1d1e1f\n\
      call - FRAMED_AP_REP\n\
      ok -\n\
      context Final 1235 EXAMPLE.COM - 0\n\
+     rfc-context Final 1234 EXAMPLE.COM - 0\n\
      key 000102030405060708090a0b0c0d0e0f101112131415161718191a1b1c1d1e1f\n\
      call - -\n\
      refused OutOfSequence Sequence";
@@ -45,6 +47,7 @@ const IN_DCE_STYLE: &str = "\
      d83cb501ab9e16e5010382b1c2ecf749ca009199484aa706c1128744aa12ecb056983a894b4fbbf717ff41933d386c34b5612\n\
      context ApExchange 1234 EXAMPLE.COM - 0\n\
      key b769a1ae576139333854a9afee9e05a056becabeb30e20a4ad65383ad83f2a76\n\
+     rfc-key 000102030405060708090a0b0c0d0e0f101112131415161718191a1b1c1d1e1f\n\
      call E BARE_AP_REP\n\
      ok 6f5c305aa003020105a10302010fa24e304ca003020112a245044330abf1670ce88318674c9caa700e22d3ce24e97e396196677b43660b3d528\
      2784bbafb9accb5eddf3ec7af0f2bd492ecaadfba8e827f2042e8b487aaa04b477ac6858c\n\
@@ -106,11 +109,13 @@ const WITH_A_KEY_OF_AES_128: &str = "\
      27fa89a152b51399b9da55f367ac18fc7f6cf80a99a1191db53c81330fb6c8691e24a\n\
      context ApExchange 1234 EXAMPLE.COM - 0\n\
      key b769a1ae576139333854a9afee9e05a0\n\
+     rfc-key 000102030405060708090a0b0c0d0e0f\n\
      call - 60818806092a864886f71201020202006f793077a003020105a10302010fa26b3069a003020111a26204602b0013fb4aa1d913c03c14385\
      863b547039a32f6c6e3f53159319cc027845ac85240ed0ff7656550ce3fe00c13e283799314df37c4ab29fdfc799350493174e6a01674595bf4376\
      6e96bd9ef423ac1af40a2bbd907c29f2847e7b1bdd2ef03b2\n\
      ok -\n\
      context Final 1235 EXAMPLE.COM - 0\n\
+     rfc-context Final 1234 EXAMPLE.COM - 0\n\
      key 000102030405060708090a0b0c0d0e0f";
 
 /// Without mutual authentication.
@@ -221,12 +226,22 @@ const WITH_NUMBER_0: &str = "\
      2cfc8bb2780b2bbda\n\
      context ApExchange 0 EXAMPLE.COM - 0\n\
      key b769a1ae576139333854a9afee9e05a056becabeb30e20a4ad65383ad83f2a76\n\
+     rfc-key 000102030405060708090a0b0c0d0e0f101112131415161718191a1b1c1d1e1f\n\
      call - 60819a06092a864886f71201020202006f818a308187a003020105a10302010fa27b3079a003020112a2720470d157a8197cd952977388a\
      823993c069780ceddde6c23cd9298bd27ba6b7296b69dcdc3894af627962889c98df1b31c8bd9f353a8d7e01ef4f832259a7f46ba2b5c63ac81513\
      b04b3fe092f66036e0d9c444a932adb25ad4263ed8c35356576a709b227c5df1432acf20a0a158e929e38\n\
      ok -\n\
      context Final 1 EXAMPLE.COM - 0\n\
+     rfc-context Final 0 EXAMPLE.COM - 0\n\
      key 000102030405060708090a0b0c0d0e0f101112131415161718191a1b1c1d1e1f";
+
+/// Those whose replies repeat what was asked, and that ask for an answer.
+pub static HONEST: [&str; 4] = [
+    WITH_A_PASSWORD,
+    IN_DCE_STYLE,
+    WITH_A_KEY_OF_AES_128,
+    WITH_NUMBER_0,
+];
 
 pub static SESSIONS: [&str; 6] = [
     WITH_A_PASSWORD,

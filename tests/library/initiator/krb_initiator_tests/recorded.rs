@@ -1,7 +1,8 @@
 //! Exchanges that were recorded with KDCs and services of others. Each step has the moment and the random octets of the recording.
+//! Lines `rfc-context` and `rfc-key` have what is otherwise by the rules of the RFCs.
 
 /// The KDC of MIT Kerberos, and a service of its own. The number goes up to the last.
-const OF_MIT: &str = "\
+pub const OF_MIT: &str = "\
      initiator 4294967294 workstation host/server.example.com\n\
      kdc tcp://127.0.0.1:57829\n\
      keytab EXAMPLE.COM\\alice 18 6f4656b4249379e3f71f4da93b5cc6c25dff516351d6e1d93b4bf712a705ff3b\n\
@@ -89,6 +90,7 @@ const OF_MIT: &str = "\
      83f8830ff556120d94e9f0835ea6f7d1d30634a17e17f4c180683b5ba74feab5525c63f240735da578c0fb7c84c5ebc11a684d5\n\
      context ApExchange 4294967294 EXAMPLE.COM - 0\n\
      key 37465a7b08e94b5e06a886c56e28dcf6ff57e9f6b7c9ae473372f091fc4c9d65\n\
+     rfc-key 4a8356b1effa3fdee03cbca21c68b766b252484a1840436af70ce64469784edd\n\
      call MCI 60819906092a864886f71201020202006f8189308186a003020105a10302010fa27a3078a003020112a271046f4e417dfa6d59f3fc8ac\
      078089cdc4a41ed2b86fc0e3717ab1f22231de22ac8c4da938bf55e42df04da43d1e5cbcf9c820da73d8004638273876202861ae8d40f9e06b7494\
      174a591591ac7833e24f8864366bd4cfbd1c40a543bccabb8e9821bbe434ba68ee7c5136ccf0557eb19da\n\
@@ -96,10 +98,11 @@ const OF_MIT: &str = "\
      ea0bb4ad5bb1c98c4be31fe2387d98a944\n\
      ok -\n\
      context Final 4294967295 EXAMPLE.COM - 0\n\
+     rfc-context Final 4294967294 EXAMPLE.COM - 0\n\
      key 3ea5596fc9c9ec6488eb2eafe7c509dbc9b5399dacce5fff3fa770b76429b2ba";
 
 /// In DCE style.
-const OF_MIT_IN_DCE_STYLE: &str = "\
+pub const OF_MIT_IN_DCE_STYLE: &str = "\
      initiator 16909060 workstation host/server.example.com\n\
      kdc tcp://127.0.0.1:57829\n\
      keytab EXAMPLE.COM\\alice 18 6f4656b4249379e3f71f4da93b5cc6c25dff516351d6e1d93b4bf712a705ff3b\n\
@@ -187,6 +190,7 @@ const OF_MIT_IN_DCE_STYLE: &str = "\
      620d53c85c721b503940c70d58612b92ffe80ffb2c1fb40d35c0dd6df6a98037137\n\
      context ApExchange 16909060 EXAMPLE.COM - 0\n\
      key c9e989ecc49065ff54940143d6d212e9c1588dabc471d8808632a2bb47bd1bf7\n\
+     rfc-key 21be5b9e3d793371a8a368c07e9940c2870871be041f4eeb9e9017b66260c733\n\
      call MRSCIE 6f8189308186a003020105a10302010fa27a3078a003020112a271046f15bfc9d0d2d634816f7e3f66a0c96535c82163f7467bbbb1\
      d6d00c87c24fb47a00031a89e50112031fdcfa728b53350a2143dcdb904c27306213c47ec4b6276d666e86f487f605c53474afda91942261757b6c\
      412e6213499d012834fd5e20a544ac38284eb960e92284026908488a\n\
@@ -198,7 +202,7 @@ const OF_MIT_IN_DCE_STYLE: &str = "\
      key 7e62bc4086a715db373feeecff1d44b682165a5e18d8363a5d5c863e7162e7e9";
 
 /// The KDC of Heimdal, in user-to-user.
-const OF_HEIMDAL_IN_USER_TO_USER: &str = "\
+pub const OF_HEIMDAL_IN_USER_TO_USER: &str = "\
      initiator 16909060 workstation host/u2u.example.com\n\
      kdc tcp://127.0.0.1:55813\n\
      keytab EXAMPLE.COM\\alice 18 6f4656b4249379e3f71f4da93b5cc6c25dff516351d6e1d93b4bf712a705ff3b\n\
@@ -300,6 +304,7 @@ const OF_HEIMDAL_IN_USER_TO_USER: &str = "\
      b0a1463f0f8e753b9b7c686554266c82a28d2683c6cd29e965f2a0bbb39e2ed\n\
      context ApExchange 16909060 EXAMPLE.COM user-to-user 0\n\
      key 92d29b03bde6d759b1d9a88eb428d44b257b044b37cab6bd1168046d310aba93\n\
+     rfc-key 272f549572ce59e2799c1d98a9608a7593225a0fbc9e8de7c5e02c01068ab130\n\
      call MK 60819b060a2a864886f7120102020302006f818a308187a003020105a10302010fa27b3079a003020112a27204704990d147dc7099356b\
      fb4c866bcbc2515260a13df0b2dfa70300510e08fa2926c47537d1e647cc85ad25538f4a14eed7dc77970de88355210278e46b7ee85df767d499ce\
      a52c75754103450bf6ffff035362858f065db2f07cd1364f9c53562da1635b3154892cda5c44603dc61a2613\n\
@@ -307,6 +312,7 @@ const OF_HEIMDAL_IN_USER_TO_USER: &str = "\
      7fa6594b6e7e83ba37f95bc3b26f0418b9\n\
      ok -\n\
      context Final 16909061 EXAMPLE.COM user-to-user 0\n\
+     rfc-context Final 16909060 EXAMPLE.COM user-to-user 0\n\
      key dbd6e2c0d2ab560f405e42d15c92c67b9f30f001ccd1d35171da988903a0c5cb";
 
 /// The same KDC, and a service in Java that answers without a subkey.
@@ -396,6 +402,9 @@ const OF_HEIMDAL_AND_JAVA: &str = "\
      chance 1795798362235929 38569cc0a501c8dcd8f4ba11b6ea8541041bf8a45460bfc560319f417e36d4387f4b2c679c9ea3079a2e29d8e4aba3\
      c858c5203a315bab6bcc33a308ba447985\n\
      refused InvalidToken NoSubKey";
+
+/// Those that get to their end.
+pub static HONEST: [&str; 3] = [OF_MIT, OF_MIT_IN_DCE_STYLE, OF_HEIMDAL_IN_USER_TO_USER];
 
 pub static SESSIONS: [&str; 4] = [
     OF_MIT,

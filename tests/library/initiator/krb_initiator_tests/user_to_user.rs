@@ -31,11 +31,13 @@ const ASKED_FOR: &str = "\
      2c36fa8390c0ecffb1f\n\
      context ApExchange 500 EXAMPLE.COM user-to-user 0\n\
      key b769a1ae576139333854a9afee9e05a056becabeb30e20a4ad65383ad83f2a76\n\
+     rfc-key 000102030405060708090a0b0c0d0e0f101112131415161718191a1b1c1d1e1f\n\
      call - 60819b060a2a864886f7120102020302006f818a308187a003020105a10302010fa27b3079a003020112a2720470d157a8197cd95297738\
      8a823993c069780ceddde6c23cd9298bd27ba6b7296b69dcdc3894af627962889c98df1b31c8bd9f353a8d7e01ef4f832259a7f46ba2b5c63ac815\
      13b04b3fe092f66036e0d9c30116dfc3f6928547e6e345ed085ea4209b227c581dd5a339f205f3eef56773c\n\
      ok -\n\
      context Final 501 EXAMPLE.COM user-to-user 0\n\
+     rfc-context Final 500 EXAMPLE.COM user-to-user 0\n\
      key 000102030405060708090a0b0c0d0e0f101112131415161718191a1b1c1d1e1f";
 
 /// Another one that asks.
@@ -76,6 +78,7 @@ const ASKED_FOR_IN_DCE_STYLE: &str = "\
      6353bbe18f665c0dfeefa4ea5045c1424db648b86a2fb7a09048a98965cbefe8b4f6be0ef560132b2fdd896b767cfa3e0a46a\n\
      context ApExchange 500 EXAMPLE.COM user-to-user 0\n\
      key b769a1ae576139333854a9afee9e05a056becabeb30e20a4ad65383ad83f2a76\n\
+     rfc-key 000102030405060708090a0b0c0d0e0f101112131415161718191a1b1c1d1e1f\n\
      call E BARE_AP_REP\n\
      ok 6f5c305aa003020105a10302010fa24e304ca003020112a245044330abf1670ce88318674c9caa700e22d3ce24e97e396196677b43660b3d528\
      2784bbafb9accb5eddf3ec7af0f2bd492ecaadfba8e827f2042e8b487aaa04b477ac6858c\n\
@@ -236,6 +239,9 @@ const NONE: &str = "\
      75cb7191784fda9749dacd966445ca31e4d40de4f7c99aa08\n\
      context ApExchange 4294967295 EXAMPLE.COM - 0\n\
      key 202122232425262728292a2b2c2d2e2f303132333435363738393a3b3c3d3e3f";
+
+/// Those whose replies repeat what was asked.
+pub static HONEST: [&str; 2] = [ASKED_FOR, ASKED_FOR_IN_DCE_STYLE];
 
 pub static SESSIONS: [&str; 9] = [
     ASKED_FOR,

@@ -9,7 +9,7 @@ use super::parties::{draw_at, key_of};
 use super::talk::understand;
 use bitflags::Flags;
 use krb_conf::{Env, KerberosConfig};
-use krb_context::{Kerberos, ServerProperties};
+use krb_context::{Kerberos, Rules, ServerProperties};
 use krb_crypto::CipherSuite;
 use krb_der::{Items, Octets, OutOfMemory, Text, TryCopy, boxed};
 use krb_initiator::{GeneratorInitSecurityContext, InitOptions, initialize_security_context};
@@ -118,12 +118,11 @@ fn config(alloc: Global, machine: &str) -> Result<KerberosConfig, OutOfMemory> {
     KerberosConfig::new(alloc, "tcp://kdc.example:88", machine)
 }
 
-fn initiator(alloc: Global) -> Result<Box<Kerberos>, OutOfMemory> {
+fn initiator(alloc: Global, rules: Rules) -> Result<Box<Kerberos>, OutOfMemory> {
     let config = config(alloc, "pc")?;
-    boxed(
-        alloc,
-        Kerberos::new_client_from_config(config, [0, 0, 0, 7]),
-    )
+    let mut initiator = Kerberos::new_client_from_config(config, [0, 0, 0, 7]);
+    initiator.rules = rules;
+    boxed(alloc, initiator)
 }
 
 fn properties(alloc: Global, suite: CipherSuite) -> Result<Box<ServerProperties>, Fail> {
@@ -382,14 +381,19 @@ fn goes_so(
 }
 
 /// The same with that wire, over which the requests went.
-fn goes_over(alloc: Global, journey: &Journey, wire: &mut Wire) -> Result<bool, Fail> {
-    let mut initiator = initiator(alloc)?;
+fn goes_over(
+    alloc: Global,
+    journey: &Journey,
+    rules: Rules,
+    wire: &mut Wire,
+) -> Result<bool, Fail> {
+    let mut initiator = initiator(alloc, rules)?;
     goes_so(alloc, journey, &mut initiator, wire)
 }
 
-/// Whether a journey has its end behind so many requests.
-pub fn ends_so(alloc: Global, journey: &Journey) -> Result<bool, Fail> {
+/// Whether a journey by these rules has its end behind so many requests.
+pub fn ends_so(alloc: Global, journey: &Journey, rules: Rules) -> Result<bool, Fail> {
     let mut wire = Wire::new(alloc, journey.suite, journey.referrals, journey.alters)?;
-    let is_so = goes_over(alloc, journey, &mut wire)?;
+    let is_so = goes_over(alloc, journey, rules, &mut wire)?;
     Ok(is_so && wire.sends() == journey.sends)
 }

@@ -11,7 +11,7 @@ struct Row {
     text: &'static str,
 }
 
-static ROWS: [Row; 11] = [
+static ROWS: [Row; 14] = [
     Row {
         place: Place::Elsewhere,
         cause: Cause::Skew,
@@ -31,6 +31,21 @@ static ROWS: [Row; 11] = [
         place: Place::Elsewhere,
         cause: Cause::Network(5),
         text: "NoAuthenticatingAuthority Network 5",
+    },
+    Row {
+        place: Place::Elsewhere,
+        cause: Cause::Nonce,
+        text: "InvalidToken Nonce",
+    },
+    Row {
+        place: Place::Elsewhere,
+        cause: Cause::ReplyNames,
+        text: "InvalidToken ReplyNames",
+    },
+    Row {
+        place: Place::Elsewhere,
+        cause: Cause::ReplyTime,
+        text: "TimeSkew ReplyTime",
     },
     Row {
         place: Place::Elsewhere,

@@ -3,7 +3,7 @@
 /// A service in Java, whose AP-REP has no subkey: the authenticator's stays.
 pub const WITHOUT_A_SUBKEY: &str = "\
      initiator 16909060 workstation host/server.example.com\n\
-     allows 32\n\
+     rules 32\n\
      kdc tcp://127.0.0.1:57829\n\
      keytab EXAMPLE.COM\\alice 18 6f4656b4249379e3f71f4da93b5cc6c25dff516351d6e1d93b4bf712a705ff3b\n\
      env SSPI_KDC_URL_OTHER.COM tcp://127.0.0.1:57829\n\
@@ -96,12 +96,13 @@ pub const WITHOUT_A_SUBKEY: &str = "\
      b0aba647a6cf23cca04c19a6e9b6071632\n\
      ok -\n\
      context Final 16909061 EXAMPLE.COM - 0\n\
+     rfc-context Final 16909060 EXAMPLE.COM - 0\n\
      key 327fdd3ab63720327f53a6b770caf132077d9e8f71929f3a4604e3d6b0de2140";
 
 /// Another, from the number that was shown on.
 pub const WITHOUT_A_SUBKEY_AS_SHOWN: &str = "\
      initiator 16909060 workstation host/server.example.com\n\
-     allows 48\n\
+     rules 48\n\
      kdc tcp://127.0.0.1:55813\n\
      keytab EXAMPLE.COM\\alice 18 6f4656b4249379e3f71f4da93b5cc6c25dff516351d6e1d93b4bf712a705ff3b\n\
      env SSPI_KDC_URL_OTHER.COM tcp://127.0.0.1:55813\n\
@@ -192,7 +193,7 @@ pub const WITHOUT_A_SUBKEY_AS_SHOWN: &str = "\
 /// No answer is asked for, and none is awaited.
 pub const ONE_WAY: &str = "\
      initiator 16909060 workstation host/server.example.com\n\
-     allows 128\n\
+     rules 128\n\
      kdc tcp://127.0.0.1:57829\n\
      keytab EXAMPLE.COM\\alice 18 6f4656b4249379e3f71f4da93b5cc6c25dff516351d6e1d93b4bf712a705ff3b\n\
      env SSPI_KDC_URL_OTHER.COM tcp://127.0.0.1:57829\n\
@@ -278,4 +279,5 @@ pub const ONE_WAY: &str = "\
      81f4648db6c4cdc5f2f0a1bb3a16a35615f531cc1cd51ede208637908782afb41eed5e901439abb2f6a5c103aca7237570c7c48fdc069f2733a0b5\
      2a91c1bfbdc2957328103ddca6af23da36588070d8b7c31e20db7127eaad0b2bb1a49c6c81f8d73128a9daee092a4f2\n\
      context Final 16909061 EXAMPLE.COM - 0\n\
+     rfc-context Final 16909060 EXAMPLE.COM - 0\n\
      key 327fdd3ab63720327f53a6b770caf132077d9e8f71929f3a4604e3d6b0de2140";

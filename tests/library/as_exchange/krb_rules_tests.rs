@@ -1,4 +1,4 @@
-//! What a client takes from replies of the KDCs of MIT krb5 and of Heimdal, by the rules of its context.
+//! What a client takes from replies of the KDCs of MIT krb5 and of Heimdal, by rules that its context goes by.
 
 use crate::rows::is_row;
 use bitflags::Flags;
@@ -54,16 +54,12 @@ fn asker(alloc: Global, password: &str, rules: Rules) -> Result<Asker, Fail> {
         realm: realm(alloc)?,
         suite: CipherSuite::Aes256CtsHmacSha196,
         credentials: alice(alloc, password)?,
-        rules: rules,
+        rules,
     })
 }
 
 /// What the AS-REP brings alice with these rules.
-fn brought(
-    alloc: Global,
-    password: &str,
-    rules: Rules,
-) -> Result<Result<ReplyKey, Cause>, Fail> {
+fn brought(alloc: Global, password: &str, rules: Rules) -> Result<Result<ReplyKey, Cause>, Fail> {
     let asker = asker(alloc, password, rules)?;
     let salt = Text::from_str(alloc, "EXAMPLE.COMalice")?;
     let octets = hex::decode(alloc, TAGGED_26)?;
@@ -79,7 +75,7 @@ fn is_refused(answer: Result<ReplyKey, Cause>, wanted: Cause) -> bool {
 }
 
 #[test]
-fn a_part_with_tag_26_is_opened_where_that_is_allowed(rt: HostRuntime) -> Result<(), Fail> {
+fn a_part_with_tag_26_is_opened_where_that_is_a_rule(rt: HostRuntime) -> Result<(), Fail> {
     let rules = Rules::AS_REP_TAGGED_26;
     match brought(rt.alloc(), "alice-password", rules)? {
         Ok(made) => {
@@ -146,11 +142,11 @@ fn is_key(answer: Result<ReplyKey, Cause>, suite: CipherSuite) -> bool {
 }
 
 #[test]
-fn a_key_goes_by_its_own_suite_where_that_is_allowed(rt: HostRuntime) -> Result<(), Fail> {
+fn a_key_goes_by_its_own_suite_where_that_is_a_rule(rt: HostRuntime) -> Result<(), Fail> {
     let alloc = rt.alloc();
-    let allowed = handed_on(alloc, Rules::SUITE_OF_EACH_KEY)?;
+    let own = handed_on(alloc, Rules::SUITE_OF_EACH_KEY)?;
     let kept = handed_on(alloc, Rules::none())?;
-    assert!(rt; is_key(allowed, CipherSuite::Aes128CtsHmacSha196));
+    assert!(rt; is_key(own, CipherSuite::Aes128CtsHmacSha196));
     assert!(rt; is_key(kept, CipherSuite::Aes256CtsHmacSha196));
     Ok(())
 }

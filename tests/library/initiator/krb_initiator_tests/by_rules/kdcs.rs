@@ -3,7 +3,7 @@
 /// A service whose one key is of AES-128, at Heimdal's KDC: its ticket comes with a key of that suite.
 pub const OF_AES_128: &str = "\
      initiator 16909060 workstation aes128/server.example.com\n\
-     allows 4\n\
+     rules 4\n\
      kdc tcp://127.0.0.1:55813\n\
      keytab EXAMPLE.COM\\alice 18 6f4656b4249379e3f71f4da93b5cc6c25dff516351d6e1d93b4bf712a705ff3b\n\
      env SSPI_KDC_URL_OTHER.COM tcp://127.0.0.1:55813\n\
@@ -82,12 +82,13 @@ pub const OF_AES_128: &str = "\
      2820ee9dca6b973af8a2b239686898c5a934653b60b197fd277109b4a334aead8d9d59a6ccd541dec10671c18fcd9f252faf3f315a3517fb788a9f\
      e805c440e15c9993d\n\
      context ApExchange 16909060 EXAMPLE.COM - 0\n\
-     key 88996aff6a987206049e905fe3de1c49";
+     key 88996aff6a987206049e905fe3de1c49\n\
+     rfc-key f1e7354165dfc3d41a841e48ac3c79cc";
 
 /// The KDC of MIT krb5 1.20.1, which gives the sealed part of its AS-REPs tag 26.
 pub const TAGGED_26: &str = "\
      initiator 16909060 workstation host/server.example.com\n\
-     allows 1\n\
+     rules 1\n\
      kdc tcp://127.0.0.1:58843\n\
      keytab EXAMPLE.COM\\alice 18 6f4656b4249379e3f71f4da93b5cc6c25dff516351d6e1d93b4bf712a705ff3b\n\
      call MCI -\n\
@@ -172,12 +173,13 @@ pub const TAGGED_26: &str = "\
      b425db7d7bf9f299157283047f210459016f165c5cf486883ff9961de75d3aa572091b041006c8581e0271e2c4028f014669cc5bb847feea187ce1\
      3fc7e9a2b4fbae50d5629a8024aadf030e5867a39f636c2579e04f5f413aa3fd6cdbd78867a4bb054d3c3d9cc245d7b8e64ab\n\
      context ApExchange 16909060 EXAMPLE.COM - 0\n\
-     key 1b3f1f582d934d9de14b0cb28691005a344aa7a92df54134d8c015a8aab35b4c";
+     key 1b3f1f582d934d9de14b0cb28691005a344aa7a92df54134d8c015a8aab35b4c\n\
+     rfc-key 179f2edf02b8acc50e6a56a0be0ad53760f19c200c50f2ef6ea907473eb8e935";
 
 /// The same for a user of whom it wants no pre-authentication: its first reply is the AS-REP.
 pub const TAGGED_26_AT_ONCE: &str = "\
      initiator 16909060 workstation host/server.example.com\n\
-     allows 3\n\
+     rules 3\n\
      kdc tcp://127.0.0.1:58843\n\
      keytab EXAMPLE.COM\\alice 18 6f4656b4249379e3f71f4da93b5cc6c25dff516351d6e1d93b4bf712a705ff3b\n\
      call MCI -\n\
@@ -249,12 +251,13 @@ pub const TAGGED_26_AT_ONCE: &str = "\
      22d5b534fa8767112d031b793ad179f4c848c8865afe5ca73affdec7979d27334a0fa0ca9de4d4ce45d2f46abbd750d9031c175216cdf5562ffa6e\
      3b036c41ff4e72edd3dd7e4080fb4a017d5fb42cb81d93c9bba782af129a2b3fa0e53c6d22b3a7f72eb0ef0017ac83dd69b6b\n\
      context ApExchange 16909060 EXAMPLE.COM - 0\n\
-     key 821ce19aa805e0e09834fed3a9f7bc9c50ba11e0fa1cb565456729175d5c1bec";
+     key 821ce19aa805e0e09834fed3a9f7bc9c50ba11e0fa1cb565456729175d5c1bec\n\
+     rfc-key 460227495e902a92112a24962c8450397df7618c939e4f24e75c41e83b22f7c6";
 
 /// A user of that KDC with one key, of AES-128: the error names its suite, and the keys of its tickets are of AES-256.
 pub const OF_AN_AES_128_USER: &str = "\
      initiator 16909060 workstation host/server.example.com\n\
-     allows 5\n\
+     rules 5\n\
      kdc tcp://127.0.0.1:58843\n\
      password bob EXAMPLE.COM bob-password\n\
      call MCI -\n\
@@ -336,12 +339,13 @@ pub const OF_AN_AES_128_USER: &str = "\
      bdc6d9943ed522288ee1102db3bc4789d8cbe57f21045efb0cbdd438e27cb4b228f11bc18852e549614eae8b14f51bf28fd12d675058ad0259e80a\
      5b65db52b1ecc662b9741a46c718c3fdad33e7f544010e3dd0ccaccb3b630737a01c5a9005984\n\
      context ApExchange 16909060 EXAMPLE.COM - 0\n\
-     key 3a1f64a5bc0ec276b6c9a8a6064915e9b02e9e80f427b9855d2214a4b46506b0";
+     key 3a1f64a5bc0ec276b6c9a8a6064915e9b02e9e80f427b9855d2214a4b46506b0\n\
+     rfc-key e1a2e8e615a46eba5e94ca5d92d91fbd8a960810fd5b34a3ad62439c0d73fb80";
 
 /// A recorded exchange without its error and without the sealed time; the rest goes as it was recorded.
 pub const EARLY: &str = "\
      initiator 16909060 workstation host/server.example.com\n\
-     allows 2\n\
+     rules 2\n\
      kdc tcp://127.0.0.1:57829\n\
      keytab EXAMPLE.COM\\alice 18 6f4656b4249379e3f71f4da93b5cc6c25dff516351d6e1d93b4bf712a705ff3b\n\
      env SSPI_KDC_URL_OTHER.COM tcp://127.0.0.1:57829\n\
@@ -414,4 +418,5 @@ pub const EARLY: &str = "\
      dac90881f4648db6c4cdc5f2ffaf7d3c5f0201b90da9c959182cc0a26d747706acb2a8461ad8fb944c08793a4c4d961698c032257ad396e92ca962\
      02b559e9b062cbbf1b50a9635cd3f6efea01308deda53266732b8e5c11aa084ff2dd18597af126244468b4bac732d1e752e6f\n\
      context ApExchange 16909060 EXAMPLE.COM - 0\n\
-     key c59262f943304b6d578d7f84ca8d2884f4eaf229da9e38a31542087b812bc214";
+     key c59262f943304b6d578d7f84ca8d2884f4eaf229da9e38a31542087b812bc214\n\
+     rfc-key 327fdd3ab63720327f53a6b770caf132077d9e8f71929f3a4604e3d6b0de2140";
