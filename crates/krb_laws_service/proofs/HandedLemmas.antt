@@ -106,7 +106,7 @@ module _ {G : Type 0} (admits : G → Ask → Verdict → G → Type 0) (initiat
   abbrev seeker : Seeker
   seeker = seeker_for initiator.context options target credentials client
 
-  module _ (can : CanBegin initiator.context options target credentials client) (kdcs : AreHonestKdcs seeker suite service_key answers rep part) (holds : HoldsKey acceptor.context target service_key) (named : client_of part.cname part.crealm ≡ Some user) (are_new : AreNew initiator.context acceptor.context) (initiator_free : initiator.exchange ≡ None) (acceptor_free : acceptor.exchange ≡ None) (end : EndsWithOffer initiator.context seeker service_key suite draw answers rep part) where
+  module _ (can : CanBegin initiator.context options target credentials client) (kdcs : AreHonestKdcs seeker suite service_key draw answers rep part) (holds : HoldsKey acceptor.context target service_key) (named : client_of part.cname part.crealm ≡ Some user) (are_new : AreNew initiator.context acceptor.context) (initiator_free : initiator.exchange ≡ None) (acceptor_free : acceptor.exchange ≡ None) (end : EndsWithOffer initiator.context seeker service_key suite draw answers rep part) where
     -- the initiator once its token was said
     abbrev shown : Connection
     shown = record initiator { context = settled initiator.context end.done.change; exchange = None }
@@ -271,7 +271,7 @@ module _ {G : Type 0} (admits : G → Ask → Verdict → G → Type 0) (initiat
         λ state after event answer next handed let_in. subst (λ (c : Connection). IsAnsweredBack admits suite part acceptor.context.encryption_params.ec (is_bare flags) (draw_of event) answer c next) (sym w.waiting_is) (answered_back state after event answer next handed let_in) in
         record { token = end.done.token; told = w.reply_is; on = on }
 
-  pub both-by-events : (reply : Reply) (waiting : Connection) → CanBegin initiator.context options target credentials client → AreHonestKdcs seeker suite service_key answers rep part → IsDraw answers.last.draw
+  pub both-by-events : (reply : Reply) (waiting : Connection) → CanBegin initiator.context options target credentials client → AreHonestKdcs seeker suite service_key draw answers rep part → IsDraw answers.last.draw
       → HoldsKey acceptor.context target service_key → client_of part.cname part.crealm ≡ Some user → AreNew initiator.context acceptor.context → initiator.exchange ≡ None → acceptor.exchange ≡ None
       → IsFetched admits flags env draw answers initiator reply waiting → IsShown admits suite part acceptor.context.encryption_params.ec (is_bare flags) reply waiting acceptor
   both-by-events reply waiting can kdcs drawn holds named are_new initiator_free acceptor_free f =

@@ -91,7 +91,7 @@ pub record AreReady {G : Type 0} (before : State G) (e : Exchanged) (initiator a
   pub acceptor_free : acceptor.exchange ≡ None
   pub can : CanBegin initiator.context (options_of initiator before.env e.flags []) target credentials client
   pub honest : AreHonestKdcs (seeker_for initiator.context (options_of initiator before.env e.flags []) target credentials client) suite service_key
-      (replies_of e) rep part
+      e.start (replies_of e) rep part
   pub holds : HoldsKey acceptor.context target service_key
   pub named : client_of part.cname part.crealm ≡ Some user
   pub are_new : AreNew initiator.context acceptor.context

@@ -36,7 +36,7 @@ pub fn both_ends_reach_one_context_by_events<G: ReplayGate>()
         (credentials : CredentialsBuffers) (client : Client) (suite : CipherSuite) (answers : Answers) (rep : TgsRep) (part : EncTicketPart)
         (user : UserName) (draw : Draw) (reply : Reply)
         → CanBegin initiator.context (options_of initiator env flags []) target credentials client
-        → AreHonestKdcs (seeker_for initiator.context (options_of initiator env flags []) target credentials client) suite service_key answers rep part
+        → AreHonestKdcs (seeker_for initiator.context (options_of initiator env flags []) target credentials client) suite service_key draw answers rep part
         → IsDraw answers.last.draw → HoldsKey acceptor.context target service_key → client_of part.cname part.crealm ≡ Some user
         → AreNew initiator.context acceptor.context → initiator.exchange ≡ None → acceptor.exchange ≡ None
         → IsFetched G.admits flags env draw answers initiator reply waiting
