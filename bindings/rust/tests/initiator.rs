@@ -117,7 +117,10 @@ fn play_back(rules: Option<Rules>) -> Result<Session, Error> {
         next = step(&mut initiator, Step::Answer(&octets(reply[1])))?;
     }
     let answer = octets(only(TOLD, "answer")[2]);
-    assert_eq!(step(&mut initiator, Step::Hear(&answer))?, Next::Established);
+    assert_eq!(
+        step(&mut initiator, Step::Hear(&answer))?,
+        Next::Established
+    );
     initiator.into_session()
 }
 
