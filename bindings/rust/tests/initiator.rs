@@ -99,25 +99,33 @@ fn one_way_is_settled() {
     assert_eq!(session.answer(), token);
 }
 
-/// An initiator an hour later, that draws other octets: the replies and the answer that were recorded are not to it.
+/// A step an hour after the log-in, with other octets than were drawn then.
+fn later(initiator: &mut Initiator, step: Step) -> Result<Next, Error> {
+    let recorded = Duration::from_micros(only(TOLD, "step")[1].parse().unwrap());
+    initiator.step_at(
+        step,
+        UNIX_EPOCH + recorded + Duration::from_secs(3600),
+        [7; 64],
+    )
+}
+
+/// Plays the recorded replies and the recorded answer back to an initiator with these rules, or with its own.
 fn play_back(rules: Option<Rules>) -> Result<Session, Error> {
     let mut initiator = initiator();
     if let Some(rules) = rules {
         initiator.set_rules(rules)?;
     }
-    let mut at = lines(TOLD, "step").into_iter();
-    let mut step = |initiator: &mut Initiator, step| {
-        let recorded = Duration::from_micros(at.next().unwrap()[1].parse().unwrap());
-        let later = UNIX_EPOCH + recorded + Duration::from_secs(3600);
-        initiator.step_at(step, later, [7; 64])
-    };
-    let mut next = step(&mut initiator, Step::Start)?;
+    let mut next = later(&mut initiator, Step::Start)?;
     for reply in lines(TOLD, "reply").iter().take(3) {
         assert_eq!(next, Next::AskKdc);
-        next = step(&mut initiator, Step::Answer(&octets(reply[1])))?;
+        next = later(&mut initiator, Step::Answer(&octets(reply[1])))?;
     }
+    assert_eq!(next, Next::SendToken);
     let answer = octets(only(TOLD, "answer")[2]);
-    assert_eq!(step(&mut initiator, Step::Hear(&answer))?, Next::Established);
+    assert_eq!(
+        later(&mut initiator, Step::Hear(&answer))?,
+        Next::Established
+    );
     initiator.into_session()
 }
 
