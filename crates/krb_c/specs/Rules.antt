@@ -20,14 +20,14 @@ abbrev pub rules_from : ℕ → Rules
 rules_from bits = record { 0 = bits }
 
 -- a session that goes by these rules, and no others
-abbrev pub with_rules : ℕ → Session → Session
-with_rules bits session = record session { connection = record session.connection { rules = rules_from bits } }
+abbrev pub session_with_rules : ℕ → Session → Session
+session_with_rules bits session = record session { connection = record session.connection { rules = rules_from bits } }
 
 -- each bit names a rule, and the session goes by these
 pub record SetsSessionRules (bits : ℕ) (old : Option Session) (count : ℕ) (new : Option Session) : Type 0 where
   pub session : Session
   pub was : old ≡ Some session
-  pub now : new ≡ Some (with_rules bits session)
+  pub now : new ≡ Some (session_with_rules bits session)
   pub known : knows bits ≡ true
   pub none_written : count ≡ 0
 
