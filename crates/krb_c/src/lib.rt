@@ -6,7 +6,6 @@
 
 mod accept;
 mod acceptor;
-mod rules;
 mod codes;
 mod copies;
 mod handed;
@@ -17,6 +16,7 @@ mod keytab;
 mod messages;
 mod names;
 mod reply;
+mod rules;
 mod sasl;
 mod sasl_end;
 mod sasl_frames;

@@ -55,7 +55,11 @@ pub extern "C" fn mk_session_set_rules(alloc: Global, session: &mut Connection, 
     reply_of(set_session_rules(alloc, session, rules))
 }
 
-fn set_initiator_rules(alloc: Global, initiator: &mut Initiator, rules: u32) -> Result<usize, Failure>
+fn set_initiator_rules(
+    alloc: Global,
+    initiator: &mut Initiator,
+    rules: u32,
+) -> Result<usize, Failure>
     ensures set { IfOk result (λ count. Sets (SetsInitiatorRules rules) initiator.old.place.value count initiator.new.place.value) }
     ensures fails { IfErr result (SetsNot (knows rules ≡ false) IsNever initiator.old.place.value) }
     ensures stays { OnErr result (initiator.new.place.value ≡ initiator.old.place.value) }
