@@ -1,9 +1,7 @@
 # A log-in that is recorded against a live KDC and a live service, and played back to the example initiator when both are gone.
 
-# Each rule that an initiator has by default, but those two by which it holds replies to what it asked: `checks`.
-takes=(AS_REP_TAGGED_26 NO_PREAUTHENTICATION SUITE_OF_EACH_KEY SUBKEY_FLAG_BY_ORIGIN FIRST_NUMBER_AS_SHOWN AP_REP_WITHOUT_SUBKEY
-    THIRD_LEG_BY_VALUE ONE_WAY_IS_SETTLED EXTRA_COUNT_BY_TOKEN)
-checks=(FRESH_REPLIES ANSWERS_ITS_AUTHENTICATOR)
+# The rules that take what the RFCs allow, and the two by which an initiator holds answers to what it asked.
+takes=("${all_rules[@]:0:9}") checks=("${all_rules[@]:9}")
 
 # The example initiator logs in between these ports: logs_in_between KDC_PORT SERVICE_PORT RULE..
 logs_in_between() {
@@ -15,7 +13,7 @@ records() {
     local kdc_port service_port
     kdc_port=$(free_port) service_port=$(free_port)
     start "$1-recorder" "$python" -u "$live/playback.py" record "$kdc_port" "$2" "$service_port" "$3" "$room/$1.kept"
-    await_port "$kdc_port" && await_listener "$1-recorder" "$service_port" || return 1
+    await_listener "$1-recorder" "$kdc_port" && await_listener "$1-recorder" "$service_port" || return 1
     logs_in_between "$kdc_port" "$service_port" && logged "$1-recorder" '^kept [23] replies and 4 frames$'
 }
 
