@@ -1,6 +1,6 @@
 # MIT's gss-client at the example gss_server.
 
-# Starts gss_server with the key of a service: start_acceptor NAME SERVICE KEY OPTION.., and leaves its port in acceptor_port. The
+# Starts gss_server with the key of a service: start_acceptor NAME SERVICE KEY RULE.., and leaves its port in acceptor_port. The
 # key is new, so it need not wait.
 start_acceptor() {
     acceptor_port=$(free_port)

@@ -1,5 +1,5 @@
 # The initiators: the example initiator, and krb_run's with carry between it and KDCs. Each logs in at Heimdal's KDC, and speaks to
-# gss_server. No option is set: none is needed between two ends of this library.
+# gss_server. No rule is named: the example goes by the RFCs, and krb_run by none.
 krb_run=${RUN:-crates/krb_run/out/krb_run}
 
 # reaches PASSWORD KDC[,KDC]

@@ -55,7 +55,7 @@ try_imtest() {
     check "imtest, confidentiality" imtest_in 2 256
 }
 
-# Whether the example sasl_client is let in and answered at this port, in a layer: client_in PORT LAYER NAME COUNT OPTION..
+# Whether the example sasl_client is let in and answered at this port, in a layer: client_in PORT LAYER NAME COUNT RULE..
 client_in() {
     timeout 20 "$examples/sasl_client" "127.0.0.1:$1" pop/server.example.com alice@EXAMPLE.COM - "$2" "$4" "tcp://127.0.0.1:$mit_port" \
         "${@:5}" <<< secret > "$room/said" 2>&1 || { cat "$room/said"; return 1; }
@@ -63,35 +63,35 @@ client_in() {
     grep -qxF "logged in: pop/server.example.com, layer $3" "$room/said" && [ "$(grep -c '^+OK 0 0$' "$room/said")" -eq "$4" ]
 }
 
-# Whether it is told so, and ends: client_is_told PATTERN PORT LAYER OPTION..
+# Whether it is told so, and ends: client_is_told PATTERN PORT LAYER RULE..
 client_is_told() {
     client_in "$2" "$3" - 1 "${@:4}" && { echo "it was let in"; return 1; }
     grep -q -- "$1" "$room/said"
 }
 
-# The KDC's AS-REPs want these two of an initiator, and a service of MIT's library the third.
+# No rule is named.
 try_client() {
-    local own=$sasl_port port kdc=(AS_REP_TAGGED_26 NO_PREAUTHENTICATION)
-    check "sasl_client at sasl_server, no layer" client_in "$own" 1 None 5 "${kdc[@]}"
-    check "sasl_client at sasl_server, integrity" client_in "$own" 2 Integrity 5 "${kdc[@]}"
-    check "sasl_client at sasl_server, confidentiality, 100 messages" client_in "$own" 4 Confidentiality 100 "${kdc[@]}"
+    local own=$sasl_port port
+    check "sasl_client at sasl_server, no layer" client_in "$own" 1 None 5
+    check "sasl_client at sasl_server, integrity" client_in "$own" 2 Integrity 5
+    check "sasl_client at sasl_server, confidentiality, 100 messages" client_in "$own" 4 Confidentiality 100
+    check "without a rule the KDC's first reply is refused" client_is_told 'refused: .* EarlyAsRep' "$own" 4 NONE
     check "its log names the layer" logged "sasl-$own" '^admitted: alice@example.com, layer Confidentiality$'
-    check "sasl_client is refused where it wants what is not offered" client_is_told 'the layer is not offered' "$strict_port" 2 "${kdc[@]}"
+    check "sasl_client is refused where it wants what is not offered" client_is_told 'the layer is not offered' "$strict_port" 2
     local plugins=(/usr/lib/*/sasl2/libgssapiv2.so)
     [ -e "${plugins[0]}" ] || { echo "not tried: a server of Cyrus', which wants Debian's package libsasl2-modules-gssapi-mit"; return; }
     port=$(free_port)
     start cyrus-server env "KRB5_KTNAME=FILE:$mit/keytab" "$python" "$live/pop_server.py" "$port" 0 256 65536
     await_port "$port"
-    kdc+=(FIRST_NUMBER_AS_SHOWN)
-    check "sasl_client at a server of Cyrus', no layer" client_in "$port" 1 None 5 "${kdc[@]}"
-    check "sasl_client at a server of Cyrus', integrity" client_in "$port" 2 Integrity 5 "${kdc[@]}"
-    check "sasl_client at a server of Cyrus', confidentiality, 100 messages" client_in "$port" 4 Confidentiality 100 "${kdc[@]}"
+    check "sasl_client at a server of Cyrus', no layer" client_in "$port" 1 None 5
+    check "sasl_client at a server of Cyrus', integrity" client_in "$port" 2 Integrity 5
+    check "sasl_client at a server of Cyrus', confidentiality, 100 messages" client_in "$port" 4 Confidentiality 100
     check "the server names alice, and the layer" logged cyrus-server '^admitted: alice, strength 256$'
     port=$(free_port)
     start cyrus-small env "KRB5_KTNAME=FILE:$mit/keytab" "$python" "$live/pop_server.py" "$port" 2 256 100
     await_port "$port"
-    check "sasl_client at a server of Cyrus', messages of 100 octets at most" client_in "$port" 4 Confidentiality 5 "${kdc[@]}"
-    check "sasl_client is refused by a server of Cyrus' that wants confidentiality" client_is_told 'the layer is not offered' "$port" 2 "${kdc[@]}"
+    check "sasl_client at a server of Cyrus', messages of 100 octets at most" client_in "$port" 4 Confidentiality 5
+    check "sasl_client is refused by a server of Cyrus' that wants confidentiality" client_is_told 'the layer is not offered' "$port" 2
 }
 
 try_sasl() {

@@ -27,7 +27,8 @@ pub struct Initiator {
     pub variables: [Option<&'static str>; 2],
 }
 
-fn rules_of(bits: Option<&str>) -> Rules {
+/// The rules that a line has the bits of; none without it.
+pub fn rules_of(bits: Option<&str>) -> Rules {
     Rules::from_bits_retain(bits.unwrap_or("").parse().unwrap_or(0))
 }
 

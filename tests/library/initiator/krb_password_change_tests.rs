@@ -6,7 +6,7 @@ ghost use Rattle.krb_password_change.specs.ChangeRuns.{IsNew, turns_left};
 
 mod changes;
 
-use crate::clients::config;
+use crate::clients::{config, rules_of};
 use crate::kdc::Kdc;
 use crate::krb_initiator_tests::is_refused;
 use crate::script::Script;
@@ -142,12 +142,13 @@ fn goes_for(
     Ok(goes_with(alloc, client, change, script))
 }
 
-/// The same with a new context: a line `change` has the user, and the URL of its KDC or `-`.
+/// The same with a new context: a line `change` has the user, and the URL of its KDC or `-`; a line `rules` the bits of its rules.
 fn goes_so(alloc: Global, script: &mut Script) -> Result<bool, OutOfMemory> {
     let _note = script.take("note");
     let line = script.take("change").unwrap_or("");
     let (account, url) = line.split_once(' ').unwrap_or((line, "-"));
-    let client = client_of(alloc, url)?;
+    let mut client = client_of(alloc, url)?;
+    client.rules = rules_of(script.take("rules"));
     goes_for(alloc, &client, account, script)
 }
 
@@ -166,6 +167,12 @@ fn left(alloc: Global, text: &'static str) -> Result<&'static str, OutOfMemory> 
 #[test]
 fn a_password_is_changed_or_not(rt: HostRuntime) -> Result<(), Fail> {
     assert_eq!(rt; left(rt.alloc(), changes::DONE)?, "");
+    Ok(())
+}
+
+#[test]
+fn an_as_rep_that_does_not_answer_ends_a_change(rt: HostRuntime) -> Result<(), Fail> {
+    assert_eq!(rt; left(rt.alloc(), changes::BY_RFC)?, "");
     Ok(())
 }
 

@@ -2,6 +2,7 @@
 //! answers to the tokens behind it.
 
 ghost use Rattle.std.specs.Prelude.{IfOk};
+ghost use Rattle.sspi_generator.specs.Draws.{IsInRange};
 ghost use Rattle.krb_user_to_user.specs.AcceptRuns.{IsNew};
 
 use super::{Answer, Step, first_other_at};
@@ -9,13 +10,13 @@ use crate::kdc::{Kdc, Reply, Turn};
 use crate::rows::is_hex;
 use crate::services::{acceptor_for, draw, flags_of, user_with_password};
 use krb_conf::Env;
-use krb_context::{Kerberos, KerberosState};
+use krb_context::{Kerberos, KerberosState, Rules};
 use krb_crypto::CipherSuite;
 use krb_der::{Octets, boxed};
 use krb_replay::ReplayBook;
 use krb_server::{Accepted, accept_security_context};
 use krb_user_to_user::{AcceptRun, GeneratorAcceptSecurityContext};
-use sspi_core::{Cause, Error, SecurityStatus};
+use sspi_core::{Cause, Draw, Error, SecurityStatus};
 use std::alloc::Global;
 use std::test::Fail;
 
@@ -243,12 +244,14 @@ fn end_over(
     run: Box<AcceptRun>,
     server: &mut Kerberos,
     kdc: &mut Kdc,
+    draw: Draw,
 ) -> Result<(SecurityStatus, Octets), Error>
-    requires { IsNew run.value }
+    requires new { IsNew run.value }
+    requires moment { IsInRange draw }
 {
     let run = GeneratorAcceptSecurityContext::new(Box::into_inner(run));
     let mut run = boxed(alloc, run)?;
-    match run.resolve_with(kdc, &[draw(), draw(), draw()]) {
+    match run.resolve_with(kdc, &[draw, draw, draw]) {
         Ok(done) => {
             server.settle(done.change);
             Ok((done.status, done.token))
@@ -275,18 +278,21 @@ fn begun(
     }
 }
 
-/// What that run ends with.
+/// What that run ends with, where each of its steps is given this.
 fn end_of(
     alloc: Global,
     server: &mut Kerberos,
     kdc: &mut Kdc,
     dce: bool,
-) -> Result<Result<(SecurityStatus, Octets), Error>, Fail> {
+    draw: Draw,
+) -> Result<Result<(SecurityStatus, Octets), Error>, Fail>
+    requires { IsInRange draw }
+{
     let mut book = boxed(alloc, ReplayBook::new(alloc, 300)?)?;
     let env = boxed(alloc, Env::new(alloc))?;
     let token = hex::decode(alloc, if dce { BARE } else { FRAMED })?;
     match begun(alloc, server, &mut book, &env, &token, dce)? {
-        Ok(run) => Ok(end_over(alloc, run, server, kdc)),
+        Ok(run) => Ok(end_over(alloc, run, server, kdc, draw)),
         Err(error) => Ok(Err(error)),
     }
 }
@@ -376,20 +382,57 @@ fn went_so(
 
 fn goes_so_at(alloc: Global, server: &mut Kerberos, fetch: &Fetch) -> Result<bool, Fail> {
     let mut kdc = Kdc::new(alloc, fetch.turns);
-    let end = end_of(alloc, server, &mut kdc, fetch.dce)?;
+    let end = end_of(alloc, server, &mut kdc, fetch.dce, draw())?;
     went_so(alloc, server, &kdc, &end, fetch)
 }
 
-fn goes_so(alloc: Global, fetch: &Fetch) -> Result<bool, Fail> {
+fn goes_so(alloc: Global, fetch: &Fetch, rules: Rules) -> Result<bool, Fail> {
     let user = user_with_password(alloc, "service", fetch.realm, fetch.password)?;
     let mut server = acceptor_for(alloc, fetch.kdc, Some(user))?;
+    server.rules = rules;
     goes_so_at(alloc, &mut server, fetch)
 }
 
 #[test]
 fn a_service_fetches_its_ticket_and_admits_with_it(rt: HostRuntime) -> Result<(), Fail> {
     for (place, fetch) in fetches().iter().enumerate() {
-        assert!(rt; goes_so(rt.alloc(), fetch)?, "at {place}");
+        assert!(rt; goes_so(rt.alloc(), fetch, Rules::none())?, "at {place}");
     }
+    Ok(())
+}
+
+/// Why a service that goes by the RFCs gets no ticket by the replies of the first fetch, if it gets none.
+fn refusal_by_rfc(alloc: Global, draw: Draw) -> Result<Option<Cause>, Fail>
+    requires { IsInRange draw }
+{
+    let user = user_with_password(alloc, "service", "EXAMPLE.COM", "pass")?;
+    let mut server = acceptor_for(alloc, "tcp://kdc.example:88", Some(user))?;
+    server.rules = Rules::rfc();
+    let mut kdc = Kdc::new(alloc, FETCHES[0].turns);
+    match end_of(alloc, &mut server, &mut kdc, false, draw)? {
+        Ok(_) => Ok(None),
+        Err(error) => Ok(Some(error.cause)),
+    }
+}
+
+/// Its AS-REP repeats the nonce of its own request: in a run with other octets, or a day later, it is refused.
+#[test]
+fn a_service_takes_a_ticket_of_its_own_run_alone(rt: HostRuntime) -> Result<(), Fail> {
+    let alloc = rt.alloc();
+    let [framed, bare, ..] = fetches() else {
+        return Err(Fail::from("no fetch"));
+    };
+    assert!(rt; goes_so(alloc, framed, Rules::rfc())?);
+    assert!(rt; goes_so(alloc, bare, Rules::rfc())?);
+    let other = Draw {
+        random: [0xa5; 64],
+        ..draw()
+    };
+    assert_eq!(rt; refusal_by_rfc(alloc, other)?, Some(Cause::Nonce));
+    let late = Draw {
+        moment: 1_700_086_400_000_000,
+        ..draw()
+    };
+    assert_eq!(rt; refusal_by_rfc(alloc, late)?, Some(Cause::ReplyTime));
     Ok(())
 }
