@@ -3,12 +3,12 @@
 use crate::Answer;
 use menolavuri::Rules;
 
-/// The rules of these names together; `RFC` or `ALL` are all of them, and `NONE` none. Where there is no name the library's own stay.
+/// The rules of these names together; `RFC` are all of them, and `NONE` none. Where there is no name the library's own stay.
 pub fn named(words: &[String]) -> Answer<Option<Rules>> {
     let mut rules = None;
     for word in words {
         let named = match word.as_str() {
-            "RFC" | "ALL" => Rules::RFC,
+            "RFC" => Rules::RFC,
             "NONE" => Rules::NONE,
             word => Rules::named(word).ok_or_else(|| format!("there is no rule {word}"))?,
         };
