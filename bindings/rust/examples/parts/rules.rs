@@ -3,7 +3,7 @@
 use crate::Answer;
 use menolavuri::Rules;
 
-/// The rules of these names together; `RFC` are all of them, and `NONE` none. Where there is no name the library's own stay.
+/// The rules of these names together; `RFC` stands for all, and `NONE` for none. Without a name the library's own stay.
 pub fn named(words: &[String]) -> Answer<Option<Rules>> {
     let mut rules = None;
     for word in words {
