@@ -5,14 +5,16 @@
 # make prove     proves all crates, runs the programs, and tries the few wrong bodies of must-fail: first part of the gate, .ci/run
 # make build     proves and builds `krb_run`
 # make realm     proves and builds `krb_run` and `krb_realm`, and goes from a password to an encrypted message with them
-# make library   proves and builds the library for C and Rust
-# make bindings  does the same, and tests it in C and Rust: in ROUNDS=10000 rounds in C
+# make library   proves and builds the library for C and Rust, static and shared
+# make bindings  does the same, and tests it in C and Rust, and as it is installed: in ROUNDS=10000 rounds in C
+# make install   copies the library that make library built below PREFIX=/usr/local, with header, pkg-config file and pages (docs/EMBEDDING.md)
+# make uninstall removes what make install copied
 # make live      lets real clients, KDCs and services speak to that library's examples, in throw-away realms (docs/LIVE.md)
 # make bench     measures, and reads the machine code (docs/BENCHMARKS.md)
 EXAMPLE ?= examples/one-client
 PROGRAM = crates/krb_run/out/krb_run
 
-.PHONY: run help test prove build realm library bindings live try-live bench
+.PHONY: run help test prove build realm library bindings install uninstall live try-live bench
 run:
 	@cd crates/krb_run && rt try -- serve < $(abspath $(EXAMPLE))
 	@echo "This was not proved: it ran with every check at run time. make build proves."
@@ -42,8 +44,12 @@ library:
 
 bindings: library
 	$(MAKE) -C bindings/c -j3 test
+	tests/install/run
 	cd bindings/rust && cargo test --offline --quiet
 	bindings/check-docs
+
+install uninstall:
+	@$(MAKE) --no-print-directory -C bindings/c $@ DESTDIR=$(abspath $(DESTDIR))
 
 live:
 	@lacks=$$(tests/live/run --lacks) && if [ -n "$$lacks" ]; then echo "$$lacks"; else $(MAKE) --no-print-directory try-live; fi
