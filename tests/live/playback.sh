@@ -51,7 +51,7 @@ is_not_played() {
 
 # What is checked when KDC and service are gone: the AS-REP is the reply with this number. try_player NAME WHOSE NUMBER
 try_player() {
-    check "$2 log-in, played back: refused at its AS-REP" is_not_played "$1" Nonce "$3" 0
+    check "$2, played back: refused at its AS-REP" is_not_played "$1" Nonce "$3" 0
     check "the same without FRESH_REPLIES: refused at the service's answer" is_not_played "$1" ReplyTime $(($3 + 1)) 1 "${takes[@]}" "${checks[1]}"
     check "the same without either rule: it is taken, which is what they are for" plays "$1" "${takes[@]}"
 }
