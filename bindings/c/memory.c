@@ -19,9 +19,11 @@ static block of(void *at) { return (block){at != NULL, at != NULL ? at : nothing
 /* Returns a block of `size` bytes at a multiple of `align`, which is a power of two of at most 16. */
 block rattle_alloc(size_t size, size_t align) { return of(malloc(size != 0 ? size : align)); }
 
-/* Overwrites the block and frees it. */
+/* Overwrites the block and frees it. The empty statement reads the block, so the compiler keeps the writes, as in explicit_bzero, and
+ * there is a call less for each of the many small blocks. */
 void rattle_dealloc(void *at) {
-    explicit_bzero(at, malloc_usable_size(at));
+    memset(at, 0, malloc_usable_size(at));
+    __asm__ __volatile__("" : : "r"(at) : "memory");
     free(at);
 }
 
