@@ -7,13 +7,21 @@
 
 #[path = "parts/carrying.rs"]
 mod carrying;
+#[path = "parts/causes.rs"]
+mod causes;
+#[path = "parts/telling.rs"]
+mod telling;
 
-use std::{env, error::Error, io};
+use std::io::{self, Write};
+use std::process::ExitCode;
+use std::{env, error::Error};
 
-fn octets(hex: &str) -> Result<Vec<u8>, Box<dyn Error>> {
+type Answer<T> = Result<T, Box<dyn Error + Send + Sync>>;
+
+fn octets(hex: &str) -> Option<Vec<u8>> {
     let pairs = hex.as_bytes().chunks(2);
     pairs
-        .map(|pair| Ok(u8::from_str_radix(std::str::from_utf8(pair)?, 16)?))
+        .map(|pair| u8::from_str_radix(std::str::from_utf8(pair).ok()?, 16).ok())
         .collect()
 }
 
@@ -22,28 +30,35 @@ fn hex(octets: &[u8]) -> String {
 }
 
 /// The rest of the event that answers a line.
-fn answer(line: &str, others: &[String]) -> Result<String, Box<dyn Error>> {
+fn answer(line: &str, others: &[String]) -> Answer<String> {
     let ["ask", protocol, url, request] = *line.split(' ').collect::<Vec<_>>() else {
-        return Err("a line that asks for nothing".into());
+        let words = format!("a line is `ask PROTOCOL URL HEX`, and not {line:?}");
+        return Err(words.into());
     };
     let others: Vec<String> = others
         .iter()
         .map(|host| format!("{protocol}://{host}"))
         .collect();
     let urls = [url].into_iter().chain(others.iter().map(String::as_str));
-    match carrying::carry(urls, &octets(request)?) {
+    let request =
+        octets(request).ok_or_else(|| format!("a request is in hex, and not {request:?}"))?;
+    match carrying::carry(urls, &request) {
         Ok(answer) => Ok(format!("reply {}", hex(&answer))),
         Err(error) => {
-            eprintln!("{url}: {error}");
+            eprintln!("{}", telling::escaped(&error.to_string()));
             Ok("fault 1".to_owned())
         }
     }
 }
 
-fn main() -> Result<(), Box<dyn Error>> {
-    let others: Vec<String> = env::args().skip(1).collect();
+fn run(others: &[String]) -> Answer<()> {
     for line in io::stdin().lines() {
-        println!("{}", answer(&line?, &others)?);
+        writeln!(io::stdout(), "{}", answer(&line?, others)?)?;
     }
     Ok(())
+}
+
+fn main() -> ExitCode {
+    let others: Vec<String> = env::args().skip(1).collect();
+    telling::end(run(&others))
 }

@@ -3,7 +3,7 @@
 //!
 //!     cargo run --offline --example sasl_client 127.0.0.1:1110 pop/server.example.com alice@EXAMPLE.COM - 4 5 tcp://127.0.0.1:88 < password
 //!
-//! Behind the user stands a keytab file with its key, or `-` where its password is to be read from the standard input. 4 is the layer that
+//! Behind the user stands a file with its key, a keytab or the key in hex, or `-` where its password is to be read from the standard input. 4 is the layer that
 //! it wants: 1 (none), 2 (integrity) or 4 (confidentiality), and 5 how many times it asks. The KDCs, and the rules behind them, are those of
 //! `initiator`.
 
@@ -11,35 +11,40 @@
 mod base64;
 #[path = "parts/carrying.rs"]
 mod carrying;
+#[path = "parts/causes.rs"]
+mod causes;
 #[path = "parts/kdcs.rs"]
 mod kdcs;
+#[path = "parts/keys.rs"]
+mod keys;
 #[path = "parts/keytab.rs"]
 mod keytab;
 #[path = "parts/layered.rs"]
 mod layered;
+#[path = "parts/peer.rs"]
+mod peer;
+#[path = "parts/reach.rs"]
+mod reach;
 #[path = "parts/rules.rs"]
 mod rules;
-#[path = "parts/until.rs"]
-mod until;
+#[path = "parts/telling.rs"]
+mod telling;
 
+use kdcs::about;
 use layered::{Connection, LONGEST_MESSAGE};
 use menolavuri::{Flags, Initiator, Layer, Next, SaslClient, Session};
-use std::net::TcpStream;
 use std::process::ExitCode;
-use std::time::Duration;
 use std::{env, error::Error};
+use telling::log;
 
 type Answer<T> = Result<T, Box<dyn Error + Send + Sync>>;
-
-/// For how long a server may be silent.
-const PATIENCE: Duration = Duration::from_secs(10);
 
 fn layer_of(word: &str) -> Answer<Layer> {
     match word {
         "1" => Ok(Layer::None),
         "2" => Ok(Layer::Integrity),
         "4" => Ok(Layer::Confidentiality),
-        _ => Err("the layer is 1, 2 or 4".into()),
+        _ => Err(format!("the layer is 1, 2 or 4, and not {word:?}").into()),
     }
 }
 
@@ -101,8 +106,11 @@ fn log_in(
     let answer = client.answer(&offer)?;
     ask(connection, &base64::encode(&answer))?;
     connection.check_read()?;
-    connection.end_log_in();
-    println!("logged in: {service}, layer {:?}", client.layer()?);
+    connection.end_log_in(None);
+    log(&format!(
+        "logged in: {service}, layer {:?}",
+        client.layer()?
+    ));
     if layer != Layer::None {
         connection.begin(client);
     }
@@ -126,32 +134,31 @@ fn run(arguments: &[String]) -> Answer<()> {
                 .into(),
         );
     };
+    let layer = layer_of(layer)?;
+    let count: u32 = count
+        .parse()
+        .map_err(|_| format!("it asks a number of times, and not {count:?}"))?;
     let kdcs: Vec<&str> = kdcs.split(',').collect();
-    let mut initiator = Initiator::new(service, "desk", Flags::USUAL)?;
+    let mut initiator = Initiator::new(service, "desk", Flags::USUAL)
+        .map_err(about(format!("the service {service} is not taken")))?;
     if let Some(rules) = rules::named(words)? {
         initiator.set_rules(rules)?;
     }
-    initiator.kdc(kdcs[0])?;
+    initiator
+        .kdc(kdcs[0])
+        .map_err(about(format!("the KDC's address {} is not taken", kdcs[0])))?;
     kdcs::identify(&mut initiator, user, keytab)?;
-    let stream = TcpStream::connect(address)?;
-    stream.set_read_timeout(Some(PATIENCE))?;
-    let mut connection = Connection::new(&stream);
-    println!("{}", connection.line()?);
-    log_in(&mut connection, initiator, &kdcs[1..], layer_of(layer)?)?;
-    for _ in 0..count.parse()? {
-        println!("{}", ask(&mut connection, "STAT")?);
+    let mut connection = Connection::new(reach::reach(address)?);
+    log(&connection.line()?);
+    log_in(&mut connection, initiator, &kdcs[1..], layer)?;
+    for _ in 0..count {
+        log(&ask(&mut connection, "STAT")?);
     }
-    println!("{}", ask(&mut connection, "QUIT")?);
+    log(&ask(&mut connection, "QUIT")?);
     Ok(())
 }
 
 fn main() -> ExitCode {
     let arguments: Vec<String> = env::args().skip(1).collect();
-    match run(&arguments) {
-        Ok(()) => ExitCode::SUCCESS,
-        Err(error) => {
-            eprintln!("{error}");
-            ExitCode::FAILURE
-        }
-    }
+    telling::end(run(&arguments))
 }

@@ -1,24 +1,41 @@
 //! A message server that lets clients in by the mechanism GSSAPI of SASL (RFC 4752), as POP3 speaks it (RFC 1939, RFC 5034). Its
 //! mailboxes are empty. The layers are the library's: what is here carries lines and frames. A thread serves each connection:
 //!
-//!     cargo run --offline --example sasl_server 127.0.0.1:1110 pop/server.example.com key 300 600 7
+//!     cargo run --offline --example sasl_server 127.0.0.1:1110 pop/server.example.com /etc/krb5.keytab 300 600 7
 //!
-//! `key`, 300 and 600 are those of `gss_server`. 7 is the sum of the layers that are offered: 1 (none), 2 (integrity), 4
+//! The keytab, 300 and 600 are those of `gss_server`. 7 is the sum of the layers that are offered: 1 (none), 2 (integrity), 4
 //! (confidentiality). In the first two a mail goes in the clear.
 
 #[path = "parts/base64.rs"]
 mod base64;
+#[path = "parts/causes.rs"]
+mod causes;
 #[path = "parts/connections.rs"]
 mod connections;
+#[path = "parts/keys.rs"]
+mod keys;
+#[path = "parts/keytab.rs"]
+mod keytab;
 #[path = "parts/layered.rs"]
 mod layered;
-#[path = "parts/until.rs"]
-mod until;
+#[path = "parts/peer.rs"]
+mod peer;
+#[path = "parts/places.rs"]
+mod places;
+#[path = "parts/service.rs"]
+mod service;
+#[path = "parts/telling.rs"]
+mod telling;
+#[path = "parts/wait.rs"]
+mod wait;
 
 use layered::{Connection, LONGEST_MESSAGE};
 use menolavuri::{Acceptor, Layer, Layers, SaslServer};
-use std::net::TcpStream;
-use std::{env, error::Error, thread, time::Duration};
+use peer::Peer;
+use service::seconds;
+use std::process::ExitCode;
+use std::{env, error::Error};
+use telling::log;
 
 type Answer<T> = Result<T, Box<dyn Error + Send + Sync>>;
 
@@ -37,7 +54,7 @@ fn log_in(
 ) -> Answer<(SaslServer, Layer)> {
     let token = match first {
         "" => ask(connection, b"")?,
-        _ => base64::decode(first).ok_or("the first token is no Base64")?,
+        _ => base64::decode(first).ok_or("the first token is not in Base64")?,
     };
     let session = acceptor.accept(&token)?;
     let answer = session.answer().to_vec();
@@ -67,8 +84,8 @@ fn log_in(
 }
 
 /// Answers the commands of a client. Nothing but its log-in is answered before that.
-fn serve(stream: &TcpStream, acceptor: &Acceptor, layers: Layers) -> Answer<()> {
-    let mut connection = Connection::new(stream);
+fn serve(peer: Peer, acceptor: &Acceptor, layers: Layers) -> Answer<()> {
+    let mut connection = Connection::new(peer);
     let mut is_in = false;
     connection.say("+OK a server of examples")?;
     loop {
@@ -100,7 +117,7 @@ fn authenticate(
     let (mechanism, first) = argument.split_once(' ').unwrap_or((argument, ""));
     if !mechanism.eq_ignore_ascii_case("GSSAPI") {
         connection.say("-ERR")?;
-        return Err("another mechanism than GSSAPI".into());
+        return Err("the client wants another mechanism than GSSAPI".into());
     }
     let (server, layer) = match log_in(connection, acceptor, first, layers) {
         Ok(agreed) => agreed,
@@ -110,8 +127,8 @@ fn authenticate(
         }
     };
     connection.say("+OK")?;
-    connection.end_log_in();
-    connections::log(&format!(
+    connection.end_log_in(server.session().ends());
+    log(&format!(
         "admitted: {}, layer {layer:?}",
         server.session().peer()
     ));
@@ -121,14 +138,23 @@ fn authenticate(
     Ok(())
 }
 
-fn main() -> Answer<()> {
-    let arguments: Vec<String> = env::args().skip(1).collect();
-    let [address, service, key, skew, wait, layers] = arguments.as_slice() else {
-        return Err("usage: sasl_server ADDRESS SERVICE KEY_FILE SKEW WAIT LAYERS".into());
+fn run(arguments: &[String]) -> Answer<()> {
+    let [address, service, keys, skew, wait, layers] = arguments else {
+        return Err("usage: sasl_server ADDRESS SERVICE KEYTAB SKEW WAIT LAYERS".into());
     };
-    let skew = Duration::from_secs(skew.parse()?);
-    let layers = Layers::from_sum(layers.parse()?).ok_or("the layers are a sum of 1, 2 and 4")?;
-    let acceptor = Acceptor::new(service, &connections::key(key)?, skew)?;
-    thread::sleep(Duration::from_secs(wait.parse()?));
-    connections::serve_all(address, |stream| serve(stream, &acceptor, layers))
+    let (skew, wait) = (seconds("skew", skew)?, seconds("wait", wait)?);
+    let sum = layers.parse().ok();
+    let layers = sum
+        .and_then(Layers::from_sum)
+        .ok_or_else(|| format!("the layers are a sum of 1, 2 and 4, and not {layers:?}"))?;
+    let acceptor = service::acceptor(service, keys, skew)?;
+    let listener = connections::listen(address)?;
+    let opens = wait::opening(skew, wait);
+    connections::serve_all(&listener, opens, |peer| serve(peer, &acceptor, layers));
+    Ok(())
+}
+
+fn main() -> ExitCode {
+    let arguments: Vec<String> = env::args().skip(1).collect();
+    telling::end(run(&arguments))
 }

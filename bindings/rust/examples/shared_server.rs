@@ -2,26 +2,41 @@
 //! let in, and so a token that one of them let in is refused by the others:
 //!
 //!     redis-server --save ''
-//!     cargo run --offline --example shared_server 127.0.0.1:4444 host/server.example.com key 300 127.0.0.1:6379
-//!     cargo run --offline --example shared_server 127.0.0.1:4445 host/server.example.com key 300 127.0.0.1:6379
+//!     cargo run --offline --example shared_server 127.0.0.1:4444 host/server.example.com /etc/krb5.keytab 300 127.0.0.1:6379
+//!     cargo run --offline --example shared_server 127.0.0.1:4445 host/server.example.com /etc/krb5.keytab 300 127.0.0.1:6379
 //!
-//! Where the store does not answer, nobody is let in. The clocks of all these machines have to agree within the skew.
+//! The keytab and 300 are those of `gss_server`. It does not wait after a start: the store knows whom an earlier process let in. Where the
+//! store does not answer, nobody is let in. The clocks of all these machines have to agree within the skew.
 
+#[path = "parts/causes.rs"]
+mod causes;
 #[path = "parts/connections.rs"]
 mod connections;
 #[path = "parts/frames.rs"]
 mod frames;
+#[path = "parts/keys.rs"]
+mod keys;
+#[path = "parts/keytab.rs"]
+mod keytab;
+#[path = "parts/peer.rs"]
+mod peer;
+#[path = "parts/places.rs"]
+mod places;
 #[path = "parts/redis.rs"]
 mod redis;
 #[path = "parts/samples.rs"]
 mod samples;
-#[path = "parts/until.rs"]
-mod until;
+#[path = "parts/service.rs"]
+mod service;
+#[path = "parts/telling.rs"]
+mod telling;
 
 use menolavuri::{Acceptor, Session};
 use redis::Store;
+use std::process::ExitCode;
 use std::sync::{Mutex, PoisonError};
-use std::{env, error::Error, io, time::Duration, time::SystemTime};
+use std::time::{Duration, Instant, SystemTime};
+use std::{env, error::Error, io};
 
 type Answer<T> = Result<T, Box<dyn Error + Send + Sync>>;
 
@@ -52,26 +67,32 @@ impl Shared {
 
     fn admit(&self, acceptor: &Acceptor, token: &[u8]) -> Answer<Session> {
         let mut judged = acceptor.judge(token)?;
-        let (now, seen) = self
-            .ask(&judged.record()?)
-            .map_err(|error| format!("nobody is let in: {error}"))?;
+        let (now, seen) = self.ask(&judged.record()?).map_err(|error| {
+            format!("nobody is let in: {error} (the store at {})", self.address)
+        })?;
         Ok(acceptor.admit_told(judged, now, seen)?)
     }
 }
 
-fn main() -> Answer<()> {
-    let arguments: Vec<String> = env::args().skip(1).collect();
-    let [address, service, key, skew, store] = arguments.as_slice() else {
-        return Err("usage: shared_server ADDRESS SERVICE KEY_FILE SKEW STORE".into());
+fn run(arguments: &[String]) -> Answer<()> {
+    let [address, service, keys, skew, store] = arguments else {
+        return Err("usage: shared_server ADDRESS SERVICE KEYTAB SKEW STORE".into());
     };
-    let skew = Duration::from_secs(skew.parse()?);
-    let acceptor = Acceptor::new(service, &connections::key(key)?, skew)?;
+    let skew = service::seconds("skew", skew)?;
+    let acceptor = service::acceptor(service, keys, skew)?;
     let shared = Shared {
         address: store.clone(),
         skew,
         connection: Mutex::new(None),
     };
-    connections::serve_all(address, |stream| {
-        samples::serve(stream, |token| shared.admit(&acceptor, token))
-    })
+    let listener = connections::listen(address)?;
+    connections::serve_all(&listener, Instant::now(), |peer| {
+        samples::serve(peer, |token| shared.admit(&acceptor, token))
+    });
+    Ok(())
+}
+
+fn main() -> ExitCode {
+    let arguments: Vec<String> = env::args().skip(1).collect();
+    telling::end(run(&arguments))
 }

@@ -27,7 +27,7 @@ fn invalid(words: &'static str) -> Error {
 fn place(url: &str) -> io::Result<Place<'_>> {
     let (scheme, rest) = url
         .split_once("://")
-        .ok_or_else(|| invalid("the address has no scheme"))?;
+        .ok_or_else(|| invalid("the address has no scheme, as tcp://kdc.example.com has"))?;
     let (host, path) = rest.split_at(rest.find('/').unwrap_or(rest.len()));
     let port = if scheme == "http" { 80 } else { 88 };
     let has_port = host
@@ -46,25 +46,24 @@ fn place(url: &str) -> io::Result<Place<'_>> {
 }
 
 /// Sends the octets of a request, as the initiator gives them, to the first of these addresses that answers. All have the scheme of
-/// the first.
+/// the first. Where none answers, it is told of each why.
 pub fn carry<'a>(urls: impl IntoIterator<Item = &'a str>, request: &[u8]) -> io::Result<Vec<u8>> {
-    let mut failed = invalid("there is no address");
+    let mut failed = Vec::new();
     for url in urls {
-        match carry_to(&place(url)?, request) {
+        match place(url).and_then(|place| carry_to(&place, request)) {
             Ok(answer) => return Ok(answer),
-            Err(error) => failed = error,
+            Err(error) => failed.push(format!("{url}: {}", told(&error))),
         }
     }
-    Err(told(failed))
+    Err(Error::other(failed.join("; ")))
 }
 
-/// A failure, where it is that nothing came in time, in words.
-fn told(error: Error) -> Error {
+/// A failure in words.
+fn told(error: &Error) -> String {
     match error.kind() {
-        ErrorKind::WouldBlock | ErrorKind::TimedOut => {
-            Error::new(ErrorKind::TimedOut, "no answer came in time")
-        }
-        _ => error,
+        ErrorKind::WouldBlock | ErrorKind::TimedOut => "no answer came in time".to_owned(),
+        ErrorKind::UnexpectedEof => "it ended the connection before a whole answer came".to_owned(),
+        _ => error.to_string(),
     }
 }
 
@@ -75,7 +74,7 @@ fn carry_to(place: &Place, request: &[u8]) -> io::Result<Vec<u8>> {
         "http" => over_http(place, request),
         _ => Err(Error::new(
             ErrorKind::Unsupported,
-            "a scheme that is not carried here",
+            "a scheme that is not carried here, where tcp, udp and http are",
         )),
     }
 }
@@ -128,6 +127,7 @@ fn over_udp(host: &str, request: &[u8]) -> io::Result<Vec<u8>> {
         let socket = UdpSocket::bind(any)?;
         socket.connect(address)?; // nobody else's datagrams are taken
         socket.set_read_timeout(Some(PATIENCE / DATAGRAMS))?;
+        socket.set_write_timeout(Some(PATIENCE))?;
         match exchange(&socket, request) {
             Ok(answer) if error_code(&answer) == Some(RESPONSE_TOO_BIG) => {
                 return over_tcp(host, &with_length(request));
@@ -239,6 +239,42 @@ mod tests {
             assert_eq!(error_code(&message[..length]), None);
         }
         assert_eq!(error_code(b"\x6b\x03\x30\x01\x00"), None);
+    }
+
+    /// What comes of a KDC that answers so.
+    fn failure(answer: &'static [u8]) -> String {
+        let listener = std::net::TcpListener::bind("127.0.0.1:0").unwrap();
+        let url = format!("tcp://{}", listener.local_addr().unwrap());
+        let kdc = std::thread::spawn(move || {
+            let mut client = listener.accept().unwrap().0;
+            client.read_exact(&mut [0; 4]).unwrap();
+            client.write_all(answer).unwrap();
+        });
+        let error = carry([url.as_str()], b"\0\0\0\0").unwrap_err().to_string();
+        kdc.join().unwrap();
+        error.strip_prefix(&format!("{url}: ")).unwrap().to_owned()
+    }
+
+    #[test]
+    fn an_answer_that_is_too_long_or_cut_is_refused() {
+        assert_eq!(failure(b"\x80\0\0\0"), "the answer is too long");
+        let cut = "it ended the connection before a whole answer came";
+        assert_eq!(failure(b"\0\0\0\x02a"), cut);
+        assert_eq!(failure(b"\0"), cut);
+    }
+
+    #[test]
+    fn each_kdc_that_failed_is_named() {
+        let words = carry(["kdc", "ftp://kdc"], b"").unwrap_err().to_string();
+        let parts: Vec<&str> = words.split("; ").collect();
+        assert!(
+            parts[0].starts_with("kdc: the address has no scheme"),
+            "{words}"
+        );
+        assert!(
+            parts[1].starts_with("ftp://kdc: a scheme that is not"),
+            "{words}"
+        );
     }
 
     #[test]

@@ -1,78 +1,170 @@
-//! A thread for each connection, up to a limit, what is logged of it, and keys from files.
+//! A thread for each connection, up to a limit.
 
 use crate::Answer;
-use std::io::{self, Write};
-use std::net::{TcpListener, TcpStream};
-use std::sync::atomic::{AtomicUsize, Ordering};
-use std::{fs, thread, time::Duration};
+use crate::peer::{Limits, Peer};
+use crate::places::Places;
+use crate::telling::{log, words};
+use std::net::TcpListener;
+use std::thread::{self, Builder};
+use std::time::{Duration, Instant};
 
-/// How many clients are served at a time, and for how long one may be silent.
-const MOST: usize = 1000;
-const PATIENCE: Duration = Duration::from_secs(60);
+/// How many clients are served at a time, each by a thread of its own, and how many of them from one address. The next one is refused:
+/// its connection is closed at once, and it may come again.
+const MOST: usize = 256;
+const MOST_OF_ONE: usize = 64;
+/// For how long a client is waited for.
+const LIMITS: Limits = Limits {
+    log_in: Duration::from_secs(30),
+    silence: Duration::from_secs(60),
+};
 
-/// A client's place among those that are served. It is given back however the client's thread ends.
-struct Place<'a>(&'a AtomicUsize);
-
-impl Drop for Place<'_> {
-    fn drop(&mut self) {
-        self.0.fetch_sub(1, Ordering::SeqCst);
-    }
+/// The socket of a server at this address.
+pub fn listen(address: &str) -> Answer<TcpListener> {
+    let listener = TcpListener::bind(address).map_err(|error| {
+        format!("nothing listens at {address}, which is to be an address of this machine and a free port: {error}")
+    })?;
+    log(&format!("listening at {}", listener.local_addr()?));
+    Ok(listener)
 }
 
-/// Writes one line to the log, with control characters escaped: text that a client chose can neither begin another line nor command a
-/// terminal. A failure to write ends no connection.
-pub fn log(words: &str) {
-    let mut line: String = words
-        .chars()
-        .map(|letter| match letter {
-            letter if letter.is_control() => letter.escape_default().to_string(),
-            letter => letter.to_string(),
-        })
-        .collect();
-    line.push('\n');
-    let _ = io::stdout().write_all(line.as_bytes());
+/// Serves each connection that comes in from this moment on, for ever. Why one ends early is for the log: the client sees that it ends.
+pub fn serve_all(
+    listener: &TcpListener,
+    opens: Instant,
+    serve: impl Fn(Peer) -> Answer<()> + Sync,
+) {
+    serve_within(
+        &Places::new(MOST, MOST_OF_ONE),
+        LIMITS,
+        listener,
+        opens,
+        &serve,
+    );
 }
 
-/// Serves each connection that comes in at this address, for ever. Why one ends early is for the log: the client sees that it ends.
-pub fn serve_all(address: &str, serve: impl Fn(&TcpStream) -> Answer<()> + Sync) -> Answer<()> {
-    let (served, serve) = (&AtomicUsize::new(0), &serve);
-    let listener = TcpListener::bind(address)?;
+fn serve_within(
+    places: &Places,
+    limits: Limits,
+    listener: &TcpListener,
+    opens: Instant,
+    serve: &(impl Fn(Peer) -> Answer<()> + Sync),
+) {
     thread::scope(|threads| {
-        for stream in listener.incoming() {
+        loop {
             // A client that is gone again, or a process without another descriptor, ends nobody else's connection.
-            let Ok(stream) = stream else {
-                thread::sleep(Duration::from_millis(10));
-                continue;
+            let (stream, address) = match listener.accept() {
+                Ok(accepted) => accepted,
+                Err(error) => {
+                    log(&format!("no connection is taken: {error}"));
+                    thread::sleep(Duration::from_millis(100));
+                    continue;
+                }
             };
-            let place = Place(served);
-            if served.fetch_add(1, Ordering::SeqCst) >= MOST {
+            if Instant::now() < opens {
+                log(&format!("{address}: not let in before the wait is over"));
                 continue;
             }
-            // If no thread can be started, the connection is closed.
-            let started = thread::Builder::new().spawn_scoped(threads, move || {
+            let place = match places.take(address.ip()) {
+                Ok(place) => place,
+                Err(words) => {
+                    log(&format!("{address}: not let in: {words}"));
+                    continue;
+                }
+            };
+            let started = Builder::new().spawn_scoped(threads, move || {
                 let _place = place;
-                if let Err(error) = patient(&stream).and_then(|()| serve(&stream)) {
-                    log(&error.to_string());
+                if let Err(error) = serve(Peer::new(stream, limits)) {
+                    log(&format!("{address}: {}", words(&*error)));
                 }
             });
+            // Its connection is closed, and its place given back.
             if let Err(error) = started {
-                log(&format!("no thread for a client: {error}"));
+                log(&format!("{address}: no thread is started for it: {error}"));
             }
         }
-        Ok(())
     })
 }
 
-fn patient(stream: &TcpStream) -> Answer<()> {
-    stream.set_read_timeout(Some(PATIENCE))?;
-    Ok(stream.set_write_timeout(Some(PATIENCE))?)
-}
+#[cfg(test)]
+mod tests {
+    use super::*;
+    use std::io::{Read, Write};
+    use std::net::{SocketAddr, TcpStream};
 
-/// The key in a file, in hex as `klist -k -K` prints it behind 0x.
-pub fn key(file: &str) -> Answer<Vec<u8>> {
-    let text = fs::read_to_string(file)?;
-    let pairs = text.trim().as_bytes().chunks(2);
-    pairs
-        .map(|pair| Ok(u8::from_str_radix(std::str::from_utf8(pair)?, 16)?))
-        .collect()
+    /// A server that sends back what comes, to two clients at a time.
+    fn echo(opens: Instant) -> SocketAddr {
+        let listener = TcpListener::bind("127.0.0.1:0").unwrap();
+        let address = listener.local_addr().unwrap();
+        let limits = Limits {
+            log_in: Duration::from_secs(9),
+            silence: Duration::from_millis(300),
+        };
+        let serve = |mut peer: Peer| -> Answer<()> {
+            let mut octet = [0];
+            loop {
+                peer.read_exact(&mut octet)?;
+                assert_ne!(octet, *b"!", "a thread ends so");
+                peer.write_all(&octet)?;
+            }
+        };
+        thread::spawn(move || serve_within(&Places::new(2, 2), limits, &listener, opens, &serve));
+        address
+    }
+
+    /// Whether a new client is answered, which then stays.
+    fn comes(server: SocketAddr) -> Option<TcpStream> {
+        let mut client = TcpStream::connect(server).unwrap();
+        client
+            .set_read_timeout(Some(Duration::from_secs(5)))
+            .unwrap();
+        client.write_all(b"a").ok()?;
+        client.read_exact(&mut [0]).ok()?;
+        Some(client)
+    }
+
+    /// Whether a new client is answered within some seconds.
+    fn comes_soon(server: SocketAddr) -> bool {
+        (0..100).any(|_| {
+            thread::sleep(Duration::from_millis(50));
+            comes(server).is_some()
+        })
+    }
+
+    #[test]
+    fn the_third_client_is_refused_and_may_come_again() {
+        let server = echo(Instant::now());
+        let (first, second) = (comes(server), comes(server));
+        assert!(first.is_some() && second.is_some());
+        assert!(comes(server).is_none());
+        drop(first);
+        assert!(comes_soon(server));
+    }
+
+    #[test]
+    fn a_silent_client_is_dropped() {
+        let server = echo(Instant::now());
+        let mut clients = [comes(server).unwrap(), comes(server).unwrap()];
+        for client in &mut clients {
+            assert_eq!(client.read(&mut [0]).unwrap(), 0);
+        }
+        assert!(comes_soon(server));
+    }
+
+    #[test]
+    fn a_thread_that_panics_gives_its_place_back() {
+        let server = echo(Instant::now());
+        for _ in 0..4 {
+            let mut client = TcpStream::connect(server).unwrap();
+            let _ = client.write_all(b"!");
+            let _ = client.read(&mut [0]);
+        }
+        assert!(comes_soon(server));
+    }
+
+    #[test]
+    fn nobody_is_let_in_during_the_wait() {
+        let server = echo(Instant::now() + Duration::from_millis(300));
+        assert!(comes(server).is_none());
+        assert!(comes_soon(server));
+    }
 }

@@ -2,22 +2,37 @@
 
 use crate::Answer;
 use crate::carrying::carry;
-use crate::keytab;
-use menolavuri::{Initiator, Next};
-use std::{fs, io};
+use crate::keys::keys;
+use crate::telling::{escaped, words};
+use menolavuri::{Error, Initiator, Next};
+use std::io;
 
-/// Tells the initiator who asks: by the key in a keytab, or by the password on the standard input where that is `-`.
-pub fn identify(initiator: &mut Initiator, user: &str, keytab: &str) -> Answer<()> {
-    let (name, realm) = user.rsplit_once('@').ok_or("the user has no realm")?;
-    if keytab != "-" {
-        let key = keytab::key(&fs::read(keytab)?, user);
-        let (etype, key) = key.ok_or("the keytab has no key of the user")?;
-        return Ok(initiator.key(name, realm, etype, &key)?);
+/// Names what an argument is about where the library does not take it.
+pub fn about(what: String) -> impl FnOnce(Error) -> String {
+    move |error| format!("{what}: {}", words(&error))
+}
+
+/// Tells the initiator who asks: by the key in a file, or by the password on the standard input where that is `-`.
+pub fn identify(initiator: &mut Initiator, user: &str, file: &str) -> Answer<()> {
+    let (name, realm) = user
+        .rsplit_once('@')
+        .ok_or_else(|| format!("the user {user} has no realm: alice@EXAMPLE.COM has one"))?;
+    let about_user = about(format!("the user {user} is not taken"));
+    if file != "-" {
+        let key = keys(file, user)?.pop();
+        let (etype, key) = key.ok_or_else(|| format!("{file} has no key"))?;
+        return Ok(initiator
+            .key(name, realm, etype, &key)
+            .map_err(about_user)?);
     }
     let mut line = String::new();
-    io::stdin().read_line(&mut line)?;
+    if io::stdin().read_line(&mut line)? == 0 {
+        return Err("the password is the first line of the standard input, which is empty".into());
+    }
     let password = line.trim_end_matches(['\r', '\n']);
-    Ok(initiator.password(name, realm, password)?)
+    Ok(initiator
+        .password(name, realm, password)
+        .map_err(about_user)?)
 }
 
 /// Brings what the initiator asks to the KDC that it names, and else to the others, and takes the answer.
@@ -27,7 +42,7 @@ pub fn ask(initiator: &mut Initiator, others: &[&str]) -> Answer<Next> {
     match carry(urls, &request) {
         Ok(answer) => Ok(initiator.answer(&answer)?),
         Err(error) => {
-            eprintln!("{url}: {error}");
+            eprintln!("{}", escaped(&error.to_string()));
             Ok(initiator.fault(1)?)
         }
     }

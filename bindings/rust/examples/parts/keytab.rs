@@ -1,4 +1,4 @@
-//! The key of a user in a keytab file (format 0502).
+//! The keys in a keytab file (format 0502).
 
 /// What is still to be read.
 struct Rest<'a>(&'a [u8]);
@@ -25,17 +25,25 @@ impl<'a> Rest<'a> {
 
 struct Entry {
     name: Vec<u8>,
+    realm: Vec<u8>,
     version: u32,
     etype: u32,
     key: Vec<u8>,
 }
 
+impl Entry {
+    /// Whether this is its name, with its realm or without.
+    fn is_of(&self, name: &[u8]) -> bool {
+        name == self.name || name == [&self.name[..], b"@", &self.realm].concat()
+    }
+}
+
 fn entry(octets: &[u8]) -> Option<Entry> {
     let mut rest = Rest(octets);
     let count = rest.number(2)?;
-    let realm = rest.counted()?;
+    let realm = rest.counted()?.to_vec();
     let parts: Option<Vec<&[u8]>> = (0..count).map(|_| rest.counted()).collect();
-    let name = [&parts?.join(&b'/')[..], b"@", realm].concat();
+    let name = parts?.join(&b'/');
     rest.take(8)?; // the type of the name, and a time
     let short_version = rest.number(1)?;
     let etype = rest.number(2)?;
@@ -43,14 +51,16 @@ fn entry(octets: &[u8]) -> Option<Entry> {
     let version = rest.number(4).filter(|version| *version != 0);
     Some(Entry {
         name,
+        realm,
         version: version.unwrap_or(short_version),
         etype,
         key,
     })
 }
 
-/// The type and the key of a user, as `alice@EXAMPLE.COM`: of type 18, else 17, and of several the one of the greatest version.
-pub fn key(file: &[u8], user: &str) -> Option<(u8, Vec<u8>)> {
+/// The types and the keys of a user, as `alice@EXAMPLE.COM`, or of a service, as `host/server.example.com` with its realm or without: those
+/// of type 17 and then those of type 18, each by their versions. There is no answer where the file is no such keytab.
+pub fn keys(file: &[u8], name: &str) -> Option<Vec<(u8, Vec<u8>)>> {
     let mut rest = Rest(file);
     let mut entries = Vec::new();
     if rest.take(2)? != [5, 2] {
@@ -64,11 +74,10 @@ pub fn key(file: &[u8], user: &str) -> Option<(u8, Vec<u8>)> {
             entries.push(entry(octets)?);
         }
     }
-    entries
-        .into_iter()
-        .filter(|entry| entry.name == user.as_bytes() && matches!(entry.etype, 17 | 18))
-        .max_by_key(|entry| (entry.etype, entry.version))
-        .map(|entry| (entry.etype as u8, entry.key))
+    entries.retain(|entry| entry.is_of(name.as_bytes()) && matches!(entry.etype, 17 | 18));
+    entries.sort_by_key(|entry| (entry.etype, entry.version));
+    let keys = entries.into_iter();
+    Some(keys.map(|entry| (entry.etype as u8, entry.key)).collect())
 }
 
 #[cfg(test)]
@@ -83,7 +92,7 @@ mod tests {
     }
 
     #[test]
-    fn the_newest_key_of_the_strongest_type_is_found() {
+    fn the_newest_key_of_the_strongest_type_is_the_last() {
         let hole = [&(-3_i32).to_be_bytes()[..], &[0; 3]].concat();
         let entries = [
             written(1, 18, 1),
@@ -93,12 +102,21 @@ mod tests {
             written(9, 23, 4),
         ];
         let file = [&[5, 2][..], &entries.concat()].concat();
-        let found = key(&file, "alice/admin@EXAMPLE.COM");
-        assert_eq!(found, Some((18, vec![3, 3])));
-        assert_eq!(key(&file, "alice@EXAMPLE.COM"), None);
+        let all = [(17, vec![2, 2]), (18, vec![1, 1]), (18, vec![3, 3])];
+        for name in ["alice/admin@EXAMPLE.COM", "alice/admin"] {
+            assert_eq!(keys(&file, name).as_deref(), Some(&all[..]), "{name}");
+        }
+        for other in [
+            "alice",
+            "alice@EXAMPLE.COM",
+            "alice/admin@EXAMPLE",
+            "admin@",
+        ] {
+            assert_eq!(keys(&file, other), Some(Vec::new()), "{other}");
+        }
         for length in 0..file.len() {
-            let cut = key(&file[..length], "alice/admin@EXAMPLE.COM");
-            assert!(cut.is_none_or(|(etype, _)| etype == 18));
+            let cut = keys(&file[..length], "alice/admin@EXAMPLE.COM");
+            assert!(cut.is_none_or(|keys| keys.iter().all(|key| all.contains(key))));
         }
     }
 }

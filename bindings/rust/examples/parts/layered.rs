@@ -2,10 +2,10 @@
 
 use crate::Answer;
 use crate::base64;
-use crate::until::Until;
+use crate::peer::Peer;
 use menolavuri::{Error, LayerRefusal, SaslClient, SaslServer};
 use std::io::{BufRead, BufReader, Read, Write};
-use std::net::TcpStream;
+use std::time::SystemTime;
 
 /// The longest line that is read, and the longest message of a layer.
 const LONGEST_LINE: usize = 100_000;
@@ -49,27 +49,25 @@ fn sealed(end: &mut impl End, data: &[u8]) -> Result<Vec<u8>, Error> {
 }
 
 /// A connection, and its layer where one is agreed.
-pub struct Connection<'a, E> {
-    stream: &'a TcpStream,
-    from: BufReader<Until<'a>>,
+pub struct Connection<E> {
+    from: BufReader<Peer>,
     /// What was opened, and not read yet.
     opened: Vec<u8>,
     layer: Option<E>,
 }
 
-impl<'a, E: End> Connection<'a, E> {
-    pub fn new(stream: &'a TcpStream) -> Self {
+impl<E: End> Connection<E> {
+    pub fn new(peer: Peer) -> Self {
         Connection {
-            stream,
-            from: BufReader::new(Until::new(stream)),
+            from: BufReader::new(peer),
             opened: Vec::new(),
             layer: None,
         }
     }
 
-    /// Ends the time limit of the log-in. From now on only silence is limited.
-    pub fn end_log_in(&mut self) {
-        self.from.get_mut().lift();
+    /// Ends the time limit of the log-in, as [`Peer::end_log_in`] does.
+    pub fn end_log_in(&mut self, ticket_ends: Option<SystemTime>) {
+        self.from.get_mut().end_log_in(ticket_ends);
     }
 
     /// From now on all goes through a layer.
@@ -81,7 +79,7 @@ impl<'a, E: End> Connection<'a, E> {
     pub fn check_read(&self) -> Answer<()> {
         match self.opened.is_empty() {
             true => Ok(()),
-            false => Err("the peer speaks before its layer begins".into()),
+            false => Err("the other end speaks before its layer begins".into()),
         }
     }
 
@@ -91,7 +89,7 @@ impl<'a, E: End> Connection<'a, E> {
             let octets = self.from.fill_buf()?.to_vec();
             self.from.consume(octets.len());
             return if octets.is_empty() {
-                Err("the peer is gone".into())
+                Err("the other end is gone without taking leave".into())
             } else {
                 Ok(octets)
             };
@@ -100,7 +98,10 @@ impl<'a, E: End> Connection<'a, E> {
         self.from.read_exact(&mut length)?;
         let length = u32::from_be_bytes(length);
         if length > LONGEST_MESSAGE {
-            return Err("the frame is too long".into());
+            let words = format!(
+                "a frame says that it has {length} octets, and here it may have {LONGEST_MESSAGE}"
+            );
+            return Err(words.into());
         }
         let mut frame = vec![0; 4 + length as usize];
         frame[..4].copy_from_slice(&length.to_be_bytes());
@@ -113,10 +114,11 @@ impl<'a, E: End> Connection<'a, E> {
         loop {
             if let Some(end) = self.opened.iter().position(|octet| *octet == b'\n') {
                 let line: Vec<u8> = self.opened.drain(..=end).collect();
-                return Ok(String::from_utf8(line)?.trim_end().to_owned());
+                let line = String::from_utf8(line).map_err(|_| "a line is not in UTF-8")?;
+                return Ok(line.trim_end().to_owned());
             }
             if self.opened.len() > LONGEST_LINE {
-                return Err("the line is too long".into());
+                return Err(format!("a line has more than {LONGEST_LINE} octets").into());
             }
             let octets = self.receive()?;
             self.opened.extend(octets);
@@ -129,7 +131,7 @@ impl<'a, E: End> Connection<'a, E> {
             Some(layer) => sealed(layer, text.as_bytes())?,
             None => text.into_bytes(),
         };
-        Ok(self.stream.write_all(&octets)?)
+        Ok(self.from.get_mut().write_all(&octets)?)
     }
 
     /// The token in a line, behind this word.
@@ -137,6 +139,78 @@ impl<'a, E: End> Connection<'a, E> {
         let line = self.line()?;
         let token = line.strip_prefix(word).map(str::trim_start);
         let token = token.and_then(base64::decode);
-        token.ok_or_else(|| format!("this is no token: {line:?}").into())
+        token.ok_or_else(|| {
+            let start: String = line.chars().take(60).collect();
+            format!("a token in Base64 is to come, and this came: {start:?}").into()
+        })
+    }
+}
+
+#[cfg(test)]
+mod tests {
+    use super::*;
+    use crate::peer::Limits;
+    use std::net::{TcpListener, TcpStream};
+    use std::time::Duration;
+
+    /// A layer whose frames are their data behind a length.
+    struct Bare;
+
+    impl End for Bare {
+        fn seal(&mut self, data: &[u8]) -> Result<Vec<u8>, Error> {
+            Ok([&(data.len() as u32).to_be_bytes(), data].concat())
+        }
+
+        fn unseal(&mut self, frame: &[u8]) -> Result<Vec<u8>, Error> {
+            Ok(frame[4..].to_vec())
+        }
+    }
+
+    /// A connection to which these octets are sent.
+    fn sent(octets: &[u8]) -> Connection<Bare> {
+        let listener = TcpListener::bind("127.0.0.1:0").unwrap();
+        let mut other = TcpStream::connect(listener.local_addr().unwrap()).unwrap();
+        other.write_all(octets).unwrap();
+        let wait = Duration::from_secs(9);
+        let limits = Limits {
+            log_in: wait,
+            silence: wait,
+        };
+        Connection::new(Peer::new(listener.accept().unwrap().0, limits))
+    }
+
+    fn failure<T>(answer: Answer<T>) -> String {
+        answer.err().unwrap().to_string()
+    }
+
+    #[test]
+    fn a_frame_that_is_too_long_is_refused_by_its_length() {
+        for length in [1 << 31, u32::MAX, LONGEST_MESSAGE + 1] {
+            let mut connection = sent(&length.to_be_bytes());
+            connection.begin(Bare);
+            let words = format!(
+                "a frame says that it has {length} octets, and here it may have {LONGEST_MESSAGE}"
+            );
+            assert_eq!(failure(connection.line()), words);
+        }
+    }
+
+    #[test]
+    fn lines_come_in_frames_and_in_the_clear() {
+        let mut connection = sent(b"+ Zg==\r\n");
+        assert_eq!(connection.token("+").unwrap(), b"f");
+        let mut connection = sent(b"\0\0\0\x02+O\0\0\0\x03K\r\n");
+        connection.begin(Bare);
+        assert_eq!(connection.line().unwrap(), "+OK");
+    }
+
+    #[test]
+    fn what_is_no_line_is_refused() {
+        let words = failure(sent(b"abc").line());
+        assert_eq!(words, "the other end is gone without taking leave");
+        let words = failure(sent(b"\xff\r\n").line());
+        assert_eq!(words, "a line is not in UTF-8");
+        let words = failure(sent(&vec![b'a'; LONGEST_LINE + 9000]).line());
+        assert_eq!(words, format!("a line has more than {LONGEST_LINE} octets"));
     }
 }

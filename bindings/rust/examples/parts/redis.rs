@@ -78,7 +78,8 @@ fn reply(from: &mut impl BufRead, depth: u32) -> io::Result<Reply> {
 }
 
 impl Store {
-    /// The store at this address. One that was started within the last `skew` may have forgotten what it was told, and is refused.
+    /// The store at this address. One that was started less than twice `skew` ago may have forgotten what it was told, and
+    /// is refused.
     pub fn connect(address: &str, skew: Duration) -> io::Result<Store> {
         let mut failed = invalid("the store has no address");
         for address in address.to_socket_addrs()? {
@@ -99,7 +100,10 @@ impl Store {
         };
         match store.age()? {
             age if age > 2 * skew => Ok(store),
-            _ => Err(invalid("the store was started anew")),
+            _ => Err(invalid(format!(
+                "the store was started anew, and is taken {} seconds after its start: it may have forgotten what it was told",
+                (2 * skew).as_secs()
+            ))),
         }
     }
 

@@ -3,48 +3,41 @@
 use crate::Answer;
 use crate::frames::*;
 use crate::kdcs::ask;
+use crate::peer::Peer;
+use crate::reach::reach;
 use menolavuri::{Initiator, Next, Session};
-use std::net::TcpStream;
-use std::time::Duration;
-
-/// For how long a server may be silent.
-const PATIENCE: Duration = Duration::from_secs(10);
 
 /// Shows a token to the server, and takes its answer.
-fn show(initiator: &mut Initiator, stream: &TcpStream) -> Answer<Next> {
-    write_frame(stream, CONTEXT, &initiator.token()?)?;
-    let answer = read_frame(&mut &*stream, LONGEST)?;
+fn show(initiator: &mut Initiator, server: &mut Peer) -> Answer<Next> {
+    write_frame(server, CONTEXT, &initiator.token()?)?;
+    let answer = read_frame(server, LONGEST)?;
     Ok(initiator.hear(&answer.octets)?)
 }
 
 /// Logs in at the server at this address.
-pub fn log_in(
-    mut initiator: Initiator,
-    others: &[&str],
-    address: &str,
-) -> Answer<(Session, TcpStream)> {
-    let stream = TcpStream::connect(address)?;
-    stream.set_read_timeout(Some(PATIENCE))?;
-    write_frame(&stream, NO_OPERATION | CONTEXT_NEXT, b"")?;
+pub fn log_in(mut initiator: Initiator, others: &[&str], address: &str) -> Answer<(Session, Peer)> {
+    let mut server = reach(address)?;
+    write_frame(&mut server, NO_OPERATION | CONTEXT_NEXT, b"")?;
     let mut next = initiator.start()?;
     while next != Next::Established {
         next = match next {
             Next::AskKdc => ask(&mut initiator, others)?,
-            _ => show(&mut initiator, &stream)?,
+            _ => show(&mut initiator, &mut server)?,
         };
     }
     let session = initiator.into_session()?;
     if !session.answer().is_empty() {
-        write_frame(&stream, CONTEXT, session.answer())?;
+        write_frame(&mut server, CONTEXT, session.answer())?;
     }
-    Ok((session, stream))
+    server.end_log_in(None);
+    Ok((session, server))
 }
 
 /// Sends a text, sealed. The answer is a MIC over it, or the text itself, wrapped.
-pub fn say(session: &mut Session, text: &[u8], stream: &TcpStream) -> Answer<()> {
+pub fn say(session: &mut Session, text: &[u8], server: &mut Peer) -> Answer<()> {
     let message = session.wrap(text)?;
-    write_frame(stream, DATA | WRAPPED | SEALED | WANTS_MIC, &message)?;
-    let answer = read_frame(&mut &*stream, LONGEST)?;
+    write_frame(server, DATA | WRAPPED | SEALED | WANTS_MIC, &message)?;
+    let answer = read_frame(server, LONGEST)?;
     match answer.says {
         MIC => Ok(session.verify(&answer.octets, text)?),
         says if says & WRAPPED != 0 && session.unwrap(&answer.octets)?.text == text => Ok(()),
@@ -53,6 +46,6 @@ pub fn say(session: &mut Session, text: &[u8], stream: &TcpStream) -> Answer<()>
 }
 
 /// Tells the server that nothing else comes.
-pub fn take_leave(stream: &TcpStream) -> Answer<()> {
-    write_frame(stream, NO_OPERATION, b"")
+pub fn take_leave(server: &mut Peer) -> Answer<()> {
+    write_frame(server, NO_OPERATION, b"")
 }

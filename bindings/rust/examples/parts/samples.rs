@@ -1,12 +1,11 @@
 //! The protocol of MIT's sample programs `gss-client` and `gss-server`, from the server's end.
 
 use crate::Answer;
-use crate::connections::log;
 use crate::frames::*;
-use crate::until::Until;
+use crate::peer::Peer;
+use crate::telling::log;
 use menolavuri::Session;
 use std::io::{BufReader, Read};
-use std::net::TcpStream;
 
 /// The client's first token, behind its greeting.
 fn first_token(from: &mut impl Read) -> Answer<Vec<u8>> {
@@ -30,13 +29,13 @@ fn open(session: &mut Session, message: Frame) -> Answer<(Vec<u8>, &'static str)
 }
 
 /// Lets a client in by its first token, as `admit` does, and answers each of its messages until it takes leave.
-pub fn serve(stream: &TcpStream, admit: impl FnOnce(&[u8]) -> Answer<Session>) -> Answer<()> {
-    let mut from = BufReader::new(Until::new(stream));
+pub fn serve(peer: Peer, admit: impl FnOnce(&[u8]) -> Answer<Session>) -> Answer<()> {
+    let mut from = BufReader::new(peer);
     let mut session = admit(&first_token(&mut from)?)?;
-    from.get_mut().lift();
+    from.get_mut().end_log_in(session.ends());
     log(&format!("admitted: {}", session.peer()));
     if !session.answer().is_empty() {
-        write_frame(stream, CONTEXT, session.answer())?;
+        write_frame(from.get_mut(), CONTEXT, session.answer())?;
     }
     loop {
         let message = read_frame(&mut from, LONGEST)?;
@@ -50,8 +49,8 @@ pub fn serve(stream: &TcpStream, admit: impl FnOnce(&[u8]) -> Answer<Session>) -
         let start: String = String::from_utf8_lossy(&text).chars().take(60).collect();
         log(&format!("{} octets, {way}: {start:?}", text.len()));
         match says & WANTS_MIC {
-            0 => write_frame(stream, NO_OPERATION, b"")?,
-            _ => write_frame(stream, MIC, &session.mic(&text)?)?,
+            0 => write_frame(from.get_mut(), NO_OPERATION, b"")?,
+            _ => write_frame(from.get_mut(), MIC, &session.mic(&text)?)?,
         }
     }
 }
