@@ -10,7 +10,7 @@ start_redis() {
 # store is good after ten.
 start_shared() {
     shared_port=$(free_port)
-    start "$1" "$examples/shared_server" "127.0.0.1:$shared_port" host/server.example.com "$room/shared.key" 5 "127.0.0.1:$redis_port"
+    start "$1" "$examples/shared_server" "127.0.0.1:$shared_port" host/server.example.com "$mit/keytab" 5 "127.0.0.1:$redis_port"
     await_port "$shared_port"
 }
 
@@ -39,7 +39,6 @@ try_redis() {
     local redis redis_port first second
     command -v redis-server > /dev/null || { echo "not tried: two servers over a Redis, of Debian's package redis-server"; return; }
     redis_port=$(free_port)
-    (umask 077 && service_key host > "$room/shared.key")
     start_shared first && first=$shared_port
     start_shared second && second=$shared_port
     check "the store is away: nobody is let in" nobody_in first "$first" 'Connection refused'

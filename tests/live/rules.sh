@@ -99,7 +99,7 @@ try_mit_service() {
     start_service mit-server env "$mit_keytab" stdbuf -oL gss-server -port PORT host@server.example.com
     check "MIT's service without FIRST_NUMBER_AS_SHOWN: it tells a gap" its_service_wants FIRST_NUMBER_AS_SHOWN mit-server unsealing carol usual
     check "MIT's service one way" visits_plainly carol one-way
-    check "without ONE_WAY_IS_SETTLED it awaits what never comes" wants ONE_WAY_IS_SETTLED 'temporarily unavailable' carol one-way
+    check "without ONE_WAY_IS_SETTLED it awaits what never comes" wants ONE_WAY_IS_SETTLED 'sent nothing for 10s' carol one-way
     check "MIT's service in DCE style, which opens messages as a whole: it refuses them" its_service_wants - mit-server unsealing carol dce-style
     start_service mit-wraps env "$mit_keytab" "$python" "$live/gss.py" serve "$mit_library" PORT whole wrapped
     check "MIT's messages" visits_plainly carol usual

@@ -1,10 +1,11 @@
 # Java's and Cyrus' clients of SASL at the example sasl_server, and the example sasl_client at a server of Cyrus' and at sasl_server.
 
-# Starts sasl_server with these layers: start_sasl LAYERS KEY HOST, and leaves its port in sasl_port.
+# Starts sasl_server with these layers: start_sasl LAYERS KEY|KEYTAB HOST, and leaves its port in sasl_port.
 start_sasl() {
+    local file=$2
     sasl_port=$(free_port)
-    (umask 077 && echo "$2" > "$room/$sasl_port.key")
-    start "sasl-$sasl_port" "$examples/sasl_server" "127.0.0.1:$sasl_port" "pop/${3:-server.example.com}" "$room/$sasl_port.key" 300 0 "$1"
+    [ -e "$file" ] || { file=$room/$sasl_port.key && (umask 077 && echo "$2" > "$file"); }
+    start "sasl-$sasl_port" "$examples/sasl_server" "127.0.0.1:$sasl_port" "pop/${3:-server.example.com}" "$file" 300 0 "$1"
 }
 
 # Whether Java's client said this of a case: java_said WORDS
@@ -98,7 +99,7 @@ try_sasl() {
     local imtest=$live/out/cyrus/usr/lib/cyrus/bin/imtest all_port localhost_port strict_port
     [ -x "$imtest" ] || imtest=/usr/lib/cyrus/bin/imtest
     start_sasl 7 "$(service_key pop)" && all_port=$sasl_port
-    start_sasl 7 "$(service_key pop localhost)" localhost && localhost_port=$sasl_port
+    start_sasl 7 "$mit/keytab" localhost && localhost_port=$sasl_port
     start_sasl 4 "$(service_key pop)" && await_port "$sasl_port" && strict_port=$sasl_port
     check "Cyrus' client is refused where it wants no layer and confidentiality is offered" refused_cyrus 0 0 - 65536 1
     check "Cyrus' client, where confidentiality alone is offered" cyrus_in 0 256 - 65536 1

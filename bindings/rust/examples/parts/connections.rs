@@ -2,9 +2,9 @@
 
 use crate::Answer;
 use crate::peer::{Limits, Peer};
-use crate::places::Places;
+use crate::places::{Place, Places};
 use crate::telling::{log, words};
-use std::net::TcpListener;
+use std::net::{SocketAddr, TcpListener, TcpStream};
 use std::thread::{self, Builder};
 use std::time::{Duration, Instant};
 
@@ -51,23 +51,11 @@ fn serve_within(
 ) {
     thread::scope(|threads| {
         loop {
-            // A client that is gone again, or a process without another descriptor, ends nobody else's connection.
-            let (stream, address) = match listener.accept() {
-                Ok(accepted) => accepted,
-                Err(error) => {
-                    log(&format!("no connection is taken: {error}"));
-                    thread::sleep(Duration::from_millis(100));
-                    continue;
-                }
-            };
-            if Instant::now() < opens {
-                log(&format!("{address}: not let in before the wait is over"));
-                continue;
-            }
-            let place = match places.take(address.ip()) {
+            let (stream, address) = accept(listener);
+            let place = match place(places, opens, address) {
                 Ok(place) => place,
-                Err(words) => {
-                    log(&format!("{address}: not let in: {words}"));
+                Err(why) => {
+                    log(&format!("{address}: not let in: {why}"));
                     continue;
                 }
             };
@@ -85,11 +73,29 @@ fn serve_within(
     })
 }
 
+/// The next connection. A client that is gone again, or a process without another descriptor, ends nobody else's.
+fn accept(listener: &TcpListener) -> (TcpStream, SocketAddr) {
+    loop {
+        match listener.accept() {
+            Ok(accepted) => return accepted,
+            Err(error) => log(&format!("no connection is taken: {error}")),
+        }
+        thread::sleep(Duration::from_millis(100));
+    }
+}
+
+/// A place for a client, or why there is none.
+fn place(places: &Places, opens: Instant, address: SocketAddr) -> Result<Place<'_>, String> {
+    match Instant::now() < opens {
+        true => Err("the wait is not over".to_owned()),
+        false => places.take(address.ip()),
+    }
+}
+
 #[cfg(test)]
 mod tests {
     use super::*;
     use std::io::{Read, Write};
-    use std::net::{SocketAddr, TcpStream};
 
     /// A server that sends back what comes, to two clients at a time.
     fn echo(opens: Instant) -> SocketAddr {
