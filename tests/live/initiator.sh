@@ -20,8 +20,8 @@ try_example() {
     check "its server names alice" logged its-server '^admitted: alice@example.com$'
     check "over UDP, and over TCP where the answer is too long" reaches secret "udp://127.0.0.1:$heimdal_port"
     check "a second KDC where the first is away" reaches secret "tcp://$nobody,$tcp"
-    check "no KDC is there" is_told 'Network 1' secret "tcp://$nobody"
-    check "a wrong password" is_told 'Kdc 24' wrong "$tcp"
+    check "no KDC is there" is_told 'Network 1: no KDC answered' secret "tcp://$nobody"
+    check "a wrong password" is_told 'Kdc 24: the password or the key is not' wrong "$tcp"
 }
 
 # logs_in KDC_URL PASSWORD OTHER..

@@ -45,7 +45,7 @@ fn answer(line: &str, others: &[String]) -> Answer<String> {
     match carrying::carry(urls, &request) {
         Ok(answer) => Ok(format!("reply {}", hex(&answer))),
         Err(error) => {
-            eprintln!("{}", telling::escaped(&error.to_string()));
+            telling::complain(&error.to_string());
             Ok("fault 1".to_owned())
         }
     }

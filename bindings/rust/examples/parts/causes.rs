@@ -12,7 +12,7 @@ pub fn advice(error: &Error) -> Option<&'static str> {
             "there is no key for the service that the client's ticket names; klist shows that name at the client",
         ),
         Cause::ALTERED | Cause::KEY_LENGTH => Some(
-            "it does not open by the key that is here; where no client gets in, take the service's keytab anew from the KDC",
+            "it was changed on its way, or the password or the key here is not the KDC's, perhaps by its version; a keytab can be made anew",
         ),
         Cause::SKEW => Some("the clocks of the two ends differ by more than the skew; set both"),
         Cause::EXPIRED => Some("the client's ticket has ended; kinit brings another"),

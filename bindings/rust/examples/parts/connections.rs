@@ -103,7 +103,7 @@ mod tests {
         let address = listener.local_addr().unwrap();
         let limits = Limits {
             log_in: Duration::from_secs(9),
-            silence: Duration::from_millis(300),
+            silence: Duration::from_secs(1),
         };
         let serve = |mut peer: Peer| -> Answer<()> {
             let mut octet = [0];
@@ -169,7 +169,7 @@ mod tests {
 
     #[test]
     fn nobody_is_let_in_during_the_wait() {
-        let server = echo(Instant::now() + Duration::from_millis(300));
+        let server = echo(Instant::now() + Duration::from_secs(1));
         assert!(comes(server).is_none());
         assert!(comes_soon(server));
     }

@@ -3,7 +3,7 @@
 use crate::Answer;
 use crate::carrying::carry;
 use crate::keys::keys;
-use crate::telling::{escaped, words};
+use crate::telling::{complain, words};
 use menolavuri::{Error, Initiator, Next};
 use std::io;
 
@@ -42,7 +42,7 @@ pub fn ask(initiator: &mut Initiator, others: &[&str]) -> Answer<Next> {
     match carry(urls, &request) {
         Ok(answer) => Ok(initiator.answer(&answer)?),
         Err(error) => {
-            eprintln!("{}", escaped(&error.to_string()));
+            complain(&error.to_string());
             Ok(initiator.fault(1)?)
         }
     }

@@ -4,12 +4,23 @@ use crate::Answer;
 use crate::base64;
 use crate::peer::Peer;
 use menolavuri::{Error, LayerRefusal, SaslClient, SaslServer};
-use std::io::{BufRead, BufReader, Read, Write};
+use std::io::{self, BufRead, BufReader, ErrorKind, Read, Write};
 use std::time::SystemTime;
 
 /// The longest line that is read, and the longest message of a layer.
 const LONGEST_LINE: usize = 100_000;
 pub const LONGEST_MESSAGE: u32 = 65_536;
+
+/// What became of a connection that ends too soon.
+const GONE: &str = "the other end is gone without taking leave";
+
+/// A failure in words, where it is that the connection ends too soon.
+fn told(error: io::Error) -> io::Error {
+    match error.kind() {
+        ErrorKind::UnexpectedEof => io::Error::new(ErrorKind::UnexpectedEof, GONE),
+        _ => error,
+    }
+}
 
 /// An end of a layer.
 pub trait End {
@@ -89,13 +100,13 @@ impl<E: End> Connection<E> {
             let octets = self.from.fill_buf()?.to_vec();
             self.from.consume(octets.len());
             return if octets.is_empty() {
-                Err("the other end is gone without taking leave".into())
+                Err(GONE.into())
             } else {
                 Ok(octets)
             };
         };
         let mut length = [0; 4];
-        self.from.read_exact(&mut length)?;
+        self.from.read_exact(&mut length).map_err(told)?;
         let length = u32::from_be_bytes(length);
         if length > LONGEST_MESSAGE {
             let words = format!(
@@ -105,7 +116,7 @@ impl<E: End> Connection<E> {
         }
         let mut frame = vec![0; 4 + length as usize];
         frame[..4].copy_from_slice(&length.to_be_bytes());
-        self.from.read_exact(&mut frame[4..])?;
+        self.from.read_exact(&mut frame[4..]).map_err(told)?;
         Ok(layer.unseal(&frame)?)
     }
 
@@ -206,8 +217,10 @@ mod tests {
 
     #[test]
     fn what_is_no_line_is_refused() {
-        let words = failure(sent(b"abc").line());
-        assert_eq!(words, "the other end is gone without taking leave");
+        assert_eq!(failure(sent(b"abc").line()), GONE);
+        let mut cut = sent(b"\0\0\0\x02+");
+        cut.begin(Bare);
+        assert_eq!(failure(cut.line()), GONE);
         let words = failure(sent(b"\xff\r\n").line());
         assert_eq!(words, "a line is not in UTF-8");
         let words = failure(sent(&vec![b'a'; LONGEST_LINE + 9000]).line());

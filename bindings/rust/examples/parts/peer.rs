@@ -44,30 +44,35 @@ impl Peer {
 
     /// How long the next read or write may take.
     fn left(&self) -> io::Result<Duration> {
-        let left = match self.end {
-            Some(end) => end.saturating_duration_since(Instant::now()),
-            None => self.limits.silence,
+        let Some(end) = self.end else {
+            return Ok(self.limits.silence);
         };
-        if !left.is_zero() {
-            return Ok(left.min(self.limits.silence));
+        let left = end.saturating_duration_since(Instant::now());
+        match left.is_zero() {
+            true => Err(self.over()),
+            false => Ok(left.min(self.limits.silence)),
         }
-        Err(Error::new(
-            ErrorKind::TimedOut,
-            match self.is_in {
-                true => "the client's ticket has ended".to_owned(),
-                false => format!("no log-in within {:?}", self.limits.log_in),
-            },
-        ))
     }
 
-    /// A failure in words, where it is that the time is over.
-    fn told(&self, error: Error, silence: &str) -> Error {
-        match (error.kind(), self.left()) {
-            (ErrorKind::WouldBlock | ErrorKind::TimedOut, Err(over)) => over,
-            (ErrorKind::WouldBlock | ErrorKind::TimedOut, Ok(_)) => Error::new(
-                ErrorKind::TimedOut,
-                format!("the other end {silence} for {:?}", self.limits.silence),
-            ),
+    /// That the time for the whole is over.
+    fn over(&self) -> Error {
+        let words = match self.is_in {
+            true => "the client's ticket has ended".to_owned(),
+            false => format!("no log-in within {:?}", self.limits.log_in),
+        };
+        Error::new(ErrorKind::TimedOut, words)
+    }
+
+    /// A failure in words, where it is that a read or a write took all the time that was left.
+    fn told(&self, error: Error, left: Duration, silence: &str) -> Error {
+        match error.kind() {
+            ErrorKind::WouldBlock | ErrorKind::TimedOut if left < self.limits.silence => {
+                self.over()
+            }
+            ErrorKind::WouldBlock | ErrorKind::TimedOut => {
+                let words = format!("the other end {silence} for {left:?}");
+                Error::new(ErrorKind::TimedOut, words)
+            }
             _ => error,
         }
     }
@@ -75,19 +80,19 @@ impl Peer {
 
 impl Read for Peer {
     fn read(&mut self, into: &mut [u8]) -> io::Result<usize> {
-        self.stream.set_read_timeout(Some(self.left()?))?;
-        self.stream
-            .read(into)
-            .map_err(|error| self.told(error, "sent nothing"))
+        let left = self.left()?;
+        self.stream.set_read_timeout(Some(left))?;
+        let count = self.stream.read(into);
+        count.map_err(|error| self.told(error, left, "sent nothing"))
     }
 }
 
 impl Write for Peer {
     fn write(&mut self, octets: &[u8]) -> io::Result<usize> {
-        self.stream.set_write_timeout(Some(self.left()?))?;
-        self.stream
-            .write(octets)
-            .map_err(|error| self.told(error, "took nothing"))
+        let left = self.left()?;
+        self.stream.set_write_timeout(Some(left))?;
+        let count = self.stream.write(octets);
+        count.map_err(|error| self.told(error, left, "took nothing"))
     }
 
     fn flush(&mut self) -> io::Result<()> {
@@ -125,9 +130,10 @@ mod tests {
 
     #[test]
     fn a_log_in_is_limited_as_a_whole() {
-        let (mut peer, mut other) = silent(50, 40);
+        let (mut peer, mut other) = silent(500, 400);
         let mut count = 0;
         let error = loop {
+            std::thread::sleep(Duration::from_millis(20));
             other.write_all(b"a").unwrap();
             match peer.read(&mut [0; 9]) {
                 Ok(_) => count += 1,
@@ -135,7 +141,7 @@ mod tests {
             }
         };
         assert!(count > 0);
-        assert_eq!(error, "no log-in within 50ms");
+        assert_eq!(error, "no log-in within 500ms");
     }
 
     #[test]
@@ -149,7 +155,7 @@ mod tests {
     fn a_connection_ends_with_its_ticket() {
         let (mut peer, mut other) = silent(9000, 9000);
         other.write_all(b"a").unwrap();
-        peer.end_log_in(Some(SystemTime::now() + Duration::from_millis(50)));
+        peer.end_log_in(Some(SystemTime::now() + Duration::from_millis(500)));
         assert_eq!(peer.read(&mut [0; 9]).unwrap(), 1);
         assert_eq!(read(&mut peer), "the client's ticket has ended");
     }

@@ -113,6 +113,7 @@ impl Store {
             ErrorKind::WouldBlock | ErrorKind::TimedOut => {
                 Error::new(ErrorKind::TimedOut, "the store does not answer")
             }
+            ErrorKind::UnexpectedEof => invalid("the store stops within an answer"),
             _ => error,
         })
     }

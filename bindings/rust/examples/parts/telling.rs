@@ -22,10 +22,18 @@ pub fn log(words: &str) {
     let _ = io::stdout().write_all(line.as_bytes());
 }
 
+/// Tells a failure.
+pub fn complain(words: &str) {
+    let line = escaped(words) + "\n";
+    let _ = io::stderr().write_all(line.as_bytes());
+}
+
 /// An error in words, with what can be done about it where that is known.
 pub fn words(error: &(dyn Error + 'static)) -> String {
-    let advice = error.downcast_ref().and_then(advice);
-    advice.map_or_else(|| error.to_string(), |advice| format!("{error}: {advice}"))
+    match error.downcast_ref().and_then(advice) {
+        Some(advice) => format!("{error}: {advice}"),
+        None => error.to_string(),
+    }
 }
 
 /// How a program ends: where it failed, it tells why.
@@ -33,8 +41,7 @@ pub fn end(result: Answer<()>) -> ExitCode {
     match result {
         Ok(()) => ExitCode::SUCCESS,
         Err(error) => {
-            let line = escaped(&words(&*error)) + "\n";
-            let _ = io::stderr().write_all(line.as_bytes());
+            complain(&words(&*error));
             ExitCode::FAILURE
         }
     }

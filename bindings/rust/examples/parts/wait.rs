@@ -9,15 +9,15 @@ pub fn opening(skew: Duration, wait: Duration) -> Instant {
     let twice = 2 * skew;
     if wait < twice {
         log(&format!(
-            "a wait of {} seconds is for a key that no process had in the {} seconds before",
+            "a wait of {} seconds is right only where no other process had the key within the last {} seconds",
             wait.as_secs(),
             twice.as_secs()
         ));
     }
     if !wait.is_zero() {
         log(&format!(
-            "nobody is let in for {} seconds: a token that an earlier process admitted, from a clock that is ahead by the skew, is valid for \
-             twice the skew, and this process does not know it",
+            "nobody is let in for {} seconds: a token that an earlier process admitted, from a clock that is ahead by the skew, \
+             is valid for twice the skew, and this process does not know it",
             wait.as_secs()
         ));
         thread::spawn(move || {
