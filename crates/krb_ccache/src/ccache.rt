@@ -1,13 +1,18 @@
 //! A credential cache.
 
-ghost use Rattle.std.specs.Prelude.{◌≡◌, ◌++◌, ◌∷◌, [], true, IfOk, IfErr, OnOk, OnErr, option_copied};
+ghost use Rattle.std.specs.Prelude.{◌≡◌, ◌++◌, ◌∷◌, [], true, IfOk, IfErr, IfSome, None, OnOk, OnErr, option_copied};
+ghost use Rattle.krb_ccache.specs.declared.header.TimeOffset.{TimeOffset};
 ghost use Rattle.krb_ccache.specs.Format.{written, Spells, IsFault};
 ghost use Rattle.krb_ccache.specs.Finding.{found, found_tgt, found_or_tgt};
+ghost use Rattle.krb_ccache.specs.Options.{option_value};
+ghost use Rattle.krb_ccache.specs.Header.{HasOffset};
 ghost use Rattle.krb_ccache.specs.Writing.{can_be_written};
 
 use crate::credential::Credential;
 use crate::error::CcacheError;
 use crate::find::{Service, Wanted, longest};
+use crate::header::{TimeOffset, find_offset};
+use crate::options::{WantedOption, first_option};
 use crate::principal::CcachePrincipal;
 use crate::read::read_file;
 use crate::write::{can_be_written, write_file};
@@ -107,6 +112,34 @@ impl Ccache {
         match self.find(components, seconds) {
             Some(credential) => Some(credential),
             None => self.find_tgt(seconds),
+        }
+    }
+
+    /// The value of an option of the cache: of this name, and of this principal or of the cache as a whole. A principal is written as
+    /// text, as `krbtgt/EXAMPLE.COM@EXAMPLE.COM`. Of several entries it is the first.
+    pub fn option(&self, name: &[u8], principal: Option<&[u8]>) -> Option<&Octets>
+        ensures { option_copied result ≡ option_value self.now.principal self.now.credentials name.now (option_copied principal.entry) }
+    {
+        let wanted = WantedOption {
+            client: &self.principal,
+            name,
+            principal,
+        };
+        match first_option(self.credentials.as_slice(), &wanted) {
+            None => None,
+            Some(credential) => Some(&credential.ticket),
+        }
+    }
+
+    /// How far the clock of the KDC was ahead of the client's when the cache was made. None if the format is 0503, or if the header
+    /// has no field of tag 1 or its first one has not eight bytes.
+    pub fn time_offset(&self) -> Option<TimeOffset>
+        ensures told { IfSome result (λ offset. HasOffset self.now.version offset) }
+        ensures none { result ≡ None → (offset : TimeOffset) → HasOffset self.now.version offset → ⊥ }
+    {
+        match &self.version {
+            Version::Three => None,
+            Version::Four(header) => find_offset(header.as_slice()),
         }
     }
 }

@@ -71,7 +71,7 @@ fn is_invalid(flags: u32) -> bool
     flags / (1 << 24) % 2 == 1
 }
 
-fn is_same_principal(a: &CcachePrincipal, b: &CcachePrincipal) -> bool
+pub fn is_same_principal(a: &CcachePrincipal, b: &CcachePrincipal) -> bool
     ensures { result ≡ same_principal a.now b.now }
 {
     a.realm == b.realm && a.components == b.components

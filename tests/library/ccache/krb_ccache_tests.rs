@@ -3,7 +3,7 @@
 mod files;
 
 use files::{HEIMDAL, JAVA, MIT, MIT_ADDRESSES, MIT_REMOVED, MIT_THREE, MIT_USER};
-use krb_ccache::{Ccache, CcacheError, Credential, Version, is_option};
+use krb_ccache::{Ccache, CcacheError, Credential, TimeOffset, Version, is_option};
 use krb_der::{Items, Octets};
 use std::alloc::Global;
 use std::test::Fail;
@@ -184,6 +184,100 @@ fn an_entry_that_is_pushed_is_found_and_written(rt: HostRuntime) -> Result<(), F
     // Java's entry is two octets shorter here, where the type of its key is written once.
     let (mit, java, head) = (MIT.len() / 2, JAVA.len() / 2, 34);
     assert_eq!(rt; cache.write(alloc)?.as_slice().len(), mit + java - head - 2);
+    Ok(())
+}
+
+/// The principal of MIT's and Heimdal's options.
+const TGS: &[u8] = b"krbtgt/EXAMPLE.COM@EXAMPLE.COM";
+
+/// Whether an option has this value, or is not there.
+fn has_option(cache: &Ccache, name: &[u8], principal: Option<&[u8]>, value: Option<&[u8]>) -> bool {
+    cache
+        .option(name, principal)
+        .map(|octets| octets.as_slice())
+        == value
+}
+
+#[test]
+fn options_have_their_values(rt: HostRuntime) -> Result<(), Fail> {
+    let alloc = rt.alloc();
+    for file in [MIT, MIT_THREE, MIT_USER, MIT_ADDRESSES, HEIMDAL] {
+        let cache = read(alloc, file)?;
+        assert!(rt; has_option(&cache, b"fast_avail", Some(TGS), Some(b"yes")));
+        assert!(rt; has_option(&cache, b"fast_avail", None, None));
+    }
+    let mit = read(alloc, MIT)?;
+    assert!(rt; has_option(&mit, b"pa_type", Some(TGS), Some(b"2")));
+    assert!(rt; has_option(&mit, b"pa_type", Some(b"krbtgt/EXAMPLE.COM"), None));
+    assert!(rt; has_option(&mit, b"pa_typ", Some(TGS), None));
+    let removed = read(alloc, MIT_REMOVED)?;
+    assert!(rt; has_option(&removed, b"fast_avail", Some(TGS), None));
+    assert!(rt; has_option(&removed, b"pa_type", Some(TGS), Some(b"2")));
+    let heimdal = read(alloc, HEIMDAL)?;
+    assert!(rt; has_option(&heimdal, b"start_realm", None, Some(b"EXAMPLE.COM")));
+    assert!(rt; has_option(&heimdal, b"start_realm", Some(TGS), None));
+    let java = read(alloc, JAVA)?;
+    assert!(rt; has_option(&java, b"fast_avail", Some(TGS), None));
+    Ok(())
+}
+
+#[test]
+fn an_option_of_another_client_is_not_the_cache_s(rt: HostRuntime) -> Result<(), Fail> {
+    let alloc = rt.alloc();
+    let mut cache = read(alloc, MIT)?;
+    cache.principal.realm = Octets::from_slice(alloc, b"EXAMPLE.ORG")?;
+    assert!(rt; has_option(&cache, b"fast_avail", Some(TGS), None));
+    Ok(())
+}
+
+/// The time offset of MIT's cache with another header.
+fn offset_with(alloc: Global, header: &str) -> Result<Option<(i32, i32)>, Fail> {
+    let mut cache = read(alloc, MIT)?;
+    cache.version = Version::Four(Octets::new(hex::decode(alloc, header)?));
+    Ok(parts(cache.time_offset()))
+}
+
+fn parts(offset: Option<TimeOffset>) -> Option<(i32, i32)> {
+    offset.map(|offset| (offset.seconds, offset.microseconds))
+}
+
+#[test]
+fn files_tell_the_time_offset(rt: HostRuntime) -> Result<(), Fail> {
+    let alloc = rt.alloc();
+    for file in [MIT, MIT_REMOVED, MIT_USER, MIT_ADDRESSES] {
+        assert_eq!(rt; parts(read(alloc, file)?.time_offset()), Some((0, 0)));
+    }
+    for file in [MIT_THREE, HEIMDAL, JAVA] {
+        assert_eq!(rt; parts(read(alloc, file)?.time_offset()), None);
+    }
+    Ok(())
+}
+
+#[test]
+fn headers_tell_the_time_offset(rt: HostRuntime) -> Result<(), Fail> {
+    let alloc = rt.alloc();
+    for (header, offset) in [
+        ("000100080000012c0007a120", Some((300, 500_000))),
+        ("00010008fffffed4fff85ee0", Some((-300, -500_000))),
+        (
+            "000100087fffffff80000000",
+            Some((2_147_483_647, -2_147_483_648)),
+        ),
+        ("00020003aabbcc000100080000000100000002", Some((1, 2))),
+        (
+            "000100080000000100000002000100080000000300000004",
+            Some((1, 2)),
+        ),
+        ("000100080000000100000002ff", Some((1, 2))),
+        ("0001000400000001", None),
+        ("0001000400000001000100080000000100000002", None),
+        ("0001000800000001000000", None),
+        ("00020008000100080000000100000002", None),
+        ("000100", None),
+        ("", None),
+    ] {
+        assert_eq!(rt; offset_with(alloc, header)?, offset);
+    }
     Ok(())
 }
 
