@@ -4,7 +4,7 @@
 #include <sys/mman.h>
 
 extern "C" size_t mem_live, mem_peak;
-extern "C" void mem_reset(void);
+extern "C" void mem_reset(size_t input);
 
 static const size_t CAP = 1 << 20, PAGE = 4096;
 static bool front; /* whether octets begin behind a guard page, in this input */
@@ -82,12 +82,12 @@ void check_reply(const char *call, mk_reply reply, size_t room) {
     }
 }
 
-/* All that the calls for one input may have alive at once. */
-static size_t bound(size_t input) { return (256 << 10) + 64 * input; }
+/* All that the calls for one input may have alive at once: a book takes some 160 KiB with its first record, and a harness has two. */
+static size_t bound(size_t input) { return (512 << 10) + 64 * input; }
 
 Memory::Memory(size_t input) : input(input), before(mem_live) {
     front = input & 1;
-    mem_reset();
+    mem_reset(input);
 }
 
 Memory::~Memory() {

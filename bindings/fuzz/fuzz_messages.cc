@@ -11,15 +11,18 @@ struct End {
     bytes key;
     uint8_t flags; /* those of the peer's messages */
     int seal_usage, mic_usage;
-    uint64_t newest = 0;
+    uint32_t newest = 0;
     bool has_opened = false;
 };
 
-static uint64_t number_of(const bytes &token) {
-    uint64_t number = 0;
-    for (size_t i = 8; i < 16; i++) number = number << 8 | token[i];
+/* The number of a token. The library takes numbers round 2^32: one that is less than half the way round ahead is newer. */
+static uint32_t number_of(const bytes &token) {
+    uint32_t number = 0;
+    for (size_t i = 12; i < 16; i++) number = number << 8 | token[i];
     return number;
 }
+
+static bool is_newer(uint32_t number, uint32_t than) { return number != than && number - than < UINT32_C(0x80000000); }
 
 /* A token that was opened comes again, whole and with its last octet changed. */
 static void open_again(End &end, bytes token) {
@@ -41,8 +44,8 @@ static bool unwrap(End &end, const bytes &octets, const bytes *wanted) {
     opened++;
     PROMISE(text.octets.size() + 28 <= octets.size(), "a text of %zu in a token of %zu", text.octets.size(), octets.size());
     PROMISE(!wanted || text.octets == *wanted, "another text than was sealed");
-    uint64_t number = number_of(octets);
-    end.newest = end.has_opened && end.newest > number ? end.newest : number;
+    uint32_t number = number_of(octets);
+    if (!end.has_opened || is_newer(number, end.newest)) end.newest = number;
     end.has_opened = true;
     open_again(end, octets);
     return true;
@@ -64,8 +67,7 @@ static void verify(End &end, const bytes &octets, const bytes &over) {
 /* Whatever came, an honest message with a newer number is opened, and an honest MIC verified. */
 static void go_on(End &end) {
     const bytes text = of("behind all that");
-    uint64_t number = end.has_opened ? end.newest + 1 : 9;
-    if (number == 0) return;
+    uint32_t number = end.has_opened ? end.newest + 1 : 9;
     bytes of_text = header(false, uint8_t(end.flags | 2), 0, 0, number), of_mic = header(true, end.flags, 0, 0, 1);
     unwrap(end, sealed(end.seal_usage, end.key, of_text, text), &text);
     bytes token = mic(end.mic_usage, end.key, of_mic, text);

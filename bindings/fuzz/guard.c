@@ -1,5 +1,6 @@
-/* Stands in for ../c/memory.c: each block ends at a page that cannot be touched, and nor can a block that was freed, for a while. So an access
- * outside a block is found although the proved archive has no checks of a sanitizer. It also counts what is alive. */
+/* Stands in for ../c/memory.c. The proved archive has no checks of a sanitizer, so blocks check it: one in eight, and each large one, ends at a page
+ * that cannot be touched, and nor can it be once it was freed; the others have marks before and behind, which are looked at when they are
+ * freed. Which ones depends on the input alone. All are counted while they are alive. */
 #include <stdbool.h>
 #include <stddef.h>
 #include <stdint.h>
@@ -14,9 +15,23 @@ typedef struct {
 } block;
 
 size_t mem_live, mem_peak;
-void mem_reset(void) { mem_peak = mem_live; }
+static unsigned turn;
 
-enum { SLOTS = 16384, ROOM = 65536, PAGE = 4096, SLOT = ROOM + PAGE, LARGES = 1024 };
+void mem_reset(size_t input) {
+    mem_peak = mem_live;
+    turn = (unsigned)input;
+}
+
+enum { SLOTS = 16384, ROOM = 65536, PAGE = 4096, SLOT = ROOM + PAGE, LARGES = 64, EDGE = 16 };
+
+static const uint8_t BEHIND[EDGE] = {0xc3, 0x5a, 0xc3, 0x5a, 0xc3, 0x5a, 0xc3, 0x5a, 0xc3, 0x5a, 0xc3, 0x5a, 0xc3, 0x5a, 0xc3, 0x5a};
+static const uint64_t BEFORE = UINT64_C(0x6d61726b2d6d6b00), GONE = UINT64_C(0x676f6e652d6d6b00);
+
+/* What stands before a block that has marks. */
+typedef struct {
+    uint64_t mark, size;
+} edge;
+
 typedef struct {
     uint8_t *at, *map;
     size_t mapped, size;
@@ -26,6 +41,7 @@ static uint8_t *pool;
 static uint32_t ring[SLOTS], head, used; /* free slots, the one that was freed last at the end */
 static size_t sizes[SLOTS];              /* 0 where the slot is free */
 static large larges[LARGES];
+static int larges_used;
 static char nothing[1];
 
 static void fail(const char *why) {
@@ -63,7 +79,21 @@ static uint8_t *take_large(size_t size, size_t padded) {
     if (at == MAP_FAILED) return NULL;
     mprotect(at + pages(padded), PAGE, PROT_NONE);
     larges[i] = (large){at + pages(padded) - padded, at, pages(padded) + PAGE, size};
+    larges_used++;
     return larges[i].at;
+}
+
+static uint8_t *take_marked(size_t size) {
+    edge *at = malloc(sizeof(edge) + size + EDGE);
+    if (!at) return NULL;
+    *at = (edge){BEFORE, size};
+    memcpy((uint8_t *)(at + 1) + size, BEHIND, EDGE);
+    return (uint8_t *)(at + 1);
+}
+
+static uint8_t *take(size_t size, size_t padded) {
+    if (padded > ROOM) return take_large(size, padded);
+    return turn++ % 8 == 0 && used < SLOTS - 64 ? take_slot(size, padded) : take_marked(size);
 }
 
 block rattle_alloc(size_t size, size_t align) {
@@ -72,7 +102,7 @@ block rattle_alloc(size_t size, size_t align) {
     size_t wanted = size ? size : align;
     if (wanted > (size_t)1 << 30) return (block){false, nothing};
     size_t padded = (wanted + align - 1) / align * align;
-    uint8_t *at = padded <= ROOM && used < SLOTS - 64 ? take_slot(wanted, padded) : take_large(wanted, padded);
+    uint8_t *at = take(wanted, padded);
     if (!at) return (block){false, nothing};
     memset(at, 0xa5, wanted);
     mem_live += wanted;
@@ -82,34 +112,52 @@ block rattle_alloc(size_t size, size_t align) {
 
 static bool is_in_pool(uint8_t *at) { return pool && at >= pool && at < pool + (size_t)SLOTS * SLOT; }
 
+/* The large block at an address, or LARGES. */
 static int large_at(uint8_t *at) {
     int i = 0;
     while (i < LARGES && larges[i].at != at) i++;
-    if (i == LARGES) fail("no such block");
     return i;
 }
 
 static size_t size_of(uint8_t *at) {
-    size_t size = is_in_pool(at) ? sizes[(size_t)(at - pool) / SLOT] : larges[large_at(at)].size;
-    if (size == 0) fail("a block that was freed");
-    return size;
+    if (is_in_pool(at)) {
+        size_t size = sizes[(size_t)(at - pool) / SLOT];
+        if (size == 0) fail("a block that was freed");
+        return size;
+    }
+    int number = larges_used ? large_at(at) : LARGES;
+    if (number < LARGES) return larges[number].size;
+    edge *before = (edge *)at - 1;
+    if (before->mark != BEFORE) fail("no block, or one that was freed, or its front is overwritten");
+    if (memcmp(at + before->size, BEHIND, EDGE) != 0) fail("octets behind a block are overwritten");
+    return before->size;
+}
+
+static void drop_slot(uint8_t *at, size_t size) {
+    uint32_t slot = (uint32_t)((size_t)(at - pool) / SLOT);
+    uint8_t *base = pool + (size_t)slot * SLOT;
+    sizes[slot] = 0;
+    mprotect(base, ROOM, PROT_NONE);
+    if (size > PAGE) madvise(base, ROOM, MADV_DONTNEED);
+    ring[(head + SLOTS - used) % SLOTS] = slot;
+    used--;
 }
 
 void rattle_dealloc(void *block_at) {
     uint8_t *at = block_at;
     size_t size = size_of(at);
+    int number = is_in_pool(at) || !larges_used ? LARGES : large_at(at);
     if (is_in_pool(at)) {
-        uint32_t slot = (uint32_t)((size_t)(at - pool) / SLOT);
-        uint8_t *base = pool + (size_t)slot * SLOT;
-        sizes[slot] = 0;
-        mprotect(base, ROOM, PROT_NONE);
-        if (size > PAGE) madvise(base, ROOM, MADV_DONTNEED);
-        ring[(head + SLOTS - used) % SLOTS] = slot;
-        used--;
+        drop_slot(at, size);
+    } else if (number < LARGES) {
+        munmap(larges[number].map, larges[number].mapped);
+        larges[number].at = NULL;
+        larges_used--;
     } else {
-        large *it = &larges[large_at(at)];
-        munmap(it->map, it->mapped);
-        it->at = NULL;
+        edge *before = (edge *)at - 1;
+        before->mark = GONE;
+        memset(at, 0x5a, size);
+        free(before);
     }
     mem_live -= size;
 }
