@@ -135,7 +135,8 @@ static void finish(Run &run) {
     Got key = get("mk_session_key", [&](uint8_t *out, size_t room) { return mk_session_key(&session, out, room); });
     PROMISE(key.octets.size() == 16 || key.octets.size() == 32, "a key of %zu", key.octets.size());
     Got sealed = get("mk_wrap", [&](uint8_t *out, size_t room) { return mk_wrap(&session, text, 1, confounder, 16, out, room); });
-    PROMISE(sealed.octets.size() == (run.flags & MK_USE_DCE_STYLE ? 77 : 61), "a message of %zu", sealed.octets.size());
+    bool has_filler = (run.flags & MK_USE_DCE_STYLE) && (run.flags & MK_MUTUAL_AUTH); /* the header says less: DCE style alone */
+    PROMISE(sealed.octets.size() == (has_filler ? 77 : 61), "a message of %zu, flags %x", sealed.octets.size(), run.flags);
     mk_session_free(&session);
 }
 

@@ -12,7 +12,6 @@ struct End {
     mk_session session = MK_EMPTY;
     mk_sasl it = MK_EMPTY;
     uint64_t number = 0;       /* of the peer's next message */
-    bool has_failed = false;   /* a token was opened, and what is in it is not fit */
     bool is_agreed = false;
     uint8_t layers = 6;
     uint32_t most = 65536;
@@ -31,10 +30,9 @@ static Got negotiate(End &end, const bytes &octets) {
     });
     PROMISE(got.reply.status == MK_OK || got.reply.status == MK_REFUSED || got.reply.status == MK_SASL, "status %u", got.reply.status);
     if (got.reply.status != MK_OK) refused++;
-    if (got.reply.status == MK_SASL && got.reply.number != MK_SASL_STATE) end.has_failed = true;
     if (got.reply.status == MK_OK) {
         agreed++;
-        PROMISE(!end.is_agreed && !end.has_failed, "it is agreed on twice");
+        PROMISE(!end.is_agreed, "it is agreed on twice");
         PROMISE(end.is_client ? got.octets.size() >= 32 : got.octets.size() + 32 <= octets.size(), "%zu octets", got.octets.size());
         end.is_agreed = true;
     }
@@ -81,11 +79,11 @@ static void seal_one(End &end) {
     }
 }
 
-/* Whatever was refused: the right token is taken where none was opened, and then a right frame where the layer has such. */
+/* Whatever was refused: a right token, with a number of its own, is taken where none was, and then a right frame where the layer has such. */
 static void go_on(End &end) {
     bytes text = end.is_client ? bytes{7, 1, 0, 0} : bytes{uint8_t(end.layers & 4 ? 4 : end.layers & 2 ? 2 : 1), 0, 0, 0};
     if (text[0] & 6 && !end.is_client) text[1] = 1;
-    if (!end.is_agreed && !end.has_failed && end.it.count) {
+    if (!end.is_agreed) {
         Got got = negotiate(end, right_token(end, text));
         PROMISE(got.reply.status == MK_OK, "the right token: status %u, number %u, cause %u", got.reply.status, got.reply.number, got.reply.cause);
     }

@@ -1,7 +1,8 @@
 #!/usr/bin/env python3
-"""seeds.py FOLDER: writes the inputs that the harnesses begin with, of what the repository has recorded, and of messages as an honest peer
-makes them. FOLDER/NAME has those of the harness NAME."""
+"""seeds.py FOLDER: writes the inputs that the harnesses begin with, of what the repository has recorded, of messages as an honest peer makes
+them, and of corpus. FOLDER/NAME has those of the harness NAME."""
 
+import hashlib
 import os
 import pathlib
 import sys
@@ -179,10 +180,20 @@ def sasl():
             yield f"{name}-{layer}-raw", told + record(1, header(4, 12, 0, 9) + bytes(16)) + frames
 
 
+def kept(name):
+    """The inputs in the file of corpus, each behind four octets of its length."""
+    path = pathlib.Path(__file__).parent / "corpus" / name
+    left = path.read_bytes() if path.is_file() else b""
+    while left:
+        end = 4 + int.from_bytes(left[:4], "big")
+        yield f"kept-{hashlib.sha1(left[4:end]).hexdigest()[:16]}", left[4:end]
+        left = left[end:]
+
+
 def main(folder):
     for it in (accept, initiator, messages, settings, keytab, sasl):
         os.makedirs(f"{folder}/{it.__name__}", exist_ok=True)
-        for name, seed in it():
+        for name, seed in (*it(), *kept(it.__name__)):
             if 0 < len(seed) < 20000:
                 pathlib.Path(folder, it.__name__, name).write_bytes(seed)
 
