@@ -131,8 +131,9 @@ bytes nonce_of(const bytes &request);
 bytes reply_part(bool for_ticket, const bytes &key, const bytes &nonce, const bytes &service_name);
 bytes ticket_part(const bytes &key);
 
-/* Two ends of the library that meet over such messages: the handles were empty. The key is that of their messages. */
-bytes meet(mk_session *client, mk_session *server);
+/* A session of the library, in an empty handle, whose two ends met over such messages: the client's or the server's. The key is that of its
+ * messages; the numbers of the client's begin at 9. */
+bytes meet(mk_session *to, bool is_client);
 
 /* A message of RFC 4121, section 4.2.6: header, and text behind it that is sealed, or in the clear with a checksum; a MIC. */
 bytes header(bool mic, uint8_t flags, uint16_t extra, uint16_t rotated, uint64_t number);

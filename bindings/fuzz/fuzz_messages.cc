@@ -93,16 +93,14 @@ static void take(End &end, const Record &it) {
 
 extern "C" int LLVMFuzzerTestOneInput(const uint8_t *at, size_t length) {
     std::vector<Record> all = read_records(at, length);
-    mk_session client = MK_EMPTY, server = MK_EMPTY;
+    mk_session session = MK_EMPTY;
     bool is_client = false;
     for (const Record &it : all) is_client = is_client || it.tag == 0;
     Memory memory(length);
-    End end = {nullptr, meet(&client, &server), uint8_t(is_client ? 5 : 4), is_client ? 22 : 24, is_client ? 23 : 25};
-    end.session = is_client ? &client : &server;
+    End end = {&session, meet(&session, is_client), uint8_t(is_client ? 5 : 4), is_client ? 22 : 24, is_client ? 23 : 25};
     for (const Record &it : all) take(end, it);
     PROMISE(mk_session_set_rules(end.session, MK_RULES_RFC).status == MK_OK, "no rules");
     go_on(end);
-    mk_session_free(&client);
-    mk_session_free(&server);
+    mk_session_free(&session);
     return 0;
 }

@@ -133,10 +133,8 @@ extern "C" int LLVMFuzzerTestOneInput(const uint8_t *at, size_t length) {
         }
     }
     Memory memory(length);
-    mk_session other = MK_EMPTY;
-    end.key = end.is_client ? meet(&end.session, &other) : meet(&other, &end.session);
+    end.key = meet(&end.session, end.is_client);
     end.number = 9;
-    mk_session_free(&other);
     if (begin(end, user)) {
         for (const Record &it : all) take(end, it);
         go_on(end);

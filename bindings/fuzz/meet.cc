@@ -39,6 +39,11 @@ static void answer(mk_initiator *initiator, const bytes &reply, uint32_t next) {
     PROMISE(told.status == MK_OK && told.number == next, "an honest reply: status %u, cause %u, number %u", told.status, told.cause, told.number);
 }
 
+/* What was said at the first meeting. All draws are the same each time, so each later one goes by it, and MIT's library seals nothing anew. */
+static struct {
+    bytes replies[2], token, answer, key;
+} said;
+
 /* The KDC gives both tickets at once. */
 static void log_in(mk_initiator *to) {
     const uint32_t flags = MK_MUTUAL_AUTH | MK_REPLAY_DETECT | MK_SEQUENCE_DETECT | MK_CONFIDENTIALITY | MK_INTEGRITY;
@@ -50,27 +55,56 @@ static void log_in(mk_initiator *to) {
     PROMISE(mk_initiator_kdc(to, url.data(), url.size()).status == MK_OK, "no KDC");
     PROMISE(mk_initiator_key(to, user.data(), user.size(), 18, USER_KEY.data(), 32).status == MK_OK, "no key");
     PROMISE(mk_initiator_start(to, &moment).status == MK_OK, "no start");
-    bytes part = reply_part(false, first, nonce_of(ask(to)), granting);
-    answer(to, kdc_reply(false, ticket(granting, SERVICE_KEY, part), USER_KEY, part), MK_ASK_KDC);
-    part = reply_part(true, second, nonce_of(ask(to)), service);
-    answer(to, kdc_reply(true, ticket(service, SERVICE_KEY, ticket_part(second)), first, part), MK_SEND_TOKEN);
+    if (said.replies[0].empty()) {
+        bytes part = reply_part(false, first, nonce_of(ask(to)), granting);
+        said.replies[0] = kdc_reply(false, ticket(granting, SERVICE_KEY, part), USER_KEY, part);
+    }
+    answer(to, said.replies[0], MK_ASK_KDC);
+    if (said.replies[1].empty()) {
+        bytes part = reply_part(true, second, nonce_of(ask(to)), service);
+        said.replies[1] = kdc_reply(true, ticket(service, SERVICE_KEY, ticket_part(second)), first, part);
+    }
+    answer(to, said.replies[1], MK_SEND_TOKEN);
 }
 
-bytes meet(mk_session *client, mk_session *server) {
-    mk_initiator initiator = MK_EMPTY;
+static bytes key_of(mk_session *session) {
+    return get("mk_session_key", [&](uint8_t *out, size_t room) { return mk_session_key(session, out, room); }).octets;
+}
+
+static void admit(mk_session *to) {
     mk_acceptor acceptor = MK_EMPTY;
     const bytes name = of(SERVICE);
     mk_moment moment = moment_at();
-    log_in(&initiator);
-    bytes token = get("mk_initiator_token", [&](uint8_t *out, size_t room) { return mk_initiator_token(&initiator, out, room); }).octets;
     PROMISE(mk_acceptor_new(&acceptor, name.data(), name.size(), SERVICE_KEY.data(), 32, 300).status == MK_OK, "no acceptor");
-    PROMISE(mk_accept(&acceptor, server, token.data(), token.size(), &moment).status == MK_OK, "not admitted");
-    bytes reply = get("mk_session_answer", [&](uint8_t *out, size_t room) { return mk_session_answer(server, out, room); }).octets;
-    mk_reply told = mk_initiator_hear(&initiator, reply.data(), reply.size(), &moment);
-    PROMISE(told.status == MK_OK && told.number == MK_ESTABLISHED, "an honest answer: status %u, cause %u", told.status, told.cause);
-    PROMISE(mk_initiator_session(&initiator, client).status == MK_OK && initiator.count == 0, "no session");
-    bytes key = get("mk_session_key", [&](uint8_t *out, size_t room) { return mk_session_key(client, out, room); }).octets;
-    PROMISE(key == get("mk_session_key", [&](uint8_t *out, size_t room) { return mk_session_key(server, out, room); }).octets, "two keys");
+    PROMISE(mk_accept(&acceptor, to, said.token.data(), said.token.size(), &moment).status == MK_OK, "not admitted");
     mk_acceptor_free(&acceptor);
-    return key;
+}
+
+/* Both ends, and what they say. */
+static void meet_first() {
+    mk_initiator initiator = MK_EMPTY;
+    mk_session server = MK_EMPTY;
+    log_in(&initiator);
+    said.token = get("mk_initiator_token", [&](uint8_t *out, size_t room) { return mk_initiator_token(&initiator, out, room); }).octets;
+    admit(&server);
+    said.answer = get("mk_session_answer", [&](uint8_t *out, size_t room) { return mk_session_answer(&server, out, room); }).octets;
+    said.key = key_of(&server);
+    mk_session_free(&server);
+    mk_initiator_free(&initiator);
+}
+
+bytes meet(mk_session *to, bool is_client) {
+    if (said.key.empty()) meet_first();
+    if (!is_client) {
+        admit(to);
+    } else {
+        mk_initiator initiator = MK_EMPTY;
+        mk_moment moment = moment_at();
+        log_in(&initiator);
+        mk_reply told = mk_initiator_hear(&initiator, said.answer.data(), said.answer.size(), &moment);
+        PROMISE(told.status == MK_OK && told.number == MK_ESTABLISHED, "an honest answer: status %u, cause %u", told.status, told.cause);
+        PROMISE(mk_initiator_session(&initiator, to).status == MK_OK && initiator.count == 0, "no session");
+    }
+    PROMISE(key_of(to) == said.key, "two keys");
+    return said.key;
 }
