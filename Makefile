@@ -9,12 +9,13 @@
 # make bindings  does the same, and tests it in C and Rust, and as it is installed: in ROUNDS=10000 rounds in C
 # make install   copies what make library built to PREFIX=/usr/local: library, header, pkg-config file, pages (docs/EMBEDDING.md)
 # make uninstall removes what make install copied, and nothing else
+# make fuzz      runs the harnesses of libFuzzer over that library, each for SECONDS=60 (bindings/fuzz); it wants clang
 # make live      lets real clients, KDCs and services speak to that library's examples, in throw-away realms (docs/LIVE.md)
 # make bench     measures, and reads the machine code (docs/BENCHMARKS.md)
 EXAMPLE ?= examples/one-client
 PROGRAM = crates/krb_run/out/krb_run
 
-.PHONY: run help test prove build realm library bindings install uninstall live try-live bench
+.PHONY: run help test prove build realm library bindings install uninstall fuzz live try-live bench
 run:
 	@cd crates/krb_run && rt try -- serve < $(abspath $(EXAMPLE))
 	@echo "This was not proved: it ran with every check at run time. make build proves."
@@ -50,6 +51,9 @@ bindings: library
 
 install uninstall:
 	@$(MAKE) --no-print-directory -C bindings/c $@ DESTDIR=$(abspath $(DESTDIR))
+
+fuzz: library
+	@bindings/fuzz/run $(or $(SECONDS),60)
 
 live:
 	@lacks=$$(tests/live/run --lacks) && if [ -n "$$lacks" ]; then echo "$$lacks"; else $(MAKE) --no-print-directory try-live; fi
