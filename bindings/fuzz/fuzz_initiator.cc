@@ -125,7 +125,7 @@ static void check_refused(Run &run, bool is_token, const Got &token) {
     }
 }
 
-static void finish(Run &run) {
+static void finish(Run &run, bool has_heard) {
     run.is_established = true;
     mk_session session = MK_EMPTY;
     const uint8_t confounder[16] = {3}, text[1] = {'x'};
@@ -135,7 +135,7 @@ static void finish(Run &run) {
     Got key = get("mk_session_key", [&](uint8_t *out, size_t room) { return mk_session_key(&session, out, room); });
     PROMISE(key.octets.size() == 16 || key.octets.size() == 32, "a key of %zu", key.octets.size());
     Got sealed = get("mk_wrap", [&](uint8_t *out, size_t room) { return mk_wrap(&session, text, 1, confounder, 16, out, room); });
-    bool has_filler = (run.flags & MK_USE_DCE_STYLE) && (run.flags & MK_MUTUAL_AUTH); /* the header says less: DCE style alone */
+    bool has_filler = (run.flags & MK_USE_DCE_STYLE) && has_heard; /* established at once there is none; the header says only: in DCE style */
     PROMISE(sealed.octets.size() == (has_filler ? 77 : 61), "a message of %zu, flags %x", sealed.octets.size(), run.flags);
     mk_session_free(&session);
 }
@@ -158,7 +158,7 @@ static void step(Run &run, const Record &it, const bytes &given, const bytes &pa
     check_taken(run, it, part, nonce);
     if (it.tag == 2 || it.tag == 3) run.key = key_in(part, 0xa0).empty() ? run.key : key_in(part, 0xa0);
     look(run);
-    if (run.last.number == MK_ESTABLISHED) finish(run);
+    if (run.last.number == MK_ESTABLISHED) finish(run, is_token);
 }
 
 static void take(Run &run, const Record &it) {
@@ -176,7 +176,7 @@ static bool go(const std::vector<Record> &all, uint32_t flags, uint32_t rules, b
     Run run(flags, rules);
     if (make(run, has_password)) {
         start(run);
-        if (run.last.status == MK_OK && run.last.number == MK_ESTABLISHED) finish(run);
+        if (run.last.status == MK_OK && run.last.number == MK_ESTABLISHED) finish(run, false);
         for (const Record &it : all) {
             if (!run.is_established) take(run, it);
         }
