@@ -7,7 +7,7 @@ extern "C" size_t mem_live, mem_peak;
 extern "C" void mem_reset(size_t input);
 
 static const size_t CAP = 1 << 20, PAGE = 4096;
-static bool front; /* whether octets begin behind a guard page, in this input */
+static bool front; /* whether octets begin after a guard page, in this input */
 
 static std::vector<Count *> &counts() {
     static std::vector<Count *> all;

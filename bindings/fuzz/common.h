@@ -40,14 +40,14 @@ struct Count {
     unsigned long times = 0;
 };
 
-/* A copy of octets that ends at a page which cannot be touched, or begins behind one. Eight can be in use. */
+/* A copy of octets that ends at a page which cannot be touched, or begins after one. Eight can be in use. */
 struct Lent {
     explicit Lent(const bytes &);
     const uint8_t *at;
     size_t length;
 };
 
-/* Room that ends at such a page, or begins behind one, and is filled. */
+/* Room that ends at such a page, or begins after one, and is filled. */
 struct Room {
     explicit Room(size_t length);
     bool is_unchanged() const;
@@ -73,7 +73,7 @@ template <class Call> Got get(const char *name, Call call) {
     check_reply(name, reply, 0);
     if (reply.status != MK_ROOM) return {reply, {}};
     size_t wanted = reply.length;
-    PROMISE(wanted > 0, "%s wants no room, and refuses it", name);
+    PROMISE(wanted > 0, "%s needs no room, and refuses it", name);
     Room less(wanted - 1);
     mk_reply again = call(less.at, less.length);
     PROMISE(again.status == MK_ROOM && again.length == wanted && less.is_unchanged(), "%s: status %u, length %zu, wanted %zu", name,
@@ -81,7 +81,7 @@ template <class Call> Got get(const char *name, Call call) {
     Room right(wanted);
     reply = call(right.at, right.length);
     check_reply(name, reply, wanted);
-    PROMISE(reply.status != MK_ROOM, "%s wants more than the room that it named", name);
+    PROMISE(reply.status != MK_ROOM, "%s needs more than the room that it named", name);
     if (reply.status != MK_OK) return {reply, {}};
     PROMISE(reply.length == wanted, "%s: length %zu, wanted %zu", name, reply.length, wanted);
     return {reply, bytes(right.at, right.at + reply.length)};
@@ -104,10 +104,10 @@ bytes general(const char *text);
 bytes names(int type, std::initializer_list<const char *>);
 bytes key_value(int etype, const bytes &key);
 bytes encrypted(int etype, const bytes &cipher);
-bytes framed(const bytes &); /* behind four octets of length */
+bytes framed(const bytes &); /* after four octets of length */
 bool holds(const bytes &in, const bytes &part);
 
-/* The key in a part that was to be sealed, behind this context tag; empty where there is none. */
+/* The key in a part that was to be sealed, after this context tag; empty where there is none. */
 bytes key_in(const bytes &part, uint8_t tag);
 
 /* Seals for encryption type 18 or 17, by the length of the key, and makes its checksum. Empty where the key has another length. */
@@ -135,7 +135,7 @@ bytes ticket_part(const bytes &key);
  * messages; the numbers of the client's begin at 9. */
 bytes meet(mk_session *to, bool is_client);
 
-/* A message of RFC 4121, section 4.2.6: header, and text behind it that is sealed, or in the clear with a checksum; a MIC. */
+/* A message of RFC 4121, section 4.2.6: header, and text after it that is sealed, or in the clear with a checksum; a MIC. */
 bytes header(bool mic, uint8_t flags, uint16_t extra, uint16_t rotated, uint64_t number);
 bytes sealed(int usage, const bytes &key, bytes header, const bytes &text);
 bytes in_clear(int usage, const bytes &key, bytes header, const bytes &text);

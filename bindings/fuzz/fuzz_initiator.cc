@@ -118,7 +118,7 @@ static void check_refused(Run &run, bool is_token, const Got &token) {
     if (is_token) {
         PROMISE(now.reply.status == token.reply.status && now.octets == token.octets, "a token that was refused changes something");
     } else if (run.last.cause != MK_CAUSE_SEQUENCE && run.last.cause != MK_CAUSE_MOMENT) {
-        PROMISE(is_refused(request.reply, MK_CAUSE_SEQUENCE), "a request stays behind an answer that was refused");
+        PROMISE(is_refused(request.reply, MK_CAUSE_SEQUENCE), "a request stays after an answer that was refused");
         PROMISE(run.moment.moment != UINT64_C(1700000000000000) || mk_initiator_start(&run.it, &run.moment).status == MK_OK, "no start");
         run.last = {};
         run.key = USER_KEY;

@@ -61,7 +61,7 @@ static void start(mk_initiator *it) {
     PROMISE(again.octets == request.octets && !request.octets.empty(), "another request");
     reply = mk_initiator_fault(it, 7, &moment);
     PROMISE(is_refused(reply, MK_CAUSE_NETWORK) && reply.number == 7, "a fault: status %u, cause %u", reply.status, reply.cause);
-    PROMISE(mk_initiator_start(it, &moment).status == MK_OK, "no start behind a fault");
+    PROMISE(mk_initiator_start(it, &moment).status == MK_OK, "no start after a fault");
 }
 
 extern "C" int LLVMFuzzerTestOneInput(const uint8_t *at, size_t length) {

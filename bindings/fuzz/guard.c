@@ -1,5 +1,5 @@
 /* Stands in for ../c/memory.c. The proved archive has no checks of a sanitizer, so blocks check it: one in eight, and each large one, ends at a page
- * that cannot be touched, and nor can it be once it was freed; the others have marks before and behind, which are looked at when they are
+ * that cannot be touched, and nor can it be once it was freed; the others have marks before and after, which are looked at when they are
  * freed. Which ones depends on the input alone. All are counted while they are alive. */
 #include <stdbool.h>
 #include <stddef.h>
@@ -129,7 +129,7 @@ static size_t size_of(uint8_t *at) {
     if (number < LARGES) return larges[number].size;
     edge *before = (edge *)at - 1;
     if (before->mark != BEFORE) fail("no block, or one that was freed, or its front is overwritten");
-    if (memcmp(at + before->size, BEHIND, EDGE) != 0) fail("octets behind a block are overwritten");
+    if (memcmp(at + before->size, BEHIND, EDGE) != 0) fail("octets after a block are overwritten");
     return before->size;
 }
 

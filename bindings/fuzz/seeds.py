@@ -181,7 +181,7 @@ def sasl():
 
 
 def kept(name):
-    """The inputs in the file of corpus, each behind four octets of its length."""
+    """The inputs in the file of corpus, each after four octets of its length."""
     path = pathlib.Path(__file__).parent / "corpus" / name
     left = path.read_bytes() if path.is_file() else b""
     while left:

@@ -73,7 +73,7 @@ noise_comes() {
     is_unanswered "$acceptor_port" "$room/noise"
 }
 
-# A frame that says 2^31 octets is refused, before memory is taken for it and behind it, in words. The server never had 100 MB.
+# A frame that says 2^31 octets is refused, before memory is taken for it and after it, in words. The server never had 100 MB.
 long_frame_comes() {
     printf '\x11\x00\x00\x00\x00\x02\x80\x00\x00\x00' > "$room/noise"
     is_unanswered "$acceptor_port" "$room/noise" || return 1

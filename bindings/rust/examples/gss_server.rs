@@ -5,8 +5,8 @@
 //!
 //! The keytab has the service's keys. A file with one key in hex, as `klist -k -K` prints it after 0x, is taken too. Clocks may be wrong
 //! by 300 seconds. The server waits for 600 seconds before it admits anybody, twice as long: a token that an earlier process admitted
-//! may be ahead by 300, and is then valid for 300 after its own time. That wait may be 0 if no earlier process had this key. Who wants
-//! other rules than those of the RFCs names them behind the wait (docs/EMBEDDING.md), or `NONE`.
+//! may be ahead by 300, and is then valid for 300 after its own time. That wait may be 0 if no earlier process had this key. Who needs
+//! other rules than those of the RFCs names them after the wait (docs/EMBEDDING.md), or `NONE`.
 
 #[path = "parts/causes.rs"]
 mod causes;

@@ -5,7 +5,7 @@
 //!
 //! Behind the user stands a file with its key, a keytab or the key in hex, or `-` where its password is to be read from the standard
 //! input. 4 is the layer that it wants: 1 (none), 2 (integrity) or 4 (confidentiality), and 5 how many times it asks. The KDCs, and the
-//! rules behind them, are those of `initiator`.
+//! rules after them, are those of `initiator`.
 
 #[path = "parts/base64.rs"]
 mod base64;

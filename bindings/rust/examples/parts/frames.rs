@@ -45,7 +45,7 @@ pub fn read_frame(from: &mut impl Read, longest: u32) -> Answer<Frame> {
     })
 }
 
-/// Reads so many octets. Memory is taken as they come, and not as the length promises.
+/// Reads n octets. Memory is taken as they come, and not as the length promises.
 fn read(from: &mut impl Read, length: u32, into: &mut Vec<u8>) -> Answer<()> {
     match from.take(length.into()).read_to_end(into)? < length as usize {
         true => Err("the other end is gone before a whole frame came".into()),

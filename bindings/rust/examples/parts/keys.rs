@@ -1,9 +1,9 @@
-//! The keys in a file: a keytab, or one key in hex, as `klist -k -K` prints it behind 0x.
+//! The keys in a file: a keytab, or one key in hex, as `klist -k -K` prints it after 0x.
 
 use crate::{Answer, keytab};
 use std::fs;
 
-/// A key behind its encryption type (RFC 3962).
+/// A key after its encryption type (RFC 3962).
 pub type Key = (u8, Vec<u8>);
 
 /// The keys that a file has for this name, of which there is one at least, the newest of the strongest type last.
@@ -52,7 +52,7 @@ fn in_hex(file: &str, octets: &[u8]) -> Answer<Key> {
         Some(key) if key.len() == 32 => Ok((18, key)),
         Some(key) if key.len() == 16 => Ok((17, key)),
         _ => Err(format!(
-            "{file} is no keytab, and no key of 32 or 64 hex digits, as klist -k -K prints it behind 0x"
+            "{file} is no keytab, and no key of 32 or 64 hex digits, as klist -k -K prints it after 0x"
         )
         .into()),
     }

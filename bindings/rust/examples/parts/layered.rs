@@ -164,7 +164,7 @@ mod tests {
     use std::net::{TcpListener, TcpStream};
     use std::time::Duration;
 
-    /// A layer whose frames are their data behind a length.
+    /// A layer whose frames are their data after a length.
     struct Bare;
 
     impl End for Bare {

@@ -391,7 +391,7 @@ fn goes_over(
     goes_so(alloc, journey, &mut initiator, wire)
 }
 
-/// Whether a journey by these rules has its end behind so many requests.
+/// Whether a journey by these rules has its end after so many requests.
 pub fn ends_so(alloc: Global, journey: &Journey, rules: Rules) -> Result<bool, Fail> {
     let mut wire = Wire::new(alloc, journey.suite, journey.referrals, journey.alters)?;
     let is_so = goes_over(alloc, journey, rules, &mut wire)?;
