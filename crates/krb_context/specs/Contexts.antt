@@ -26,6 +26,7 @@ new_context params config server number = record {
   krb5_user_to_user = false;
   server = server;
   rules = no_rules;
+  channel = None;
   asked_at = None;
   window = new_window;
   kept_to_seal = tt;

@@ -40,6 +40,18 @@ one_way_is_settled = 0x80
 abbrev pub extra_count_by_token : ℕ
 extra_count_by_token = 0x100
 
+-- RFC 4120, section 6.2
+abbrev pub names_by_components : ℕ
+names_by_components = 0x200
+
+-- RFC 4120, section 6.2
+abbrev pub clients_of_any_name : ℕ
+clients_of_any_name = 0x400
+
+-- RFC 4120, section 3.2.3
+abbrev pub records_by_tag : ℕ
+records_by_tag = 0x800
+
 -- RFC 4120, sections 3.1.5 and 3.3.4
 abbrev pub fresh_replies : ℕ
 fresh_replies = 0x10000
@@ -48,13 +60,25 @@ fresh_replies = 0x10000
 abbrev pub answers_its_authenticator : ℕ
 answers_its_authenticator = 0x20000
 
+-- RFC 4120, section 3.2.3
+abbrev pub valid_tickets : ℕ
+valid_tickets = 0x40000
+
+-- RFC 4120, section 2.7
+abbrev pub checked_transit : ℕ
+checked_transit = 0x80000
+
+-- RFC 4121, section 4.1.1
+abbrev pub bound_to_its_channel : ℕ
+bound_to_its_channel = 0x100000
+
 -- what a new context has
 abbrev pub no_rules : Rules
 no_rules = record { 0 = 0 }
 
 -- each rule that there is
 abbrev pub rfc_rules : Rules
-rfc_rules = record { 0 = 0x301ff }
+rfc_rules = record { 0 = 0x1f0fff }
 
 abbrev pub has_rule : Rules → ℕ → Bool
 has_rule rules rule = has_flag rules.0 rule

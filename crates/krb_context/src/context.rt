@@ -35,6 +35,8 @@ pub struct Kerberos {
     pub server: Option<ServerProperties>,
     /// The rules beyond those that a context always has: none in a new one.
     pub rules: Rules,
+    /// The MD5 of the bindings of an acceptor's channel (RFC 4121, section 4.1.1.2), where its caller has them.
+    pub channel: Option<[u8; 16]>,
     /// The moment of the authenticator that an initiator showed last, in microseconds since 1970. An AP-REP repeats it.
     pub asked_at: Option<u64>,
     /// The numbers of the messages that were opened.
@@ -76,6 +78,7 @@ fn new_context(
         krb5_user_to_user: false,
         server,
         rules: Rules::none(),
+        channel: None,
         asked_at: None,
         window: NumberWindow::new(),
         kept_to_seal: KeptKey::new(),
@@ -195,6 +198,7 @@ impl TryCopy for Kerberos {
             krb5_user_to_user: self.krb5_user_to_user,
             server: copier.copy(&self.server),
             rules: self.rules,
+            channel: self.channel,
             asked_at: self.asked_at,
             window: self.window,
             kept_to_seal: KeptKey::new(),

@@ -40,12 +40,30 @@ bitflag_items! {
         /// The extra count of a sealed message is its own, up to what its body holds (RFC 4121, section 4.2.3). `gss_wrap` of MIT
         /// krb5 and of Heimdal in DCE style needs it.
         const EXTRA_COUNT_BY_TOKEN = 0x100;
+        /// The client of a ticket and of its authenticator are compared by realm and components; the type of a name is a hint (RFC
+        /// 4120, section 6.2).
+        const NAMES_BY_COMPONENTS = 0x200;
+        /// A client of any name with a component is admitted, whatever its type, and no user name is made where there is none (RFC
+        /// 4120, section 6.2). Hosts, services and users with an instance need it, and whoever admits them looks at the whole name.
+        const CLIENTS_OF_ANY_NAME = 0x400;
+        /// The record of an authenticator has the tag of its cipher too, so that two log-ins of one client in one microsecond are two
+        /// (RFC 4120, section 3.2.3). Clients that log in from several processes at once need it.
+        const RECORDS_BY_TAG = 0x800;
         /// An AS-REP and a TGS-REP are taken only as the answer to the request of this exchange: with its nonce, its client and its service,
         /// and with a ticket that is valid now (RFC 4120, sections 3.1.5 and 3.3.4). Without it a recorded log-in can be played back.
         const FRESH_REPLIES = 0x10000;
         /// An AP-REP is taken only with the time of the authenticator that it answers (RFC 4120, section 3.2.5). Without it a recorded
         /// AP-REP of the same session key can be played back.
         const ANSWERS_ITS_AUTHENTICATOR = 0x20000;
+        /// A ticket with the flag INVALID is refused (RFC 4120, section 3.2.3). Without it a postdated ticket is taken that no KDC
+        /// has validated.
+        const VALID_TICKETS = 0x40000;
+        /// A ticket that came through further realms is taken only where a KDC checked them: the flag TRANSITED-POLICY-CHECKED is
+        /// set, or there are none (RFC 4120, section 2.7).
+        const CHECKED_TRANSIT = 0x80000;
+        /// Where the acceptor has the bindings of its channel, a client is held to them: its authenticator's checksum is that of RFC
+        /// 4121, section 4.1.1, over the same bindings.
+        const BOUND_TO_ITS_CHANNEL = 0x100000;
     }
 }
 
@@ -58,8 +76,11 @@ impl Flags for Rules {
         ∷ (codes "SUITE_OF_EACH_KEY", bits.suite_of_each_key) ∷ (codes "SUBKEY_FLAG_BY_ORIGIN", bits.subkey_flag_by_origin)
         ∷ (codes "FIRST_NUMBER_AS_SHOWN", bits.first_number_as_shown) ∷ (codes "AP_REP_WITHOUT_SUBKEY", bits.ap_rep_without_subkey)
         ∷ (codes "THIRD_LEG_BY_VALUE", bits.third_leg_by_value) ∷ (codes "ONE_WAY_IS_SETTLED", bits.one_way_is_settled)
-        ∷ (codes "EXTRA_COUNT_BY_TOKEN", bits.extra_count_by_token) ∷ (codes "FRESH_REPLIES", bits.fresh_replies)
-        ∷ (codes "ANSWERS_ITS_AUTHENTICATOR", bits.answers_its_authenticator) ∷ [] };
+        ∷ (codes "EXTRA_COUNT_BY_TOKEN", bits.extra_count_by_token) ∷ (codes "NAMES_BY_COMPONENTS", bits.names_by_components)
+        ∷ (codes "CLIENTS_OF_ANY_NAME", bits.clients_of_any_name) ∷ (codes "RECORDS_BY_TAG", bits.records_by_tag)
+        ∷ (codes "FRESH_REPLIES", bits.fresh_replies) ∷ (codes "ANSWERS_ITS_AUTHENTICATOR", bits.answers_its_authenticator)
+        ∷ (codes "VALID_TICKETS", bits.valid_tickets) ∷ (codes "CHECKED_TRANSIT", bits.checked_transit)
+        ∷ (codes "BOUND_TO_ITS_CHANNEL", bits.bound_to_its_channel) ∷ [] };
 
     ghost set_of = { λ rules. rules.0 };
 
@@ -88,7 +109,7 @@ impl Rules {
     pub fn rfc() -> Rules
         ensures { result ≡ rfc_rules }
     {
-        Rules(0x3_01ff)
+        Rules(0x1f_0fff)
     }
 
     /// Whether this rule is one of them.

@@ -17,7 +17,8 @@ use Rattle.krb_replay.specs.Order.{Ascends, IsPlace, place, in_order}
 pub record_total : IsTotalOrder record_cmp
 record_total =
     then_total (on_total (λ r. r.ctime) int_cmp_total) (then_total (on_total (λ r. r.cusec) nat_list_cmp_total) (then_total (on_total (λ r. r.realm) nat_list_cmp_total)
-    (on_total (λ r. r.name) (then_total (on_total (λ n. n.name_type) nat_list_cmp_total) (on_total (λ n. n.name_string) (lists_total nat_list_cmp_total))))))
+    (then_total (on_total (λ r. r.name) (then_total (on_total (λ n. n.name_type) nat_list_cmp_total) (on_total (λ n. n.name_string) (lists_total nat_list_cmp_total))))
+    (on_total (λ r. r.tag) nat_list_cmp_total))))
 
 both_ties : (r s : Ordering) (p q : Bool) → p ≡ is_eq r → q ≡ is_eq s → (p && q) ≡ is_eq (ordering_then r s)
 both_ties Less s p q e f = ap (λ b. b && q) e
@@ -31,7 +32,8 @@ int_ties a b = grind (arith, ints)
 pub record_ties : (a b : Record) → record_eq a b ≡ is_eq (record_cmp a b)
 record_ties a b =
     both_ties _ _ _ _ (int_ties a.ctime b.ctime) (both_ties _ _ _ _ (texts_ties a.cusec b.cusec) (both_ties _ _ _ _ (texts_ties a.realm b.realm)
-    (both_ties _ _ _ _ (texts_ties a.name.name_type b.name.name_type) (lists_ties (slice_cmp nat_cmp) texts_ties a.name.name_string b.name.name_string))))
+    (both_ties _ _ _ _ (both_ties _ _ _ _ (texts_ties a.name.name_type b.name.name_type) (lists_ties (slice_cmp nat_cmp) texts_ties a.name.name_string b.name.name_string))
+    (texts_ties a.tag b.tag))))
 
 turn : (r : Ordering) → is_lt (ordering_reverse r) ≡ is_gt r
 turn Less = refl

@@ -35,20 +35,24 @@ principals a b = (
   λ e. subst (λ (x : PrincipalName). principal_eq a x ≡ true) e (own_principal a),
 )
 
-one_record : (a b : Record) → a.ctime ≡ b.ctime → a.cusec ≡ b.cusec → a.realm ≡ b.realm → a.name ≡ b.name → a ≡ b
-one_record a b e f g h =
-    ap (λ (t : ℤ). let x : Record = record { ctime = t; cusec = a.cusec; realm = a.realm; name = a.name } in x) e
-    ∙ ap (λ (c : List ℕ). let x : Record = record { ctime = b.ctime; cusec = c; realm = a.realm; name = a.name } in x) f
-    ∙ ap (λ (r : List ℕ). let x : Record = record { ctime = b.ctime; cusec = b.cusec; realm = r; name = a.name } in x) g
-    ∙ ap (λ (n : PrincipalName). let x : Record = record { ctime = b.ctime; cusec = b.cusec; realm = b.realm; name = n } in x) h
+one_record : (a b : Record) → a.ctime ≡ b.ctime → a.cusec ≡ b.cusec → a.realm ≡ b.realm → a.name ≡ b.name → a.tag ≡ b.tag → a ≡ b
+one_record a b e f g h i =
+    ap (λ (t : ℤ). let x : Record = record { ctime = t; cusec = a.cusec; realm = a.realm; name = a.name; tag = a.tag } in x) e
+    ∙ ap (λ (c : List ℕ). let x : Record = record { ctime = b.ctime; cusec = c; realm = a.realm; name = a.name; tag = a.tag } in x) f
+    ∙ ap (λ (r : List ℕ). let x : Record = record { ctime = b.ctime; cusec = b.cusec; realm = r; name = a.name; tag = a.tag } in x) g
+    ∙ ap (λ (n : PrincipalName). let x : Record = record { ctime = b.ctime; cusec = b.cusec; realm = b.realm; name = n; tag = a.tag } in x) h
+    ∙ ap (λ (t : List ℕ). let x : Record = record { ctime = b.ctime; cusec = b.cusec; realm = b.realm; name = b.name; tag = t } in x) i
 
 pub records : (a b : Record) → Decides (record_eq a b) (a ≡ b)
 records a b = (
-  λ h. let p = parts (int_eq a.ctime b.ctime) (pointwise nat_eq a.cusec b.cusec && (pointwise nat_eq a.realm b.realm && principal_eq a.name b.name)) h in
-      let q = parts (pointwise nat_eq a.cusec b.cusec) (pointwise nat_eq a.realm b.realm && principal_eq a.name b.name) p.1 in
-      let r = parts (pointwise nat_eq a.realm b.realm) (principal_eq a.name b.name) q.1 in
-      one_record a b ((signed_Decides a.ctime b.ctime).0 p.0) ((texts a.cusec b.cusec).0 q.0) ((texts a.realm b.realm).0 r.0) ((principals a.name b.name).0 r.1),
-  λ e. subst (λ (x : Record). record_eq a x ≡ true) e (rw ((signed_Decides a.ctime a.ctime).1 refl, (texts a.cusec a.cusec).1 refl, (texts a.realm a.realm).1 refl, own_principal a.name)),
+  λ h. let p = parts (int_eq a.ctime b.ctime) (pointwise nat_eq a.cusec b.cusec && (pointwise nat_eq a.realm b.realm && (principal_eq a.name b.name && pointwise nat_eq a.tag b.tag))) h in
+      let q = parts (pointwise nat_eq a.cusec b.cusec) (pointwise nat_eq a.realm b.realm && (principal_eq a.name b.name && pointwise nat_eq a.tag b.tag)) p.1 in
+      let r = parts (pointwise nat_eq a.realm b.realm) (principal_eq a.name b.name && pointwise nat_eq a.tag b.tag) q.1 in
+      let s = parts (principal_eq a.name b.name) (pointwise nat_eq a.tag b.tag) r.1 in
+      one_record a b ((signed_Decides a.ctime b.ctime).0 p.0) ((texts a.cusec b.cusec).0 q.0) ((texts a.realm b.realm).0 r.0) ((principals a.name b.name).0 s.0)
+        ((texts a.tag b.tag).0 s.1),
+  λ e. subst (λ (x : Record). record_eq a x ≡ true) e (rw ((signed_Decides a.ctime a.ctime).1 refl, (texts a.cusec a.cusec).1 refl, (texts a.realm a.realm).1 refl, own_principal a.name,
+      (texts a.tag a.tag).1 refl)),
 )
 
 one_ask : (a b : Ask) → a.entry ≡ b.entry → a.sname ≡ b.sname → a.start ≡ b.start → a.end ≡ b.end → a.moment ≡ b.moment → a ≡ b

@@ -12,9 +12,9 @@ use Rattle.krb_replay.specs.declared.ask.Ask.{Ask}
 abbrev pub principal_eq : PrincipalName → PrincipalName → Bool
 principal_eq a b = pointwise nat_eq a.name_type b.name_type && pointwise (pointwise nat_eq) a.name_string b.name_string
 
--- two records are the same where all five parts are: the time, its microseconds, the realm, the name's type and its components
+-- two records are the same where all six parts are: the time, its microseconds, the realm, the name's type and its components, and the tag
 abbrev pub record_eq : Record → Record → Bool
-record_eq a b = int_eq a.ctime b.ctime && (pointwise nat_eq a.cusec b.cusec && (pointwise nat_eq a.realm b.realm && principal_eq a.name b.name))
+record_eq a b = int_eq a.ctime b.ctime && (pointwise nat_eq a.cusec b.cusec && (pointwise nat_eq a.realm b.realm && (principal_eq a.name b.name && pointwise nat_eq a.tag b.tag)))
 
 -- two asks are the same where all five parts are
 abbrev pub ask_eq : Ask → Ask → Bool
@@ -33,7 +33,7 @@ IsDistinct (x ∷ xs) = (has_record xs x ≡ false) × IsDistinct xs
 abbrev pub principal_cmp : PrincipalName → PrincipalName → Ordering
 principal_cmp a b = ordering_then (slice_cmp nat_cmp a.name_type b.name_type) (slice_cmp (slice_cmp nat_cmp) a.name_string b.name_string)
 
--- by the time, its microseconds, the realm, and the name
+-- by the time, its microseconds, the realm, the name, and the tag
 abbrev pub record_cmp : Record → Record → Ordering
 record_cmp a b = ordering_then (int_cmp a.ctime b.ctime) (ordering_then (slice_cmp nat_cmp a.cusec b.cusec)
-    (ordering_then (slice_cmp nat_cmp a.realm b.realm) (principal_cmp a.name b.name)))
+    (ordering_then (slice_cmp nat_cmp a.realm b.realm) (ordering_then (principal_cmp a.name b.name) (slice_cmp nat_cmp a.tag b.tag))))

@@ -6,8 +6,8 @@ use krb_der::{Name, Octets, OutOfMemory, Time, TryCopy};
 use krb_messages::PrincipalName;
 use std::alloc::Global;
 
-/// What two uses of one authenticator have in common (RFC 4120 3.2.3): its time and its client. Two are equal where
-/// all four fields are. The order is by time first, and then by the other fields as they stand here.
+/// What two uses of one authenticator have in common (RFC 4120, section 3.2.3): its time and its client, and its tag where records
+/// have one. Two are equal where all five fields are. The order is by time first, and then by the other fields in their order here.
 #[derive(PartialEq, Eq, PartialOrd, Ord, Hash, Drop)]
 pub struct Record {
     /// The client's time, in whole seconds (RFC 4120 5.5.1, ctime).
@@ -18,6 +18,9 @@ pub struct Record {
     pub realm: Name,
     /// The client's name (cname).
     pub name: PrincipalName,
+    /// The tag at the end of the sealed authenticator, which two log-ins of one client in one microsecond do not share; no octets
+    /// where records have none.
+    pub tag: Octets,
 }
 
 impl TryCopy for Record {
@@ -27,6 +30,7 @@ impl TryCopy for Record {
             cusec: self.cusec.copy(alloc)?,
             realm: self.realm.copy(alloc)?,
             name: self.name.copy(alloc)?,
+            tag: self.tag.copy(alloc)?,
         })
     }
 }

@@ -12,7 +12,7 @@ use Rattle.sspi_core.specs.declared.kind.ErrorKind.TheVariants.{OperationNotSupp
 use Rattle.sspi_core.specs.declared.cause.Cause.{Cause}
 use Rattle.sspi_core.specs.declared.cause.Cause.TheVariants.{Memory, Moment, Connection, Role, Sequence, Shape, NoServiceKey, Etype, KeyLength, Short, Altered, Inner, Names, Skew, NotYet, Expired}
 use Rattle.sspi_core.specs.declared.cause.Cause.TheVariants.{Replayed, ClientName, ApOptions, SubKey, Credentials, ServerName, KeytabUser, NotAscii, Reply, NoNumber, Number, NoSubKey, NoTarget, Target}
-use Rattle.sspi_core.specs.declared.cause.Cause.TheVariants.{NoIdentity, NoKdc, Scheme, Network, ReplyShort, EarlyAsRep, Kdc, EtypeEntry, Salt, Hops, SameRealm, Port, Nonce, ReplyNames, ReplyTime, UserData, ResultCode, Buffers}
+use Rattle.sspi_core.specs.declared.cause.Cause.TheVariants.{NoIdentity, NoKdc, Scheme, Network, ReplyShort, EarlyAsRep, Kdc, EtypeEntry, Salt, Hops, SameRealm, Port, Nonce, ReplyNames, ReplyTime, Transited, UserData, ResultCode, Buffers}
 use Rattle.sspi_core.specs.declared.cause.Cause.TheVariants.{TooSmall, Header, Direction, ExtraCount, Room, Old, Repeated, Sealed, NoKey, Checksum, Bindings, BadUser, Unsupported, Suspended}
 
 -- the table of codes: each kind with its codes
@@ -93,6 +93,7 @@ kind_of Port = InvalidParameter
 kind_of Nonce = InvalidToken
 kind_of ReplyNames = InvalidToken
 kind_of ReplyTime = TimeSkew
+kind_of Transited = InvalidToken
 kind_of UserData = InvalidToken
 kind_of (ResultCode code) = WrongCredentialHandle
 kind_of Buffers = InvalidToken

@@ -10,7 +10,7 @@ use Rattle.sspi_core.specs.declared.kind.ErrorKind.TheVariants.{OperationNotSupp
 use Rattle.sspi_core.specs.declared.cause.Cause.{Cause}
 use Rattle.sspi_core.specs.declared.cause.Cause.TheVariants.{Memory, Moment, Connection, Role, Sequence, Shape, NoServiceKey, Etype, KeyLength, Short, Altered, Inner, Names, Skew, NotYet, Expired}
 use Rattle.sspi_core.specs.declared.cause.Cause.TheVariants.{Replayed, ClientName, ApOptions, SubKey, Credentials, ServerName, KeytabUser, NotAscii, Reply, NoNumber, Number, NoSubKey, NoTarget, Target}
-use Rattle.sspi_core.specs.declared.cause.Cause.TheVariants.{NoIdentity, NoKdc, Scheme, Network, ReplyShort, EarlyAsRep, Kdc, EtypeEntry, Salt, Hops, SameRealm, Port, Nonce, ReplyNames, ReplyTime, UserData, ResultCode, Buffers}
+use Rattle.sspi_core.specs.declared.cause.Cause.TheVariants.{NoIdentity, NoKdc, Scheme, Network, ReplyShort, EarlyAsRep, Kdc, EtypeEntry, Salt, Hops, SameRealm, Port, Nonce, ReplyNames, ReplyTime, Transited, UserData, ResultCode, Buffers}
 use Rattle.sspi_core.specs.declared.cause.Cause.TheVariants.{TooSmall, Header, Direction, ExtraCount, Room, Old, Repeated, Sealed, NoKey, Checksum, Bindings, BadUser, Unsupported, Suspended}
 
 -- the name of a kind
@@ -90,6 +90,7 @@ cause_name Port = codes "Port"
 cause_name Nonce = codes "Nonce"
 cause_name ReplyNames = codes "ReplyNames"
 cause_name ReplyTime = codes "ReplyTime"
+cause_name Transited = codes "Transited"
 cause_name UserData = codes "UserData"
 cause_name (ResultCode code) = codes "ResultCode"
 cause_name Buffers = codes "Buffers"

@@ -105,6 +105,8 @@ pub enum Cause {
     /// The ticket of a reply is not valid at this moment, or an AP-REP does not have the time of the authenticator (RFC 4120 sections
     /// 3.1.5, 3.2.5 and 3.3.4).
     ReplyTime,
+    /// A ticket came through further realms, and no KDC checked them (RFC 4120 section 2.7).
+    Transited,
     /// The answer to a password change has no result code (RFC 3244 section 2).
     UserData,
     /// The password was not changed, with this result code (RFC 3244 section 2).
@@ -184,6 +186,7 @@ impl Cause {
             | Cause::Sealed
             | Cause::Nonce
             | Cause::ReplyNames
+            | Cause::Transited
             | Cause::Bindings => ErrorKind::InvalidToken,
             Cause::Short | Cause::Reply | Cause::Room | Cause::NoKey => ErrorKind::DecryptFailure,
             Cause::Altered => ErrorKind::MessageAltered,
@@ -251,6 +254,7 @@ impl Cause {
             Cause::Nonce => "Nonce",
             Cause::ReplyNames => "ReplyNames",
             Cause::ReplyTime => "ReplyTime",
+            Cause::Transited => "Transited",
             Cause::UserData => "UserData",
             Cause::ResultCode(_) => "ResultCode",
             Cause::Buffers => "Buffers",
