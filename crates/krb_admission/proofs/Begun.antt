@@ -1,5 +1,5 @@
 -- What is known of a request that passed the checks before the gate.
-use Rattle.std.proofs.Common.{◌≡◌, ℕ, ◌<◌, ◌≤◌, ◌^◌, ◌==◌, nat_le, Bool, true, false, IsTrue, List, ◌++◌, length, Result, Ok, Err, sym, ap, subst, arith, length-append}
+use Rattle.std.proofs.Common.{◌≡◌, ℕ, ◌<◌, ◌≤◌, ◌^◌, ◌==◌, nat_le, Bool, true, false, IsTrue, List, ◌++◌, length, Option, Some, None, Result, Ok, Err, refl, sym, ap, subst, arith, length-append}
 use Rattle.std.proofs.lemmas.Bool.Decides.{nat_tests}
 use Rattle.krb_der.specs.Der.{tlv}
 use Rattle.krb_der.specs.Schema.{contents, tag_of}
@@ -15,14 +15,18 @@ use Rattle.krb_crypto.specs.Suite.{key_size}
 use Rattle.krb_crypto.specs.Sealed.{IsSealed}
 use Rattle.krb_crypto.specs.declared.suite.CipherSuite.{CipherSuite}
 use Rattle.krb_crypto.proofs.SealedLemmas.{plain_shorter}
+use Rattle.krb_context.specs.States.{is_waiting}
 use Rattle.krb_context.specs.declared.context.Kerberos.{Kerberos}
+use Rattle.krb_context.specs.declared.rules.Rules.{Rules}
+use Rattle.krb_context.specs.declared.server.ServerProperties.{ServerProperties}
 use Rattle.sspi_core.specs.declared.cause.Cause.{Cause}
-use Rattle.sspi_core.specs.Checks.{Goes, Then}
+use Rattle.sspi_core.specs.Checks.{Holds, Takes, Goes, Then}
 use Rattle.sspi_core.proofs.Chain.{held}
 use Rattle.krb_admission.specs.declared.request.Request.{Request}
 use Rattle.krb_replies.specs.Unseals.{IsRead, Unseals, OpensSealed, OpensData}
 use Rattle.krb_admission.specs.Tokens.{ap_req_id, IsApReq, ReceivesApReq}
 use Rattle.krb_admission.specs.Requests.{OpensAuthenticator, Requests}
+use Rattle.krb_admission.specs.Allowed.{Allows}
 use Rattle.krb_admission.specs.Admission.{IsAnswerable}
 use Rattle.krb_admission.specs.Accepts.{BeginsAdmission}
 
@@ -97,12 +101,10 @@ pub record Begun (request : Request) : Type 0 where
   pub received : Received request.message
   pub opened : Opened authenticator_layout request.part.key.key_value 11 request.message.authenticator request.suite request.authenticator
 
-pub begun : (server : Kerberos) (dce : Bool) (token : List ℕ) (request : Request) → BeginsAdmission server dce token (Ok request) → Begun request
-unfolding BeginsAdmission Requests OpensAuthenticator
-begun server dce token request h =
-    let a = passed _ _ _ h in
-    let b = passed _ _ _ a.rest in
-    let m = passed _ _ _ b.rest in
+requested : (rules : Rules) (server : ServerProperties) (dce : Bool) (token : List ℕ) (request : Request) → Requests rules server dce token (Ok request) → Begun request
+unfolding Requests OpensAuthenticator
+requested rules server dce token request h =
+    let m = passed _ _ _ h in
     let t = passed _ _ _ m.rest in
     let s = passed _ _ _ t.rest in
     let u = passed _ _ _ s.held in
@@ -113,6 +115,37 @@ begun server dce token request h =
       received = received dce token m.found m.held;
       opened = subst (λ (x : CipherSuite × Authenticator). Opened authenticator_layout t.found.key.key_value 11 m.found.authenticator x.0 x.1) (sym same) (opened _ _ _ _ _ u.held);
     })
+
+-- the request that came to the gate is that of the token, and the rules allow it
+pub record Allowed (server : Kerberos) (dce : Bool) (token : List ℕ) (request : Request) : Type 0 where
+  pub waits : is_waiting server.state ≡ true
+  pub properties : ServerProperties
+  pub has : server.server ≡ Some properties
+  pub requests : Requests server.rules properties dce token (Ok request)
+  pub done : Unit {0}
+  pub allows : Allows server request (Ok done)
+
+taken : {A : Type 0} (cause : Cause) (value : Option A) (a : A) → Takes cause value (Ok a) → value ≡ Some a
+taken cause (Some x) a h = let e = h.is in cc
+taken cause None a h = let e = h.is in absurd cc
+
+held_true : (cause : Cause) (test : Bool) (u : Unit {0}) → Holds cause test (Ok u) → test ≡ true
+held_true cause true u h = refl
+held_true cause false u h = let e = h.is in absurd cc
+
+pub allowed : (server : Kerberos) (dce : Bool) (token : List ℕ) (request : Request) → BeginsAdmission server dce token (Ok request) → Allowed server dce token request
+unfolding BeginsAdmission
+allowed server dce token request h =
+    let w = passed _ _ _ h in
+    let p = passed _ _ _ w.rest in
+    let r = passed _ _ _ p.rest in
+    let a = passed _ _ _ r.rest in
+    let e : request ≡ r.found = same_ok _ _ a.rest.is in
+    subst (λ (q : Request). Allowed server dce token q) (sym e)
+    (record { waits = held_true _ _ _ w.held; properties = p.found; has = taken _ _ _ p.held; requests = r.held; done = a.found; allows = a.held })
+
+pub begun : (server : Kerberos) (dce : Bool) (token : List ℕ) (request : Request) → BeginsAdmission server dce token (Ok request) → Begun request
+begun server dce token request h = let a = allowed server dce token request h in requested server.rules a.properties dce token request a.requests
 
 -- ---- lengths
 

@@ -32,11 +32,11 @@ refused_half server dce token draw e answer h is = record {
 }
 
 pub ready : (server : Kerberos) (dce : Bool) (token : List ℕ) (draw : Draw) (request held : Request) (outcome : Result Admission Cause) → Answers (BeginsAdmission server dce token) (Ok request) → held ≡ request
-    → FinishesAdmission server dce draw request outcome → Prepares server dce token draw (record { request = held; outcome = outcome; moment = draw.moment })
+    → FinishesAdmission server dce draw request outcome → Prepares server dce token draw (record { request = held; outcome = outcome; moment = draw.moment; rules = server.rules })
 ready server dce token draw request held outcome begins same finishes =
     let B : Request → Type 0 = λ r. BeginsAdmission server dce token (Ok r) in
     let F : Request → Type 0 = λ r. FinishesAdmission server dce draw r outcome in
-    record { begins = subst B (sym same) (answered _ _ begins); finishes = subst F (sym same) finishes; moment = refl }
+    record { begins = subst B (sym same) (answered _ _ begins); finishes = subst F (sym same) finishes; moment = refl; rules = refl }
 
 pub prepared_by : (server : Kerberos) (dce : Bool) (token : List ℕ) (draw : Draw) (prepared : Prepared) → Prepares server dce token draw prepared → ∥ IsPrepared prepared ∥₁
 prepared_by server dce token draw prepared h = ∣ (server, dce, token, draw, h) ∣₁
@@ -105,7 +105,7 @@ module _ {G : Type 0} (admits : G → Ask → Verdict → G → Type 0) (server 
   at_gate : (prepared : Prepared) → Prepares server dce token draw prepared → PassesGate admits prepared server old answer server' new → Accepts admits server dce token draw old answer server' new
   at_gate prepared prepares passes =
       answered_at_gate admits server dce token draw old prepared.request (question prepared) passes.verdict new (outcome_behind (refusal passes.verdict) prepared.outcome) answer server'
-      (waits server dce token prepared.request prepares.begins) prepares.begins (ap (ask_of prepared.request) prepares.moment) passes.gate
+      (waits server dce token prepared.request prepares.begins) prepares.begins (ap₂ (λ rules moment. ask_of rules prepared.request moment) prepares.rules prepares.moment) passes.gate
       (behind server dce draw (refusal passes.verdict) prepared.request prepared.outcome prepares.finishes) passes.made
 
   joined_by : (half : Result Prepared Cause) → awaits_last_word dce server.state ≡ false → JudgesApReq server dce token draw half → AdmitsNext admits half server old answer server' new → Accepts admits server dce token draw old answer server' new
@@ -146,22 +146,19 @@ then_has {A} {B} first next one of = by one.found one.is
     by (Ok a) h = record { found = (of a).found; is = follows first next a (of a).found h (of a).is }
     by (Err e) h = record { found = Err e; is = halts first next e (Err e) h refl }
 
-takes_has : {A : Type 0} (cause : Cause) (value : Option A) → Has (λ r. Takes cause value r)
-takes_has cause value = record { found = ok_or cause value; is = record { is = refl } }
-
 holds_has : (cause : Cause) (test : Bool) → Has (λ r. Holds cause test r)
 holds_has cause test = record { found = if test then Ok tt else Err cause; is = record { is = refl } }
 
 gives_has : {A : Type 0} (value : A) → Has (λ r. Gives value r)
 gives_has value = record { found = Ok value; is = record { is = refl } }
 
-completes_has : (request : Request) → Has (Completes request)
+completes_has : (rules : Rules) (request : Request) → Has (Completes rules request)
 unfolding Completes
-completes_has request = then_has _ _ (takes_has _ _) (λ client. then_has _ _ (holds_has _ _) (λ _. then_has _ _ (holds_has _ _) (λ _. gives_has _)))
+completes_has rules request = then_has _ _ (holds_has _ _) (λ _. then_has _ _ (holds_has _ _) (λ _. then_has _ _ (holds_has _ _) (λ _. gives_has _)))
 
 finishes_has : (server : Kerberos) (dce : Bool) (draw : Draw) (request : Request) → Has (FinishesAdmission server dce draw request)
 unfolding FinishesAdmission
-finishes_has server dce draw request = then_has _ _ (completes_has request) (λ client. gives_has _)
+finishes_has server dce draw request = then_has _ _ (completes_has server.rules request) (λ client. gives_has _)
 
 -- a chain goes on from what its first check answers
 then_at : {A B : Type 0} (first : Result A Cause → Type 0) (next : A → Result B Cause → Type 0) (m : Result A Cause) (r : Result B Cause) → Once first → first m → Then first next r → Goes next m r
@@ -181,7 +178,7 @@ found_behind server dce draw request (Some cause) outcome h =
     record { ready = has.found; finishes = has.is; is = then_at _ _ (Err cause) outcome (passes_once (Some cause)) (record { is = refl }) h }
 
 module _ {G : Type 0} (admits : G → Ask → Verdict → G → Type 0) (server : Kerberos) (dce : Bool) (token : List ℕ) (draw : Draw) (old : G) (answer : Result Answer Cause) (server' : Kerberos) (new : G) where
-  parted_by : (request : Result Request Cause) (verdict : Verdict) (outcome : Result Admission Cause) → BeginsAdmission server dce token request → Asks admits draw.moment old request verdict new
+  parted_by : (request : Result Request Cause) (verdict : Verdict) (outcome : Result Admission Cause) → BeginsAdmission server dce token request → Asks admits server.rules draw.moment old request verdict new
       → DecidesAdmission server dce token draw verdict outcome → MakesAnswer server outcome answer server' → JudgesAndAdmits admits server dce token draw old answer server' new
   unfolding DecidesAdmission
   parted_by (Err cause) verdict outcome begun gate decides made =
@@ -190,12 +187,12 @@ module _ {G : Type 0} (admits : G → Ask → Verdict → G → Type 0) (server 
       record { half = Err cause; judges = begun; next = record { answer_is = is.0; server_stays = is.1; gate_stays = gate } }
   parted_by (Ok request) verdict outcome begun gate decides made =
       let rest = found_behind server dce draw request (refusal verdict) outcome (then_at _ _ (Ok request) outcome (begins_once server dce token) begun decides) in
-      let prepared : Prepared = record { request = request; outcome = rest.ready; moment = draw.moment } in
+      let prepared : Prepared = record { request = request; outcome = rest.ready; moment = draw.moment; rules = server.rules } in
       let M : Result Admission Cause → Type 0 = λ o. MakesAnswer server o answer server' in
       let P : Bool → Type 0 = λ b. AdmitsWhere b admits prepared server old answer server' new in
       record {
         half = Ok prepared;
-        judges = record { begins = begun; finishes = rest.finishes; moment = refl };
+        judges = record { begins = begun; finishes = rest.finishes; moment = refl; rules = refl };
         next = subst P (sym (waiting server dce token request begun)) (record { verdict = verdict; gate = gate; made = subst M rest.is made });
       }
 

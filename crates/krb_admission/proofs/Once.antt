@@ -12,6 +12,7 @@ use Rattle.krb_messages.specs.declared.encryption.EncryptedData.{EncryptedData}
 use Rattle.krb_crypto.specs.declared.suite.CipherSuite.{CipherSuite}
 use Rattle.krb_crypto.proofs.SealedLemmas.{sealed_once}
 use Rattle.krb_context.specs.declared.context.Kerberos.{Kerberos}
+use Rattle.krb_context.specs.declared.rules.Rules.{Rules}
 use Rattle.krb_context.specs.declared.server.ServerProperties.{ServerProperties}
 use Rattle.krb_replay.specs.declared.ask.Verdict.{Verdict}
 use Rattle.sspi_core.specs.declared.cause.Cause.{Cause}
@@ -24,6 +25,7 @@ use Rattle.krb_replies.specs.Unseals.{IsRead, own_key, session_key, Unseals, Ope
 use Rattle.krb_replies.specs.Answered.{OpensApRep, TellsNumber}
 use Rattle.krb_admission.specs.Tokens.{IsApReq, ReceivesApReq}
 use Rattle.krb_admission.specs.Requests.{OpensTicket, OpensAuthenticator, Requests}
+use Rattle.krb_admission.specs.Allowed.{Allows}
 use Rattle.krb_admission.specs.Complete.{Completes}
 use Rattle.krb_admission.specs.ThirdLeg.{ReadsApRep, TellsLast, IsLastWord, Closes, Concludes}
 use Rattle.krb_admission.specs.Accepts.{BeginsAdmission, FinishesAdmission, DecidesAdmission}
@@ -62,29 +64,35 @@ unfolding OpensTicket
 opens_ticket_once server message =
     then_once _ _ (takes_once _ _) (λ key. then_once _ _ (opens_data_once enc_ticket_part_layout key 2 message.ticket.enc_part) (λ _. gives_once _))
 
-opens_authenticator_once : (message : ApReq) (part : EncTicketPart) → Once (OpensAuthenticator message part)
+opens_authenticator_once : (rules : Rules) (message : ApReq) (part : EncTicketPart) → Once (OpensAuthenticator rules message part)
 unfolding OpensAuthenticator
-opens_authenticator_once message part =
+opens_authenticator_once rules message part =
     then_once _ _ (opens_data_once authenticator_layout part.key.key_value 11 message.authenticator) (λ _. then_once _ _ (holds_once _ _) (λ _. gives_once _))
 
-requests_once : (server : ServerProperties) (dce : Bool) (token : List ℕ) → Once (Requests server dce token)
+requests_once : (rules : Rules) (server : ServerProperties) (dce : Bool) (token : List ℕ) → Once (Requests rules server dce token)
 unfolding Requests
-requests_once server dce token =
+requests_once rules server dce token =
     then_once _ _ (receives_once dce token) (λ message. then_once _ _ (opens_ticket_once server message) (λ part.
-    then_once _ _ (opens_authenticator_once message part) (λ _. gives_once _)))
+    then_once _ _ (opens_authenticator_once rules message part) (λ _. gives_once _)))
+
+allows_once : (server : Kerberos) (request : Request) → Once (Allows server request)
+unfolding Allows
+allows_once server request =
+    then_once _ _ (holds_once _ _) (λ _. then_once _ _ (holds_once _ _) (λ _. then_once _ _ (holds_once _ _) (λ _. holds_once _ _)))
 
 pub begins_once : (server : Kerberos) (dce : Bool) (token : List ℕ) → Once (BeginsAdmission server dce token)
 unfolding BeginsAdmission
 begins_once server dce token =
-    then_once _ _ (holds_once _ _) (λ _. then_once _ _ (takes_once _ _) (λ p. requests_once p dce token))
+    then_once _ _ (holds_once _ _) (λ _. then_once _ _ (takes_once _ _) (λ p. then_once _ _ (requests_once server.rules p dce token) (λ request.
+    then_once _ _ (allows_once server request) (λ _. gives_once _))))
 
-completes_once : (request : Request) → Once (Completes request)
+completes_once : (rules : Rules) (request : Request) → Once (Completes rules request)
 unfolding Completes
-completes_once request = then_once _ _ (takes_once _ _) (λ client. then_once _ _ (holds_once _ _) (λ _. then_once _ _ (holds_once _ _) (λ _. gives_once _)))
+completes_once rules request = then_once _ _ (holds_once _ _) (λ _. then_once _ _ (holds_once _ _) (λ _. then_once _ _ (holds_once _ _) (λ _. gives_once _)))
 
 finishes_once : (server : Kerberos) (dce : Bool) (draw : Draw) (request : Request) → Once (FinishesAdmission server dce draw request)
 unfolding FinishesAdmission
-finishes_once server dce draw request = then_once _ _ (completes_once request) (λ client. gives_once _)
+finishes_once server dce draw request = then_once _ _ (completes_once server.rules request) (λ client. gives_once _)
 
 judged_once : (server : Kerberos) (dce : Bool) (token : List ℕ) (draw : Draw) (verdict : Verdict) → Once (DecidesAdmission server dce token draw verdict)
 unfolding DecidesAdmission

@@ -87,7 +87,7 @@ module _ {G : Type 0} (admits : G → Ask → Verdict → G → Type 0) (server 
 
   -- a request that came to the gate: what is judged behind the gate's verdict, and what is made of it
   pub answered_at_gate : (request : Request) (ask : Ask) (verdict : Verdict) (new : G) (outcome : Result Admission Cause) (answer : Result Answer Cause) (server' : Kerberos)
-      → awaits_last_word dce server.state ≡ false → BeginsAdmission server dce token (Ok request) → ask ≡ ask_of request draw.moment → admits old ask verdict new
+      → awaits_last_word dce server.state ≡ false → BeginsAdmission server dce token (Ok request) → ask ≡ ask_of server.rules request draw.moment → admits old ask verdict new
       → (Passes (refusal verdict) >> FinishesAdmission server dce draw request) outcome → MakesAnswer server outcome answer server' → Accepts admits server dce token draw old answer server' new
   unfolding DecidesAdmission
   answered_at_gate request ask verdict new outcome answer server' last begun asked step judged made = record {
@@ -123,10 +123,6 @@ rest_refuses {A} {B} first next (Err d) e one of h k z = one.not d h (sym (same_
 then_refuses : {A B : Type 0} (first : Result A Cause → Type 0) (next : A → Result B Cause → Type 0) → Refuses first → ((a : A) → Refuses (next a)) → Refuses (λ r. Then first next r)
 then_refuses first next one of = record { not = λ e h z. rest_refuses first next h.middle e one of h.held h.rest z }
 
-take_refuses : {A : Type 0} (cause : Cause) (value : Option A) → (cause ≡ Memory → ⊥) → (e : Cause) → Takes cause value (Err e) → e ≡ Memory → ⊥
-take_refuses {A} cause None ne e h z = ne (sym (same_err {A = A} e cause h.is) ∙ z)
-take_refuses cause (Some x) ne e h z = let i = h.is in absurd cc
-
 hold_refuses : (cause : Cause) (test : Bool) → (cause ≡ Memory → ⊥) → (e : Cause) → Holds cause test (Err e) → e ≡ Memory → ⊥
 hold_refuses cause false ne e h z = ne (sym (same_err {A = Unit {0}} e cause h.is) ∙ z)
 hold_refuses cause true ne e h z = let i = h.is in absurd cc
@@ -137,5 +133,5 @@ gives_refuses value = record { not = λ e h z. let i = h.is in absurd cc }
 pub finishes_refuses : (server : Kerberos) (dce : Bool) (draw : Draw) (request : Request) (e : Cause) → FinishesAdmission server dce draw request (Err e) → e ≡ Memory → ⊥
 unfolding FinishesAdmission Completes
 finishes_refuses server dce draw request =
-    (then_refuses _ _ (then_refuses _ _ (record { not = take_refuses ClientName _ (λ z. cc) }) (λ client. then_refuses _ _ (record { not = hold_refuses ApOptions _ (λ z. cc) })
+    (then_refuses _ _ (then_refuses _ _ (record { not = hold_refuses ClientName _ (λ z. cc) }) (λ _. then_refuses _ _ (record { not = hold_refuses ApOptions _ (λ z. cc) })
     (λ _. then_refuses _ _ (record { not = hold_refuses SubKey _ (λ z. cc) }) (λ _. gives_refuses _)))) (λ client. gives_refuses _)).not

@@ -6,6 +6,7 @@ use Rattle.krb_replay.specs.declared.ask.Verdict.TheVariants as verdicts
 use Rattle.krb_context.specs.declared.context.Kerberos.{Kerberos}
 use Rattle.krb_context.specs.declared.state.KerberosState.{KerberosState}
 use Rattle.krb_context.specs.declared.state.KerberosState.TheVariants.{TgtExchange, Preauthentication, ApExchange, Final}
+use Rattle.krb_context.specs.declared.rules.Rules.{Rules}
 use Rattle.krb_context.specs.States.{is_waiting}
 use Rattle.sspi_core.specs.declared.draw.Draw.{Draw}
 use Rattle.sspi_core.specs.Flags.{has_flag, use_dce_style}
@@ -17,6 +18,7 @@ use Rattle.krb_admission.specs.declared.request.Request.{Request}
 use Rattle.krb_admission.specs.declared.admission.Admission.{Admission}
 use Rattle.krb_admission.specs.declared.admission.Answer.{Answer}
 use Rattle.krb_admission.specs.Requests.{Requests, ask_of}
+use Rattle.krb_admission.specs.Allowed.{Allows}
 use Rattle.krb_admission.specs.Complete.{Completes}
 use Rattle.krb_admission.specs.Admission.{admission_of, answer_for, settled}
 use Rattle.krb_admission.specs.ThirdLeg.{Concludes}
@@ -45,12 +47,14 @@ unfoldable pub BeginsAdmission : Kerberos → Bool → List ℕ → Result Reque
 BeginsAdmission server dce token = do
   Holds Sequence (is_waiting server.state)
   properties ← Takes Sequence server.server
-  Requests properties dce token
+  request ← Requests server.rules properties dce token
+  Allows server request
+  Gives request
 
 -- the checks behind the gate, and what admission makes
 unfoldable pub FinishesAdmission : Kerberos → Bool → Draw → Request → Result Admission Cause → Type 0
 FinishesAdmission server dce draw request = do
-  client ← Completes request
+  client ← Completes server.rules request
   Gives (admission_of dce server.krb5_user_to_user server.seq_number draw request client)
 
 -- an AP-REQ, judged by the ordered checks, with this verdict of the gate
@@ -61,9 +65,9 @@ DecidesAdmission server dce token draw verdict = do
   FinishesAdmission server dce draw request
 
 -- the gate takes one step for a request that reaches it, and else stays
-abbrev pub Asks : {G : Type 0} → (G → Ask → Verdict → G → Type 0) → ℕ → G → Result Request Cause → Verdict → G → Type 0
-Asks admits moment old (Ok request) verdict new = admits old (ask_of request moment) verdict new
-Asks admits moment old (Err cause) verdict new = new ≡ old
+abbrev pub Asks : {G : Type 0} → (G → Ask → Verdict → G → Type 0) → Rules → ℕ → G → Result Request Cause → Verdict → G → Type 0
+Asks admits rules moment old (Ok request) verdict new = admits old (ask_of rules request moment) verdict new
+Asks admits rules moment old (Err cause) verdict new = new ≡ old
 
 -- what the caller gets for an AP-REQ, and the context afterwards: a refusal leaves it
 abbrev pub MakesAnswer : Kerberos → Result Admission Cause → Result Answer Cause → Kerberos → Type 0
@@ -82,7 +86,7 @@ pub record Accepts {G : Type 0} (admits : G → Ask → Verdict → G → Type 0
   pub verdict : Verdict
   pub request : Result Request Cause
   pub begun : BeginsAdmission server dce token request
-  pub gate : Asks admits draw.moment old request verdict new
+  pub gate : Asks admits server.rules draw.moment old request verdict new
   pub outcome : Result Admission Cause
   pub judged : DecidesAdmission server dce token draw verdict outcome
   pub made : Ends (awaits_last_word dce server.state) server token outcome answer server'

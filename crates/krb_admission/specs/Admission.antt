@@ -88,7 +88,7 @@ abbrev pub state_behind : Bool → KerberosState
 state_behind dce = if dce then ApExchange else Final
 
 -- mutual-required: the drawn key is the sub-session key, the own number stays, and the AP-REP is the answer
-unfoldable pub mutual_admission : Bool → Bool → ℕ → Draw → Request → UserName → Admission
+unfoldable pub mutual_admission : Bool → Bool → ℕ → Draw → Request → Option UserName → Admission
 mutual_admission dce user_to_user number draw request client = record {
   client = client;
   suite = request.suite;
@@ -111,7 +111,7 @@ number_before number None = number
 number_before number (Some octets) = (number_of octets % 2 ^ 32 + (2 ^ 32 - 1)) % 2 ^ 32
 
 -- otherwise: an authenticator's subkey and number are taken, and there is no token
-unfoldable pub one_way_admission : ℕ → Request → UserName → Admission
+unfoldable pub one_way_admission : ℕ → Request → Option UserName → Admission
 one_way_admission number request client = record {
   client = client;
   suite = subkey_suite request.suite request.authenticator.subkey;
@@ -124,7 +124,7 @@ one_way_admission number request client = record {
 }
 
 -- what admitting the client makes
-abbrev pub admission_of : Bool → Bool → ℕ → Draw → Request → UserName → Admission
+abbrev pub admission_of : Bool → Bool → ℕ → Draw → Request → Option UserName → Admission
 admission_of dce user_to_user number draw request client =
     if is_mutual request.message.ap_options then mutual_admission dce user_to_user number draw request client else one_way_admission number request client
 
@@ -139,9 +139,9 @@ status_in Final = Complete
 abbrev pub answer_for : Admission → Answer
 answer_for admission = record { status = status_in admission.state; token = admission.token; admits = true }
 
-abbrev pub with_client : Option ServerProperties → UserName → Option ServerProperties
+abbrev pub with_client : Option ServerProperties → Option UserName → Option ServerProperties
 with_client None client = None
-with_client (Some server) client = Some (record server { client = Some client })
+with_client (Some server) client = Some (record server { client = client })
 
 -- the first of some
 abbrev pub or_else : {A : Type 0} → Option A → Option A → Option A

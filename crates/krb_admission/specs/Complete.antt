@@ -3,15 +3,16 @@ use Rattle.std.specs.Prelude.{ℕ, ◌+◌, ◌-◌, ◌/◌, ◌^◌, ◌==◌,
 use Rattle.krb_der.specs.declared.bits.Bits.{Bits}
 use Rattle.krb_crypto.specs.Suite.{key_size}
 use Rattle.krb_crypto.specs.declared.suite.CipherSuite.{CipherSuite}
+use Rattle.krb_context.specs.declared.rules.Rules.{Rules}
 use Rattle.krb_context.specs.Options.{use_session_key, mutual_required}
 use Rattle.krb_messages.specs.declared.encryption.EncryptionKey.{EncryptionKey}
 use Rattle.krb_admission.specs.declared.request.Request.{Request}
 use Rattle.krb_replies.specs.Unseals.{suite_of_integer}
-use Rattle.krb_admission.specs.Clients.{client_of}
+use Rattle.krb_admission.specs.Clients.{is_known_client, user_of}
 use Rattle.sspi_core.specs.Usernames.{UserName}
 use Rattle.sspi_core.specs.declared.cause.Cause.{Cause}
 use Rattle.sspi_core.specs.declared.cause.Cause.TheVariants.{ClientName, ApOptions, SubKey}
-use Rattle.sspi_core.specs.Checks.{Holds, Takes, Gives, ◌>>=◌, ◌>>◌}
+use Rattle.sspi_core.specs.Checks.{Holds, Gives, ◌>>◌}
 
 -- the first of the four octets of options
 abbrev pub first_octet : ℕ → ℕ
@@ -49,10 +50,10 @@ is_good_if_there (Some key) = is_good_key key
 abbrev pub has_good_subkey : Request → Bool
 has_good_subkey request = if is_mutual request.message.ap_options then true else is_good_if_there request.authenticator.subkey
 
--- the client of a request that may be admitted
-unfoldable pub Completes : Request → Result UserName Cause → Type 0
-Completes request = do
-  client ← Takes ClientName (client_of request.authenticator.cname request.authenticator.crealm)
+-- the user name of the client of a request that may be admitted
+unfoldable pub Completes : Rules → Request → Result (Option UserName) Cause → Type 0
+Completes rules request = do
+  Holds ClientName (is_known_client rules request.authenticator.cname request.authenticator.crealm)
   Holds ApOptions (is_known_options request.message.ap_options)
   Holds SubKey (has_good_subkey request)
-  Gives client
+  Gives (user_of rules request.authenticator.cname request.authenticator.crealm)

@@ -3,6 +3,7 @@ use Rattle.std.specs.Prelude.{◌≡◌, ℕ, Bool, true, false, List, Option, S
 use Rattle.krb_replay.specs.declared.ask.Ask.{Ask}
 use Rattle.krb_replay.specs.declared.ask.Verdict.{Verdict}
 use Rattle.krb_context.specs.declared.context.Kerberos.{Kerberos}
+use Rattle.krb_context.specs.declared.rules.Rules.{Rules}
 use Rattle.krb_context.specs.States.{is_waiting}
 use Rattle.sspi_core.specs.declared.draw.Draw.{Draw}
 use Rattle.sspi_core.specs.declared.cause.Cause.{Cause}
@@ -15,17 +16,19 @@ use Rattle.krb_admission.specs.declared.admission.Answer.{Answer}
 use Rattle.krb_admission.specs.Requests.{ask_of}
 use Rattle.krb_admission.specs.Accepts.{BeginsAdmission, FinishesAdmission, MakesAnswer, refusal}
 
--- a request that came to the gate, what the checks behind it will answer, and the moment to ask the gate at
+-- a request that came to the gate, what the checks after it will answer, the moment to ask the gate at, and the rules that it came by
 pub record Prepared : Type 0 where
   pub request : Request
   pub outcome : Result Admission Cause
   pub moment : ℕ
+  pub rules : Rules
 
 -- the token brings this to the gate: its AP-REQ passes every check before it
 pub record Prepares (server : Kerberos) (dce : Bool) (token : List ℕ) (draw : Draw) (prepared : Prepared) : Type 0 where
   pub begins : BeginsAdmission server dce token (Ok prepared.request)
   pub finishes : FinishesAdmission server dce draw prepared.request prepared.outcome
   pub moment : prepared.moment ≡ draw.moment
+  pub rules : prepared.rules ≡ server.rules
 
 -- some token has brought it, at some context
 abbrev pub IsPrepared : Prepared → Type 0
@@ -38,7 +41,7 @@ JudgesApReq server dce token draw (Err cause) = BeginsAdmission server dce token
 
 -- the question to the gate
 abbrev pub question : Prepared → Ask
-question prepared = ask_of prepared.request prepared.moment
+question prepared = ask_of prepared.rules prepared.request prepared.moment
 
 abbrev pub ticket_times : EncTicketPart → TicketTimes
 ticket_times part = record { authtime = part.authtime; starttime = part.starttime; endtime = part.endtime; renew_till = part.renew_till }

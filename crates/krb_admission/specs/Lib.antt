@@ -1,5 +1,6 @@
 pub mod Tokens
 pub mod Requests
+pub mod Allowed
 pub mod Clients
 pub mod Complete
 pub mod Admission

@@ -48,7 +48,8 @@ pub struct Answer {
 /// What an admission brings to a context, ready before the gate is asked.
 #[derive(Drop)]
 pub struct Admission {
-    pub client: Username,
+    /// The user name of the client, where it has one here.
+    pub client: Option<Username>,
     pub suite: CipherSuite,
     pub session_key: Octets,
     pub sub_session_key: Option<Octets>,
@@ -162,7 +163,7 @@ fn mutual_admission(
     alloc: Global,
     acceptor: &Acceptor,
     request: &Request,
-    client: Username,
+    client: Option<Username>,
 ) -> Result<Admission, OutOfMemory>
     requires { IsAnswerable request.now }
     ensures { IfOk result (λ admission.
@@ -231,7 +232,7 @@ fn one_way_admission(
     alloc: Global,
     number: u32,
     request: &Request,
-    client: Username,
+    client: Option<Username>,
 ) -> Result<Admission, OutOfMemory>
     ensures { IfOk result (λ admission. admission ≡ one_way_admission number request.now client) }
 {
@@ -254,7 +255,7 @@ pub(crate) fn admission_of(
     alloc: Global,
     acceptor: &Acceptor,
     request: &Request,
-    client: Username,
+    client: Option<Username>,
 ) -> Result<Admission, OutOfMemory>
     requires { IsAnswerable request.now }
     ensures { IfOk result (λ admission.
@@ -267,13 +268,13 @@ pub(crate) fn admission_of(
     }
 }
 
-fn put_client(server: &mut Option<ServerProperties>, client: Username)
+fn put_client(server: &mut Option<ServerProperties>, client: Option<Username>)
     ensures { server.new ≡ with_client server.old client }
 {
     let Some(properties) = server else {
         return;
     };
-    properties.client = Some(client);
+    properties.client = client;
 }
 
 fn status_in(state: KerberosState) -> SecurityStatus

@@ -5,8 +5,9 @@ ghost use Rattle.std.specs.Str.{str_to_ascii_lowercase};
 ghost use Rattle.sspi_core.specs.declared.cause.Cause.TheVariants as causes;
 ghost use Rattle.sspi_core.specs.Kinds.{error_of};
 ghost use Rattle.sspi_core.specs.Usernames.{UserPrincipal, user_name, parsed};
-ghost use Rattle.krb_admission.specs.Clients.{client_of, named_by};
+ghost use Rattle.krb_admission.specs.Clients.{client_of, named_by, account_by, user_of, is_known_client};
 
+use krb_context::Rules;
 use krb_der::{Name, OutOfMemory};
 use krb_messages::PrincipalName;
 use sspi_core::{Cause, Error, Username, UsernameError};
@@ -62,6 +63,50 @@ pub(crate) fn client_of(
     match cname.name_string.as_slice() {
         [] => Ok(None),
         [first, ..] => named_by(alloc, cname.name_type.as_slice(), first, crealm),
+    }
+}
+
+fn account_by(
+    alloc: Global,
+    cname: &PrincipalName,
+    crealm: &Name,
+) -> Result<Option<Username>, OutOfMemory>
+    ensures { IfOk result (λ name. name ≡ account_by cname.now.name_type cname.now.name_string crealm.now) }
+{
+    match (cname.name_type.as_slice(), cname.name_string.as_slice()) {
+        ([1], [account]) => principal(alloc, account, crealm),
+        _ => Ok(None),
+    }
+}
+
+/// The user name that an acceptor has of its client.
+pub(crate) fn user_of(
+    alloc: Global,
+    rules: Rules,
+    cname: &PrincipalName,
+    crealm: &Name,
+) -> Result<Option<Username>, OutOfMemory>
+    ensures { IfOk result (λ name. name ≡ user_of rules cname.now crealm.now) }
+{
+    if rules.has(Rules::CLIENTS_OF_ANY_NAME) {
+        account_by(alloc, cname, crealm)
+    } else {
+        client_of(alloc, cname, crealm)
+    }
+}
+
+/// Whether the client of this user name, if it has one, is known here.
+pub(crate) fn is_known_client(
+    rules: Rules,
+    cname: &PrincipalName,
+    user: &Option<Username>,
+) -> bool
+    ensures { (crealm : List ℕ) → user.now ≡ user_of rules cname.now crealm → result ≡ is_known_client rules cname.now crealm }
+{
+    if rules.has(Rules::CLIENTS_OF_ANY_NAME) {
+        !cname.name_string.as_slice().is_empty()
+    } else {
+        user.is_some()
     }
 }
 

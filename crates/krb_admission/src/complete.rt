@@ -1,17 +1,18 @@
-//! The checks behind the gate, which are made before it is asked.
+//! The checks after the gate, which are made before it is asked.
 
 ghost use Rattle.std.specs.Prelude.{◌≡◌, IfOk};
 ghost use Rattle.sspi_core.specs.declared.cause.Cause.TheVariants as causes;
 ghost use Rattle.sspi_core.specs.Checks.{Holds};
-ghost use Rattle.krb_admission.specs.Clients.{client_of};
+ghost use Rattle.krb_admission.specs.Clients.{user_of};
 ghost use Rattle.krb_admission.specs.Complete.{is_known_options, is_mutual, has_good_subkey, is_good_key, Completes};
 
-use crate::client::client_of;
+use crate::client::{is_known_client, user_of};
 use crate::request::Request;
+use krb_context::Rules;
 use krb_der::{Bits, OutOfMemory};
 use krb_messages::EncryptionKey;
 use krb_replies::suite_of;
-use sspi_core::{Cause, Username, hold, take};
+use sspi_core::{Cause, Username, hold};
 use std::alloc::Global;
 
 /// Whether there are four octets and no unknown bit.
@@ -68,28 +69,36 @@ fn check_subkey(request: &Request) -> Result<(), Cause>
     hold(has_good_subkey(request), Cause::SubKey)
 }
 
-/// The checks behind the client's name.
-fn completed(client: Option<Username>, request: &Request) -> Result<Username, Cause>
-    requires { client ≡ client_of request.now.authenticator.cname request.now.authenticator.crealm }
-    ensures { Completes request.now result }
+fn check_client(is_known: bool) -> Result<(), Cause>
+    ensures { Holds causes.ClientName is_known result }
 {
-    let client = take(client, Cause::ClientName)?;
-    check_options(&request.message.ap_options)?;
-    check_subkey(request)?;
-    Ok(client)
+    hold(is_known, Cause::ClientName)
 }
 
-/// What the checks behind the gate will answer.
+/// The checks after the gate, of a client with this user name.
+fn completed(
+    rules: Rules,
+    user: Option<Username>,
+    request: &Request,
+) -> Result<Option<Username>, Cause>
+    requires { user ≡ user_of rules request.now.authenticator.cname request.now.authenticator.crealm }
+    ensures { Completes rules request.now result }
+{
+    check_client(is_known_client(rules, &request.authenticator.cname, &user))?;
+    check_options(&request.message.ap_options)?;
+    check_subkey(request)?;
+    Ok(user)
+}
+
+/// What the checks after the gate will answer.
 pub(crate) fn complete(
     alloc: Global,
+    rules: Rules,
     request: &Request,
-) -> Result<Result<Username, Cause>, OutOfMemory>
-    ensures { IfOk result (Completes request.now) }
+) -> Result<Result<Option<Username>, Cause>, OutOfMemory>
+    ensures { IfOk result (Completes rules request.now) }
 {
-    let client = client_of(
-        alloc,
-        &request.authenticator.cname,
-        &request.authenticator.crealm,
-    )?;
-    Ok(completed(client, request))
+    let authenticator = &request.authenticator;
+    let user = user_of(alloc, rules, &authenticator.cname, &authenticator.crealm)?;
+    Ok(completed(rules, user, request))
 }

@@ -9,6 +9,7 @@ ghost use Rattle.krb_admission.specs.Accepts.{refusal, BeginsAdmission, Finishes
 ghost use Rattle.krb_admission.specs.Halves.{JudgesApReq, AdmitsPrepared, outcome_behind};
 
 use crate::admission::{Acceptor, Admission, Answer, admission_of, settle};
+use crate::allowed::allow;
 use crate::complete::complete;
 use crate::judged::Judged;
 use crate::request::{Request, ask_of, read_request};
@@ -32,7 +33,10 @@ fn begin(alloc: Global, server: &mut Kerberos, dce: bool, token: &[u8]) -> Resul
 {
     check_state(server)?;
     let properties = properties(&server.server)?;
-    read_request(alloc, properties, &mut server.kept_to_open, dce, token)
+    let kept = &mut server.kept_to_open;
+    let request = read_request(alloc, server.rules, properties, kept, dce, token)?;
+    allow(server, &request)?;
+    Ok(request)
 }
 
 /// The checks behind the gate, and what admission makes, ready before the gate is asked.
@@ -46,7 +50,7 @@ fn finish(
     requires { IsAnswerable request.now }
     ensures { IfOk result (FinishesAdmission server.now dce draw.now request.now) }
 {
-    let completed = complete(alloc, request)?;
+    let completed = complete(alloc, server.rules, request)?;
     let acceptor = Acceptor {
         dce,
         user_to_user: server.krb5_user_to_user,
@@ -82,6 +86,7 @@ pub fn judge(
         request: held,
         outcome,
         moment: draw.moment,
+        rules: server.rules,
     })
 }
 
@@ -135,8 +140,9 @@ pub fn admit<G: ReplayGate>(
         mut request,
         outcome,
         moment,
+        rules,
     } = judged;
-    let ask = ask_of(alloc, &mut request, moment);
+    let ask = ask_of(alloc, rules, &mut request, moment)?;
     let verdict = gate.admit(ask)?;
     settle_behind(server, refusal(verdict), outcome)
 }

@@ -1,7 +1,9 @@
 //! An AP-REQ between the two halves of an admission.
 
 use crate::admission::Admission;
-use crate::request::{Request, copy_ask};
+use crate::allowed::{gss_flags, hash_told};
+use crate::request::{Request, copy_ask, tag};
+use krb_context::Rules;
 use krb_der::{Bits, Name, OutOfMemory, Time};
 use krb_messages::{AuthorizationData, PrincipalName};
 use krb_replay::Ask;
@@ -21,6 +23,8 @@ pub struct Judged {
     pub(crate) outcome: Result<Admission, Cause>,
     /// The moment to ask the gate at.
     pub(crate) moment: u64,
+    /// The rules that it was judged by.
+    pub(crate) rules: Rules,
 }
 
 impl Model for Judged {
@@ -28,10 +32,10 @@ impl Model for Judged {
 
     ghost Value = { Prepared };
 
-    ghost view = { λ judged. record { request = judged.request.value; outcome = judged.outcome; moment = judged.moment } };
+    ghost view = { λ judged. record { request = judged.request.value; outcome = judged.outcome; moment = judged.moment; rules = judged.rules } };
 
     // What it tells has passed the checks before the gate.
-    ghost invariant = { λ judged. ∥ IsPrepared (record { request = judged.request.value; outcome = judged.outcome; moment = judged.moment }) ∥₁ };
+    ghost invariant = { λ judged. ∥ IsPrepared (record { request = judged.request.value; outcome = judged.outcome; moment = judged.moment; rules = judged.rules }) ∥₁ };
 }
 
 /// When a ticket may be used (RFC 4120 5.3).
@@ -51,6 +55,8 @@ impl Judged {
     ghost use Rattle.std.specs.Prelude.{◌≡◌, ◌-ℤ◌, pos, IfOk};
     ghost use Rattle.std.specs.Option.{option_copied};
     ghost use Rattle.krb_replay.specs.Clock.{in_microseconds};
+    ghost use Rattle.krb_admission.specs.Allowed.{gss_flags, hash_told};
+    ghost use Rattle.krb_admission.specs.Requests.{tag_of};
     ghost use Rattle.krb_admission.specs.Halves.{question, ticket_times};
 
     /// The client's name, whole: its type and all its components.
@@ -108,6 +114,29 @@ impl Judged {
         self.request.part.authorization_data.as_ref()
     }
 
+    /// The GSS flags that the client asked for, as numbers of RFC 2744 (RFC 4121, section 4.1.1): None where its checksum has none.
+    pub fn gss_flags(&self) -> Option<u32>
+        ensures { result ≡ gss_flags self.now.request.authenticator.cksum }
+    {
+        gss_flags(&self.request.authenticator.cksum)
+    }
+
+    /// The MD5 of the bindings that the client gave of its channel, 16 octets (RFC 4121, section 4.1.1.2): all zeros where it gave none,
+    /// and no octets where its checksum has no room for them.
+    pub fn channel_hash(&self) -> &[u8]
+        ensures { result.now ≡ hash_told self.now.request.authenticator.cksum }
+    {
+        hash_told(&self.request.authenticator.cksum)
+    }
+
+    /// The last twelve octets of the sealed authenticator. Two log-ins never share them but by chance, one in 2^96, and a replay has those
+    /// of the first.
+    pub fn tag(&self) -> &[u8]
+        ensures { result.now ≡ tag_of self.now.request }
+    {
+        tag(&self.request)
+    }
+
     /// By how many microseconds the client's clock is ahead of the moment of the call that judged it; behind it, negative ones.
     /// The client's time counts in whole seconds, as for the gate.
     pub fn clock_distance(&self) -> i128
@@ -120,6 +149,6 @@ impl Judged {
     pub fn question(&self, alloc: Global) -> Result<Ask, OutOfMemory>
         ensures { IfOk result (λ ask. ask ≡ question self.now) }
     {
-        copy_ask(alloc, &self.request, self.moment)
+        copy_ask(alloc, self.rules, &self.request, self.moment)
     }
 }

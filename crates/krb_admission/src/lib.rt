@@ -10,6 +10,7 @@
 #![tactic(auto)]
 
 mod admission;
+mod allowed;
 mod ap_rep;
 mod client;
 mod complete;

@@ -7,10 +7,10 @@ ghost use Rattle.sspi_core.specs.Checks.{Answers, Holds, Takes};
 ghost use Rattle.krb_context.specs.ServiceKeys.{service_key};
 ghost use Rattle.krb_messages.specs.Layouts.{authenticator_layout};
 ghost use Rattle.krb_replies.specs.Unseals.{OpensData};
-ghost use Rattle.krb_admission.specs.Requests.{is_same_client, OpensTicket, OpensAuthenticator, Requests, ask_of};
+ghost use Rattle.krb_admission.specs.Requests.{is_same_client, OpensTicket, OpensAuthenticator, Requests, tag_of, record_tag, ask_of};
 
 use crate::token::receive;
-use krb_context::{KeptKey, ServerProperties};
+use krb_context::{KeptKey, Rules, ServerProperties};
 use krb_crypto::CipherSuite;
 use krb_der::{Blank, Copier, Octets, OutOfMemory, boxed};
 use krb_messages::constants::{AP_REQ_AUTHENTICATOR_USAGE, TICKET_USAGE};
@@ -20,6 +20,9 @@ use krb_replies::{OWN_KEY, open, open_data, suite_of};
 use sspi_core::{Cause, hold, take};
 use std::alloc::Global;
 use std::mem;
+
+/// How many octets the checksum of a sealed text has, in either suite (RFC 3962, section 6).
+const TAG_LENGTH: usize = 12;
 
 /// An AP-REQ with what is sealed in it.
 #[derive(Drop)]
@@ -32,16 +35,23 @@ pub struct Request {
     pub authenticator: Authenticator,
 }
 
-fn is_same_client(part: &EncTicketPart, authenticator: &Authenticator) -> bool
-    ensures { result ≡ is_same_client part.now authenticator.now }
+fn is_same_client(rules: Rules, part: &EncTicketPart, authenticator: &Authenticator) -> bool
+    ensures { result ≡ is_same_client rules part.now authenticator.now }
 {
-    part.crealm == authenticator.crealm && part.cname == authenticator.cname
+    let (cname, shown) = (&part.cname, &authenticator.cname);
+    part.crealm == authenticator.crealm
+        && (rules.has(Rules::NAMES_BY_COMPONENTS) || cname.name_type == shown.name_type)
+        && cname.name_string == shown.name_string
 }
 
-fn check_names(part: &EncTicketPart, authenticator: &Authenticator) -> Result<(), Cause>
-    ensures { Holds causes.Names (is_same_client part.now authenticator.now) result }
+fn check_names(
+    rules: Rules,
+    part: &EncTicketPart,
+    authenticator: &Authenticator,
+) -> Result<(), Cause>
+    ensures { Holds causes.Names (is_same_client rules part.now authenticator.now) result }
 {
-    hold(is_same_client(part, authenticator), Cause::Names)
+    hold(is_same_client(rules, part, authenticator), Cause::Names)
 }
 
 /// The key of the service that a ticket names in the clear.
@@ -93,29 +103,31 @@ fn open_once(
 /// The authenticator, of the same client.
 fn open_authenticator(
     alloc: Global,
+    rules: Rules,
     message: &ApReq,
     part: &EncTicketPart,
 ) -> Result<(CipherSuite, Authenticator), Cause>
-    ensures { Answers (OpensAuthenticator message.now part.now) result }
+    ensures { Answers (OpensAuthenticator rules message.now part.now) result }
 {
     let sealed = open_once(alloc, &part.key.key_value, &message.authenticator)?;
-    check_names(part, &sealed.1)?;
+    check_names(rules, part, &sealed.1)?;
     Ok(sealed)
 }
 
 /// The AP-REQ in a token, with what is sealed in it.
 pub(crate) fn read_request(
     alloc: Global,
+    rules: Rules,
     server: &ServerProperties,
     kept: &mut KeptKey,
     dce: bool,
     token: &[u8],
 ) -> Result<Request, Cause>
-    ensures { Answers (Requests server.now dce token.now) result }
+    ensures { Answers (Requests rules server.now dce token.now) result }
 {
     let message = boxed(alloc, receive(alloc, dce, token)?)?;
     let part = boxed(alloc, open_ticket(alloc, server, kept, &message)?)?;
-    let (suite, authenticator) = open_authenticator(alloc, &message, &part)?;
+    let (suite, authenticator) = open_authenticator(alloc, rules, &message, &part)?;
     Ok(Request {
         message: Box::into_inner(message),
         part: Box::into_inner(part),
@@ -124,10 +136,35 @@ pub(crate) fn read_request(
     })
 }
 
-/// The question to the gate. Nothing is copied: the request is left with blanks.
-pub(crate) fn ask_of(alloc: Global, request: &mut Request, moment: u64) -> Ask
-    ensures { result ≡ ask_of request.old moment }
+/// The last twelve octets of the sealed authenticator, its checksum.
+pub(crate) fn tag(request: &Request) -> &[u8]
+    ensures { result.now ≡ tag_of request.now }
 {
+    let cipher = request.message.authenticator.cipher.as_slice();
+    &cipher[cipher.len().saturating_sub(TAG_LENGTH)..]
+}
+
+/// The tag that a record has.
+fn record_tag(rules: Rules, request: &Request) -> &[u8]
+    ensures { result.now ≡ record_tag rules request.now }
+{
+    if rules.has(Rules::RECORDS_BY_TAG) {
+        tag(request)
+    } else {
+        &[]
+    }
+}
+
+/// The question to the gate. Nothing but the tag is copied: the request is left with blanks.
+pub(crate) fn ask_of(
+    alloc: Global,
+    rules: Rules,
+    request: &mut Request,
+    moment: u64,
+) -> Result<Ask, OutOfMemory>
+    ensures { IfOk result (λ ask. ask ≡ ask_of rules request.old moment) }
+{
+    let tag = Octets::from_slice(alloc, record_tag(rules, request))?;
     let start = request.part.starttime.unwrap_or(request.part.authtime);
     let end = request.part.endtime;
     let authenticator = &mut request.authenticator;
@@ -136,24 +173,31 @@ pub(crate) fn ask_of(alloc: Global, request: &mut Request, moment: u64) -> Ask
     let realm = mem::replace(&mut authenticator.crealm, Blank::blank(alloc));
     let name = mem::replace(&mut authenticator.cname, Blank::blank(alloc));
     let sname = mem::replace(&mut request.message.ticket.sname, Blank::blank(alloc));
-    Ask {
+    Ok(Ask {
         entry: Record {
             ctime,
             cusec: Octets::new(cusec.into_inner()),
             realm,
             name,
+            tag,
         },
         sname,
         start,
         end,
         moment,
-    }
+    })
 }
 
 /// The same question, of copies.
-pub(crate) fn copy_ask(alloc: Global, request: &Request, moment: u64) -> Result<Ask, OutOfMemory>
-    ensures { IfOk result (λ ask. ask ≡ ask_of request.now moment) }
+pub(crate) fn copy_ask(
+    alloc: Global,
+    rules: Rules,
+    request: &Request,
+    moment: u64,
+) -> Result<Ask, OutOfMemory>
+    ensures { IfOk result (λ ask. ask ≡ ask_of rules request.now moment) }
 {
+    let tag = Octets::from_slice(alloc, record_tag(rules, request))?;
     let authenticator = &request.authenticator;
     let mut copier = Copier::new(alloc);
     let ask = Ask {
@@ -162,6 +206,7 @@ pub(crate) fn copy_ask(alloc: Global, request: &Request, moment: u64) -> Result<
             cusec: Octets::new(copier.copy(&authenticator.cusec).into_inner()),
             realm: copier.copy(&authenticator.crealm),
             name: copier.copy(&authenticator.cname),
+            tag,
         },
         sname: copier.copy(&request.message.ticket.sname),
         start: request.part.starttime.unwrap_or(request.part.authtime),

@@ -1,0 +1,174 @@
+//! What is asked of a ticket and its authenticator where a rule says so, and what the client asked for.
+
+ghost use Rattle.std.specs.Prelude.{◌≡◌};
+ghost use Rattle.sspi_core.specs.declared.cause.Cause.TheVariants as causes;
+ghost use Rattle.sspi_core.specs.Checks.{Holds};
+ghost use Rattle.krb_admission.specs.Allowed.{
+  is_invalid,
+  is_policy_checked,
+  is_validated,
+  is_transit_checked,
+  is_gss,
+  is_gss_if_there,
+  hash_told,
+  channel_held,
+  tells_bindings,
+  is_bound,
+  Allows,
+  gss_flags,
+};
+
+use crate::request::Request;
+use krb_context::{Kerberos, Rules};
+use krb_der::{Bits, is_equal};
+use krb_messages::{Checksum, EncTicketPart};
+use krb_replies::is_number;
+use sspi_core::{Cause, hold};
+
+/// The type of the checksum that carries bindings and flags (RFC 4121, section 4.1.1).
+const GSS_CHECKSUM: i64 = 0x8003;
+
+/// Its octets up to the flags: the length of the bindings' hash in four octets, the lowest first, the hash, and the flags.
+const GSS_CHECKSUM_LENGTH: usize = 24;
+
+fn is_invalid(flags: &Bits) -> bool
+    ensures { result ≡ is_invalid flags.now.octets }
+{
+    match flags.octets.as_slice() {
+        [first, ..] => *first & 0x01 != 0,
+        [] => false,
+    }
+}
+
+fn is_policy_checked(flags: &Bits) -> bool
+    ensures { result ≡ is_policy_checked flags.now.octets }
+{
+    match flags.octets.as_slice() {
+        [_, second, ..] => *second & 0x08 != 0,
+        _ => false,
+    }
+}
+
+fn is_validated(rules: Rules, part: &EncTicketPart) -> bool
+    ensures { result ≡ is_validated rules part.now }
+{
+    !rules.has(Rules::VALID_TICKETS) || !is_invalid(&part.flags)
+}
+
+fn is_transit_checked(rules: Rules, part: &EncTicketPart) -> bool
+    ensures { result ≡ is_transit_checked rules part.now }
+{
+    !rules.has(Rules::CHECKED_TRANSIT)
+        || part.transited.contents.as_slice().is_empty()
+        || is_policy_checked(&part.flags)
+}
+
+/// Whether it is a checksum over bindings and flags.
+fn is_gss(checksum: &Checksum) -> bool
+    ensures { result ≡ is_gss checksum.now }
+{
+    let octets = checksum.checksum.as_slice();
+    is_number(&checksum.cksumtype, GSS_CHECKSUM)
+        && octets.len() >= GSS_CHECKSUM_LENGTH
+        && octets[..4] == [16, 0, 0, 0]
+}
+
+/// The hash that a client is held to.
+fn channel_held(server: &Kerberos) -> Option<[u8; 16]>
+    ensures { result ≡ channel_held server.now }
+{
+    if server.rules.has(Rules::BOUND_TO_ITS_CHANNEL) {
+        server.channel
+    } else {
+        None
+    }
+}
+
+fn is_gss_if_there(checksum: &Option<Checksum>) -> bool
+    ensures { result ≡ is_gss_if_there checksum.now }
+{
+    match checksum {
+        Some(checksum) => is_gss(checksum),
+        None => false,
+    }
+}
+
+/// The MD5 of the client's bindings in such a checksum, and no octets in any other.
+pub(crate) fn hash_told(checksum: &Option<Checksum>) -> &[u8]
+    ensures { result.now ≡ hash_told checksum.now }
+{
+    match checksum {
+        Some(checksum) if is_gss(checksum) => &checksum.checksum.as_slice()[4..20],
+        _ => &[],
+    }
+}
+
+/// The GSS flags that the client asked for.
+pub(crate) fn gss_flags(checksum: &Option<Checksum>) -> Option<u32>
+    ensures { result ≡ gss_flags checksum.now }
+{
+    match checksum {
+        Some(checksum) if is_gss(checksum) => {
+            let octets = checksum.checksum.as_slice();
+            Some(u32::from_le_bytes([
+                octets[20], octets[21], octets[22], octets[23],
+            ]))
+        }
+        _ => None,
+    }
+}
+
+/// Where a client is held to bindings, whether its checksum tells some.
+fn tells_bindings(channel: Option<[u8; 16]>, checksum: &Option<Checksum>) -> bool
+    ensures { result ≡ tells_bindings channel checksum.now }
+{
+    match channel {
+        Some(_) => is_gss_if_there(checksum),
+        None => true,
+    }
+}
+
+/// Whether they are those of the channel.
+fn is_bound(channel: Option<[u8; 16]>, checksum: &Option<Checksum>) -> bool
+    ensures { result ≡ is_bound channel checksum.now }
+{
+    match channel {
+        Some(hash) => is_equal(hash_told(checksum), &hash),
+        None => true,
+    }
+}
+
+fn check_validity(rules: Rules, part: &EncTicketPart) -> Result<(), Cause>
+    ensures { Holds causes.NotYet (is_validated rules part.now) result }
+{
+    hold(is_validated(rules, part), Cause::NotYet)
+}
+
+fn check_transit(rules: Rules, part: &EncTicketPart) -> Result<(), Cause>
+    ensures { Holds causes.Transited (is_transit_checked rules part.now) result }
+{
+    hold(is_transit_checked(rules, part), Cause::Transited)
+}
+
+fn check_told(channel: Option<[u8; 16]>, checksum: &Option<Checksum>) -> Result<(), Cause>
+    ensures { Holds causes.Checksum (tells_bindings channel checksum.now) result }
+{
+    hold(tells_bindings(channel, checksum), Cause::Checksum)
+}
+
+fn check_bound(channel: Option<[u8; 16]>, checksum: &Option<Checksum>) -> Result<(), Cause>
+    ensures { Holds causes.Bindings (is_bound channel checksum.now) result }
+{
+    hold(is_bound(channel, checksum), Cause::Bindings)
+}
+
+/// The ticket and the authenticator are as the rules ask.
+pub(crate) fn allow(server: &Kerberos, request: &Request) -> Result<(), Cause>
+    ensures { Allows server.now request.now result }
+{
+    check_validity(server.rules, &request.part)?;
+    check_transit(server.rules, &request.part)?;
+    let channel = channel_held(server);
+    check_told(channel, &request.authenticator.cksum)?;
+    check_bound(channel, &request.authenticator.cksum)
+}
