@@ -18,7 +18,7 @@ pub mod LeftLemmas
 pub mod BookLemmas
 pub mod GateLemmas
 pub mod AdmittedLemmas
-pub mod NoRules
 pub mod SetLemmas
+pub mod RulesLemmas
 pub mod WindowLemmas
 pub mod OpenedLemmas

@@ -26,6 +26,7 @@ use Rattle.krb_admission.specs.Complete.{is_known_options, is_mutual, has_good_s
 use Rattle.krb_admission.specs.Requests.{is_same_client, ask_of}
 use Rattle.krb_admission.specs.Tokens.{IsApReq}
 use Rattle.krb_admission.specs.declared.request.Request.{Request}
+use Rattle.krb_script.specs.Script.{at_id}
 use Rattle.krb_script.specs.declared.item.Event.{Event}
 use Rattle.krb_machine.specs.Policy.{State, reached, server_flags, draw_of}
 use Rattle.krb_machine.specs.declared.connection.Connection.{Connection}
@@ -66,6 +67,10 @@ pub record IsAllowed (context : Kerberos) (request : Request) : Type 0 where
   pub told : tells_bindings (channel_held context) request.authenticator.cksum ≡ true
   -- and they are those of this channel (RFC 4121, section 4.1.1.2)
   pub bound : is_bound (channel_held context) request.authenticator.cksum ≡ true
+
+-- each connection of a service goes by these rules
+abbrev pub GoBy : {G : Type 0} → Rules → State G → Type 0
+GoBy rules state = (id : ℕ) (connection : Connection) → at_id id state.connections ≡ Some connection → connection.context.rules ≡ rules
 
 -- its client is known here: by a user name, or by a rule with any name that has a component (RFC 4120, section 6.2). Its options are known,
 -- and a subkey that is to be taken fits its type

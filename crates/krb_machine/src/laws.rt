@@ -2,15 +2,13 @@
 
 ghost use Rattle.std.specs.List.{IsDistinct as IsDistinctBy};
 ghost use Rattle.std.specs.Ordering.{int_eq};
-ghost use Rattle.std.specs.Prelude.{◌≡◌, ℕ, List, [], Result, ◌≢◌, ◌↔◌, ◌⊎◌, ◌++◌, length, true, is_some, Some, None, Ok, Err};
+ghost use Rattle.std.specs.Prelude.{◌≡◌, ℕ, List, Result, ◌≢◌, ◌↔◌, ◌⊎◌, ◌++◌, length, true, Some, None, Ok, Err};
 ghost use Rattle.sspi_core.specs.declared.cause.Cause.{Cause};
 ghost use Rattle.sspi_core.specs.declared.draw.Draw.{Draw};
 ghost use Rattle.sspi_generator.specs.declared.network.NetFault.{NetFault};
 ghost use Rattle.krb_context.specs.Rules.{no_rules};
 ghost use Rattle.krb_context.specs.declared.context.Kerberos.{Kerberos};
-ghost use Rattle.krb_messages.specs.declared.authenticator.Authenticator.{Authenticator};
-ghost use Rattle.krb_messages.specs.declared.enc_ticket_part.EncTicketPart.{EncTicketPart};
-ghost use Rattle.krb_messages.specs.declared.principal_name.PrincipalName.{PrincipalName};
+ghost use Rattle.krb_context.specs.declared.rules.Rules.{Rules};
 ghost use Rattle.krb_initiator.specs.Beginnings.{BeginsInitiation};
 ghost use Rattle.krb_initiator.specs.declared.options.InitOptions.{InitOptions};
 ghost use Rattle.krb_initiator.specs.declared.seeker.Initiation.{Initiation};
@@ -25,18 +23,17 @@ ghost use Rattle.krb_replay.specs.declared.ask.Verdict.{Verdict};
 ghost use Rattle.krb_replay.specs.declared.ask.Verdict.TheVariants.{Admitted};
 ghost use Rattle.krb_admission.specs.Accepts.{asks_dce_style, refusal, BeginsAdmission, FinishesAdmission};
 ghost use Rattle.krb_admission.specs.Admission.{answer_for};
-ghost use Rattle.krb_admission.specs.Clients.{client_of, is_known_client, user_of};
-ghost use Rattle.krb_admission.specs.Requests.{is_same_client, record_tag, ask_of};
+ghost use Rattle.krb_admission.specs.Requests.{ask_of};
 ghost use Rattle.krb_admission.specs.declared.request.Request.{Request};
 ghost use Rattle.krb_admission.specs.declared.admission.Admission.{Admission};
-ghost use Rattle.krb_script.specs.declared.endpoint.Endpoint.{Endpoint};
+ghost use Rattle.krb_script.specs.Script.{Setup};
 ghost use Rattle.krb_script.specs.declared.item.Event.{Event};
 ghost use Rattle.krb_machine.specs.declared.connection.Connection.{Connection};
 ghost use Rattle.krb_machine.specs.declared.reply.Reply.{Reply};
 ghost use Rattle.krb_machine.specs.Policy.{State, Steps, Runs, Says, Brings, reached, reply_of, server_flags, draw_of};
-ghost use Rattle.krb_machine.specs.Described.{connection_of, Remembers, with_gate};
+ghost use Rattle.krb_machine.specs.Described.{Remembers, service_of, with_gate};
 ghost use Rattle.krb_machine.specs.Left.{record_left, records_left};
-ghost use Rattle.krb_machine.specs.Admitted.{IsAllowed, IsAdmissible, reply_to, service_behind};
+ghost use Rattle.krb_machine.specs.Admitted.{IsAllowed, GoBy, IsAdmissible, reply_to, service_behind};
 ghost use Rattle.krb_machine.specs.Reply.{admits_peer};
 ghost use Rattle.krb_machine.specs.Opened.{Lists, StandFor, AreJudgedBy, lists_behind, BringOctets};
 ghost use Rattle.krb_machine.specs.Serve.{Written, end_of};
@@ -101,17 +98,17 @@ pub fn admitted_exactly_where()
         → (admissible : IsAdmissible before.gate.skew (with_gate before h) event) → reply ≡ reply_to admissible }
 {}
 
-/// A context without rules, as each that the lines of an input describe, asks nothing besides. The clients of a ticket and of its
-/// authenticator are the same where realm, type and components are, a client is known and named by its user name alone, and a record has no
-/// tag.
+/// A context without rules allows every request, and each connection that the lines of an input describe is without them. How clients are
+/// compared then, which are known, and what their records are, the laws of `krb_admission` say whose names begin so.
 pub fn without_rules_nothing_is_asked_besides()
-    ensures lines { (skew : ℕ) (endpoint : Endpoint) → (connection_of skew endpoint).context.rules ≡ no_rules }
     ensures allowed { (context : Kerberos) (request : Request) → context.rules ≡ no_rules → IsAllowed context request }
-    ensures same_client { (part : EncTicketPart) (authenticator : Authenticator)
-        → (is_same_client no_rules part authenticator ≡ true) ↔ ((part.crealm ≡ authenticator.crealm) × (part.cname ≡ authenticator.cname)) }
-    ensures known { (name : PrincipalName) (realm : List ℕ) → is_known_client no_rules name realm ≡ is_some (client_of name realm) }
-    ensures user { (name : PrincipalName) (realm : List ℕ) → user_of no_rules name realm ≡ client_of name realm }
-    ensures tag { (request : Request) → record_tag no_rules request ≡ [] }
+    ensures lines { (setup : Setup) → GoBy no_rules (service_of setup) }
+{}
+
+/// No event changes the rules of a connection, whatever the gate.
+pub fn rules_stay<G: ReplayGate>()
+    ensures { (rules : Rules) (state after : State G) (events : List Event) (replies : List Reply)
+        → Runs G.admits state events replies after → GoBy rules state → GoBy rules after }
 {}
 
 /// An event in time, at an acceptor that waits for a token, whose AP-REQ passes every check and is admitted by the gate that
