@@ -40,7 +40,7 @@ use Rattle.krb_machine.specs.Described.{skew_of, service_of, connection_in, conn
 use Rattle.krb_machine.specs.Exchanges.{answer_of, LeadsTo}
 use Rattle.krb_machine.specs.Initiations.{SetsOut}
 use Rattle.krb_machine.specs.MessageCalls.{is_call, IsSealedBy, IsOpenedBy, IsSignedBy, Calls}
-use Rattle.krb_machine.specs.Policy.{State, ready, reached, heard, awaited, is_initiator, Settles, AnswersCall, TakesAnswer, TakesTurn, Behind, TakesPart, StepsOnward, StepsBy, Steps, Runs}
+use Rattle.krb_machine.specs.Policy.{State, ready, reached, heard, awaited, is_initiator, Settles, AnswersCall, TakesAnswer, TakesTurn, Behind, TakesPart, StepsOnward, StepsBy, Runs}
 use Rattle.krb_machine.specs.declared.connection.Connection.{Connection}
 use Rattle.krb_machine.specs.declared.exchange.Step.{Step}
 use Rattle.krb_machine.specs.declared.exchange.Step.TheVariants.{Asks, Ends as EndsStep, Refused as RefusesStep}
