@@ -141,7 +141,7 @@ reads_token dce user_to_user message rep h read =
 
 -- ---- one exchange
 
-module _ (server : Kerberos) (draw : Draw) (client : UserName) (offer : Offer) (for_it : IsFor server client offer) (is : IsDraw draw) where
+module _ (server : Kerberos) (draw : Draw) (client : Option UserName) (offer : Offer) (for_it : IsFor server client offer) (is : IsDraw draw) where
   abbrev suite : CipherSuite
   suite = offer.suite
 
