@@ -69,12 +69,15 @@ unfolding Checks
 stopped keys channel token draw own connection error waits refuses = record {
   so = λ ne.
       let there = refuses.so ne in
-      let C : Kerberos → Type 0 = λ c. Checks keys c token draw (Err there.0) in
-      (there.0, there.1, record {
-        waiting = new_connection waits.config (keyless keys.properties) channel waits.number;
-        waits = record { config = waits.config; number = waits.number; waits = refl };
-        judges = subst C waits.waits there.2;
-      });
+      let C : Kerberos → Type 0 = λ c. Checks keys c token draw (Err there.0) in (
+        there.0,
+        there.1,
+        record {
+          waiting = new_connection waits.config (keyless keys.properties) channel waits.number;
+          waits = record { config = waits.config; number = waits.number; waits = refl };
+          judges = subst C waits.waits there.2;
+        },
+      );
 }
 
 -- what passes at a connection that waits passes at the same with the service's name
