@@ -6,6 +6,7 @@
 
 mod accept;
 mod acceptor;
+mod asked;
 mod codes;
 mod copies;
 mod handed;
