@@ -123,6 +123,8 @@ unsafe extern "C" {
     pub fn mk_session_peer(session: *mut Handle, out: *mut u8, room: usize) -> Reply;
     pub fn mk_session_client(session: *mut Handle, out: *mut u8, room: usize) -> Reply;
     pub fn mk_session_times(session: *mut Handle, out: *mut Times) -> Reply;
+    pub fn mk_session_flags(session: *mut Handle) -> Reply;
+    pub fn mk_session_ticket_flags(session: *mut Handle) -> Reply;
     pub fn mk_session_key(session: *mut Handle, out: *mut u8, room: usize) -> Reply;
     pub fn mk_session_set_rules(session: *mut Handle, rules: u32) -> Reply;
     pub fn mk_session_free(session: *mut Handle);

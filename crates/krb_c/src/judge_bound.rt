@@ -35,10 +35,10 @@ fn data_bindings(alloc: Global, octets: &[u8]) -> Result<ChannelBindings, OutOfM
     })
 }
 
-/// The hash of a channel's bindings, where they are not too long.
+/// The hash of a channel's bindings, where the data are not too long.
 fn channel_of(alloc: Global, octets: &[u8]) -> Result<[u8; 16], Failure>
     ensures hash { IfOk result (λ hash. hash ≡ channel_of octets.now) }
-    ensures memory { IfErr result (RefusedAs (λ error. error ≡ error_of causes.Memory)) }
+    ensures fails { IfErr result (RefusedAs (λ error. error ≡ error_of causes.Memory)) }
 {
     let bindings = match data_bindings(alloc, octets) {
         Ok(bindings) => bindings,
@@ -46,12 +46,12 @@ fn channel_of(alloc: Global, octets: &[u8]) -> Result<[u8; 16], Failure>
     };
     match channel_hash(&bindings) {
         Ok(hash) => Ok(hash),
-        Err(_) => Err(Failure::Argument),
+        Err(_error) => Err(Failure::Argument),
     }
 }
 
 /// A candidate in a box.
-fn candidate_of(
+fn boxed_candidate(
     alloc: Global,
     service: &Service,
     channel: [u8; 16],
@@ -65,16 +65,35 @@ fn candidate_of(
     Ok(boxed(alloc, candidate)?)
 }
 
+/// The candidate of a token, held to the channel that has these data.
+fn candidate_of(
+    alloc: Global,
+    service: &Service,
+    token: &[u8],
+    octets: &[u8],
+    draw: &Draw,
+) -> Result<Box<Candidate>, Failure>
+    ensures passes { IfOk result (λ candidate. IsCandidate service.now.keys (Some (channel_of octets.now)) token.now draw.now candidate.value) }
+    ensures refused { IfErr result (RefusedAs (Refuses places.Elsewhere (Stops service.now.keys (Some (channel_of octets.now)) token.now draw.now))) }
+{
+    let channel = channel_of(alloc, octets)?;
+    match boxed_candidate(alloc, service, channel, token, draw) {
+        Ok(candidate) => Ok(candidate),
+        Err(error) => Err(Failure::Refused(error)),
+    }
+}
+
 fn judge_at(
     alloc: Global,
     acceptor: &mut Acceptor,
     to: &mut Judgement,
-    channel: [u8; 16],
     token: &[u8],
+    octets: &[u8],
     draw: &Draw,
 ) -> Result<usize, Failure>
-    ensures judges { IfOk result (λ count. JudgesTo (Some channel) token.now draw.now acceptor.old.place.value to.old.place.value count to.new.place.value) }
-    ensures fails { IfErr result (JudgesNot (Some channel) token.now draw.now acceptor.old.place.value) }
+    ensures judges { IfOk result (λ count. JudgesTo (Some (channel_of octets.now)) token.now draw.now
+        acceptor.old.place.value to.old.place.value count to.new.place.value) }
+    ensures fails { IfErr result (JudgesNot (Some (channel_of octets.now)) token.now draw.now acceptor.old.place.value) }
     ensures acceptor { acceptor.new.place.value ≡ acceptor.old.place.value }
     ensures stays { OnErr result (to.new.place.value ≡ to.old.place.value) }
 {
@@ -84,8 +103,49 @@ fn judge_at(
     let Some(service) = acceptor.take(alloc) else {
         return Err(Failure::Handle);
     };
-    let judged = candidate_of(alloc, &service, channel, token, draw);
+    let judged = candidate_of(alloc, &service, token, octets, draw);
     acceptor.put(service);
     to.put(judged?);
     Ok(0)
+}
+
+fn judge_bound(
+    alloc: Global,
+    acceptor: &mut Acceptor,
+    to: &mut Judgement,
+    token: &[u8],
+    octets: &[u8],
+    moment: &Moment,
+) -> Result<usize, Failure>
+    ensures judges { IfOk result (λ count. JudgesTo (Some (channel_of octets.now)) token.now (draw_of moment.now)
+        acceptor.old.place.value to.old.place.value count to.new.place.value) }
+    ensures fails { IfErr result (JudgesNot (Some (channel_of octets.now)) token.now (draw_of moment.now) acceptor.old.place.value) }
+    ensures acceptor { acceptor.new.place.value ≡ acceptor.old.place.value }
+    ensures stays { OnErr result (to.new.place.value ≡ to.old.place.value) }
+{
+    let draw = draw_of(moment)?;
+    judge_at(alloc, acceptor, to, token, octets, &draw)
+}
+
+/// The first half as `mk_judge` has it, of a client that is held to its channel: the data are those that `mk_initiator_bind` takes.
+///
+/// REFUSED says which check failed first: after those of `mk_judge` Checksum, where the client's checksum has no room for bindings, and
+/// Bindings, where it gave others, or none. ARGUMENT also where the data have over 2^24 octets.
+#[unsafe(no_mangle)]
+pub extern "C" fn mk_judge_bound(
+    alloc: Global,
+    acceptor: &mut Acceptor,
+    to: &mut Judgement,
+    token: &[u8],
+    octets: &[u8],
+    moment: &Moment,
+) -> Reply
+    ensures told { (answer : Result ℕ Failure) × (result ≡ reply_of answer)
+        × IfOk answer (λ count. JudgesTo (Some (channel_of octets.now)) token.now (draw_of moment.now)
+        acceptor.old.place.value to.old.place.value count to.new.place.value)
+        × IfErr answer (JudgesNot (Some (channel_of octets.now)) token.now (draw_of moment.now) acceptor.old.place.value)
+        × OnErr answer (to.new.place.value ≡ to.old.place.value) }
+    ensures acceptor { acceptor.new.place.value ≡ acceptor.old.place.value }
+{
+    reply_of(judge_bound(alloc, acceptor, to, token, octets, moment))
 }

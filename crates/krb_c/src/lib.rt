@@ -13,6 +13,7 @@ mod handed;
 mod handles;
 mod initiator;
 mod judge;
+mod judge_bound;
 mod keytab;
 mod messages;
 mod names;
