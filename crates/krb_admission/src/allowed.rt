@@ -110,9 +110,7 @@ pub(crate) fn gss_flags(checksum: &Option<Checksum>) -> Option<u32>
     match checksum {
         Some(checksum) if is_gss(checksum) => {
             let octets = checksum.checksum.as_slice();
-            Some(u32::from_le_bytes([
-                octets[20], octets[21], octets[22], octets[23],
-            ]))
+            Some(u32::from_le_bytes([octets[20], octets[21], octets[22], octets[23]]))
         }
         _ => None,
     }

@@ -96,11 +96,7 @@ pub(crate) fn user_of(
 }
 
 /// Whether the client of this user name, if it has one, is known here.
-pub(crate) fn is_known_client(
-    rules: Rules,
-    cname: &PrincipalName,
-    user: &Option<Username>,
-) -> bool
+pub(crate) fn is_known_client(rules: Rules, cname: &PrincipalName, user: &Option<Username>) -> bool
     ensures { (crealm : List ℕ) → user.now ≡ user_of rules cname.now crealm → result ≡ is_known_client rules cname.now crealm }
 {
     if rules.has(Rules::CLIENTS_OF_ANY_NAME) {

@@ -50,9 +50,14 @@ records a b = (
       let r = parts (pointwise nat_eq a.realm b.realm) (principal_eq a.name b.name && pointwise nat_eq a.tag b.tag) q.1 in
       let s = parts (principal_eq a.name b.name) (pointwise nat_eq a.tag b.tag) r.1 in
       one_record a b ((signed_Decides a.ctime b.ctime).0 p.0) ((texts a.cusec b.cusec).0 q.0) ((texts a.realm b.realm).0 r.0) ((principals a.name b.name).0 s.0)
-        ((texts a.tag b.tag).0 s.1),
-  λ e. subst (λ (x : Record). record_eq a x ≡ true) e (rw ((signed_Decides a.ctime a.ctime).1 refl, (texts a.cusec a.cusec).1 refl, (texts a.realm a.realm).1 refl, own_principal a.name,
-      (texts a.tag a.tag).1 refl)),
+      ((texts a.tag b.tag).0 s.1),
+  λ e. subst (λ (x : Record). record_eq a x ≡ true) e (rw (
+    (signed_Decides a.ctime a.ctime).1 refl,
+    (texts a.cusec a.cusec).1 refl,
+    (texts a.realm a.realm).1 refl,
+    own_principal a.name,
+    (texts a.tag a.tag).1 refl,
+  )),
 )
 
 one_ask : (a b : Ask) → a.entry ≡ b.entry → a.sname ≡ b.sname → a.start ≡ b.start → a.end ≡ b.end → a.moment ≡ b.moment → a ≡ b
