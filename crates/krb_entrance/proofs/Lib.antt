@@ -1,4 +1,4 @@
 mod Named
-mod AnswerLemmas
+mod OneCall
 mod TurnLemmas
 mod TurnedAway
