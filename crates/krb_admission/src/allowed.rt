@@ -14,6 +14,7 @@ ghost use Rattle.krb_admission.specs.Allowed.{
   channel_held,
   tells_bindings,
   is_bound,
+  low_word,
   Allows,
   gss_flags,
 };
@@ -103,15 +104,22 @@ pub(crate) fn hash_told(checksum: &Option<Checksum>) -> &[u8]
     }
 }
 
+/// Four octets as a number, the lowest first.
+fn low_word(octets: &[u8]) -> Option<u32>
+    ensures { result ≡ low_word octets.now }
+{
+    match octets {
+        [a, b, c, d, ..] => Some(u32::from_le_bytes([*a, *b, *c, *d])),
+        _ => None,
+    }
+}
+
 /// The GSS flags that the client asked for.
 pub(crate) fn gss_flags(checksum: &Option<Checksum>) -> Option<u32>
     ensures { result ≡ gss_flags checksum.now }
 {
     match checksum {
-        Some(checksum) if is_gss(checksum) => {
-            let octets = checksum.checksum.as_slice();
-            Some(u32::from_le_bytes([octets[20], octets[21], octets[22], octets[23]]))
-        }
+        Some(checksum) if is_gss(checksum) => low_word(&checksum.checksum.as_slice()[20..]),
         _ => None,
     }
 }
