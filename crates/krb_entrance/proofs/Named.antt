@@ -83,8 +83,8 @@ record Known (request : Request) (admission : Admission) : Type 0 where
   named : has_component request.authenticator.cname.name_string ≡ true
   client : admission.client ≡ user_of rfc_rules request.authenticator.cname request.authenticator.crealm
 
-client_in : (mutual dce user_to_user : Bool) (number : ℕ) (draw : Draw) (request : Request) (client : Option UserName)
-    → Admission.client (if mutual then mutual_admission dce user_to_user number draw request client else one_way_admission number request client) ≡ client
+client_in : (asks dce user_to_user : Bool) (number : ℕ) (draw : Draw) (request : Request) (client : Option UserName)
+    → Admission.client (if asks then mutual_admission dce user_to_user number draw request client else one_way_admission number request client) ≡ client
 unfolding mutual_admission one_way_admission
 client_in true dce user_to_user number draw request client = refl
 client_in false dce user_to_user number draw request client = refl
@@ -124,9 +124,11 @@ module _ (properties : ServerProperties) (config : KerberosConfig) (channel : Op
       × ((name : UserName) → user_of rfc_rules request.authenticator.cname request.authenticator.crealm ≡ Some name → name_of left ≡ Ok name)
   unfolding settled
   made_named request (Ok admission) answer left knows made =
-      let known = knows admission refl in
-      (known.named, λ name is. ap name_of made.1
-      ∙ ap (λ (c : Option UserName). name_of (settled (new_connection config (keyless properties) channel number) (record admission { client = c }))) (known.client ∙ is))
+      let known = knows admission refl in (
+        known.named,
+        λ name is. ap name_of made.1
+            ∙ ap (λ (c : Option UserName). name_of (settled (new_connection config (keyless properties) channel number) (record admission { client = c }))) (known.client ∙ is),
+      )
   made_named request (Err cause) answer left knows made = let e = made.0 in absurd cc
 
 -- a candidate's gate, at a connection that is known to wait
