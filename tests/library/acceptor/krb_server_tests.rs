@@ -8,8 +8,12 @@ mod established;
 mod gates;
 mod halves;
 mod long;
+mod recorded;
+mod records;
+mod rules;
 mod states;
 mod third_leg;
+mod told;
 
 use bitflags::Flags;
 use krb_conf::{Env, KerberosConfig};
