@@ -4,6 +4,7 @@ use Rattle.krb_replay.specs.declared.ask.Ask.{Ask}
 use Rattle.krb_replay.specs.declared.ask.Verdict.{Verdict}
 use Rattle.krb_context.specs.declared.context.Kerberos.{Kerberos}
 use Rattle.krb_context.specs.declared.rules.Rules.{Rules}
+use Rattle.krb_context.specs.declared.server.ServerProperties.{ServerProperties}
 use Rattle.krb_context.specs.States.{is_waiting}
 use Rattle.sspi_core.specs.declared.draw.Draw.{Draw}
 use Rattle.sspi_core.specs.declared.cause.Cause.{Cause}
@@ -38,6 +39,10 @@ IsPrepared prepared = (server : Kerberos) × (dce : Bool) × (token : List ℕ) 
 abbrev pub JudgesApReq : Kerberos → Bool → List ℕ → Draw → Result Prepared Cause → Type 0
 JudgesApReq server dce token draw (Ok prepared) = Prepares server dce token draw prepared
 JudgesApReq server dce token draw (Err cause) = BeginsAdmission server dce token (Err cause)
+
+-- the context with these names and keys of services in the place of its own
+abbrev pub with_keys : ServerProperties → Kerberos → Kerberos
+with_keys keys server = record server { server = Some keys }
 
 -- the question to the gate
 abbrev pub question : Prepared → Ask

@@ -6,7 +6,7 @@ ghost use Rattle.sspi_core.specs.Checks.{Answers, Holds};
 ghost use Rattle.krb_admission.specs.Admission.{IsAnswerable};
 ghost use Rattle.krb_context.specs.States.{is_waiting};
 ghost use Rattle.krb_admission.specs.Accepts.{refusal, BeginsAdmission, FinishesAdmission, MakesAnswer};
-ghost use Rattle.krb_admission.specs.Halves.{JudgesApReq, AdmitsPrepared, outcome_behind};
+ghost use Rattle.krb_admission.specs.Halves.{with_keys, JudgesApReq, AdmitsPrepared, outcome_behind};
 
 use crate::admission::{Acceptor, Admission, Answer, admission_of, settle};
 use crate::allowed::allow;
@@ -14,7 +14,7 @@ use crate::complete::complete;
 use crate::judged::Judged;
 use crate::request::{Request, ask_of, read_request};
 use crate::third_leg::properties;
-use krb_context::Kerberos;
+use krb_context::{KeptKey, Kerberos, ServerProperties};
 use krb_der::{OutOfMemory, boxed};
 use krb_replay::{ReplayGate, Verdict};
 use sspi_core::{Cause, Draw, hold};
@@ -80,6 +80,46 @@ pub fn judge(
     ensures judges { Answers (JudgesApReq server.old dce token.now draw.now) result }
 {
     let request = begin(alloc, server, dce, token)?;
+    let held = boxed(alloc, request)?;
+    let outcome = finish(alloc, server, dce, draw, &held)?;
+    Ok(Judged {
+        request: held,
+        outcome,
+        moment: draw.moment,
+        rules: server.rules,
+    })
+}
+
+/// The checks before the gate, by keys that are lent. None of them is kept.
+fn begin_with(
+    alloc: Global,
+    keys: &ServerProperties,
+    server: &Kerberos,
+    dce: bool,
+    token: &[u8],
+) -> Result<Request, Cause>
+    ensures { Answers (BeginsAdmission (with_keys keys.now server.now) dce token.now) result }
+{
+    check_state(server)?;
+    let mut kept = KeptKey::new();
+    let request = read_request(alloc, server.rules, keys, &mut kept, dce, token)?;
+    allow(server, &request)?;
+    Ok(request)
+}
+
+/// Judges an AP-REQ as [`judge`] does, by the names and keys of services that are lent, in the place of the context's own: so that
+/// many contexts go by one table of keys, and none has a copy. [`admit`] needs no key: the context may have none.
+pub fn judge_with(
+    alloc: Global,
+    keys: &ServerProperties,
+    server: &Kerberos,
+    dce: bool,
+    token: &[u8],
+    draw: &Draw,
+) -> Result<Judged, Cause>
+    ensures { Answers (JudgesApReq (with_keys keys.now server.now) dce token.now draw.now) result }
+{
+    let request = begin_with(alloc, keys, server, dce, token)?;
     let held = boxed(alloc, request)?;
     let outcome = finish(alloc, server, dce, draw, &held)?;
     Ok(Judged {

@@ -25,6 +25,6 @@ mod whole;
 pub use admission::Answer;
 pub use ap_rep::generate_ap_rep;
 pub use client::client_upn;
-pub use halves::{admit, judge};
+pub use halves::{admit, judge, judge_with};
 pub use judged::{Judged, TicketTimes};
 pub use whole::judge_token;

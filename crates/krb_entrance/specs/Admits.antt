@@ -1,31 +1,52 @@
--- What a service admits.
-use Rattle.std.specs.Prelude.{◌≡◌, ℕ, List, [], Some, false, Result, Ok, Err}
-use Rattle.krb_conf.specs.declared.config.KerberosConfig.{KerberosConfig}
+-- What a service admits, in one call.
+use Rattle.std.specs.Prelude.{◌≡◌, ◌⊎◌, ℕ, List, [], Option, Some, true, false, Result, Ok, Err}
+use Rattle.std.specs.Global.{Box}
+use Rattle.krb_admission.specs.Clients.{user_of, has_component}
+use Rattle.krb_admission.specs.declared.admission.Answer.{Answer}
+use Rattle.krb_admission.specs.declared.request.Request.{Request}
 use Rattle.krb_conf.specs.declared.env.Env.{Env}
 use Rattle.krb_context.specs.declared.context.Kerberos.{Kerberos}
 use Rattle.krb_context.specs.declared.server.ServerProperties.{ServerProperties}
-use Rattle.krb_context.specs.Contexts.{new_context}
-use Rattle.krb_context.specs.Params.{default_params}
 use Rattle.krb_context.specs.Queries.{name_of}
 use Rattle.krb_context.specs.Rules.{rfc_rules}
+use Rattle.krb_entrance.specs.Candidates.{Passes, Stops, IsLetIn, TurnsAway, client_told}
+use Rattle.krb_entrance.specs.Connections.{Waits}
+use Rattle.krb_entrance.specs.declared.candidate.Candidate.{Candidate}
+use Rattle.krb_entrance.specs.declared.keys.Keys.{Keys}
 use Rattle.krb_replay.specs.Book.{Book, Follows, StandsFor}
 use Rattle.krb_server.specs.Whole.{AcceptsWhole}
 use Rattle.krb_server.specs.declared.accept.Accepted.{Accepted}
 use Rattle.krb_server.specs.declared.accept.Accepted.TheVariants.{Done, Run}
+use Rattle.krb_sessions.specs.declared.client.Client.{Client}
+use Rattle.krb_sessions.specs.declared.session.Session.{Session}
 use Rattle.sspi_core.specs.declared.cause.Cause.{Cause}
 use Rattle.sspi_core.specs.declared.cause.Cause.TheVariants.{Credentials}
 use Rattle.sspi_core.specs.declared.draw.Draw.{Draw}
 use Rattle.sspi_core.specs.Usernames.{UserName}
 
--- a new connection of the service, which goes by the RFCs
-abbrev pub new_connection : KerberosConfig → ServerProperties → ℕ → Kerberos
-new_connection config service number = record (new_context (default_params 22 24) config (Some service) number) { rules = rfc_rules }
+-- the token passes all checks: those before the book, the book's, and those after it
+pub record Admits (keys : Keys) (channel : Option (List ℕ)) (token : List ℕ) (draw : Draw) (old : Book) (session : Session) (new : Book) : Type 0 where
+  pub candidate : Candidate
+  pub passes : Passes keys channel token draw candidate.judged candidate.connection
+  pub client : candidate.client.value ≡ client_told candidate.judged.request
+  pub let_in : IsLetIn candidate old session new
 
--- a connection of the service that waits for its client's token
-pub record Waits (service : ServerProperties) (connection : Kerberos) : Type 0 where
-  pub config : KerberosConfig
-  pub number : ℕ
-  pub waits : connection ≡ new_connection config service number
+-- a check before the book refuses it, and the book is as before
+pub record StopsBefore (keys : Keys) (channel : Option (List ℕ)) (token : List ℕ) (draw : Draw) (old new : Book) (answer : Result Answer Cause) : Type 0 where
+  pub cause : Cause
+  pub answer_is : answer ≡ Err cause
+  pub stops : Stops keys channel token draw (Err cause)
+  pub book_stays : new ≡ old
+
+-- the book refuses it, or a check after it, and the book is as that leaves it
+pub record StopsAfter (keys : Keys) (channel : Option (List ℕ)) (token : List ℕ) (draw : Draw) (old new : Book) (answer : Result Answer Cause) : Type 0 where
+  pub candidate : Candidate
+  pub passes : Passes keys channel token draw candidate.judged candidate.connection
+  pub turns : TurnsAway candidate old new answer
+
+-- it is refused so
+abbrev pub Rejects : Keys → Option (List ℕ) → List ℕ → Draw → Book → Book → Result Answer Cause → Type 0
+Rejects keys channel token draw old new answer = StopsBefore keys channel token draw old new answer ⊎ StopsAfter keys channel token draw old new answer
 
 -- no variable and no file
 abbrev pub no_env : Env
@@ -37,28 +58,20 @@ answer_in (Ok (Done status answer admits)) = Ok answer
 answer_in (Ok (Run run)) = Err Credentials
 answer_in (Err cause) = Err cause
 
--- what a token is answered at a connection: what the acceptor answers, the question to the book among its checks
-pub record LetsIn (waiting : Kerberos) (old : Book) (token : List ℕ) (draw : Draw) (answer : Result (List ℕ) Cause)
+-- what the acceptor's one call answers to a token at a connection of the services, the question to the book among its checks
+pub record Judges (services : ServerProperties) (channel : Option (List ℕ)) (old : Book) (token : List ℕ) (draw : Draw) (answer : Result (List ℕ) Cause)
     (connection : Kerberos) (new : Book) : Type 0 where
+  pub waiting : Kerberos
+  pub waits : Waits services channel waiting
   pub accepted : Result Accepted Cause
   pub accepts : AcceptsWhole (Follows StandsFor) waiting false token no_env draw old accepted connection new
   pub answer_is : answer ≡ answer_in accepted
 
--- and at a connection of the service that waited for one
-pub record Judges (service : ServerProperties) (old : Book) (token : List ℕ) (draw : Draw) (answer : Result (List ℕ) Cause)
-    (connection : Kerberos) (new : Book) : Type 0 where
-  pub waiting : Kerberos
-  pub waits : Waits service waiting
-  pub lets_in : LetsIn waiting old token draw answer connection new
-
--- the token passes all checks
-abbrev pub Admits : ServerProperties → Book → List ℕ → Draw → List ℕ → Kerberos → Book → Type 0
-Admits service old token draw answer connection new = Judges service old token draw (Ok answer) connection new
-
--- it is refused so, and the book is as the checks leave it
-abbrev pub Rejects : ServerProperties → Book → List ℕ → Draw → Book → Result (List ℕ) Cause → Type 0
-Rejects service old token draw new answer = (connection : Kerberos) × Judges service old token draw answer connection new
-
--- a name is known of the client
-abbrev pub HasName : Kerberos → Type 0
-HasName connection = (client : UserName) × (name_of connection ≡ Ok client)
+-- a session's client is known: by its whole name, which is that of the ticket, and by a user name where it has one
+pub record IsKnown (session : Session) : Type 0 where
+  pub request : Request
+  pub client : Box Client
+  pub kept : session.client ≡ Some client
+  pub told : client.value ≡ client_told request
+  pub named : has_component client.value.name.name_string ≡ true
+  pub user : (name : UserName) → user_of rfc_rules request.authenticator.cname request.authenticator.crealm ≡ Some name → name_of session.connection ≡ Ok name

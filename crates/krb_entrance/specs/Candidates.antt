@@ -1,43 +1,57 @@
--- The halves of an admission at a connection of the service that waited for its client's token.
-use Rattle.std.specs.Prelude.{◌≡◌, ℕ, List, Some, false, Result, Ok}
-use Rattle.krb_admission.specs.Halves.{Prepared, Prepares, JudgesApReq, AdmitsPrepared}
+-- The halves of an admission at a connection that waited for its client's token.
+use Rattle.std.specs.Prelude.{◌≡◌, ℕ, ◌≤◌, nat_le, List, Option, Some, false, length, Result, Ok}
+use Rattle.krb_admission.specs.Allowed.{gss_flags, hash_told}
+use Rattle.krb_admission.specs.Halves.{Prepared, Prepares, JudgesApReq, AdmitsPrepared, with_keys}
+use Rattle.krb_admission.specs.Requests.{tag_of}
 use Rattle.krb_admission.specs.declared.admission.Answer.{Answer}
+use Rattle.krb_admission.specs.declared.request.Request.{Request}
 use Rattle.krb_context.specs.declared.context.Kerberos.{Kerberos}
-use Rattle.krb_context.specs.declared.server.ServerProperties.{ServerProperties}
 use Rattle.krb_entrance.specs.declared.candidate.Candidate.{Candidate}
-use Rattle.krb_entrance.specs.Admits.{Waits}
-use Rattle.krb_messages.specs.declared.enc_ticket_part.EncTicketPart.{EncTicketPart}
+use Rattle.krb_entrance.specs.declared.keys.Keys.{Keys}
+use Rattle.krb_entrance.specs.Connections.{Waits, keyless}
 use Rattle.krb_replay.specs.Book.{Book, Follows, StandsFor}
 use Rattle.krb_sessions.specs.declared.client.Client.{Client}
 use Rattle.krb_sessions.specs.declared.session.Session.{Session}
+use Rattle.sspi_core.specs.Checks.{Holds, ◌>>◌}
 use Rattle.sspi_core.specs.declared.cause.Cause.{Cause}
+use Rattle.sspi_core.specs.declared.cause.Cause.TheVariants.{Shape}
 use Rattle.sspi_core.specs.declared.draw.Draw.{Draw}
 
--- the token passes every check before the book, at a connection that waited for it
-pub record Passes (service : ServerProperties) (token : List ℕ) (draw : Draw) (prepared : Prepared) (connection : Kerberos) : Type 0 where
-  pub waits : Waits service connection
-  pub prepares : Prepares connection false token draw prepared
+-- the token passes every check before the book, with these keys, at a connection that waited for it and has none of them
+pub record Passes (keys : Keys) (channel : Option (List ℕ)) (token : List ℕ) (draw : Draw) (prepared : Prepared) (connection : Kerberos) : Type 0 where
+  pub waits : Waits (keyless keys.properties) channel connection
+  pub short : length token ≤ keys.token_limit
+  pub prepares : Prepares (with_keys keys.properties connection) false token draw prepared
+
+-- the checks before the book, with these keys: a token past the limit is none
+unfoldable pub Checks : Keys → Kerberos → List ℕ → Draw → Result Prepared Cause → Type 0
+Checks keys waiting token draw = do
+  Holds Shape (nat_le (length token) keys.token_limit)
+  JudgesApReq (with_keys keys.properties waiting) false token draw
 
 -- what a check before the book refuses
-pub record Stops (service : ServerProperties) (token : List ℕ) (draw : Draw) (answer : Result Prepared Cause) : Type 0 where
+pub record Stops (keys : Keys) (channel : Option (List ℕ)) (token : List ℕ) (draw : Draw) (answer : Result Prepared Cause) : Type 0 where
   pub waiting : Kerberos
-  pub waits : Waits service waiting
-  pub judges : JudgesApReq waiting false token draw answer
+  pub waits : Waits (keyless keys.properties) channel waiting
+  pub judges : Checks keys waiting token draw answer
 
--- what a ticket says of its client
-abbrev pub client_told : EncTicketPart → Client
-client_told part = record {
-  name = part.cname;
-  realm = part.crealm;
-  flags = part.flags;
-  authtime = part.authtime;
-  starttime = part.starttime;
-  endtime = part.endtime;
-  renew_till = part.renew_till;
-  authorization_data = part.authorization_data;
+-- what a ticket and its authenticator say of their client
+abbrev pub client_told : Request → Client
+client_told request = record {
+  name = request.part.cname;
+  realm = request.part.crealm;
+  flags = request.part.flags;
+  authtime = request.part.authtime;
+  starttime = request.part.starttime;
+  endtime = request.part.endtime;
+  renew_till = request.part.renew_till;
+  authorization_data = request.part.authorization_data;
+  gss_flags = gss_flags request.authenticator.cksum;
+  channel_hash = hash_told request.authenticator.cksum;
+  tag = tag_of request;
 }
 
--- the book admits the candidate, and no check behind it refuses
+-- the book admits the candidate, and no check after it refuses
 pub record IsLetIn (candidate : Candidate) (old : Book) (session : Session) (new : Book) : Type 0 where
   pub answer : Answer
   pub admits : AdmitsPrepared (Follows StandsFor) candidate.judged candidate.connection old (Ok answer) session.connection new

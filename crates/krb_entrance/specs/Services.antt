@@ -1,7 +1,11 @@
--- The names of services.
+-- The names of services, and how long a token may be.
 use Rattle.std.specs.Prelude.{ℕ, List, ◌==◌}
 use Rattle.std.specs.List.{slice_split}
 
 -- the components of a service's name, between which a `/` stands
 abbrev pub components : List ℕ → List (List ℕ)
 components name = slice_split (λ octet. octet == 0x2f) name
+
+-- how many octets a token may have where its acceptor sets no other bound
+abbrev pub token_limit : ℕ
+token_limit = 65536

@@ -12,15 +12,15 @@ use Rattle.krb_sessions.specs.Principals.{principal_text}
 use Rattle.krb_sessions.specs.declared.session.Session.{Session}
 use Rattle.sspi_core.specs.declared.cause.Cause.{Cause}
 
--- a record as octets: its time, its client's name, the octet 0, which stands in no such name, and its microseconds
+-- a record as octets: its time, its client's name, the octet 0, which is in no such name, its microseconds, and its tag
 abbrev pub record_octets : Record → List ℕ
-record_octets entry = (time_octets entry.ctime ++ principal_text entry.name.name_string entry.realm) ++ 0 ∷ entry.cusec
+record_octets entry = (time_octets entry.ctime ++ principal_text entry.name.name_string entry.realm) ++ 0 ∷ entry.cusec ++ entry.tag
 
 -- the gate of a store that was asked about the candidate's record, and answered at this moment of its own
 abbrev pub told_gate : Prepared → ℕ → ℕ → Bool → TellingGate
 told_gate prepared skew moment seen = record { skew = skew; moment = moment; told = question prepared; seen = seen }
 
--- the store's answer admits the candidate, and no check behind it refuses
+-- the store's answer admits the candidate, and no check after it refuses
 pub record IsToldIn (candidate : Candidate) (gate : TellingGate) (session : Session) : Type 0 where
   pub answer : Answer
   pub behind : TellingGate

@@ -1,52 +1,38 @@
 //! A client between the checks before the book and its admission.
 
-ghost use Rattle.std.specs.Prelude.{◌≡◌, true, false, Ok, IfOk, IfErr};
+ghost use Rattle.std.specs.Prelude.{◌≡◌, true, false, None, Ok, IfOk, IfErr};
 ghost use Rattle.std.specs.Option.{option_copied};
+ghost use Rattle.sspi_core.specs.Checks.{Answers};
 ghost use Rattle.sspi_core.specs.Kinds.{error_of};
 ghost use Rattle.sspi_core.specs.declared.cause.Cause.TheVariants as causes;
 ghost use Rattle.sspi_core.specs.declared.error.Place.TheVariants as places;
-ghost use Rattle.krb_admission.specs.Halves.{Prepares, JudgesApReq, AdmitsPrepared};
+ghost use Rattle.krb_admission.specs.Halves.{AdmitsPrepared};
 ghost use Rattle.krb_context.specs.Refusals.{Refuses};
 ghost use Rattle.krb_replay.specs.Book.{Follows, StandsFor, IsUnchanged};
-ghost use Rattle.krb_entrance.specs.Admits.{Waits};
-ghost use Rattle.krb_entrance.specs.Candidates.{Passes, Stops, IsLetIn, TurnsAway, client_told};
+ghost use Rattle.krb_entrance.specs.Candidates.{Checks, Passes, Stops, IsLetIn, TurnsAway, client_told};
 
+use crate::connection::{keyless, waiting};
+use crate::keys::Keys;
+use krb_admission::judge_with;
 use krb_der::{Copier, boxed};
 use krb_server::{
-    Answer, AuthorizationData, Draw, Error, Flags, Judged, Kerberos, KerberosConfig, OutOfMemory,
-    ReplayBook, Rules, ServerProperties, ServerRequestFlags, Text, TryCopy,
+    Answer, AuthorizationData, Cause, Draw, Error, Judged, Kerberos, Octets, OutOfMemory,
+    ReplayBook,
 };
 use krb_sessions::{Client, Session};
+use sspi_core::hold;
 use std::alloc::Global;
 
 /// A client whose token passed every check before the book, at a connection that waited for it. **It is not admitted yet.**
 ///
-/// `judged` lends what else the token told: the service's clear name, and how far the client's clock is off.
+/// `judged` lends what else the token told: the service's clear name, and how far the client's clock is off. The connection has no
+/// key of a service.
 #[derive(Drop)]
 pub struct Candidate {
     pub judged: Judged,
     pub connection: Kerberos,
-    /// What the ticket says of the client.
+    /// Who it is, as the ticket and its authenticator say.
     pub client: Box<Client>,
-}
-
-/// A connection that waits for its client's token, and goes by the RFCs. Its first sequence number is drawn.
-pub(crate) fn waiting(
-    alloc: Global,
-    properties: &ServerProperties,
-    draw: &Draw,
-) -> Result<Kerberos, OutOfMemory>
-    ensures { IfOk result (Waits properties.now) }
-{
-    let config = KerberosConfig {
-        kdc_url: None,
-        client_computer_name: Text::new(String::new(alloc)),
-    };
-    let [.., a, b, c, d] = draw.random;
-    let properties = properties.copy(alloc)?;
-    let mut connection = Kerberos::new_server_from_config(config, properties, [a, b, c, d])?;
-    connection.rules = Rules::rfc();
-    Ok(connection)
 }
 
 fn copied_data(
@@ -61,11 +47,13 @@ fn copied_data(
     }
 }
 
-/// What the ticket says of the client.
+/// What the ticket and its authenticator say of the client.
 fn client_told(alloc: Global, judged: &Judged) -> Result<Client, OutOfMemory>
-    ensures { IfOk result (λ client. client ≡ client_told judged.now.request.part) }
+    ensures { IfOk result (λ client. client ≡ client_told judged.now.request) }
 {
     let times = judged.ticket_times();
+    let channel_hash = Octets::from_slice(alloc, judged.channel_hash())?;
+    let tag = Octets::from_slice(alloc, judged.tag())?;
     let mut copier = Copier::new(alloc);
     let client = Client {
         name: copier.copy(judged.client_name()),
@@ -76,57 +64,60 @@ fn client_told(alloc: Global, judged: &Judged) -> Result<Client, OutOfMemory>
         endtime: times.endtime,
         renew_till: times.renew_till,
         authorization_data: copied_data(&mut copier, judged.authorization_data()),
+        gss_flags: judged.gss_flags(),
+        channel_hash,
+        tag,
     };
     copier.finish(client)
 }
 
-fn judge_alone(
+/// The checks before the book, at a connection that waits: the token's length, and then those of an AP-REQ.
+#[tactic(auto, unfolding(crate::specs::Candidates::Checks))]
+fn check(
     alloc: Global,
-    connection: &mut Kerberos,
+    keys: &Keys,
+    connection: &Kerberos,
     token: &[u8],
     draw: &Draw,
-) -> Result<Judged, Error>
-    ensures passes { IfOk result (λ judged. Prepares connection.old false token.now draw.now judged) }
-    ensures refused { IfErr result (Refuses places.Elsewhere (JudgesApReq connection.old false token.now draw.now)) }
-    ensures stays { connection.new ≡ connection.old }
+) -> Result<Judged, Cause>
+    ensures { Answers (Checks keys.now connection.now token.now draw.now) result }
 {
-    let flags = ServerRequestFlags::from_bits_retain(0);
-    match krb_server::judge(alloc, connection, token, flags, draw) {
-        Ok(judged) => Ok(judged),
-        Err(error) => Err(error),
-    }
+    hold(token.len() <= keys.token_limit, Cause::Shape)?;
+    judge_with(alloc, &keys.properties, connection, false, token, draw)
 }
 
+/// What comes to the book, and who is told of it.
 fn judge_at(
     alloc: Global,
-    connection: &mut Kerberos,
+    keys: &Keys,
+    connection: &Kerberos,
     token: &[u8],
     draw: &Draw,
 ) -> Result<(Judged, Box<Client>), Error>
-    ensures passes { IfOk result (λ told. Prepares connection.old false token.now draw.now told.0) }
-    ensures client { IfOk result (λ told. told.1.value ≡ client_told told.0.request.part) }
-    ensures refused { IfErr result (Refuses places.Elsewhere (JudgesApReq connection.old false token.now draw.now)) }
-    ensures stays { connection.new ≡ connection.old }
+    ensures passes { IfOk result (λ told. Checks keys.now connection.now token.now draw.now (Ok told.0)) }
+    ensures client { IfOk result (λ told. told.1.value ≡ client_told told.0.request) }
+    ensures refused { IfErr result (Refuses places.Elsewhere (Checks keys.now connection.now token.now draw.now)) }
 {
-    let judged = boxed(alloc, judge_alone(alloc, connection, token, draw)?)?;
+    let judged = boxed(alloc, check(alloc, keys, connection, token, draw)?)?;
     let client = boxed(alloc, client_told(alloc, &judged)?)?;
     Ok((Box::into_inner(judged), client))
 }
 
-/// Judges a token without the book, at a connection of these services that is made for it. The keys are read alone, so threads
-/// may share them.
-pub fn judge(
+/// Judges a token without the book, at a connection that is made for it. Nothing is copied before the token has passed.
+pub(crate) fn judge(
     alloc: Global,
-    properties: &ServerProperties,
+    keys: &Keys,
+    channel: Option<[u8; 16]>,
     token: &[u8],
     draw: &Draw,
 ) -> Result<Candidate, Error>
-    ensures passes { IfOk result (λ candidate. Passes properties.now token.now draw.now candidate.judged candidate.connection) }
-    ensures client { IfOk result (λ candidate. candidate.client.value ≡ client_told candidate.judged.request.part) }
-    ensures refused { IfErr result (Refuses places.Elsewhere (Stops properties.now token.now draw.now)) }
+    ensures passes { IfOk result (λ candidate. Passes keys.now channel token.now draw.now candidate.judged candidate.connection) }
+    ensures client { IfOk result (λ candidate. candidate.client.value ≡ client_told candidate.judged.request) }
+    ensures refused { IfErr result (Refuses places.Elsewhere (Stops keys.now channel token.now draw.now)) }
 {
-    let mut connection = boxed(alloc, waiting(alloc, properties, draw)?)?;
-    let (judged, client) = judge_at(alloc, &mut connection, token, draw)?;
+    let mut connection = boxed(alloc, waiting(alloc, channel, draw)?)?;
+    let (judged, client) = judge_at(alloc, keys, &connection, token, draw)?;
+    connection.server = Some(keyless(alloc, &keys.properties)?);
     Ok(Candidate {
         judged,
         connection: Box::into_inner(connection),
@@ -151,7 +142,7 @@ fn admit_at(
     }
 }
 
-/// Admits a candidate where the book does: its question is asked, and nothing behind it takes memory or a cipher. So threads may
+/// Admits a candidate where the book does: its question is asked, and nothing after it takes memory or a cipher. So threads may
 /// share a book under a lock, and hold it for this call alone.
 pub fn admit(alloc: Global, candidate: Candidate, book: &mut ReplayBook) -> Result<Session, Error>
     ensures admits { IfOk result (λ session. IsLetIn candidate book.old session book.new) }

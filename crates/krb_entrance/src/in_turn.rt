@@ -4,8 +4,9 @@ ghost use Rattle.std.specs.Prelude.{◌≡◌, ◌∷◌, true, false, IfOk, IfE
 ghost use Rattle.krb_entrance.specs.Candidates.{client_told};
 ghost use Rattle.krb_entrance.specs.Turns.{leads_on, Opens, EndsBehind, EndsInTurn};
 
-use crate::candidate::{Candidate, judge};
-use krb_server::{Cause, Draw, Error, ServerProperties};
+use crate::candidate::Candidate;
+use crate::keys::Keys;
+use krb_server::{Cause, Draw, Error};
 use std::alloc::Global;
 
 /// Whether another key may be the right one.
@@ -18,20 +19,21 @@ fn leads_on(cause: Cause) -> bool
     }
 }
 
-/// The older keys in their order, behind a refusal of the newest.
+/// The older keys in their order, after a refusal of the newest.
 fn judge_older(
     alloc: Global,
-    older: &[ServerProperties],
+    older: &[Keys],
+    channel: Option<[u8; 16]>,
     token: &[u8],
     draw: &Draw,
     kept: Error,
 ) -> Result<Candidate, Error>
-    ensures opens { IfOk result (Opens older.now token.now draw.now) }
-    ensures client { IfOk result (λ candidate. candidate.client.value ≡ client_told candidate.judged.request.part) }
-    ensures refused { IfErr result (EndsBehind older.now token.now draw.now kept) }
+    ensures opens { IfOk result (Opens older.now channel token.now draw.now) }
+    ensures client { IfOk result (λ candidate. candidate.client.value ≡ client_told candidate.judged.request) }
+    ensures refused { IfErr result (EndsBehind older.now channel token.now draw.now kept) }
 {
-    for properties in older {
-        match judge(alloc, properties, token, draw) {
+    for keys in older {
+        match keys.judge(alloc, channel, token, draw) {
             Ok(candidate) => return Ok(candidate),
             Err(error) => {
                 if !leads_on(error.cause) {
@@ -44,25 +46,27 @@ fn judge_older(
 }
 
 /// Judges a token by the newest keys, and by the older ones in their order where those before do not open the ticket: after a
-/// change of keys, tickets under the older ones live on. Each try is that of [`judge`](crate::judge), which changes nothing.
+/// change of keys, tickets under the older ones live on. Each try is that of
+/// [`Keys::judge`], which changes nothing.
 ///
 /// The refusal is that of the newest keys where none opens the ticket, and else of those that opened it.
 pub fn judge_in_turn(
     alloc: Global,
-    newest: &ServerProperties,
-    older: &[ServerProperties],
+    newest: &Keys,
+    older: &[Keys],
+    channel: Option<[u8; 16]>,
     token: &[u8],
     draw: &Draw,
 ) -> Result<Candidate, Error>
-    ensures opens { IfOk result (Opens (newest.now ∷ older.now) token.now draw.now) }
-    ensures client { IfOk result (λ candidate. candidate.client.value ≡ client_told candidate.judged.request.part) }
-    ensures refused { IfErr result (EndsInTurn newest.now older.now token.now draw.now) }
+    ensures opens { IfOk result (Opens (newest.now ∷ older.now) channel token.now draw.now) }
+    ensures client { IfOk result (λ candidate. candidate.client.value ≡ client_told candidate.judged.request) }
+    ensures refused { IfErr result (EndsInTurn newest.now older.now channel token.now draw.now) }
 {
-    match judge(alloc, newest, token, draw) {
+    match newest.judge(alloc, channel, token, draw) {
         Ok(candidate) => Ok(candidate),
         Err(error) => {
             if leads_on(error.cause) {
-                judge_older(alloc, older, token, draw, error)
+                judge_older(alloc, older, channel, token, draw, error)
             } else {
                 Err(error)
             }

@@ -3,22 +3,30 @@
 //!
 //! ```text
 //! let mut service = Service::new(alloc, "host/server.example.com", key, 300)?;
-//! let mut session = service.session(alloc, &draw)?; // for each client
-//! service.accept(alloc, &mut session, token, &draw)?;
+//! let session = service.accept(alloc, &token, &draw)?; // for each client
 //! ```
+//!
+//! The same in two calls is [`Service::judge`], which asks no book, and [`Service::admit`]. [`Keys`] judge alone, for further threads.
 #![tactic(auto)]
 
 mod candidate;
+mod channel;
+mod connection;
 mod in_turn;
+mod keys;
 pub mod laws;
+mod one_call;
 mod service;
 mod told;
 
-pub use candidate::{Candidate, admit, judge};
+pub use candidate::{Candidate, admit};
+pub use channel::channel_hash;
 pub use in_turn::judge_in_turn;
+pub use keys::Keys;
 pub use service::Service;
 pub use told::{admit_told, stored_record};
 
 // What a caller names beside.
 pub use krb_server::{Cause, Draw, Error, ErrorKind, Judged, MAX_MOMENT, Octets, OutOfMemory};
 pub use krb_sessions::{Client, Fault, Session, principal, put};
+pub use sspi_core::ChannelBindings;

@@ -22,6 +22,7 @@ fn record_octets(alloc: Global, entry: &Record) -> Result<Octets, OutOfMemory>
     octets.extend_from_slice(name.as_slice())?;
     octets.push(0)?;
     octets.extend_from_slice(entry.cusec.as_slice())?;
+    octets.extend_from_slice(entry.tag.as_slice())?;
     Ok(Octets::new(octets))
 }
 
@@ -105,7 +106,7 @@ pub fn admit_told(
     seen: bool,
 ) -> Result<Session, Error>
     ensures admits { IfOk result (IsToldIn candidate (told_gate candidate.judged skew moment seen)) }
-    // A refusal is that of the first check that failed: the clock's, the store's, or one behind them.
+    // A refusal is that of the first check that failed: the clock's, the store's, or one after them.
     ensures refused { IfErr result (Refuses places.Elsewhere (IsToldAway candidate (told_gate candidate.judged skew moment seen))) }
 {
     let candidate = boxed(alloc, candidate)?;

@@ -2,3 +2,4 @@ pub mod Frames
 pub mod Retold
 pub mod Once
 pub mod HalvesLemmas
+mod ErrorLengths

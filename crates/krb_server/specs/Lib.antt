@@ -1,2 +1,3 @@
 pub mod TgtReqs
 pub mod Whole
+pub mod ErrorTokens

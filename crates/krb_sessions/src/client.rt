@@ -8,7 +8,7 @@ use krb_der::{Bits, Name, Octets, OutOfMemory, Time};
 use krb_messages::{AuthorizationData, PrincipalName};
 use std::alloc::Global;
 
-/// What the ticket says of its client. A KDC sealed it under the service's key.
+/// Who a client is: what the ticket says of it, which a KDC sealed under the service's key, and what its own authenticator says.
 #[derive(Drop)]
 pub struct Client {
     /// The name, whole: its type and all its components.
@@ -26,6 +26,13 @@ pub struct Client {
     pub renew_till: Option<Time>,
     /// What the KDC, or the client's own restrictions, say of the ticket (RFC 4120, section 5.2.6). No check here reads it.
     pub authorization_data: Option<AuthorizationData>,
+    /// The GSS flags that the client asked for, as numbers of RFC 2744 (RFC 4121, section 4.1.1): None where its checksum has none.
+    pub gss_flags: Option<u32>,
+    /// The MD5 of the bindings that it gave of its channel, 16 octets (RFC 4121, section 4.1.1.2): all zeros where it gave none, and
+    /// no octets where its checksum has no room for them. It is compared with those of the caller only where these are handed in.
+    pub channel_hash: Octets,
+    /// The last twelve octets of the sealed authenticator. Two log-ins never share them but by chance, one in 2^96.
+    pub tag: Octets,
 }
 
 /// What stands behind the `\` for an octet that is quoted.

@@ -29,7 +29,7 @@ pub struct Session {
     /// What goes back to the client; no octets where it asked for nothing.
     pub answer: Octets,
     pub connection: Kerberos,
-    /// What the ticket says of the client, where it was kept.
+    /// Who the client is. An acceptor's session has it; an initiator has no client.
     pub client: Option<Box<Client>>,
 }
 
@@ -46,8 +46,12 @@ impl Session {
         }
     }
 
-    /// Who it is, in UTF-8: `alice@example.com`, or `DOMAIN\alice`.
-    pub fn name(&self, alloc: Global, out: &mut [u8]) -> Result<usize, Fault>
+    /// A short name of the client for a local account, in UTF-8, where it has one. **Give rights by the whole name**:
+    /// [`Client::principal`](crate::Client::principal). Under the rules of the RFCs there is a short name only for a client whose name
+    /// is of type 1 and of one component: `alice@example.com`, the component and the realm in lower case, for `alice@EXAMPLE.COM`. So
+    /// it is none of `alice/admin`, of a host, or of an enterprise name; they are refused as NoIdentity. The realm is any that the
+    /// ticket names: compare it with those that may come.
+    pub fn local_name(&self, alloc: Global, out: &mut [u8]) -> Result<usize, Fault>
         ensures gives { IfOk result (λ count. Delivers (IsNamed self.now.connection) out.old count out.new) }
         ensures refused { IfErr result (Faults places.Query (λ answer. answer ≡ name_of self.now.connection) (IsNamed self.now.connection) (length out.old)) }
         ensures stays { OnErr result (out.new ≡ out.old) }

@@ -1,0 +1,40 @@
+//! The hash of a channel's bindings.
+
+ghost use Rattle.std.specs.Prelude.{◌≡◌, ◌≤◌, ◌↔◌, ◌^◌, length, true, false, IfOk, IfErr, OnErr};
+ghost use Rattle.sspi_core.specs.Kinds.{error_of};
+ghost use Rattle.sspi_core.specs.declared.cause.Cause.TheVariants as causes;
+ghost use Rattle.krb_authenticators.specs.Bindings.{bindings_hash, AreShortBindings};
+
+use krb_authenticators::bindings_hash;
+use krb_server::{Cause, Error, Octets};
+use sspi_core::ChannelBindings;
+
+/// How many octets a part of bindings may have.
+const PART_LIMIT: usize = 1 << 24;
+
+fn is_short(part: &Octets) -> bool
+    ensures { result ≡ true ↔ length part.now ≤ 2 ^ 24 }
+{
+    part.as_slice().len() <= PART_LIMIT
+}
+
+fn are_short(bindings: &ChannelBindings) -> bool
+    ensures { result ≡ true ↔ AreShortBindings bindings.now }
+{
+    is_short(&bindings.initiator)
+        && is_short(&bindings.acceptor)
+        && is_short(&bindings.application_data)
+}
+
+/// The hash of the bindings of a channel (RFC 4121, section 4.1.1.2), which [`Service::judge_bound`](crate::Service::judge_bound)
+/// holds a client to. Refused as Bindings exactly where a part has over 2^24 octets.
+pub fn channel_hash(bindings: &ChannelBindings) -> Result<[u8; 16], Error>
+    ensures hash { IfOk result (λ hash. hash ≡ bindings_hash bindings.now) }
+    ensures refused { IfErr result (λ error. error ≡ error_of causes.Bindings) }
+    ensures long { OnErr result (AreShortBindings bindings.now → ⊥) }
+{
+    if !are_short(bindings) {
+        return Err(Error::from(Cause::Bindings));
+    }
+    Ok(bindings_hash(bindings))
+}

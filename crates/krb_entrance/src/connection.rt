@@ -1,0 +1,62 @@
+//! The connection of a client.
+
+ghost use Rattle.std.specs.Prelude.{◌≡◌, IfOk};
+ghost use Rattle.krb_context.specs.declared.server.ServerProperties.{ServerProperties};
+ghost use Rattle.krb_entrance.specs.Connections.{Waits, keyless};
+
+use krb_der::{Blank, Copier};
+use krb_server::{
+    AdditionalServiceKeys, Draw, Flags, Kerberos, KerberosConfig, OutOfMemory, Rules,
+    ServerProperties, Text,
+};
+use std::alloc::Global;
+
+/// Of no name, with no key. It takes no memory.
+fn nobody(alloc: Global) -> ServerProperties {
+    ServerProperties {
+        service_name: Blank::blank(alloc),
+        user: None,
+        client: None,
+        max_time_skew: 0,
+        ticket_decryption_key: None,
+        additional_service_keys: AdditionalServiceKeys::empty(alloc),
+    }
+}
+
+/// A connection that waits for its client's token, and goes by the RFCs. Its first sequence number is drawn, and nothing is copied.
+pub(crate) fn waiting(
+    alloc: Global,
+    channel: Option<[u8; 16]>,
+    draw: &Draw,
+) -> Result<Kerberos, OutOfMemory>
+    ensures { IfOk result (λ connection. (own : ServerProperties) × Waits own channel connection) }
+{
+    let config = KerberosConfig {
+        kdc_url: None,
+        client_computer_name: Text::new(String::new(alloc)),
+    };
+    let [.., a, b, c, d] = draw.random;
+    let mut connection = Kerberos::new_server_from_config(config, nobody(alloc), [a, b, c, d])?;
+    connection.rules = Rules::rfc();
+    connection.channel = channel;
+    Ok(connection)
+}
+
+/// The service's name alone. No key is copied.
+pub(crate) fn keyless(
+    alloc: Global,
+    properties: &ServerProperties,
+) -> Result<ServerProperties, OutOfMemory>
+    ensures { IfOk result (λ own. own ≡ keyless properties.now) }
+{
+    let mut copier = Copier::new(alloc);
+    let own = ServerProperties {
+        service_name: copier.copy(&properties.service_name),
+        user: None,
+        client: copier.copy(&properties.client),
+        max_time_skew: properties.max_time_skew,
+        ticket_decryption_key: None,
+        additional_service_keys: AdditionalServiceKeys::empty(alloc),
+    };
+    copier.finish(own)
+}
