@@ -1,6 +1,6 @@
 //! Messages between a client and an acceptor whose exchange is over.
 
-use super::{draw, gave, octets, service};
+use super::{MUTUAL, draw, gave, octets, service};
 use krb_conf::KerberosConfig;
 use krb_context::{Kerberos, KerberosState};
 use krb_crypto::CipherSuite;
@@ -21,8 +21,9 @@ fn establish(alloc: Global, connection: &mut Kerberos) -> Result<(), Fail> {
 }
 
 fn acceptor(alloc: Global) -> Result<Box<Session>, Fail> {
-    let service = service(alloc)?;
-    let mut session = boxed(alloc, service.session(alloc, &draw())?)?;
+    let mut service = service(alloc)?;
+    let token = hex::decode(alloc, MUTUAL)?;
+    let mut session = boxed(alloc, service.accept(alloc, &token, &draw())?)?;
     establish(alloc, &mut session.connection)?;
     Ok(session)
 }
