@@ -55,18 +55,14 @@ fn a_book_tells_log_ins_of_one_microsecond_apart_by_their_tags(
     Ok(())
 }
 
+/// The records of the cache of `sspi` have no tag, whatever the rules.
 #[test]
-fn so_does_a_cache(rt: HostRuntime) -> Result<(), Fail> {
-    let mut plain = CacheGate::new(rt.alloc(), 300);
-    let mut tagged = CacheGate::new(rt.alloc(), 300);
-    for (token, [without, with]) in in_turn() {
+fn a_cache_does_not(rt: HostRuntime) -> Result<(), Fail> {
+    let mut cache = CacheGate::new(rt.alloc(), 300);
+    for (token, [without, _]) in in_turn() {
         assert_eq!(rt;
-            refusal(rt.alloc(), &mut plain, Rules::none(), token)?,
+            refusal(rt.alloc(), &mut cache, Rules::rfc(), token)?,
             *without
-        );
-        assert_eq!(rt;
-            refusal(rt.alloc(), &mut tagged, Rules::rfc(), token)?,
-            *with
         );
     }
     Ok(())
