@@ -10,6 +10,7 @@ mod halves;
 mod long;
 mod recorded;
 mod records;
+mod refusals;
 mod rules;
 mod states;
 mod third_leg;
