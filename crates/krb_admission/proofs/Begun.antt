@@ -1,5 +1,5 @@
 -- What is known of a request that passed the checks before the gate.
-use Rattle.std.proofs.Common.{◌≡◌, ℕ, ◌<◌, ◌≤◌, ◌^◌, ◌==◌, nat_le, Bool, true, false, IsTrue, List, ◌++◌, length, Option, Some, None, Result, Ok, Err, refl, sym, ap, subst, arith, length-append}
+use Rattle.std.proofs.Common.{◌≡◌, ℕ, ◌<◌, ◌≤◌, ◌^◌, ◌==◌, nat_le, Bool, true, false, IsTrue, List, ◌++◌, length, Some, Result, Ok, Err, refl, sym, ap, subst, arith, length-append}
 use Rattle.std.proofs.lemmas.Bool.Decides.{nat_tests}
 use Rattle.krb_der.specs.Der.{tlv}
 use Rattle.krb_der.specs.Schema.{contents, tag_of}
@@ -20,8 +20,8 @@ use Rattle.krb_context.specs.declared.context.Kerberos.{Kerberos}
 use Rattle.krb_context.specs.declared.rules.Rules.{Rules}
 use Rattle.krb_context.specs.declared.server.ServerProperties.{ServerProperties}
 use Rattle.sspi_core.specs.declared.cause.Cause.{Cause}
-use Rattle.sspi_core.specs.Checks.{Holds, Takes, Goes, Then}
-use Rattle.sspi_core.proofs.Chain.{held}
+use Rattle.sspi_core.specs.Checks.{Holds, Goes, Then}
+use Rattle.sspi_core.proofs.Chain.{held, took}
 use Rattle.krb_admission.specs.declared.request.Request.{Request}
 use Rattle.krb_replies.specs.Unseals.{IsRead, Unseals, OpensSealed, OpensData}
 use Rattle.krb_admission.specs.Tokens.{ap_req_id, IsApReq, ReceivesApReq}
@@ -125,10 +125,6 @@ pub record Allowed (server : Kerberos) (dce : Bool) (token : List ℕ) (request 
   pub done : Unit {0}
   pub allows : Allows server request (Ok done)
 
-taken : {A : Type 0} (cause : Cause) (value : Option A) (a : A) → Takes cause value (Ok a) → value ≡ Some a
-taken cause (Some x) a h = let e = h.is in cc
-taken cause None a h = let e = h.is in absurd cc
-
 held_true : (cause : Cause) (test : Bool) (u : Unit {0}) → Holds cause test (Ok u) → test ≡ true
 held_true cause true u h = refl
 held_true cause false u h = let e = h.is in absurd cc
@@ -142,7 +138,7 @@ allowed server dce token request h =
     let a = passed _ _ _ r.rest in
     let e : request ≡ r.found = same_ok _ _ a.rest.is in
     subst (λ (q : Request). Allowed server dce token q) (sym e)
-    (record { waits = held_true _ _ _ w.held; properties = p.found; has = taken _ _ _ p.held; requests = r.held; done = a.found; allows = a.held })
+    (record { waits = held_true _ _ _ w.held; properties = p.found; has = took _ _ _ p.held; requests = r.held; done = a.found; allows = a.held })
 
 pub begun : (server : Kerberos) (dce : Bool) (token : List ℕ) (request : Request) → BeginsAdmission server dce token (Ok request) → Begun request
 begun server dce token request h = let a = allowed server dce token request h in requested server.rules a.properties dce token request a.requests

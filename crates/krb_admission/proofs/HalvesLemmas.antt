@@ -1,25 +1,28 @@
 -- The two halves of an admission, apart and one behind the other.
-use Rattle.std.proofs.Common.{◌≡◌, ℕ, Bool, true, false, if◌then◌else◌, List, Option, Some, None, Result, Ok, Err, refl, sym, ap, ◌∙◌, subst}
+use Rattle.std.proofs.Common.{◌≡◌, ℕ, Bool, true, false, if◌then◌else◌, List, Option, Some, None, Result, Ok, Err, refl, sym, ap, ap₂, ◌∙◌, subst}
 use Rattle.std.proofs.Math.Logic.{∥∥₁_elim}
 use Rattle.std.specs.Result.{IsErrAnd}
 use Rattle.sspi_core.specs.declared.cause.Cause.{Cause}
 use Rattle.sspi_core.specs.declared.cause.Cause.TheVariants.{Memory, Sequence}
 use Rattle.sspi_core.specs.declared.draw.Draw.{Draw}
-use Rattle.sspi_core.specs.Checks.{ok_or, Takes, Holds, Passes, Gives, Goes, Then, Answers, ◌>>◌}
-use Rattle.sspi_core.proofs.Chain.{halts, follows, is_err, same_err}
+use Rattle.sspi_core.specs.Checks.{Takes, Holds, Passes, Gives, Goes, Then, Answers, ◌>>◌}
+use Rattle.sspi_core.proofs.Chain.{halts, follows, stops, goes, answers, given, is_err, same_err}
 use Rattle.sspi_core.proofs.Once.{Once, passes_once}
 use Rattle.krb_replay.specs.declared.ask.Ask.{Ask}
 use Rattle.krb_replay.specs.declared.ask.Verdict.{Verdict}
 use Rattle.krb_replay.specs.declared.ask.Verdict.TheVariants as verdicts
 use Rattle.krb_context.specs.declared.context.Kerberos.{Kerberos}
 use Rattle.krb_context.specs.States.{is_waiting}
+use Rattle.krb_context.specs.declared.rules.Rules.{Rules}
 use Rattle.krb_admission.specs.declared.request.Request.{Request}
 use Rattle.krb_admission.specs.declared.admission.Admission.{Admission}
 use Rattle.krb_admission.specs.declared.admission.Answer.{Answer}
-use Rattle.krb_admission.specs.Requests.{ask_of}
+use Rattle.krb_context.specs.declared.server.ServerProperties.{ServerProperties}
+use Rattle.krb_admission.specs.Allowed.{Allows}
+use Rattle.krb_admission.specs.Requests.{Requests, ask_of}
 use Rattle.krb_admission.specs.Complete.{Completes}
 use Rattle.krb_admission.specs.Accepts.{BeginsAdmission, FinishesAdmission, DecidesAdmission, Asks, Accepts, MakesAnswer, Ends, awaits_last_word, refusal}
-use Rattle.krb_admission.specs.Halves.{Prepared, Prepares, IsPrepared, JudgesApReq, question, outcome_behind, PassesGate, AdmitsWhere, AdmitsPrepared, AdmitsNext, JudgesAndAdmits}
+use Rattle.krb_admission.specs.Halves.{Prepared, Prepares, IsPrepared, with_keys, JudgesApReq, question, outcome_behind, PassesGate, AdmitsWhere, AdmitsPrepared, AdmitsNext, JudgesAndAdmits}
 use Rattle.krb_admission.proofs.Begun.{passed}
 use Rattle.krb_admission.proofs.Once.{begins_once}
 use Rattle.krb_admission.proofs.Steps.{answered, waits, refused, answered_at_gate, finishes_refuses}
@@ -31,12 +34,41 @@ refused_half server dce token draw e answer h is = record {
   so = λ ne. subst (JudgesApReq server dce token draw) (sym (is_err answer e is)) (h.so (λ z. ne (is_err answer e is ∙ ap Err (same_err {A = Request} e Memory z))));
 }
 
-pub ready : (server : Kerberos) (dce : Bool) (token : List ℕ) (draw : Draw) (request held : Request) (outcome : Result Admission Cause) → Answers (BeginsAdmission server dce token) (Ok request) → held ≡ request
-    → FinishesAdmission server dce draw request outcome → Prepares server dce token draw (record { request = held; outcome = outcome; moment = draw.moment; rules = server.rules })
-ready server dce token draw request held outcome begins same finishes =
-    let B : Request → Type 0 = λ r. BeginsAdmission server dce token (Ok r) in
-    let F : Request → Type 0 = λ r. FinishesAdmission server dce draw r outcome in
-    record { begins = subst B (sym same) (answered _ _ begins); finishes = subst F (sym same) finishes; moment = refl; rules = refl }
+pub ready : (server : Kerberos) (dce : Bool) (token : List ℕ) (draw : Draw) (request : Request) (outcome : Result Admission Cause) → Answers (BeginsAdmission server dce token) (Ok request)
+    → FinishesAdmission server dce draw request outcome → Prepares server dce token draw (record { request = request; outcome = outcome; moment = draw.moment; rules = server.rules })
+ready server dce token draw request outcome begins finishes = record { begins = answered _ _ begins; finishes = finishes; moment = refl; rules = refl }
+
+-- what follows the gate goes by no key
+pub finishes_with : (keys : ServerProperties) (server : Kerberos) (dce : Bool) (draw : Draw) (request : Request) (outcome : Result Admission Cause) → FinishesAdmission server dce draw request outcome
+    → FinishesAdmission (with_keys keys server) dce draw request outcome
+unfolding FinishesAdmission
+finishes_with keys server dce draw request outcome h = h
+
+-- a context that waits, with these properties
+module _ (server : Kerberos) (dce : Bool) (token : List ℕ) (u : Unit {0}) (properties : ServerProperties) (waits : Holds Sequence (is_waiting server.state) (Ok u)) (has : Takes Sequence server.server (Ok properties)) where
+  pub no_request : (e : Cause) (answer : Result Request Cause) → Answers (Requests server.rules properties dce token) (Err e) → IsErrAnd answer (λ d. d ≡ e) → Answers (BeginsAdmission server dce token) answer
+  unfolding BeginsAdmission
+  no_request e answer h is = goes _ _ u _ (answers _ _ waits) (goes _ _ properties _ (answers _ _ has) (stops _ _ e _ h is))
+
+  pub not_allowed : (request : Request) (e : Cause) (answer : Result Request Cause) → Answers (Requests server.rules properties dce token) (Ok request) → Allows server request (Err e) → IsErrAnd answer (λ d. d ≡ e)
+      → Answers (BeginsAdmission server dce token) answer
+  unfolding BeginsAdmission
+  not_allowed request e answer h allows is =
+      goes _ _ u _ (answers _ _ waits) (goes _ _ properties _ (answers _ _ has) (goes _ _ request _ h (stops _ _ e _ (answers _ _ allows) is)))
+
+  pub is_allowed : (request : Request) (v : Unit {0}) → Answers (Requests server.rules properties dce token) (Ok request) → Allows server request (Ok v) → Answers (BeginsAdmission server dce token) (Ok request)
+  unfolding BeginsAdmission
+  is_allowed request v h allows =
+      goes _ _ u _ (answers _ _ waits) (goes _ _ properties _ (answers _ _ has) (goes _ _ request _ h (goes _ _ v _ (answers _ _ allows) (given request))))
+
+pub not_waiting : (server : Kerberos) (dce : Bool) (token : List ℕ) (e : Cause) (answer : Result Request Cause) → Holds Sequence (is_waiting server.state) (Err e) → IsErrAnd answer (λ d. d ≡ e) → Answers (BeginsAdmission server dce token) answer
+unfolding BeginsAdmission
+not_waiting server dce token e answer h is = stops _ _ e _ (answers _ _ h) is
+
+pub no_properties : (server : Kerberos) (dce : Bool) (token : List ℕ) (u : Unit {0}) (e : Cause) (answer : Result Request Cause) → Holds Sequence (is_waiting server.state) (Ok u) → Takes Sequence server.server (Err e)
+    → IsErrAnd answer (λ d. d ≡ e) → Answers (BeginsAdmission server dce token) answer
+unfolding BeginsAdmission
+no_properties server dce token u e answer waits h is = goes _ _ u _ (answers _ _ waits) (stops _ _ e _ (answers _ _ h) is)
 
 pub prepared_by : (server : Kerberos) (dce : Bool) (token : List ℕ) (draw : Draw) (prepared : Prepared) → Prepares server dce token draw prepared → ∥ IsPrepared prepared ∥₁
 prepared_by server dce token draw prepared h = ∣ (server, dce, token, draw, h) ∣₁

@@ -1,7 +1,6 @@
 -- What RFC 4120 and RFC 4121 ask of a ticket and its authenticator besides, each where a rule asks for it.
-use Rattle.std.specs.Prelude.{ℕ, ◌==◌, bit_and, pos, nat_le, Bool, true, false, not, ◌&&◌, ◌||◌, List, [], ◌∷◌, length, take, drop, Option, Some, None, Result, if◌then◌else◌}
+use Rattle.std.specs.Prelude.{ℕ, ◌==◌, bit_and, pos, nat_le, Bool, true, false, not, ◌&&◌, ◌||◌, List, [], ◌∷◌, length, take, drop, Option, Some, None, Result, bytes_eq, if◌then◌else◌}
 use Rattle.std.specs.Int.{w32, from_le_bytes}
-use Rattle.std.specs.Cmp.Lexicographic.{pointwise}
 use Rattle.krb_context.specs.Rules.{has_rule, valid_tickets, checked_transit, bound_to_its_channel}
 use Rattle.krb_context.specs.declared.context.Kerberos.{Kerberos}
 use Rattle.krb_context.specs.declared.rules.Rules.{Rules}
@@ -40,7 +39,7 @@ is_transit_checked rules part = not (has_rule rules checked_transit) || (is_dire
 -- a checksum of type 8003 (RFC 4121, section 4.1.1) over bindings of 16 octets and flags
 abbrev pub is_gss : Checksum → Bool
 is_gss checksum =
-    is_number checksum.cksumtype (pos 0x8003) && (nat_le 24 (length checksum.checksum) && pointwise ◌==◌ (take 4 checksum.checksum) (16 ∷ 0 ∷ 0 ∷ 0 ∷ []))
+    is_number checksum.cksumtype (pos 0x8003) && (nat_le 24 (length checksum.checksum) && bytes_eq (take 4 checksum.checksum) (16 ∷ 0 ∷ 0 ∷ 0 ∷ []))
 
 abbrev pub is_gss_if_there : Option Checksum → Bool
 is_gss_if_there None = false
@@ -63,7 +62,7 @@ tells_bindings (Some hash) checksum = is_gss_if_there checksum
 -- and they are those of the channel
 abbrev pub is_bound : Option (List ℕ) → Option Checksum → Bool
 is_bound None checksum = true
-is_bound (Some hash) checksum = pointwise ◌==◌ (hash_told checksum) hash
+is_bound (Some hash) checksum = bytes_eq (hash_told checksum) hash
 
 -- the ticket and the authenticator are as the rules ask
 unfoldable pub Allows : Kerberos → Request → Result (Unit {0}) Cause → Type 0
@@ -73,7 +72,12 @@ Allows server request = do
   Holds causes.Checksum (tells_bindings (channel_held server) request.authenticator.cksum)
   Holds causes.Bindings (is_bound (channel_held server) request.authenticator.cksum)
 
--- the GSS flags that the client asked for, octets 20 to 23 of its checksum, the lowest first (RFC 4121, section 4.1.1)
+-- four octets as a number, the lowest first
+abbrev pub low_word : List ℕ → Option ℕ
+low_word (a ∷ b ∷ c ∷ d ∷ rest) = Some (from_le_bytes w32 (a ∷ b ∷ c ∷ d ∷ []))
+low_word _ = None
+
+-- the GSS flags that the client asked for: octets 20 to 23 of its checksum (RFC 4121, section 4.1.1)
 abbrev pub gss_flags : Option Checksum → Option ℕ
 gss_flags None = None
-gss_flags (Some checksum) = if is_gss checksum then Some (from_le_bytes w32 (take 4 (drop 20 checksum.checksum))) else None
+gss_flags (Some checksum) = if is_gss checksum then low_word (drop 20 checksum.checksum) else None

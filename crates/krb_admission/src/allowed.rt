@@ -3,6 +3,7 @@
 ghost use Rattle.std.specs.Prelude.{◌≡◌};
 ghost use Rattle.sspi_core.specs.declared.cause.Cause.TheVariants as causes;
 ghost use Rattle.sspi_core.specs.Checks.{Holds};
+ghost use Rattle.krb_context.specs.declared.context.Kerberos.{Kerberos};
 ghost use Rattle.krb_admission.specs.Allowed.{
   is_invalid,
   is_policy_checked,
@@ -14,6 +15,7 @@ ghost use Rattle.krb_admission.specs.Allowed.{
   channel_held,
   tells_bindings,
   is_bound,
+  low_word,
   Allows,
   gss_flags,
 };
@@ -74,7 +76,7 @@ fn is_gss(checksum: &Checksum) -> bool
 }
 
 /// The hash that a client is held to.
-fn channel_held(server: &Kerberos) -> Option<[u8; 16]>
+pub(crate) fn channel_held(server: &Kerberos) -> Option<[u8; 16]>
     ensures { result ≡ channel_held server.now }
 {
     if server.rules.has(Rules::BOUND_TO_ITS_CHANNEL) {
@@ -103,15 +105,22 @@ pub(crate) fn hash_told(checksum: &Option<Checksum>) -> &[u8]
     }
 }
 
+/// Four octets as a number, the lowest first.
+fn low_word(octets: &[u8]) -> Option<u32>
+    ensures { result ≡ low_word octets.now }
+{
+    match octets {
+        [a, b, c, d, ..] => Some(u32::from_le_bytes([*a, *b, *c, *d])),
+        _ => None,
+    }
+}
+
 /// The GSS flags that the client asked for.
 pub(crate) fn gss_flags(checksum: &Option<Checksum>) -> Option<u32>
     ensures { result ≡ gss_flags checksum.now }
 {
     match checksum {
-        Some(checksum) if is_gss(checksum) => {
-            let octets = checksum.checksum.as_slice();
-            Some(u32::from_le_bytes([octets[20], octets[21], octets[22], octets[23]]))
-        }
+        Some(checksum) if is_gss(checksum) => low_word(&checksum.checksum.as_slice()[20..]),
         _ => None,
     }
 }
@@ -160,13 +169,13 @@ fn check_bound(channel: Option<[u8; 16]>, checksum: &Option<Checksum>) -> Result
     hold(is_bound(channel, checksum), Cause::Bindings)
 }
 
-/// The ticket and the authenticator are as the rules ask.
-pub(crate) fn allow(server: &Kerberos, request: &Request) -> Result<(), Cause>
-    ensures { Allows server.now request.now result }
+/// The ticket and the authenticator are as the rules ask, and bound to the channel that the client is held to.
+#[tactic(auto, unfolding(crate::specs::Allowed::Allows))]
+pub(crate) fn allow(rules: Rules, channel: Option<[u8; 16]>, request: &Request) -> Result<(), Cause>
+    ensures { (server : Kerberos) → server.rules ≡ rules → channel_held server ≡ channel → Allows server request.now result }
 {
-    check_validity(server.rules, &request.part)?;
-    check_transit(server.rules, &request.part)?;
-    let channel = channel_held(server);
+    check_validity(rules, &request.part)?;
+    check_transit(rules, &request.part)?;
     check_told(channel, &request.authenticator.cksum)?;
     check_bound(channel, &request.authenticator.cksum)
 }

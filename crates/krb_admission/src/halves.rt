@@ -1,6 +1,7 @@
 //! The two halves of an admission: an AP-REQ is judged without a gate, and admitted at one.
 
 ghost use Rattle.std.specs.Prelude.{◌≡◌, IfOk, Err, Result};
+ghost use Rattle.std.specs.Result.{result_map_both};
 ghost use Rattle.sspi_core.specs.declared.cause.Cause.TheVariants as causes;
 ghost use Rattle.sspi_core.specs.Checks.{Answers, Holds};
 ghost use Rattle.krb_admission.specs.Admission.{IsAnswerable};
@@ -9,7 +10,7 @@ ghost use Rattle.krb_admission.specs.Accepts.{refusal, BeginsAdmission, Finishes
 ghost use Rattle.krb_admission.specs.Halves.{with_keys, JudgesApReq, AdmitsPrepared, outcome_behind};
 
 use crate::admission::{Acceptor, Admission, Answer, admission_of, settle};
-use crate::allowed::allow;
+use crate::allowed::{allow, channel_held};
 use crate::complete::complete;
 use crate::judged::Judged;
 use crate::request::{Request, ask_of, read_request};
@@ -27,15 +28,24 @@ fn check_state(server: &Kerberos) -> Result<(), Cause>
 }
 
 /// The checks before the gate. The keys that open a ticket are kept in the context.
-fn begin(alloc: Global, server: &mut Kerberos, dce: bool, token: &[u8]) -> Result<Request, Cause>
+fn begin(
+    alloc: Global,
+    server: &mut Kerberos,
+    dce: bool,
+    token: &[u8],
+) -> Result<Box<Request>, Cause>
     ensures stays { server.new ≡ server.old }
-    ensures begins { Answers (BeginsAdmission server.old dce token.now) result }
+    ensures begins { Answers (BeginsAdmission server.old dce token.now) (result_map_both (λ request. request.value) (λ e. e) result) }
 {
     check_state(server)?;
+    let (rules, channel) = (server.rules, channel_held(server));
     let properties = properties(&server.server)?;
     let kept = &mut server.kept_to_open;
-    let request = read_request(alloc, server.rules, properties, kept, dce, token)?;
-    allow(server, &request)?;
+    let request = boxed(
+        alloc,
+        read_request(alloc, rules, properties, kept, dce, token)?,
+    )?;
+    allow(rules, channel, &request)?;
     Ok(request)
 }
 
@@ -79,14 +89,14 @@ pub fn judge(
     ensures stays { server.new ≡ server.old }
     ensures judges { Answers (JudgesApReq server.old dce token.now draw.now) result }
 {
+    let rules = server.rules;
     let request = begin(alloc, server, dce, token)?;
-    let held = boxed(alloc, request)?;
-    let outcome = finish(alloc, server, dce, draw, &held)?;
+    let outcome = finish(alloc, server, dce, draw, &request)?;
     Ok(Judged {
-        request: held,
+        request,
         outcome,
         moment: draw.moment,
-        rules: server.rules,
+        rules,
     })
 }
 
@@ -97,13 +107,16 @@ fn begin_with(
     server: &Kerberos,
     dce: bool,
     token: &[u8],
-) -> Result<Request, Cause>
-    ensures { Answers (BeginsAdmission (with_keys keys.now server.now) dce token.now) result }
+) -> Result<Box<Request>, Cause>
+    ensures { Answers (BeginsAdmission (with_keys keys.now server.now) dce token.now) (result_map_both (λ request. request.value) (λ e. e) result) }
 {
     check_state(server)?;
     let mut kept = KeptKey::new();
-    let request = read_request(alloc, server.rules, keys, &mut kept, dce, token)?;
-    allow(server, &request)?;
+    let request = boxed(
+        alloc,
+        read_request(alloc, server.rules, keys, &mut kept, dce, token)?,
+    )?;
+    allow(server.rules, channel_held(server), &request)?;
     Ok(request)
 }
 
@@ -120,10 +133,9 @@ pub fn judge_with(
     ensures { Answers (JudgesApReq (with_keys keys.now server.now) dce token.now draw.now) result }
 {
     let request = begin_with(alloc, keys, server, dce, token)?;
-    let held = boxed(alloc, request)?;
-    let outcome = finish(alloc, server, dce, draw, &held)?;
+    let outcome = finish(alloc, server, dce, draw, &request)?;
     Ok(Judged {
-        request: held,
+        request,
         outcome,
         moment: draw.moment,
         rules: server.rules,

@@ -11,7 +11,7 @@ returns-in_err-check_state-clause-step g c =
 
 pub returns-clause-step : goal.returns-clause-step
 returns-clause-step g c =
-    let asked = c.ask_of-ask.ensures ∙ ap (λ (r : Request). ask_of r c.judged.inside.moment) c.deref_mut.ensures.value in
+    let asked = c.in_ok-ask.ensures ∙ ap (λ (r : Request). ask_of c.judged.inside.rules r c.judged.inside.moment) c.deref_mut.ensures.value in
     λ ne. subst (λ (p : Prepared). AdmitsPrepared g.G.ReplayGate.admits p c.args.server.now c.args.gate.now c.settle_behind.result c.settle_behind.new.server c.admit.new.self) c.judged.view_is
     (admits_in_time g.G.ReplayGate.admits _ c.args.server.now c.args.gate.now _ _ _ _ c.in_ok-check_state.ensures
     (record { verdict = c.in_ok-verdict.verdict; gate = rw asked at c.in_ok-verdict.ensures.step; made = rw c.refusal.ensures at c.settle_behind.ensures }))
