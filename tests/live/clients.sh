@@ -7,7 +7,7 @@ mit_speaks() {
 }
 
 # The same by the keytab of a host, whose name the library gives the type 3: host_speaks FLAGS COUNT
-host_speaks() { KRB5CCNAME=FILE:$room/host-ccache KRB5_CLIENT_KTNAME=FILE:$mit/client.keytab mit_speaks "$@" as=host@client.example.com; }
+host_speaks() { KRB5CCNAME=FILE:$room/typed-ccache KRB5_CLIENT_KTNAME=FILE:$mit/client.keytab mit_speaks "$@" as=host@client.example.com; }
 
 # Whether a client, by its command, does not get through, and the server's log says why: turned_away NAME PATTERN COMMAND..
 turned_away() {
@@ -77,6 +77,6 @@ try_clients() {
     await_port "$acceptor_port"
     try_names
     check "four processes of one client at once, 25 log-ins each" at_once 25
-    check "the same with 200 each" at_once 200
+    check "the same with 100 each" at_once 100
     try_channel
 }
