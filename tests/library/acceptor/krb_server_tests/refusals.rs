@@ -1,14 +1,14 @@
-//! What a client is told of a refusal. The octets are those of another implementation, and MIT's client printed each code in words:
-//! 'Clock skew too great' for 37.
+//! What a client is told of a refusal. Another implementation wrote the octets, with the microseconds in four, and MIT's client printed
+//! each code in words: 'Clock skew too great' for 37.
 
 use krb_server::error_token;
 use sspi_core::{Cause, MAX_MOMENT};
 use std::alloc::Global;
 use std::test::Fail;
 
-/// What is before and after the code, of host/server.example.com at EXAMPLE.COM, 123456 microseconds after 2023-11-14T22:13:20Z.
+/// The octets before the code and after it, of host/server.example.com at EXAMPLE.COM, 123456 microseconds after 2023-11-14T22:13:20Z.
 const BEFORE: &str =
-    "607006092a864886f71201020203007e61305fa003020105a10302011ea411180f32303233313131343232313332305aa505020301e240a6030201";
+    "607106092a864886f71201020203007e623060a003020105a10302011ea411180f32303233313131343232313332305aa50602040001e240a6030201";
 
 const AFTER: &str =
     "a90d1b0b4558414d504c452e434f4daa253023a003020102a11c301a1b04686f73741b127365727665722e6578616d706c652e636f6d";
@@ -57,7 +57,7 @@ fn a_client_is_told_the_clock_and_replays_alone(rt: HostRuntime) -> Result<(), F
 
 /// A whole second, and names of one letter.
 const SHORT: &str =
-    "604d06092a864886f71201020203007e3e303ca003020105a10302011ea411180f32303233313131343232313332305aa503020100a60302013ca9031b0141aa0e300ca003020102a10530031b0161";
+    "605006092a864886f71201020203007e41303fa003020105a10302011ea411180f32303233313131343232313332305aa506020400000000a60302013ca9031b0141aa0e300ca003020102a10530031b0161";
 
 fn is_short(alloc: Global) -> Result<bool, Fail> {
     let Ok(token) = error_token(alloc, "A", "a", 1_700_000_000_000_000, Cause::Shape) else {
