@@ -7,7 +7,6 @@ use Rattle.krb_exchange.specs.Layouts.{as_rep_layout, pa_data_layout, etype_info
 use Rattle.krb_exchange.specs.Results.{HasOneResult}
 use Rattle.krb_exchange.specs.declared.kdc_req.KdcReqBody.{KdcReqBody}
 use Rattle.krb_exchange.specs.declared.kdc_rep.AsRep.{AsRep}
-use Rattle.krb_exchange.specs.declared.kdc_rep.KdcRep.{KdcRep}
 use Rattle.krb_exchange.specs.declared.krb_error.KrbError.{KrbError}
 use Rattle.krb_exchange.specs.declared.result.KrbResult.{KrbResult}
 use Rattle.krb_exchange.specs.declared.result.KrbResult.TheVariants.{Ok as Reply, Err as Refusal}
@@ -25,8 +24,7 @@ use Rattle.krb_as.proofs.Carrying.{unwraps_once}
 use Rattle.krb_replies.specs.Told.{Hands}
 use Rattle.krb_replies.specs.Hints.{etype_info2, IsInfo2}
 use Rattle.krb_replies.specs.Salts.{IsHints, NamesSalt, NamesSuite, TellsEtype}
-use Rattle.krb_replies.specs.declared.facts.ReplyFacts.{ReplyFacts}
-use Rattle.krb_replies.proofs.Once.{brings_first_once, asked_for_once}
+use Rattle.krb_replies.proofs.Once.{brings_first_once, answers_request_once, asked_for_once}
 use Rattle.sspi_core.proofs.Once.{Once, then_once, finds_once, takes_once, holds_once, gives_once}
 use Rattle.sspi_core.specs.Protocol.{scheme_of}
 use Rattle.sspi_core.specs.declared.cause.Cause.{Cause}
@@ -170,15 +168,11 @@ unfolding SealsTime
 seals_time_once asker kdc body draw error =
     then_once _ _ (leaves_salt_once _ error) (λ salt. then_once _ _ (leaves_suite_once (has_rule asker.rules suite_of_each_key) asker error) (λ suite. then_once _ _ (takes_once _ _) (λ key. gives_once _)))
 
-answers_as_req_once : (body : KdcReqBody) (moment : ℕ) (rep : KdcRep) (facts : ReplyFacts) → Once (AnswersAsReq body moment rep facts)
-unfolding AnswersAsReq
-answers_as_req_once body moment rep facts = then_once _ _ (holds_once _ _) (λ _. then_once _ _ (holds_once _ _) (λ _. holds_once _ _))
-
 takes_fresh_key_once : (asker : Asker) (body : KdcReqBody) (moment : ℕ) (used : List ℕ) (as_rep : AsRep) → Once (TakesFreshKey asker body moment used as_rep)
 unfolding TakesFreshKey
 takes_fresh_key_once asker body moment used as_rep =
     then_once _ _ (takes_reply_key_once asker.rules asker.credentials used as_rep)
-    (λ taken. then_once _ _ (asked_for_once (has_rule asker.rules fresh_replies) (AnswersAsReq body moment as_rep.0 taken.facts) (answers_as_req_once body moment as_rep.0 taken.facts)) (λ _. gives_once _))
+    (λ taken. then_once _ _ (asked_for_once (has_rule asker.rules fresh_replies) (AnswersAsReq body moment as_rep.0 taken.facts) (answers_request_once _ _ moment taken.facts)) (λ _. gives_once _))
 
 brings_grant_once : (asker : Asker) (body : KdcReqBody) (moment : ℕ) (used : List ℕ) (as_rep : AsRep) → Once (BringsGrant asker body moment used as_rep)
 unfolding BringsGrant

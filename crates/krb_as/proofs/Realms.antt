@@ -1,4 +1,4 @@
--- The realm of a KDC that is found can be sent.
+-- The realm of a KDC that is found is the one that was asked for, and can be sent.
 use Rattle.std.proofs.Common.{◌≡◌, ℕ, ◌≤◌, ◌^◌, List, Option, Result, Ok, Err, sym, ap, subst}
 use Rattle.std.specs.Prelude.{length}
 use Rattle.url.specs.Parts.{Parts}
@@ -18,7 +18,7 @@ use Rattle.krb_as.specs.AsPhases.{IsAwaiting, kdc_of}
 same_ok : {A : Type 0} (x y : A) → ◌≡◌ {A = Result A Cause} (Ok x) (Ok y) → x ≡ y
 same_ok x y e = cc
 
--- behind a refusal no KDC is found
+-- after a refusal no KDC is found
 behind_protocol : (url : Parts) (realm : List ℕ) (m : Result NetworkProtocol Cause) (kdc : Kdc)
     → Goes (λ protocol. Gives (record { protocol = protocol; url = url; realm = realm })) m (Ok kdc) → kdc.realm ≡ realm
 behind_protocol url realm (Ok protocol) kdc h = ap (λ (k : Kdc). k.realm) (same_ok kdc _ h.is)
@@ -31,7 +31,7 @@ behind_url realm (Ok url) kdc h = behind_protocol url realm h.middle kdc h.rest
 behind_url realm (Err e) kdc h = absurd cc
 
 module _ (own : Option Parts) (env : Env) (realm : List ℕ) where
-  found_realm : (kdc : Kdc) → FindsKdc own env realm (Ok kdc) → kdc.realm ≡ realm
+  pub found_realm : (kdc : Kdc) → FindsKdc own env realm (Ok kdc) → kdc.realm ≡ realm
   unfolding FindsKdc
   found_realm kdc h = behind_url realm h.middle kdc h.rest
 

@@ -24,10 +24,9 @@ use Rattle.krb_replies.specs.Told.{Hands}
 use Rattle.krb_crypto.specs.declared.suite.CipherSuite.{CipherSuite}
 use Rattle.krb_exchange.specs.declared.enc_kdc_rep_part.EncKdcRepPart.{EncKdcRepPart}
 use Rattle.krb_exchange.specs.declared.kdc_rep.AsRep.{AsRep}
-use Rattle.krb_exchange.specs.declared.kdc_rep.KdcRep.{KdcRep}
 use Rattle.krb_exchange.specs.declared.pa_data.EtypeInfo2Entry.{EtypeInfo2Entry}
 use Rattle.krb_replies.specs.declared.facts.ReplyFacts.{ReplyFacts}
-use Rattle.krb_replies.specs.Fresh.{AskedFor}
+use Rattle.krb_replies.specs.Fresh.{AnswersRequest, AskedFor}
 use Rattle.krb_replies.specs.Keys.{OpensFirst, HasSuite, TakesKey, BringsFirst}
 use Rattle.krb_replies.specs.Salts.{NamesSalt, NamesSuite, entry_hint, first_hint, TellsEtype}
 use Rattle.krb_replies.specs.Unseals.{suite_of_integer, Unseals}
@@ -182,7 +181,7 @@ module _ (reply : Result (List ℕ) NetFault) (protocol : NetworkProtocol) where
       then_refuses _ _ _ (then_refuses _ _ _ (record { not = brought_refuses reply }) (λ octets. unpacks_refuse _ protocol octets))
       (λ message. finds_refuses _ Shape _ (not_shape _))
 
-  -- nor does what follows the first reply, where neither what is behind an error nor what an AS-REP brings does
+  -- nor does what follows the first reply, where neither what is after an error nor what an AS-REP brings does
   module _ {A : Type 0} (rules : Rules) (behind : KrbError → Result A Cause → Type 0) (next : AsRep → Result A Cause → Type 0)
       (behind_refuses : (error : KrbError) → Refuses (IsFailure reply) (behind error)) (next_refuses : (as_rep : AsRep) → Refuses (IsFailure reply) (next as_rep)) where
     early_refuses : (as_rep : AsRep) → Refuses (IsFailure reply) (TakesEarly rules next as_rep)
@@ -234,25 +233,25 @@ module _ (P : Type 0) where
   asked_for_refuses false check never = record { not = λ e h z. (gives_refuses P tt).not e h z }
   asked_for_refuses true check never = record { not = λ e h z. never.not e h z }
 
-  pub not_nonce : IsNetwork Nonce → P
+  not_nonce : IsNetwork Nonce → P
   not_nonce z = let e = z.1 in absurd cc
 
-  pub not_names : IsNetwork ReplyNames → P
+  not_names : IsNetwork ReplyNames → P
   not_names z = let e = z.1 in absurd cc
 
   pub not_time : IsNetwork ReplyTime → P
   not_time z = let e = z.1 in absurd cc
 
-  answers_refuse : (body : KdcReqBody) (moment : ℕ) (rep : KdcRep) (facts : ReplyFacts) → Refuses P (AnswersAsReq body moment rep facts)
-  unfolding AnswersAsReq
-  answers_refuse body moment rep facts =
+  pub answers_refuse : (repeats names : Bool) (moment : ℕ) (facts : ReplyFacts) → Refuses P (AnswersRequest repeats names moment facts)
+  unfolding AnswersRequest
+  answers_refuse repeats names moment facts =
       then_refuses P _ _ (holds_refuses P Nonce _ not_nonce) (λ _. then_refuses P _ _ (holds_refuses P ReplyNames _ not_names) (λ _. holds_refuses P ReplyTime _ not_time))
 
   fresh_key_refuses : (asker : Asker) (body : KdcReqBody) (moment : ℕ) (used : List ℕ) (as_rep : AsRep) → Refuses P (TakesFreshKey asker body moment used as_rep)
   unfolding TakesFreshKey
   fresh_key_refuses asker body moment used as_rep =
       then_refuses P _ _ (key_refuses P asker.rules asker.credentials used as_rep)
-      (λ taken. then_refuses P _ _ (asked_for_refuses (has_rule asker.rules fresh_replies) (AnswersAsReq body moment as_rep.0 taken.facts) (answers_refuse body moment as_rep.0 taken.facts)) (λ _. gives_refuses P _))
+      (λ taken. then_refuses P _ _ (asked_for_refuses (has_rule asker.rules fresh_replies) (AnswersAsReq body moment as_rep.0 taken.facts) (answers_refuse _ _ moment taken.facts)) (λ _. gives_refuses P _))
 
   brings_grant_refuses : (asker : Asker) (body : KdcReqBody) (moment : ℕ) (used : List ℕ) (as_rep : AsRep) → Refuses P (BringsGrant asker body moment used as_rep)
   unfolding BringsGrant

@@ -7,10 +7,9 @@ use Rattle.krb_exchange.specs.declared.kdc_req.KdcReqBody.{KdcReqBody}
 use Rattle.krb_context.specs.Rules.{has_rule, fresh_replies}
 use Rattle.krb_replies.specs.declared.facts.ReplyFacts.{ReplyFacts}
 use Rattle.krb_replies.specs.declared.keys.ReplyKey.{ReplyKey}
-use Rattle.krb_replies.specs.Fresh.{is_number, repeats_nonce, is_valid_at, same_components, AskedFor}
+use Rattle.krb_replies.specs.Fresh.{is_number, repeats_nonce, same_components, AnswersRequest, AskedFor}
 use Rattle.sspi_core.specs.declared.cause.Cause.{Cause}
-use Rattle.sspi_core.specs.declared.cause.Cause.TheVariants.{Nonce, ReplyNames, ReplyTime}
-use Rattle.sspi_core.specs.Checks.{Holds, Gives, ◌>>=◌, ◌>>◌}
+use Rattle.sspi_core.specs.Checks.{Gives, ◌>>=◌, ◌>>◌}
 use Rattle.krb_as.specs.declared.asker.Asker.{Asker}
 use Rattle.krb_as.specs.ReplyKeys.{TakesReplyKey}
 
@@ -34,11 +33,8 @@ abbrev pub names_service : KdcReqBody → ReplyFacts → Bool
 names_service body facts = bytes_eq facts.srealm body.realm && is_asked body.sname facts.sname
 
 -- the reply has the nonce and the names of the request, and a ticket that is valid at this moment
-unfoldable pub AnswersAsReq : KdcReqBody → ℕ → KdcRep → ReplyFacts → Result (Unit {0}) Cause → Type 0
-AnswersAsReq body moment rep facts = do
-  Holds Nonce (repeats_nonce body.nonce facts)
-  Holds ReplyNames (names_client body rep && names_service body facts)
-  Holds ReplyTime (is_valid_at moment facts)
+abbrev pub AnswersAsReq : KdcReqBody → ℕ → KdcRep → ReplyFacts → Result (Unit {0}) Cause → Type 0
+AnswersAsReq body moment rep facts = AnswersRequest (repeats_nonce body.nonce facts) (names_client body rep && names_service body facts) moment facts
 
 -- the key of an AS-REP, which answers the request where that is a rule; used is the salt of the request
 unfoldable pub TakesFreshKey : Asker → KdcReqBody → ℕ → List ℕ → AsRep → Result ReplyKey Cause → Type 0

@@ -86,7 +86,7 @@ fn sent_first(alloc: Global, kdc: Kdc, body: KdcReqBody) -> Result<(NetworkReque
     ensures waits { (asker : Asker) → IfOk result (λ sent. IsAwaiting asker sent.1) }
     ensures turns { IfOk result (λ sent. turns_left sent.1 ≡ 1) }
 {
-    let request = first_request(alloc, &kdc, &body)?;
+    let (request, body) = first_request(alloc, &kdc, body)?;
     Ok((request, AsPhase::AwaitsError(kdc, body)))
 }
 
@@ -127,14 +127,13 @@ fn sent_second(
     ensures step { Answers (Gives (second_request suite key draw.now kdc.now body.now, sealed_time kdc.now body.now suite salt key)) result }
     ensures sealed { IfOk result (λ sent. IsSealed asker.now sent.1) }
 {
-    let request = second_request(alloc, suite, &key, draw, kdc, body)?;
-    let kdc = kdc.copy(alloc)?;
-    let body = body.copy(alloc)?;
+    let asked = kdc.copy(alloc)?;
+    let (request, body) = second_request(alloc, suite, &key, draw, kdc, body)?;
     let key = Secret::new(key);
     Ok((
         request,
         SealedTime {
-            kdc,
+            kdc: asked,
             body,
             suite,
             salt,
@@ -169,7 +168,7 @@ pub(crate) fn seal_time(
     sent_second(alloc, asker, kdc, body, suite, salt, key, draw)
 }
 
-/// The phase behind the second request.
+/// The phase after the second request.
 #[tactic(auto, unfolding(crate::specs::AsPhases::AsksSecond))]
 fn ask_second(
     alloc: Global,
@@ -364,7 +363,7 @@ fn take_as_rep(
     kept_grant(alloc, asker, sealed, moment, as_rep)
 }
 
-/// What a reply leads to: the second request behind the first reply, and behind the second one the ticket that it brings. Where the
+/// What a reply leads to: the second request after the first reply, and after the second one the ticket that it brings. Where the
 /// rules allow that there is no pre-authentication, a first reply that is an AS-REP brings the ticket.
 ///
 /// The first reply is refused as `read_reply` refuses. An error is then refused as `left_salt` refuses, and as `KeyLength` where the key

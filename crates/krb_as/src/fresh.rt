@@ -1,17 +1,15 @@
 //! Whether an AS-REP answers the AS-REQ of this exchange (RFC 4120, section 3.1.5; RFC 6806, section 6).
 
-ghost use Rattle.std.specs.Prelude.{◌≡◌, ◌&&◌};
-ghost use Rattle.sspi_core.specs.declared.cause.Cause.TheVariants as causes;
-ghost use Rattle.sspi_core.specs.Checks.{Answers, Holds};
+ghost use Rattle.std.specs.Prelude.{◌≡◌};
 ghost use Rattle.krb_context.specs.Rules.{has_rule, fresh_replies};
-ghost use Rattle.krb_replies.specs.Fresh.{repeats_nonce, is_valid_at, AskedFor};
+ghost use Rattle.krb_replies.specs.Fresh.{AskedFor};
 ghost use Rattle.krb_as.specs.Fresh.{is_asked, is_alias, names_client, names_service, AnswersAsReq};
 
 use krb_context::Rules;
 use krb_exchange::{KdcRep, KdcReqBody};
 use krb_messages::PrincipalName;
-use krb_replies::{ReplyFacts, is_number};
-use sspi_core::{Cause, hold};
+use krb_replies::{ReplyFacts, check_answer, is_number};
+use sspi_core::Cause;
 
 /// The type of an enterprise name (RFC 6806, section 5).
 const ENTERPRISE: i64 = 10;
@@ -48,58 +46,6 @@ fn names_service(body: &KdcReqBody, facts: &ReplyFacts) -> bool
     facts.srealm.as_slice() == body.realm.as_slice() && is_asked(&body.sname, &facts.sname)
 }
 
-fn check_nonce(body: &KdcReqBody, facts: &ReplyFacts) -> Result<(), Cause>
-    ensures { Holds causes.Nonce (repeats_nonce body.now.nonce facts.now) result }
-{
-    hold(facts.repeats_nonce(&body.nonce), Cause::Nonce)
-}
-
-fn check_names(body: &KdcReqBody, rep: &KdcRep, facts: &ReplyFacts) -> Result<(), Cause>
-    ensures { Holds causes.ReplyNames (names_client body.now rep.now && names_service body.now facts.now) result }
-{
-    hold(
-        names_client(body, rep) && names_service(body, facts),
-        Cause::ReplyNames,
-    )
-}
-
-fn check_time(moment: u64, facts: &ReplyFacts) -> Result<(), Cause>
-    ensures { Holds causes.ReplyTime (is_valid_at moment facts.now) result }
-{
-    hold(facts.is_valid_at(moment), Cause::ReplyTime)
-}
-
-/// Refused as `Nonce`, as `ReplyNames` and as `ReplyTime`, in this order.
-#[tactic(auto, unfolding(crate::specs::Fresh::AnswersAsReq))]
-fn check_answer(
-    body: &KdcReqBody,
-    moment: u64,
-    rep: &KdcRep,
-    facts: &ReplyFacts,
-) -> Result<(), Cause>
-    ensures { AnswersAsReq body.now moment rep.now facts.now result }
-{
-    check_nonce(body, facts)?;
-    check_names(body, rep, facts)?;
-    check_time(moment, facts)
-}
-
-fn check_by(
-    is_rule: bool,
-    body: &KdcReqBody,
-    moment: u64,
-    rep: &KdcRep,
-    facts: &ReplyFacts,
-) -> Result<(), Cause>
-    ensures { AskedFor is_rule (AnswersAsReq body.now moment rep.now facts.now) result }
-{
-    if is_rule {
-        check_answer(body, moment, rep, facts)
-    } else {
-        Ok(())
-    }
-}
-
 /// Checks that an AS-REP answers the request with this body at this moment, in microseconds since 1970, where that is a rule.
 ///
 /// Refused as `Nonce` where it has another nonce; as `ReplyNames` where its client or the service that is sealed in it is another; as
@@ -113,6 +59,7 @@ pub(crate) fn check_fresh(
 ) -> Result<(), Cause>
     ensures { AskedFor (has_rule rules fresh_replies) (AnswersAsReq body.now moment rep.now facts.now) result }
 {
-    let is_rule = rules.has(Rules::FRESH_REPLIES);
-    check_by(is_rule, body, moment, rep, facts)
+    let repeats = facts.repeats_nonce(&body.nonce);
+    let names = names_client(body, rep) && names_service(body, facts);
+    check_answer(rules, repeats, names, moment, facts)
 }

@@ -7,7 +7,7 @@ use crate::ask::{Ask, Verdict};
 use crate::record::Record;
 
 /// Whether `a` is later than `b` by more than the skew. The times are in microseconds, and the skew in seconds.
-fn is_later(a: i128, b: i128, skew: u32) -> bool
+pub fn is_later(a: i128, b: i128, skew: u32) -> bool
     requires { b <ℤ pos (2 ^ 100) }
     ensures { result ≡ is_later a b skew }
 {

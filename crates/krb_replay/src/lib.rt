@@ -31,6 +31,7 @@ mod telling;
 pub use ask::{Ask, Verdict};
 pub use book::ReplayBook;
 pub use cache::{AuthenticatorCacheRecord, AuthenticatorsCache, CacheGate};
+pub use clock::is_later;
 pub use gate::ReplayGate;
 pub use record::Record;
 pub use telling::TellingGate;

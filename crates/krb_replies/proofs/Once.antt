@@ -16,8 +16,9 @@ use Rattle.krb_exchange.proofs.Spelled.{same_record}
 use Rattle.sspi_core.specs.declared.cause.Cause.{Cause}
 use Rattle.sspi_core.proofs.Once.{Once, then_once, finds_once, takes_once, holds_once, gives_once}
 use Rattle.krb_replies.specs.Keys.{is_tagged_26, IsFirstPart, OpensFirst, HasSuite, TakesKey, BringsFirst, BringsNext}
-use Rattle.krb_replies.specs.Fresh.{AskedFor}
+use Rattle.krb_replies.specs.Fresh.{AnswersRequest, AskedFor}
 use Rattle.krb_replies.specs.Unseals.{Unseals, OpensSealed}
+use Rattle.krb_replies.specs.declared.facts.ReplyFacts.{ReplyFacts}
 use Rattle.krb_replies.specs.declared.unseal.Refusals.{Refusals}
 
 unseals_once : (refusals : Refusals) (suite : CipherSuite) (key : List ℕ) (usage : ℕ) (text : List ℕ) → Once (Unseals refusals suite key usage text)
@@ -63,6 +64,11 @@ pub brings_next_once : (rules : Rules) (suite : CipherSuite) (key : List ℕ) (t
 unfolding BringsNext
 brings_next_once rules suite key tgs_rep =
     then_once _ _ (opens_once enc_tgs_rep_part_layout _ suite key 8 tgs_rep.0.enc_part.cipher) (λ part. takes_key_once rules suite part.0)
+
+-- whether a reply answers its request
+pub answers_request_once : (repeats names : Bool) (moment : ℕ) (facts : ReplyFacts) → Once (AnswersRequest repeats names moment facts)
+unfolding AnswersRequest
+answers_request_once repeats names moment facts = then_once _ _ (holds_once _ _) (λ _. then_once _ _ (holds_once _ _) (λ _. holds_once _ _))
 
 -- a check that a rule asks for
 pub asked_for_once : (is_rule : Bool) (check : Result (Unit {0}) Cause → Type 0) → Once check → Once (λ r. AskedFor is_rule check r)

@@ -6,7 +6,8 @@ use Rattle.std.specs.Cmp.Lexicographic.{pointwise}
 use Rattle.krb_der.specs.Integer.{integer_value}
 use Rattle.krb_replay.specs.Clock.{in_microseconds, is_later}
 use Rattle.sspi_core.specs.declared.cause.Cause.{Cause}
-use Rattle.sspi_core.specs.Checks.{Gives}
+use Rattle.sspi_core.specs.declared.cause.Cause.TheVariants.{Nonce, ReplyNames, ReplyTime}
+use Rattle.sspi_core.specs.Checks.{Holds, Gives, ◌>>◌}
 use Rattle.krb_replies.specs.declared.facts.ReplyFacts.{ReplyFacts}
 
 -- how far the clocks of a client and of a KDC may differ, in seconds (RFC 4120, section 8.2: five minutes)
@@ -42,6 +43,13 @@ is_valid_at moment facts =
 -- two names have the same components, whatever their types, which are hints (RFC 4120, section 6.2)
 abbrev pub same_components : List (List ℕ) → List (List ℕ) → Bool
 same_components one other = pointwise (pointwise ◌==◌) one other
+
+-- a reply has the nonce and the names of its request, where these say so, and a ticket that is valid at this moment
+unfoldable pub AnswersRequest : Bool → Bool → ℕ → ReplyFacts → Result (Unit {0}) Cause → Type 0
+AnswersRequest repeats names moment facts = do
+  Holds Nonce repeats
+  Holds ReplyNames names
+  Holds ReplyTime (is_valid_at moment facts)
 
 -- a check that a rule asks for: without the rule all passes
 abbrev pub AskedFor : Bool → (Result (Unit {0}) Cause → Type 0) → Result (Unit {0}) Cause → Type 0

@@ -1,11 +1,11 @@
 //! What is sealed in a reply of a KDC beside the key, and whether it answers the request (RFC 4120, sections 3.1.5, 3.3.4 and 5.4.2).
 
-ghost use Rattle.std.specs.Prelude.{◌≡◌, unwrap_or, pos, ◌<ℤ◌, ◌^◌};
-ghost use Rattle.krb_replay.specs.Clock.{is_later};
-ghost use Rattle.krb_replies.specs.Fresh.{grace, is_number, has_value, repeats_nonce, start_of, is_valid_at};
+ghost use Rattle.std.specs.Prelude.{◌≡◌};
+ghost use Rattle.krb_replies.specs.Fresh.{is_number, has_value, repeats_nonce, is_valid_at};
 
 use krb_der::{Bits, IntegerAsn1, Name, Time};
 use krb_messages::PrincipalName;
+use krb_replay::is_later;
 
 /// How far the clocks of a client and of a KDC may differ, in seconds.
 const GRACE: u32 = 300;
@@ -47,14 +47,6 @@ pub fn has_value(number: u32, octets: &IntegerAsn1) -> bool
     is_number(octets, number) || is_number(octets, number - 4_294_967_296)
 }
 
-/// Whether `a` is later than `b` by more than the grace. The times are in microseconds.
-fn is_later(a: i128, b: i128) -> bool
-    requires { b <ℤ pos (2 ^ 100) }
-    ensures { result ≡ is_later a b grace }
-{
-    a > b + i128::from(GRACE) * 1_000_000
-}
-
 impl ReplyFacts {
     /// Whether the reply has the nonce of a request, whose four octets these are, by its value.
     pub fn repeats_nonce(&self, asked: &IntegerAsn1) -> bool
@@ -72,6 +64,7 @@ impl ReplyFacts {
     {
         let now = i128::from(moment);
         let start = self.starttime.unwrap_or(self.authtime);
-        !is_later(start.microseconds(), now) && !is_later(now, self.endtime.microseconds())
+        !is_later(start.microseconds(), now, GRACE)
+            && !is_later(now, self.endtime.microseconds(), GRACE)
     }
 }

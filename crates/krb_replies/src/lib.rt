@@ -8,6 +8,7 @@
 
 mod answered;
 mod facts;
+mod fresh;
 mod hints;
 mod keys;
 pub mod laws;
@@ -23,6 +24,7 @@ pub use answered::{
     extract_sub_session_key_from_ap_rep,
 };
 pub use facts::{ReplyFacts, has_value, is_number};
+pub use fresh::check_answer;
 pub use keys::{
     ReplyKey, extract_session_key_from_as_rep, extract_session_key_from_as_rep_with_key,
     extract_session_key_from_tgs_rep, key_in_as_rep, key_in_tgs_rep,
