@@ -1,5 +1,5 @@
 -- Bindings whose parts are short.
-use Rattle.std.proofs.Common.{◌≡◌, ◌≤◌, ◌^◌, ℕ, ◌&&◌, Bool, true, false, List, length, nat_le, IsTrue, refl, arith}
+use Rattle.std.proofs.Common.{◌≡◌, ◌≤◌, ◌^◌, ℕ, ◌&&◌, Bool, true, false, List, length, nat_le, IsTrue, arith, rules}
 use Rattle.std.proofs.lemmas.Bool.Decides.{nat_tests}
 use Rattle.krb_authenticators.specs.Bindings.{AreShortBindings}
 use Rattle.krb_entrance.specs.Channels.{is_short, are_short}
@@ -11,7 +11,7 @@ record AreTrue (a b c : Bool) : Type 0 where
   third : IsTrue c
 
 are_true : (a b c : Bool) → ((a && b) && c) ≡ true → AreTrue a b c
-are_true true true true e = record { first = tt; second = tt; third = tt }
+are_true true true true e = record { first = search rules; second = search rules; third = search rules }
 are_true true true false e = absurd cc
 are_true true false c e = absurd cc
 are_true false b c e = absurd cc
