@@ -1,5 +1,5 @@
 -- The initiator takes the AP-REP to an honest offer, in DCE style its last word is taken in turn, and both ends are peers.
-use Rattle.std.proofs.Common.{◌≡◌, ℕ, ◌+◌, ◌<◌, ◌≤◌, ◌^◌, ◌%◌, ℤ, Bool, true, false, List, [], ◌++◌, length, drop, option_map, refl, sym, subst, arith, lit<, lit≤, Ok}
+use Rattle.std.proofs.Common.{◌≡◌, ℕ, ◌+◌, ◌<◌, ◌≤◌, ◌^◌, ◌%◌, ℤ, Bool, true, false, List, [], ◌++◌, length, drop, option_map, Option, refl, sym, subst, arith, lit<, lit≤, Ok}
 use Rattle.std.specs.Prelude.{Some, nat_le}
 use Rattle.std.specs.Option.{option_map_or}
 use Rattle.std.proofs.lemmas.Bool.{le-leb}
@@ -141,7 +141,7 @@ reads_token dce user_to_user message rep h read =
 
 -- ---- one exchange
 
-module _ (server : Kerberos) (draw : Draw) (client : UserName) (offer : Offer) (for_it : IsFor server client offer) (is : IsDraw draw) where
+module _ (server : Kerberos) (draw : Draw) (client : Option UserName) (offer : Offer) (for_it : IsFor server client offer) (is : IsDraw draw) where
   abbrev suite : CipherSuite
   suite = offer.suite
 

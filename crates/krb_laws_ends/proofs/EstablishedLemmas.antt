@@ -50,12 +50,12 @@ use Rattle.krb_laws_ends.proofs.HonestLemmas.{is_answered, same_octets}
 use Rattle.krb_laws_ends.proofs.OctetsLemmas.{IsOctets-time, short-word}
 use Rattle.krb_laws_ends.proofs.RepLemmas.{IsReadable, readable}
 
--- the own number behind the exchange, whether it stays or rises
+-- the own number after the exchange, whether it stays or rises
 settled_small : (stays : Bool) (number : ℕ) → number < 2 ^ 32 → (if stays then number else next_number number) < 2 ^ 32
 settled_small true number h = h
 settled_small false number h = omega arith
 
-module _ (server : Kerberos) (draw : Draw) (client : UserName) (offer : Offer) (for_it : IsFor server client offer) (is : IsDraw draw) (initiator : Kerberos) (options : InitOptions) (own : Draw) (offered : Offered initiator offer) where
+module _ (server : Kerberos) (draw : Draw) (client : Option UserName) (offer : Offer) (for_it : IsFor server client offer) (is : IsDraw draw) (initiator : Kerberos) (options : InitOptions) (own : Draw) (offered : Offered initiator offer) where
   abbrev admission : Bool → Admission
   admission dce = made server draw client offer for_it is dce
 
@@ -179,7 +179,7 @@ module _ (server : Kerberos) (draw : Draw) (client : UserName) (offer : Offer) (
   is_last_word : IsDraw own → IsLastWord acceptor word (Ok tt)
   unfolding IsLastWord TellsLast settled mutual_admission
   is_last_word drawn =
-      let properties : ServerProperties = record for_it.properties { client = Some client } in
+      let properties : ServerProperties = record for_it.properties { client = client } in
       let has : with_client server.server client ≡ Some properties = ap (λ (s : Option ServerProperties). with_client s client) for_it.has in
       follows _ _ properties _ (takes_some Sequence (with_client server.server client) properties has)
       (follows _ _ number _
@@ -218,7 +218,7 @@ module _ (server : Kerberos) (draw : Draw) (client : UserName) (offer : Offer) (
         record {
           answered = judges.answer_is ∙ ap answered_as both.0;
           stays =
-              subst (λ (r : Result Request Cause). Asks admits other.moment old r accepts.verdict new)
+              subst (λ (r : Result Request Cause). Asks admits acceptor.rules other.moment old r accepts.verdict new)
               ((begins_once acceptor true token).same accepts.request (Err Sequence) accepts.begun (begins_no_more token)) accepts.gate;
           established = subst (λ (k : Kerberos). AreEstablishedBy offer draw 16 (after true) k) (sym both.1) (established_in_turn are_new);
         }
@@ -241,7 +241,7 @@ module _ (server : Kerberos) (draw : Draw) (client : UserName) (offer : Offer) (
 
     module _ (server' : Kerberos) (env : Env) (old new : G) (answer : Result Accepted Cause) where
       pub ends_well : offer.dce ≡ false → is_bare options.flags ≡ false → AreNew initiator server → AcceptsWhole admits server false (offered_token offer) env draw old answer server' new
-          → AdmitsOnly admits old (ask_of (request_of offer) draw.moment) new → EndsWell initiator server' options own draw offer answer
+          → AdmitsOnly admits old (ask_of server.rules (request_of offer) draw.moment) new → EndsWell initiator server' options own draw offer answer
       ends_well style bare are_new step only =
           let here = is_answered admits server server' env draw client offer old new answer for_it
           (subst (λ (b : Bool). AcceptsWhole admits server b (offered_token offer) env draw old answer server' new) (sym style) step) in
@@ -253,7 +253,7 @@ module _ (server : Kerberos) (draw : Draw) (client : UserName) (offer : Offer) (
 
       pub ends_well_in_turn : offer.dce ≡ true → is_bare options.flags ≡ true → IsDraw own → AreNew initiator server
           → AcceptsWhole admits server true (offered_token offer) env draw old answer server' new
-          → AdmitsOnly admits old (ask_of (request_of offer) draw.moment) new → EndsWellInTurn admits initiator server' options own draw offer answer
+          → AdmitsOnly admits old (ask_of server.rules (request_of offer) draw.moment) new → EndsWellInTurn admits initiator server' options own draw offer answer
       ends_well_in_turn style bare drawn are_new step only =
           let here = is_answered admits server server' env draw client offer old new answer for_it
           (subst (λ (b : Bool). AcceptsWhole admits server b (offered_token offer) env draw old answer server' new) (sym style) step) in
@@ -265,6 +265,6 @@ module _ (server : Kerberos) (draw : Draw) (client : UserName) (offer : Offer) (
 
       pub ends_well_in : (dce : Bool) → offer.dce ≡ dce → is_bare options.flags ≡ dce → IsDraw own → AreNew initiator server
           → AcceptsWhole admits server dce (offered_token offer) env draw old answer server' new
-          → AdmitsOnly admits old (ask_of (request_of offer) draw.moment) new → EndsWellIn dce admits initiator server' options own draw offer answer
+          → AdmitsOnly admits old (ask_of server.rules (request_of offer) draw.moment) new → EndsWellIn dce admits initiator server' options own draw offer answer
       ends_well_in true style bare drawn are_new step only = ends_well_in_turn style bare drawn are_new step only
       ends_well_in false style bare drawn are_new step only = ends_well style bare are_new step only

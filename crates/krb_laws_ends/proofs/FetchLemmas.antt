@@ -332,7 +332,7 @@ module _ (seeker : Seeker) (suite : CipherSuite) where
     abbrev done : InitDone
     done = shown_to seeker.errand suite part.key.key_value rep.0 kdcs.as_rep.0.crealm answers.last.draw
 
-    -- what comes behind the AS-REP
+    -- what comes after the AS-REP
     abbrev asked_tgs : NetworkRequest
     asked_tgs = first_asked kdcs.known.key kdcs.grants.part.0 kdcs.as_rep kdcs.known.kdc answers.first.draw
 
@@ -432,6 +432,7 @@ module _ (seeker : Seeker) (suite : CipherSuite) where
             style = refl;
             filler_stays = refl;
             number_stays = keeps;
+            cksum = refl;
             time = keeps_moment;
             honest =
                 honest seeker.errand suite rep.0 answers.last.draw granted is part service_key serves.ticket serves.same_realm serves.same_name asks.asked asks.named asks.short;

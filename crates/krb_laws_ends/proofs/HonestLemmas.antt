@@ -1,8 +1,8 @@
 -- An honest offer passes every check of an acceptor.
-use Rattle.std.proofs.Common.{◌≡◌, ℕ, ◌<◌, ◌≤◌, ◌^◌, Bool, true, false, List, [], ◌∷◌, ◌++◌, length, Option, Some, refl, subst, ap, ap₂, ◌∙◌, arith, lit<, lit≤, length-append, Result, Ok}
-use Rattle.std.specs.Prelude.{◌==◌, ◌&&◌, nat_le, if◌then◌else◌}
+use Rattle.std.proofs.Common.{◌≡◌, ℕ, ◌<◌, ◌≤◌, ◌^◌, Bool, true, false, List, [], ◌∷◌, ◌++◌, length, Option, Some, refl, sym, subst, ap, ap₂, ◌∙◌, arith, lit<, lit≤, length-append, Result, Ok}
+use Rattle.std.specs.Prelude.{◌==◌, ◌&&◌, ◌||◌, nat_le, if◌then◌else◌}
 use Rattle.std.specs.Cmp.Lexicographic.{pointwise}
-use Rattle.std.proofs.lemmas.Bool.{le-leb, and_from, eq-eqb}
+use Rattle.std.proofs.lemmas.Bool.{le-leb, and_from, or_right, eq-eqb}
 use Rattle.krb_der.specs.Der.{tlv}
 use Rattle.krb_der.specs.Schema.{IsSound, contents, tag_of}
 use Rattle.krb_der.specs.Layout.{Layout, spelling}
@@ -19,7 +19,9 @@ use Rattle.krb_messages.specs.declared.ap_req.ApReq.{ApReq}
 use Rattle.krb_messages.specs.declared.authenticator.Authenticator.{Authenticator}
 use Rattle.krb_messages.specs.declared.enc_ticket_part.EncTicketPart.{EncTicketPart}
 use Rattle.krb_messages.specs.declared.encryption.EncryptedData.{EncryptedData}
+use Rattle.krb_messages.specs.declared.principal_name.PrincipalName.{PrincipalName}
 use Rattle.krb_conf.specs.declared.env.Env.{Env}
+use Rattle.krb_context.specs.Rules.{has_rule, names_by_components}
 use Rattle.krb_context.specs.declared.context.Kerberos.{Kerberos}
 use Rattle.krb_context.specs.declared.server.ServerProperties.{ServerProperties}
 use Rattle.krb_context.specs.ServiceKeys.{service_key}
@@ -36,7 +38,8 @@ use Rattle.krb_admission.specs.declared.admission.Answer.{Answer}
 use Rattle.krb_admission.specs.declared.admission.Admission.{Admission}
 use Rattle.krb_admission.specs.declared.request.Request.{Request}
 use Rattle.krb_admission.specs.Accepts.{BeginsAdmission, FinishesAdmission, DecidesAdmission, Accepts, Asks}
-use Rattle.krb_admission.specs.Clients.{client_of}
+use Rattle.krb_admission.specs.Allowed.{is_validated, is_transit_checked, channel_held, tells_bindings, is_bound, Allows}
+use Rattle.krb_admission.specs.Clients.{is_known_client, user_of}
 use Rattle.krb_admission.specs.Complete.{is_known_options, is_mutual, has_good_subkey, Completes}
 use Rattle.krb_admission.specs.Requests.{is_same_client, OpensTicket, OpensAuthenticator, Requests, ask_of}
 use Rattle.krb_admission.specs.Tokens.{ap_req_id, IsApReq, ReceivesApReq}
@@ -45,7 +48,7 @@ use Rattle.krb_admission.proofs.Steps.{completed}
 use Rattle.krb_server.specs.declared.accept.Accepted.{Accepted}
 use Rattle.krb_server.specs.Whole.{answered_as, JudgesOther, AcceptsToken, AcceptsWhole}
 use Rattle.krb_server.proofs.Once.{ap_req_begins_none}
-use Rattle.sspi_core.specs.declared.cause.Cause.TheVariants.{Sequence, NoServiceKey, Etype, Names, ClientName, ApOptions, SubKey, Shape}
+use Rattle.sspi_core.specs.declared.cause.Cause.TheVariants.{Sequence, NoServiceKey, Etype, Names, NotYet, Transited, Checksum, Bindings, ClientName, ApOptions, SubKey, Shape}
 use Rattle.sspi_core.specs.declared.cause.Cause.{Cause}
 use Rattle.sspi_core.specs.declared.draw.Draw.{Draw}
 use Rattle.sspi_core.specs.Usernames.{UserName}
@@ -54,7 +57,7 @@ use Rattle.krb_exchange.specs.declared.enc_kdc_rep_part.EncAsRepPart.{EncAsRepPa
 use Rattle.krb_replies.specs.Keys.{OpensFirst, HasSuite}
 use Rattle.krb_laws_ends.specs.Answers.{admission_for, IsAnswered}
 use Rattle.krb_laws_ends.specs.HonestKdc.{CarriesFirst}
-use Rattle.krb_laws_ends.specs.Offers.{Carries, Offer, message_of, octets_of, offered_token, request_of, IsHonest, IsFor}
+use Rattle.krb_laws_ends.specs.Offers.{Carries, Offer, message_of, octets_of, offered_token, request_of, FitsRules, IsBoundTo, IsHonest, IsFor}
 
 -- ---- spellings and frames
 
@@ -174,14 +177,16 @@ same_parts : (xs : List (List ℕ)) → pointwise (pointwise ◌==◌) xs xs ≡
 same_parts [] = refl
 same_parts (x ∷ xs) = and_from (pointwise ◌==◌ x x) (pointwise (pointwise ◌==◌) xs xs) (same_octets x) (same_parts xs)
 
-same_client : (part : EncTicketPart) (authenticator : Authenticator) → authenticator.crealm ≡ part.crealm → authenticator.cname ≡ part.cname
-    → is_same_client part authenticator ≡ true
-same_client part authenticator realm name =
-    and_from (pointwise ◌==◌ part.crealm authenticator.crealm) (pointwise ◌==◌ part.cname.name_type authenticator.cname.name_type
-    && pointwise (pointwise ◌==◌) part.cname.name_string authenticator.cname.name_string)
+same_client : (rules : Rules) (part : EncTicketPart) (authenticator : Authenticator) → authenticator.crealm ≡ part.crealm → authenticator.cname ≡ part.cname
+    → is_same_client rules part authenticator ≡ true
+same_client rules part authenticator realm name =
+    let same_type : Bool = has_rule rules names_by_components || pointwise ◌==◌ part.cname.name_type authenticator.cname.name_type in
+    let same_string : Bool = pointwise (pointwise ◌==◌) part.cname.name_string authenticator.cname.name_string in
+    and_from (pointwise ◌==◌ part.crealm authenticator.crealm) (same_type && same_string)
     (ap (pointwise ◌==◌ part.crealm) realm ∙ same_octets part.crealm)
-    (and_from (pointwise ◌==◌ part.cname.name_type authenticator.cname.name_type) (pointwise (pointwise ◌==◌) part.cname.name_string authenticator.cname.name_string)
-    (ap (λ n. pointwise ◌==◌ part.cname.name_type n.name_type) name ∙ same_octets part.cname.name_type)
+    (and_from same_type same_string
+    (or_right (has_rule rules names_by_components) (pointwise ◌==◌ part.cname.name_type authenticator.cname.name_type)
+    (ap (λ n. pointwise ◌==◌ part.cname.name_type n.name_type) name ∙ same_octets part.cname.name_type))
     (ap (λ n. pointwise (pointwise ◌==◌) part.cname.name_string n.name_string) name ∙ same_parts part.cname.name_string))
 
 -- ---- the checks
@@ -194,43 +199,66 @@ opens_ticket properties key offer holds honest =
     (follows _ _ (offer.suite, offer.part) _
     (opens_data enc_ticket_part_layout offer.suite key 2 offer.ticket.enc_part offer.part honest.ticket.etype honest.ticket.key_fits honest.ticket.carries) (gives offer.part))
 
-opens_authenticator : (key : List ℕ) (offer : Offer) → IsHonest key offer → OpensAuthenticator (message_of offer) offer.part (Ok (offer.suite, offer.authenticator))
+opens_authenticator : (rules : Rules) (key : List ℕ) (offer : Offer) → IsHonest key offer
+    → OpensAuthenticator rules (message_of offer) offer.part (Ok (offer.suite, offer.authenticator))
 unfolding OpensAuthenticator
-opens_authenticator key offer honest =
+opens_authenticator rules key offer honest =
     follows _ _ (offer.suite, offer.authenticator) _
     (opens_data authenticator_layout offer.suite offer.part.key.key_value 11 (message_of offer).authenticator offer.authenticator
     (suite_of_integer-number offer.suite) honest.ticket.session_key_fits (carries_authenticator key offer honest))
-    (follows _ _ tt _ (holds_true Names (is_same_client offer.part offer.authenticator) (same_client offer.part offer.authenticator honest.same_realm honest.same_name))
+    (follows _ _ tt _ (holds_true Names (is_same_client rules offer.part offer.authenticator) (same_client rules offer.part offer.authenticator honest.same_realm honest.same_name))
     (gives (offer.suite, offer.authenticator)))
 
-pub begins : (server : Kerberos) (client : UserName) (offer : Offer) → IsFor server client offer → BeginsAdmission server offer.dce (offered_token offer) (Ok (request_of offer))
-unfolding BeginsAdmission Requests
+requests : (server : Kerberos) (client : Option UserName) (offer : Offer) (for_it : IsFor server client offer)
+    → Requests server.rules for_it.properties offer.dce (offered_token offer) (Ok (request_of offer))
+unfolding Requests
+requests server client offer for_it =
+    follows _ _ (message_of offer) _ (receives for_it.key offer for_it.honest)
+    (follows _ _ offer.part _ (opens_ticket for_it.properties for_it.key offer for_it.holds for_it.honest)
+    (follows _ _ (offer.suite, offer.authenticator) _ (opens_authenticator server.rules for_it.key offer for_it.honest) (gives (request_of offer))))
+
+allows : (server : Kerberos) (offer : Offer) → FitsRules server.rules offer.part → IsBoundTo (channel_held server) offer.authenticator.cksum
+    → Allows server (request_of offer) (Ok tt)
+unfolding Allows
+allows server offer fits bound =
+    follows _ _ tt _ (holds_true NotYet (is_validated server.rules offer.part) fits.validated)
+    (follows _ _ tt _ (holds_true Transited (is_transit_checked server.rules offer.part) fits.transit_checked)
+    (follows _ _ tt _ (holds_true Checksum (tells_bindings (channel_held server) offer.authenticator.cksum) bound.tells)
+    (holds_true Bindings (is_bound (channel_held server) offer.authenticator.cksum) bound.same)))
+
+pub begins : (server : Kerberos) (client : Option UserName) (offer : Offer) → IsFor server client offer
+    → BeginsAdmission server offer.dce (offered_token offer) (Ok (request_of offer))
+unfolding BeginsAdmission
 begins server client offer for_it =
     follows _ _ tt _ (holds_true Sequence (is_waiting server.state) for_it.waits)
     (follows _ _ for_it.properties _ (takes_some Sequence server.server for_it.properties for_it.has)
-    (follows _ _ (message_of offer) _ (receives for_it.key offer for_it.honest)
-    (follows _ _ offer.part _ (opens_ticket for_it.properties for_it.key offer for_it.holds for_it.honest)
-    (follows _ _ (offer.suite, offer.authenticator) _ (opens_authenticator for_it.key offer for_it.honest) (gives (request_of offer))))))
+    (follows _ _ (request_of offer) _ (requests server client offer for_it)
+    (follows _ _ tt _ (allows server offer for_it.fits for_it.bound) (gives (request_of offer)))))
 
 good_subkey : (request : Request) → is_mutual request.message.ap_options ≡ true → has_good_subkey request ≡ true
 good_subkey request asks = rw asks refl
 
-completes : (server : Kerberos) (client : UserName) (offer : Offer) → IsFor server client offer → Completes (request_of offer) (Ok client)
+completes : (server : Kerberos) (client : Option UserName) (offer : Offer) → IsFor server client offer → Completes server.rules (request_of offer) (Ok client)
 unfolding Completes
 completes server client offer for_it =
     let honest = for_it.honest in
-    let named : client_of offer.authenticator.cname offer.authenticator.crealm ≡ Some client = ap₂ (λ n r. client_of n r) honest.same_name honest.same_realm ∙ for_it.client_named in
-    follows _ _ client _ (takes_some ClientName (client_of offer.authenticator.cname offer.authenticator.crealm) client named)
+    let name : PrincipalName = offer.authenticator.cname in
+    let realm : List ℕ = offer.authenticator.crealm in
+    let known : is_known_client server.rules name realm ≡ true =
+    ap₂ (λ n r. is_known_client server.rules n r) honest.same_name honest.same_realm ∙ for_it.fits.known in
+    let user : user_of server.rules name realm ≡ client = ap₂ (λ n r. user_of server.rules n r) honest.same_name honest.same_realm ∙ for_it.client_is in
+    follows _ _ tt _ (holds_true ClientName (is_known_client server.rules name realm) known)
     (follows _ _ tt _ (holds_true ApOptions (is_known_options (message_of offer).ap_options) honest.known)
-    (follows _ _ tt _ (holds_true SubKey (has_good_subkey (request_of offer)) (good_subkey (request_of offer) honest.mutual_asked)) (gives client)))
+    (follows _ _ tt _ (holds_true SubKey (has_good_subkey (request_of offer)) (good_subkey (request_of offer) honest.mutual_asked))
+    (record { is = ap Ok (sym user) })))
 
-finishes : (server : Kerberos) (draw : Draw) (client : UserName) (offer : Offer) → IsFor server client offer
+finishes : (server : Kerberos) (draw : Draw) (client : Option UserName) (offer : Offer) → IsFor server client offer
     → FinishesAdmission server offer.dce draw (request_of offer) (Ok (admission_for server draw client offer))
 unfolding FinishesAdmission
 finishes server draw client offer for_it =
     follows _ _ client _ (completes server client offer for_it) (record { is = rw for_it.honest.mutual_asked refl })
 
-pub admitted : (server : Kerberos) (draw : Draw) (client : UserName) (offer : Offer) → IsFor server client offer
+pub admitted : (server : Kerberos) (draw : Draw) (client : Option UserName) (offer : Offer) → IsFor server client offer
     → DecidesAdmission server offer.dce (offered_token offer) draw Admitted (Ok (admission_for server draw client offer))
 unfolding DecidesAdmission
 admitted server draw client offer for_it =
@@ -238,16 +266,16 @@ admitted server draw client offer for_it =
 
 -- ---- the gate
 
-module _ {G : Type 0} (admits : G → Ask → Verdict → G → Type 0) (server server' : Kerberos) (env : Env) (draw : Draw) (client : UserName) (offer : Offer) (old new : G) (answer : Result Accepted Cause) (for_it : IsFor server client offer) where
+module _ {G : Type 0} (admits : G → Ask → Verdict → G → Type 0) (server server' : Kerberos) (env : Env) (draw : Draw) (client : Option UserName) (offer : Offer) (old new : G) (answer : Result Accepted Cause) (for_it : IsFor server client offer) where
   -- such a token is no TGT-REQ
   other : AcceptsWhole admits server offer.dce (offered_token offer) env draw old answer server' new → JudgesOther admits server offer.dce (offered_token offer) draw old answer server' new
   other step =
       let none = ap_req_begins_none server offer.dce (offered_token offer) (request_of offer) (begins server client offer for_it) step.tgt_req step.found in
       subst (λ (t : Option TgtReq). AcceptsToken admits server offer.dce (offered_token offer) env draw old t answer server' new) none step.made
 
-  asked : (judged : Result Answer Cause) (step : Accepts admits server offer.dce (offered_token offer) draw old judged server' new) → admits old (ask_of (request_of offer) draw.moment) step.verdict new
+  asked : (judged : Result Answer Cause) (step : Accepts admits server offer.dce (offered_token offer) draw old judged server' new) → admits old (ask_of server.rules (request_of offer) draw.moment) step.verdict new
   asked judged step =
-      subst (λ (r : Result Request Cause). Asks admits draw.moment old r step.verdict new)
+      subst (λ (r : Result Request Cause). Asks admits server.rules draw.moment old r step.verdict new)
       ((begins_once server offer.dce (offered_token offer)).same step.request (Ok (request_of offer)) step.begun (begins server client offer for_it)) step.gate
 
   pub is_answered : AcceptsWhole admits server offer.dce (offered_token offer) env draw old answer server' new → IsAnswered admits server draw client offer old answer server' new

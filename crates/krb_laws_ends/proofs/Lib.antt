@@ -4,6 +4,7 @@ pub mod TalkLemmas
 pub mod OctetsLemmas
 pub mod TimeLemmas
 pub mod HonestLemmas
+pub mod BoundLemmas
 pub mod RepLemmas
 pub mod AnswerLemmas
 pub mod EstablishedLemmas

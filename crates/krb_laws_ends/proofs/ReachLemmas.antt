@@ -1,8 +1,9 @@
 -- Both ends reach one context, and understand each other.
 use Rattle.std.proofs.Common.{◌≡◌, ℕ, ◌<◌, ◌^◌, List, [], sym, subst, ap, ◌∙◌, Result}
-use Rattle.std.specs.Prelude.{Some}
+use Rattle.std.specs.Prelude.{Option}
 use Rattle.krb_crypto.specs.declared.suite.CipherSuite.{CipherSuite}
 use Rattle.krb_messages.specs.declared.enc_ticket_part.EncTicketPart.{EncTicketPart}
+use Rattle.krb_messages.specs.declared.encryption.Checksum.{Checksum}
 use Rattle.krb_messages.specs.declared.ticket.Ticket.{Ticket}
 use Rattle.krb_exchange.specs.declared.kdc_rep.TgsRep.{TgsRep}
 use Rattle.krb_conf.specs.declared.env.Env.{Env}
@@ -15,7 +16,8 @@ use Rattle.krb_as.specs.declared.client.Client.{Client}
 use Rattle.krb_ap.specs.Initiators.{is_bare}
 use Rattle.krb_initiator.specs.declared.options.InitOptions.{InitOptions}
 use Rattle.krb_initiator.specs.declared.seeker.Seeker.{Seeker}
-use Rattle.krb_admission.specs.Clients.{client_of}
+use Rattle.krb_admission.specs.Allowed.{channel_held}
+use Rattle.krb_admission.specs.Clients.{user_of}
 use Rattle.krb_admission.specs.Requests.{ask_of}
 use Rattle.krb_server.specs.declared.accept.Accepted.{Accepted}
 use Rattle.krb_server.specs.Whole.{AcceptsWhole}
@@ -26,8 +28,9 @@ use Rattle.sspi_core.specs.Usernames.{UserName}
 use Rattle.krb_laws_ends.specs.Answers.{AdmitsOnly, IsDraw, AreNew, AreEstablished, EndsWellIn}
 use Rattle.krb_laws_ends.specs.Fetches.{seeker_for, EndsWithOffer, HoldsKey}
 use Rattle.krb_laws_ends.specs.HonestKdc.{Answers, AreHonestKdcs}
-use Rattle.krb_laws_ends.specs.Offers.{request_of, IsFor}
+use Rattle.krb_laws_ends.specs.Offers.{request_of, FitsRules, IsBoundTo, MeetsChannel, IsFor}
 use Rattle.krb_laws_ends.specs.Talk.{Turn, IsFair, IsUnderstood}
+use Rattle.krb_laws_ends.proofs.BoundLemmas.{bound_to}
 use Rattle.krb_laws_ends.proofs.EstablishedLemmas.{ends_well_in}
 use Rattle.krb_laws_ends.proofs.FetchLemmas.{served}
 use Rattle.krb_laws_ends.proofs.TalkLemmas.{talk_understood}
@@ -40,14 +43,24 @@ understand initiator acceptor suite session_key sub_session_key ec turns are fai
     talk_understood initiator acceptor turns are.there are.back new.initiator_number new.acceptor_number new.initiator_window new.acceptor_window fair
 
 module _ (initiator acceptor acceptor' : Kerberos) (options more : InitOptions) (target service_key : List ℕ) (credentials : CredentialsBuffers) (client : Client) (suite : CipherSuite)
-    (answers : Answers) (rep : TgsRep) (part : EncTicketPart) (user : UserName) (env : Env) (first own draw : Draw) where
+    (answers : Answers) (rep : TgsRep) (part : EncTicketPart) (env : Env) (first own draw : Draw) where
   abbrev seeker : Seeker
   seeker = seeker_for initiator options target credentials client
 
-  -- the offer is for the acceptor
-  is_for : AreHonestKdcs seeker suite service_key first answers rep part → HoldsKey acceptor target service_key → client_of part.cname part.crealm ≡ Some user
-      → (end : EndsWithOffer initiator seeker service_key suite first answers rep part) → IsFor acceptor user end.offer
-  is_for kdcs holds named end =
+  -- the offer is for the acceptor, which has this user name of its client
+  abbrev user : Option UserName
+  user = user_of acceptor.rules part.cname part.crealm
+
+  is_bound_to : MeetsChannel (channel_held acceptor) options.channel_bindings → (end : EndsWithOffer initiator seeker service_key suite first answers rep part)
+      → IsBoundTo (channel_held acceptor) end.offer.authenticator.cksum
+  is_bound_to meets end =
+      subst (λ (c : Option Checksum). IsBoundTo (channel_held acceptor) c) (sym end.cksum)
+      (bound_to (channel_held acceptor) options.channel_bindings options.flags.0 meets)
+
+  is_for : AreHonestKdcs seeker suite service_key first answers rep part → HoldsKey acceptor target service_key → FitsRules acceptor.rules part
+      → MeetsChannel (channel_held acceptor) options.channel_bindings → (end : EndsWithOffer initiator seeker service_key suite first answers rep part)
+      → IsFor acceptor user end.offer
+  is_for kdcs holds fits meets end =
       let serves = (served seeker suite kdcs.as_rep.0.crealm service_key kdcs.known answers.referrals answers.last rep part kdcs.honest).1 in record {
         waits = holds.waits;
         properties = holds.properties;
@@ -55,7 +68,9 @@ module _ (initiator acceptor acceptor' : Kerberos) (options more : InitOptions) 
         key = service_key;
         holds = ap (λ (t : Ticket). key_of_service holds.properties t.sname.name_string) end.ticket ∙ ap (key_of_service holds.properties) serves.named ∙ holds.holds;
         honest = end.honest;
-        client_named = ap (λ (p : EncTicketPart). client_of p.cname p.crealm) end.part_is ∙ named;
+        fits = subst (λ (p : EncTicketPart). FitsRules acceptor.rules p) (sym end.part_is) fits;
+        bound = is_bound_to meets end;
+        client_is = ap (λ (p : EncTicketPart). user_of acceptor.rules p.cname p.crealm) end.part_is;
       }
 
   still_new : AreNew initiator acceptor → (end : EndsWithOffer initiator seeker service_key suite first answers rep part) → AreNew (settled initiator end.done.change) acceptor
@@ -70,12 +85,12 @@ module _ (initiator acceptor acceptor' : Kerberos) (options more : InitOptions) 
 
   pub reach : {G : Type 0} (admits : G → Ask → Verdict → G → Type 0) (old new : G) (answer : Result Accepted Cause)
       → is_bare more.flags ≡ is_bare options.flags → AreHonestKdcs seeker suite service_key first answers rep part → HoldsKey acceptor target service_key
-      → client_of part.cname part.crealm ≡ Some user → AreNew initiator acceptor → IsDraw own → IsDraw draw
+      → FitsRules acceptor.rules part → MeetsChannel (channel_held acceptor) options.channel_bindings → AreNew initiator acceptor → IsDraw own → IsDraw draw
       → (end : EndsWithOffer initiator seeker service_key suite first answers rep part)
       → AcceptsWhole admits acceptor (is_bare options.flags) end.done.token env draw old answer acceptor' new
-      → AdmitsOnly admits old (ask_of (request_of end.offer) draw.moment) new
+      → AdmitsOnly admits old (ask_of acceptor.rules (request_of end.offer) draw.moment) new
       → EndsWellIn (is_bare options.flags) admits (settled initiator end.done.change) acceptor' more own draw end.offer answer
-  reach admits old new answer same kdcs holds named are_new drawn is end step only =
-      ends_well_in acceptor draw user end.offer (is_for kdcs holds named end) is (settled initiator end.done.change) more own end.offered admits acceptor' env old new answer
+  reach admits old new answer same kdcs holds fits meets are_new drawn is end step only =
+      ends_well_in acceptor draw user end.offer (is_for kdcs holds fits meets end) is (settled initiator end.done.change) more own end.offered admits acceptor' env old new answer
       (is_bare options.flags) end.style same drawn (still_new are_new end)
       (subst (λ (t : List ℕ). AcceptsWhole admits acceptor (is_bare options.flags) t env draw old answer acceptor' new) end.token step) only

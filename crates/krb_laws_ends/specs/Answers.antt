@@ -38,14 +38,14 @@ use Rattle.sspi_core.specs.Usernames.{UserName}
 use Rattle.krb_laws_ends.specs.Offers.{Offer, request_of}
 
 -- what an acceptor makes of an honest offer: a client is admitted, with an AP-REP
-abbrev pub admission_for : Kerberos → Draw → UserName → Offer → Admission
+abbrev pub admission_for : Kerberos → Draw → Option UserName → Offer → Admission
 admission_for server draw client offer = mutual_admission offer.dce server.krb5_user_to_user server.seq_number draw (request_of offer) client
 
 -- a gate is asked, and where it admits, the AP-REP is the answer and the context is settled
-pub record IsAnswered {G : Type 0} (admits : G → Ask → Verdict → G → Type 0) (server : Kerberos) (draw : Draw) (client : UserName)
+pub record IsAnswered {G : Type 0} (admits : G → Ask → Verdict → G → Type 0) (server : Kerberos) (draw : Draw) (client : Option UserName)
     (offer : Offer) (old : G) (answer : Result Accepted Cause) (server' : Kerberos) (new : G) : Type 0 where
   pub verdict : Verdict
-  pub asked : admits old (ask_of (request_of offer) draw.moment) verdict new
+  pub asked : admits old (ask_of server.rules (request_of offer) draw.moment) verdict new
   pub answered : verdict ≡ Admitted → answer ≡ Ok (accepted_as (answer_for (admission_for server draw client offer)))
   pub made : verdict ≡ Admitted → server' ≡ settled server (admission_for server draw client offer)
 

@@ -19,7 +19,9 @@ use Rattle.krb_as.specs.declared.done.InitDone.{InitDone}
 use Rattle.krb_as.specs.declared.turn.Turn.TheVariants.{Asks, Ends}
 use Rattle.krb_as.specs.declared.client.Client.{Client}
 use Rattle.krb_as.specs.Clients.{NamesClient}
+use Rattle.krb_authenticators.specs.Authenticators.{checksum}
 use Rattle.krb_ap.specs.Initiators.{exchange_flags, is_bare}
+use Rattle.krb_ap.specs.Shown.{gss_checksum}
 use Rattle.krb_initiator.specs.declared.options.InitOptions.{InitOptions}
 use Rattle.krb_initiator.specs.declared.seeker.Seeker.{Seeker}
 use Rattle.krb_initiator.specs.declared.seeker.Initiation.TheVariants.{Seeks}
@@ -70,8 +72,8 @@ pub record AsksMutual (seeker : Seeker) : Type 0 where
   pub named : 0 < length seeker.errand.mechanism
   pub short : length seeker.errand.mechanism ≤ 2 ^ 10
 
--- the run ends with a token, the AP-REQ of an honest offer with this ticket, and the context awaits the answer and keeps the moment of the
--- authenticator
+-- the run ends with a token, the AP-REQ of an honest offer with this ticket and the initiator's bindings, and the context awaits the answer
+-- and keeps the moment of the authenticator
 pub record EndsWithOffer (context : Kerberos) (seeker : Seeker) (service_key : List ℕ) (suite : CipherSuite) (draw : Draw)
     (answers : Answers) (rep : TgsRep) (part : EncTicketPart) : Type 0 where
   pub done : InitDone
@@ -86,6 +88,7 @@ pub record EndsWithOffer (context : Kerberos) (seeker : Seeker) (service_key : L
   pub honest : IsHonest service_key offer
   pub filler_stays : done.change.encryption_params.ec ≡ seeker.errand.initiator.params.ec
   pub number_stays : done.change.seq_number ≡ seeker.errand.initiator.number
+  pub cksum : offer.authenticator.cksum ≡ Some (checksum seeker.errand.bindings (gss_checksum seeker.errand.initiator.flags.0))
   pub time : KeepsTime done.change.asked_at offer.authenticator
   pub offered : Offered (settled context done.change) offer
 

@@ -136,7 +136,7 @@ steps_behind (Some step) steps = step ∷ steps
 abbrev pub steps_of : Answers → List Step
 steps_of answers = steps_behind answers.error (answers.first ∷ answers.referrals)
 
--- an error, behind which the time is sealed under the client's key
+-- an error, after which the time is sealed under the client's key
 pub record AsksForKey (asker : Asker) (protocol : NetworkProtocol) (step : Step) (salt : List ℕ) : Type 0 where
   pub suite : CipherSuite
   pub error : AnswersError asker protocol step.reply suite salt

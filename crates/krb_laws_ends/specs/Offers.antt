@@ -1,5 +1,5 @@
 -- The ticket of an honest KDC, and the AP-REQ that an initiator makes of it (RFC 4120, sections 3.1.3, 3.2.2 and 5.5.1).
-use Rattle.std.specs.Prelude.{◌≡◌, ℕ, ◌^◌, ◌<◌, ◌≤◌, Bool, List, ◌++◌, length, true, Some, if◌then◌else◌}
+use Rattle.std.specs.Prelude.{◌≡◌, ℕ, ◌^◌, ◌<◌, ◌≤◌, Bool, List, ◌++◌, length, true, Option, Some, None, option_map, if◌then◌else◌}
 use Rattle.krb_aes.specs.Octets.{IsOctets}
 use Rattle.krb_der.specs.Layout.{Layout, spelling}
 use Rattle.krb_der.specs.Schema.{IsSound}
@@ -9,18 +9,23 @@ use Rattle.krb_crypto.specs.declared.suite.CipherSuite.{CipherSuite}
 use Rattle.krb_messages.specs.declared.ap_req.ApReq.{ApReq}
 use Rattle.krb_messages.specs.declared.authenticator.Authenticator.{Authenticator}
 use Rattle.krb_messages.specs.declared.enc_ticket_part.EncTicketPart.{EncTicketPart}
+use Rattle.krb_messages.specs.declared.encryption.Checksum.{Checksum}
 use Rattle.krb_messages.specs.declared.ticket.Ticket.{Ticket}
 use Rattle.krb_messages.specs.Layouts.{ap_req_layout, authenticator_layout, enc_ticket_part_layout, ticket_layout}
 use Rattle.krb_context.specs.declared.context.Kerberos.{Kerberos}
+use Rattle.krb_context.specs.declared.rules.Rules.{Rules}
 use Rattle.krb_context.specs.declared.server.ServerProperties.{ServerProperties}
 use Rattle.krb_context.specs.ServiceKeys.{service_key}
 use Rattle.krb_context.specs.States.{is_waiting}
 use Rattle.krb_replies.specs.Unseals.{suite_of_integer, IsRead}
 use Rattle.krb_authenticators.specs.ApRequests.{ap_req, service_usage}
+use Rattle.krb_authenticators.specs.Bindings.{bindings_hash}
 use Rattle.krb_ap.specs.Shown.{framed_ap_req}
 use Rattle.krb_admission.specs.declared.request.Request.{Request}
-use Rattle.krb_admission.specs.Clients.{client_of}
+use Rattle.krb_admission.specs.Allowed.{is_validated, is_transit_checked, channel_held, tells_bindings, is_bound}
+use Rattle.krb_admission.specs.Clients.{is_known_client, user_of}
 use Rattle.krb_admission.specs.Complete.{is_known_options, is_mutual}
+use Rattle.sspi_core.specs.declared.bindings.ChannelBindings.{ChannelBindings}
 use Rattle.sspi_core.specs.Usernames.{UserName}
 
 -- a record is sealed in a text
@@ -82,12 +87,32 @@ pub record IsHonest (key : List ℕ) (offer : Offer) : Type 0 where
   pub microseconds_short : length offer.authenticator.cusec ≤ 4
   pub short : length (offered_token offer) ≤ 2 ^ 24
 
--- an acceptor that waits for a token, and holds the key of the service that an honest offer names; the client's name is one
-pub record IsFor (server : Kerberos) (client : UserName) (offer : Offer) : Type 0 where
+-- what an acceptor's rules ask of a ticket: it is valid (RFC 4120, section 3.2.3), a KDC checked the realms that it came through (section
+-- 2.7), and its client has a name that is known (section 6.2)
+pub record FitsRules (rules : Rules) (part : EncTicketPart) : Type 0 where
+  pub validated : is_validated rules part ≡ true
+  pub transit_checked : is_transit_checked rules part ≡ true
+  pub known : is_known_client rules part.cname part.crealm ≡ true
+
+-- what a client that is held to a channel shows: a checksum that tells bindings, and they are those of the channel (RFC 4121, section 4.1.1)
+pub record IsBoundTo (held : Option (List ℕ)) (checksum : Option Checksum) : Type 0 where
+  pub tells : tells_bindings held checksum ≡ true
+  pub same : is_bound held checksum ≡ true
+
+-- an initiator has the bindings of the channel that its acceptor holds it to, where it holds it to one
+abbrev pub MeetsChannel : Option (List ℕ) → Option ChannelBindings → Type 0
+MeetsChannel None bindings = Unit {0}
+MeetsChannel (Some hash) bindings = option_map bindings_hash bindings ≡ Some hash
+
+-- an acceptor that waits for a token, and holds the key of the service that an honest offer names. What its rules ask of the ticket and of
+-- the channel holds, and this is the user name that it has of the client
+pub record IsFor (server : Kerberos) (client : Option UserName) (offer : Offer) : Type 0 where
   pub waits : is_waiting server.state ≡ true
   pub properties : ServerProperties
   pub has : server.server ≡ Some properties
   pub key : List ℕ
   pub holds : service_key properties offer.ticket.sname.name_string ≡ Some key
   pub honest : IsHonest key offer
-  pub client_named : client_of offer.part.cname offer.part.crealm ≡ Some client
+  pub fits : FitsRules server.rules offer.part
+  pub bound : IsBoundTo (channel_held server) offer.authenticator.cksum
+  pub client_is : user_of server.rules offer.part.cname offer.part.crealm ≡ client

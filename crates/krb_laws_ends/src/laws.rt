@@ -1,16 +1,20 @@
 //! Laws of both ends, for all values.
 
-ghost use Rattle.std.specs.Prelude.{◌≡◌, ◌^◌, ◌<◌, ℕ, suc, List, [], true, false, Some, None, Result, Ok};
+ghost use Rattle.std.specs.Prelude.{◌≡◌, ◌^◌, ◌<◌, ℕ, suc, List, [], true, false, Option, Some, None, Result, Ok};
 ghost use Rattle.sspi_core.specs.declared.cause.Cause.{Cause};
 ghost use Rattle.sspi_core.specs.declared.draw.Draw.{Draw};
+ghost use Rattle.sspi_core.specs.declared.bindings.ChannelBindings.{ChannelBindings};
 ghost use Rattle.sspi_core.specs.Usernames.{UserName};
 ghost use Rattle.krb_conf.specs.declared.env.Env.{Env};
 ghost use Rattle.krb_context.specs.declared.context.Kerberos.{Kerberos};
 ghost use Rattle.krb_context.specs.Contexts.{settled};
+ghost use Rattle.krb_context.specs.Rules.{no_rules};
+ghost use Rattle.krb_context.specs.declared.rules.Rules.{Rules};
 ghost use Rattle.krb_context.specs.Peers.{ArePeers};
 ghost use Rattle.sspi_core.specs.declared.identity.CredentialsBuffers.{CredentialsBuffers};
 ghost use Rattle.krb_crypto.specs.declared.suite.CipherSuite.{CipherSuite};
 ghost use Rattle.krb_messages.specs.declared.enc_ticket_part.EncTicketPart.{EncTicketPart};
+ghost use Rattle.krb_messages.specs.declared.principal_name.PrincipalName.{PrincipalName};
 ghost use Rattle.krb_exchange.specs.declared.kdc_rep.TgsRep.{TgsRep};
 ghost use Rattle.krb_as.specs.declared.done.InitDone.{InitDone};
 ghost use Rattle.krb_as.specs.declared.client.Client.{Client};
@@ -21,7 +25,8 @@ ghost use Rattle.krb_initiator.specs.declared.seeker.Seeker.{Seeker};
 ghost use Rattle.krb_initiator.specs.declared.seeker.Initiation.TheVariants.{Seeks};
 ghost use Rattle.krb_initiator.specs.Beginnings.{BeginsInitiation};
 ghost use Rattle.krb_admission.specs.Accepts.{DecidesAdmission};
-ghost use Rattle.krb_admission.specs.Clients.{client_of};
+ghost use Rattle.krb_admission.specs.Allowed.{is_invalid, is_direct, channel_held};
+ghost use Rattle.krb_admission.specs.Clients.{client_of, user_of};
 ghost use Rattle.krb_admission.specs.Requests.{ask_of};
 ghost use Rattle.krb_server.specs.declared.accept.Accepted.{Accepted};
 ghost use Rattle.krb_server.specs.Whole.{AcceptsWhole};
@@ -45,7 +50,7 @@ ghost use Rattle.krb_laws_ends.specs.Messages.{
   wrapped_one,
   opened_one,
 };
-ghost use Rattle.krb_laws_ends.specs.Offers.{Offer, IsFor, request_of, offered_token};
+ghost use Rattle.krb_laws_ends.specs.Offers.{Offer, FitsRules, MeetsChannel, IsFor, request_of, offered_token};
 ghost use Rattle.krb_laws_ends.specs.Talk.{Turn, IsFair, IsUnderstood};
 
 use krb_replay::ReplayGate;
@@ -76,16 +81,29 @@ pub fn runs_have_one_end()
         → one ≡ other }
 {}
 
-/// The AP-REQ of an honest offer passes every check of an acceptor that waits for a token and holds the service's key. Behind the
-/// gate's verdict Admitted it makes the admission that its options ask for, with an AP-REP.
+/// The AP-REQ of an honest offer passes every check of an acceptor that waits for a token and holds the service's key, whatever rules it
+/// goes by: what they ask of the ticket and of the channel is a premise. After the gate's verdict Admitted it makes the admission that its
+/// options ask for, with an AP-REP.
 pub fn honest_requests_are_admitted()
-    ensures { (server : Kerberos) (draw : Draw) (client : UserName) (offer : Offer) → IsFor server client offer
+    ensures { (server : Kerberos) (draw : Draw) (client : Option UserName) (offer : Offer) → IsFor server client offer
         → DecidesAdmission server offer.dce (offered_token offer) draw Admitted (Ok (admission_for server draw client offer)) }
+{}
+
+/// What the premises on rules come to. Under any rules a ticket fits that is valid, came through no further realms, and has a client with a
+/// user name. Without rules each ticket of a client with a user name does, that is the user name of the client, and no client is held to a
+/// channel. An acceptor that has no channel holds no client to one under any rules.
+pub fn rules_alone_ask_for_more()
+    ensures valid { (rules : Rules) (part : EncTicketPart) (user : UserName) → is_invalid part.flags.octets ≡ false
+        → is_direct part.transited.contents ≡ true → client_of part.cname part.crealm ≡ Some user → FitsRules rules part }
+    ensures tickets { (part : EncTicketPart) (user : UserName) → client_of part.cname part.crealm ≡ Some user → FitsRules no_rules part }
+    ensures clients { (name : PrincipalName) (realm : List ℕ) → user_of no_rules name realm ≡ client_of name realm }
+    ensures channels { (server : Kerberos) (bindings : Option ChannelBindings) → server.rules ≡ no_rules → MeetsChannel (channel_held server) bindings }
+    ensures none { (server : Kerberos) (bindings : Option ChannelBindings) → server.channel ≡ None → MeetsChannel (channel_held server) bindings }
 {}
 
 /// An acceptor asks its gate for that AP-REQ, and where the gate admits it, answers it by the AP-REP and is settled.
 pub fn honest_requests_are_answered<G: ReplayGate>()
-    ensures { (server server' : Kerberos) (env : Env) (draw : Draw) (client : UserName) (offer : Offer) (old new : G) (answer : Result Accepted Cause)
+    ensures { (server server' : Kerberos) (env : Env) (draw : Draw) (client : Option UserName) (offer : Offer) (old new : G) (answer : Result Accepted Cause)
         → IsFor server client offer → AcceptsWhole G.admits server offer.dce (offered_token offer) env draw old answer server' new
         → IsAnswered G.admits server draw client offer old answer server' new }
 {}
@@ -94,21 +112,21 @@ pub fn honest_requests_are_answered<G: ReplayGate>()
 /// on the two are established with one session key, one sub-session key, one suite and one length of the filler, and each is the
 /// other's peer. That holds under the rule that an AP-REP has the time of its authenticator, too.
 pub fn exchanges_end_well<G: ReplayGate>()
-    ensures { (initiator server server' : Kerberos) (options : InitOptions) (env : Env) (own draw : Draw) (client : UserName) (offer : Offer)
+    ensures { (initiator server server' : Kerberos) (options : InitOptions) (env : Env) (own draw : Draw) (client : Option UserName) (offer : Offer)
         (old new : G) (answer : Result Accepted Cause) → IsFor server client offer → offer.dce ≡ false → Offered initiator offer
         → is_bare options.flags ≡ false → IsDraw draw → AreNew initiator server
         → AcceptsWhole G.admits server false (offered_token offer) env draw old answer server' new
-        → AdmitsOnly G.admits old (ask_of (request_of offer) draw.moment) new → EndsWell initiator server' options own draw offer answer }
+        → AdmitsOnly G.admits old (ask_of server.rules (request_of offer) draw.moment) new → EndsWell initiator server' options own draw offer answer }
 {}
 
 /// In DCE style it does so with one token more: the initiator takes the acceptor's answer and has the last word, which the acceptor
 /// takes without asking its gate. Then sealed messages have 16 octets of filler at both ends.
 pub fn dce_exchanges_end_well<G: ReplayGate>()
-    ensures { (initiator server server' : Kerberos) (options : InitOptions) (env : Env) (own draw : Draw) (client : UserName) (offer : Offer)
+    ensures { (initiator server server' : Kerberos) (options : InitOptions) (env : Env) (own draw : Draw) (client : Option UserName) (offer : Offer)
         (old new : G) (answer : Result Accepted Cause) → IsFor server client offer → offer.dce ≡ true → Offered initiator offer
         → is_bare options.flags ≡ true → IsDraw own → IsDraw draw → AreNew initiator server
         → AcceptsWhole G.admits server true (offered_token offer) env draw old answer server' new
-        → AdmitsOnly G.admits old (ask_of (request_of offer) draw.moment) new
+        → AdmitsOnly G.admits old (ask_of server.rules (request_of offer) draw.moment) new
         → EndsWellInTurn G.admits initiator server' options own draw offer answer }
 {}
 
@@ -134,8 +152,8 @@ pub fn messages_open_where_others_are_lost()
 
 /// What holds of one direction of a connection at any time, whatever both ends wrap and open meanwhile: it begins with the first
 /// message; a message that comes in time opens, and the direction goes on with it; the sender takes one more number, for a message
-/// or a MIC token; what is wrapped now is one behind those that were; what is the other direction's changes nothing; and what was
-/// wrapped behind so many others stays so.
+/// or a MIC token; what is wrapped now is one after those that were; what is the other direction's changes nothing; and what was
+/// wrapped after so many others stays so.
 pub fn directions_go_on()
     ensures begins { (sender receiver : Kerberos) → ArePeers sender receiver → sender.seq_number < 2 ^ 32 → receiver.window.mask ≡ 0
         → Flows sender receiver sender.seq_number 0 [] }
@@ -170,17 +188,18 @@ pub fn established_ends_understand_each_other()
 /// Both ends reach one context: the token that an initiator ends with over honest KDCs, an acceptor that holds the service's key answers
 /// where its gate admits the client, and the initiator takes that answer; in DCE style the acceptor takes the initiator's last word.
 /// Then both are established with one session key, one sub-session key, one suite and one length of the filler, and all messages are
-/// before them.
+/// before them. The acceptor may go by any rules: the ticket is one that they let in, and where they hold a client to the channel, the
+/// initiator has its bindings.
 pub fn both_ends_reach_one_context<G: ReplayGate>()
     ensures { (initiator acceptor acceptor' : Kerberos) (options more : InitOptions) (target service_key : List ℕ) (credentials : CredentialsBuffers)
-        (client : Client) (suite : CipherSuite) (answers : Answers) (rep : TgsRep) (part : EncTicketPart) (user : UserName) (env : Env)
+        (client : Client) (suite : CipherSuite) (answers : Answers) (rep : TgsRep) (part : EncTicketPart) (env : Env)
         (first own draw : Draw) (old new : G) (answer : Result Accepted Cause)
         → is_bare more.flags ≡ is_bare options.flags
         → AreHonestKdcs (seeker_for initiator options target credentials client) suite service_key first answers rep part
-        → HoldsKey acceptor target service_key → client_of part.cname part.crealm ≡ Some user → AreNew initiator acceptor
-        → IsDraw own → IsDraw draw
+        → HoldsKey acceptor target service_key → FitsRules acceptor.rules part
+        → MeetsChannel (channel_held acceptor) options.channel_bindings → AreNew initiator acceptor → IsDraw own → IsDraw draw
         → (end : EndsWithOffer initiator (seeker_for initiator options target credentials client) service_key suite first answers rep part)
         → AcceptsWhole G.admits acceptor (is_bare options.flags) end.done.token env draw old answer acceptor' new
-        → AdmitsOnly G.admits old (ask_of (request_of end.offer) draw.moment) new
+        → AdmitsOnly G.admits old (ask_of acceptor.rules (request_of end.offer) draw.moment) new
         → EndsWellIn (is_bare options.flags) G.admits (settled initiator end.done.change) acceptor' more own draw end.offer answer }
 {}

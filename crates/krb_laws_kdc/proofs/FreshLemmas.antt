@@ -18,7 +18,7 @@ use Rattle.sspi_core.specs.declared.cause.Cause.TheVariants.{Nonce, ReplyNames, 
 use Rattle.sspi_core.specs.declared.draw.Draw.{Draw}
 use Rattle.sspi_core.proofs.Chain.{follows, holds_true}
 use Rattle.krb_replay.specs.Clock.{in_microseconds, is_later}
-use Rattle.krb_replies.specs.Fresh.{grace, is_number, has_value, repeats_nonce, is_valid_at, same_components}
+use Rattle.krb_replies.specs.Fresh.{grace, is_number, has_value, repeats_nonce, is_valid_at, same_components, AnswersRequest}
 use Rattle.krb_replies.specs.Keys.{facts_in}
 use Rattle.krb_replies.specs.Realms.{referral_realm}
 use Rattle.krb_replies.specs.declared.facts.ReplyFacts.{ReplyFacts}
@@ -106,7 +106,7 @@ module _ (suite : CipherSuite) (realm nonce : List ℕ) (draw : Draw) (grant : G
 
   pub answers_as_req : (key : List ℕ) (body : KdcReqBody) → IsFirstAnswer body moment realm nonce draw grant
       → AnswersAsReq body moment (as_rep suite realm draw nonce key grant).0 (facts_in (reply_part suite realm draw nonce grant)) (Ok tt)
-  unfolding AnswersAsReq as_rep reply_part
+  unfolding AnswersRequest as_rep reply_part
   answers_as_req key body a =
       let facts : ReplyFacts = facts_in (reply_part suite realm draw nonce grant) in
       let rep : KdcRep = (as_rep suite realm draw nonce key grant).0 in

@@ -44,6 +44,7 @@ use Rattle.krb_initiator.specs.declared.seeker.Initiation.TheVariants.{Seeks}
 use Rattle.krb_initiator.specs.declared.seeker.InitPhase.{InitPhase}
 use Rattle.krb_initiator.specs.declared.seeker.InitPhase.TheVariants.{AwaitsTgsRep}
 use Rattle.krb_initiator.specs.InitRuns.{Next, ResumesAt}
+use Rattle.krb_admission.specs.Allowed.{is_invalid, is_direct}
 use Rattle.krb_laws_ends.specs.Answers.{IsDraw}
 use Rattle.krb_laws_ends.specs.Fetches.{Leads}
 use Rattle.krb_laws_ends.specs.HonestKdc.{Known, HasKdc, Refers, Serves, Step, AreHonest}
@@ -106,6 +107,8 @@ pub record Comes (seeker : Seeker) (suite : CipherSuite) (home service_key : Lis
   pub last_is : IsDraw last.draw
   pub crealm_is : part.crealm ≡ crealm
   pub cname_is : part.cname ≡ cname
+  pub valid : is_invalid part.flags.octets ≡ false
+  pub direct : is_direct part.transited.contents ≡ true
 
 -- a referral was taken, and the next request is underway
 pub record IsReferred (seeker : Seeker) (suite : CipherSuite) (home : List ℕ) (known next_known : Known) (hops : ℕ) (message : List ℕ) (own : Draw) (request : NetworkRequest)
@@ -202,7 +205,22 @@ module _ (seeker : Seeker) (pairs : List (List ℕ × Kdc)) (suite : CipherSuite
         (subst (λ (p : InitPhase). Next (Seeks seeker) p (Ok message) next_own (Ok (Ends done))) (sym phase) arrived) ends in
         let end : Runs seeker out run' net' wanting (Completed (Ok done)) next after owns =
         subst (λ (s : GeneratorState NetworkRequest (Result InitDone Error)). Runs seeker out run' net' wanting s next after owns) turned.state_is ends in
-        record { steps = []; last = step; rep = rep; part = part; done = done; honest = served; leads = arrived; count_is = refl; out_is = end.0; last_is = d.is; crealm_is = refl; cname_is = refl }
+        record {
+          steps = [];
+          last = step;
+          rep = rep;
+          part = part;
+          done = done;
+          honest = served;
+          leads = arrived;
+          count_is = refl;
+          out_is = end.0;
+          last_is = d.is;
+          crealm_is = refl;
+          cname_is = refl;
+          valid = refl;
+          direct = refl;
+        }
 
     -- a referral
     module _ (next_kdc : Kdc) (to : RefersTo (service_of seeker.wanted.target) kdc next_kdc)
@@ -317,4 +335,6 @@ module _ (seeker : Seeker) (pairs : List (List ℕ × Kdc)) (suite : CipherSuite
         last_is = more.last_is;
         crealm_is = more.crealm_is;
         cname_is = more.cname_is;
+        valid = more.valid;
+        direct = more.direct;
       }

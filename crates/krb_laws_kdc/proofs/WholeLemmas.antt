@@ -386,6 +386,8 @@ module _ (seeker : Seeker) (pairs : List (List ℕ × Kdc)) (draws : Draws) (ser
         rep = comes.rep;
         part = comes.part;
         honest = honest;
+        valid = comes.valid;
+        direct = comes.direct;
         named =
             subst (λ (r : List ℕ). client_of comes.part.cname r ≡ Some user) (sym comes.crealm_is)
             (subst (λ (n : PrincipalName). client_of n kdc.realm ≡ Some user) (sym comes.cname_is) c.has.user_named);

@@ -37,6 +37,7 @@ use Rattle.krb_tgs.specs.declared.wanted.Wanted.{Wanted}
 use Rattle.krb_tgs.specs.TgsAsked.{url_for, is_same_realm, service_of, parts_of, drawn_nonce, wanted_body, tgs_req_for}
 use Rattle.krb_initiator.specs.declared.seeker.Seeker.{Seeker}
 use Rattle.krb_initiator.specs.InitSteps.{body_of}
+use Rattle.krb_admission.specs.Allowed.{is_invalid, is_direct}
 use Rattle.krb_admission.specs.Clients.{client_of}
 use Rattle.krb_laws_ends.specs.Answers.{IsDraw}
 use Rattle.krb_laws_ends.specs.Fetches.{AsksMutual, EndsWithOffer}
@@ -153,7 +154,7 @@ target_at refers = referral_to refers.route.realm refers.trust
 abbrev pub service_target : List (List ℕ) → List ℕ → Target
 service_target service service_key = record { name = name_with 2 service; key = service_key }
 
--- the KDCs lead to one that has the service, from the one that is asked with this draw of the client's; behind it are those of the
+-- the KDCs lead to one that has the service, from the one that is asked with this draw of the client's; after it are those of the
 -- client's steps and of the KDCs' answers
 abbrev pub LeadsTo : Asker → Wanted → List ℕ → CipherSuite → ℕ → List (List ℕ × Kdc) → List ℕ → Held → Kdc → List Kdc → Draw → List Draw → List Draw → Type 0
 LeadsTo asker wanted home suite span pairs service_key held kdc kdcs own [] draws = ⊥
@@ -197,8 +198,8 @@ pub record AreFirstSizes (seeker : Seeker) (kdc : Kdc) (principal : Principal) (
 
 -- ---- the whole run
 
--- the draws of both ends: of the initiator one for its start, two for the replies of the AS exchange, and those behind them; of the
--- KDCs one for each of the two replies, and those behind them
+-- the draws of both ends: of the initiator one for its start, two for the replies of the AS exchange, and those after them; of the
+-- KDCs one for each of the two replies, and those after them
 pub record Draws : Type 0 where
   pub start : Draw
   pub second : Draw
@@ -255,12 +256,15 @@ pub record CanFetch (seeker : Seeker) (pairs : List (List ℕ × Kdc)) (draws : 
   pub leads : LeadsTo seeker.asker seeker.wanted kdc.realm (asker_suite seeker.asker) span pairs service_key
       (held_first seeker kdc has.client draws.start draws.first) kdc kdcs draws.third draws.owns draws.rest
 
--- a run that ended, with the ticket of the service that honest KDCs gave: from here both ends reach one context
+-- a run that ended, with the ticket of the service that honest KDCs gave: from here both ends reach one context. The ticket is valid, and came
+-- through no further realms, so that it fits the rules of any acceptor
 pub record HasFetched (context : Kerberos) (seeker : Seeker) (draw : Draw) (service_key : List ℕ) (user : UserName) (out : Result InitDone Error) : Type 0 where
   pub answers : Answers
   pub rep : TgsRep
   pub part : EncTicketPart
   pub honest : AreHonestKdcs seeker (asker_suite seeker.asker) service_key draw answers rep part
+  pub valid : is_invalid part.flags.octets ≡ false
+  pub direct : is_direct part.transited.contents ≡ true
   pub named : client_of part.cname part.crealm ≡ Some user
   pub end : EndsWithOffer context seeker service_key (asker_suite seeker.asker) draw answers rep part
   pub out_is : out ≡ Ok end.done

@@ -65,11 +65,13 @@ ghost use Rattle.krb_initiator.specs.declared.seeker.Seeker.{Seeker};
 ghost use Rattle.krb_initiator.specs.declared.seeker.Initiation.TheVariants.{Seeks};
 ghost use Rattle.krb_initiator.specs.declared.seeker.InitPhase.TheVariants.{New};
 ghost use Rattle.krb_initiator.specs.InitRuns.{StartsAt, ResumesAt};
+ghost use Rattle.krb_admission.specs.Allowed.{channel_held};
+ghost use Rattle.krb_admission.specs.Clients.{client_of};
 ghost use Rattle.krb_admission.specs.Requests.{ask_of};
 ghost use Rattle.krb_server.specs.declared.accept.Accepted.{Accepted};
 ghost use Rattle.krb_server.specs.Whole.{AcceptsWhole};
 ghost use Rattle.krb_laws_ends.specs.Fetches.{seeker_for, HoldsKey};
-ghost use Rattle.krb_laws_ends.specs.Offers.{request_of};
+ghost use Rattle.krb_laws_ends.specs.Offers.{FitsRules, MeetsChannel, request_of};
 ghost use Rattle.krb_kdc.specs.declared.kdc.Trust.{Trust};
 ghost use Rattle.krb_kdc.specs.Nets.{Net};
 ghost use Rattle.krb_kdc.specs.Requests.{granting};
@@ -202,6 +204,13 @@ pub fn tickets_are_opened()
         → OpensAtKdc next now (ticket next.suite kdc.realm draw grant) (ticket_part next.suite draw grant) }
 {}
 
+/// The ticket that a KDC gives has no flag INVALID and came through no further realms: so it fits the rules of any acceptor, where its client
+/// has a user name.
+pub fn tickets_fit_any_rules()
+    ensures { (rules : Rules) (suite : CipherSuite) (draw : Draw) (grant : Grant) (user : UserName) → client_of grant.cname grant.crealm ≡ Some user
+        → FitsRules rules (ticket_part suite draw grant) }
+{}
+
 /// A run over a network of KDCs that lead to a service ends out of memory or with the service's ticket: the KDCs' replies are
 /// honest, and the run ends with the token of an honest offer.
 pub fn runs_over_kdcs_fetch_their_ticket()
@@ -220,14 +229,16 @@ pub fn some_client_can_fetch()
 {}
 
 /// The token that such a run ends with is taken by an acceptor that holds the service's key, where its gate admits the client, and both
-/// ends reach one context.
+/// ends reach one context. The acceptor may go by any rules: its client has a user name, and the ticket is as all of them ask. Where they hold
+/// a client to the channel, the initiator has its bindings.
 pub fn fetched_tickets_are_admitted<G: ReplayGate>()
     ensures { (initiator acceptor acceptor' : Kerberos) (options more : InitOptions) (target service_key : List ℕ) (credentials : CredentialsBuffers)
         (client : Credentialed) (user : UserName) (out : Result InitDone Error) (env : Env) (first own draw : Draw) (old new : G) (answer : Result Accepted Cause)
         → is_bare more.flags ≡ is_bare options.flags
         → (fetched : HasFetched initiator (seeker_for initiator options target credentials client) first service_key user out)
-        → HoldsKey acceptor target service_key → AreNew initiator acceptor → IsDraw own → IsDraw draw
+        → HoldsKey acceptor target service_key → MeetsChannel (channel_held acceptor) options.channel_bindings → AreNew initiator acceptor
+        → IsDraw own → IsDraw draw
         → AcceptsWhole G.admits acceptor (is_bare options.flags) fetched.end.done.token env draw old answer acceptor' new
-        → AdmitsOnly G.admits old (ask_of (request_of fetched.end.offer) draw.moment) new
+        → AdmitsOnly G.admits old (ask_of acceptor.rules (request_of fetched.end.offer) draw.moment) new
         → EndsWellIn (is_bare options.flags) G.admits (settled initiator fetched.end.done.change) acceptor' more own draw fetched.end.offer answer }
 {}

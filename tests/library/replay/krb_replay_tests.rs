@@ -44,6 +44,7 @@ fn record(alloc: Global, realm: &[u8], cusec: u8, ctime: i64) -> Result<Record, 
         cusec,
         realm,
         name: principal(alloc, 1)?,
+        tag: Octets::new(Vec::new(alloc)),
     })
 }
 
