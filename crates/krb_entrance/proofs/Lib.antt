@@ -1,3 +1,4 @@
+mod ChannelLemmas
 mod Named
 mod OneCall
 mod TurnLemmas

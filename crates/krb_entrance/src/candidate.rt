@@ -73,7 +73,6 @@ fn client_told(alloc: Global, judged: &Judged) -> Result<Client, OutOfMemory>
 }
 
 /// The checks before the book, at a connection that waits: the token's length, and then those of an AP-REQ.
-#[tactic(auto, unfolding(crate::specs::Candidates::Checks))]
 fn check(
     alloc: Global,
     keys: &Keys,
@@ -135,13 +134,18 @@ pub(crate) fn judge(
     ensures client { IfOk result (λ candidate. candidate.client.value ≡ client_told candidate.judged.request) }
     ensures refused { IfErr result (Refuses places.Elsewhere (Stops keys.now channel token.now draw.now)) }
 {
-    let mut connection = boxed(alloc, waiting(alloc, channel, draw)?)?;
-    let (judged, client) = judge_at(alloc, keys, &mut connection, token, draw)?;
-    Ok(Candidate {
-        judged,
-        connection: Box::into_inner(connection),
-        client,
-    })
+    let mut connection = waiting(alloc, channel, draw)?;
+    match judge_at(alloc, keys, &mut connection, token, draw) {
+        Ok((judged, client)) => Ok(Candidate {
+            judged,
+            connection,
+            client,
+        }),
+        Err(error) => {
+            drop(connection);
+            Err(error)
+        }
+    }
 }
 
 fn admit_at(
