@@ -17,6 +17,9 @@ typedef struct {
 /* Reads the lines of examples/both-ends: the service's key, and what a KDC has answered. */
 int read_exchange(const char *path, exchange *);
 
+/* The token of an initiator for the service, bound to a channel with these data unless they are NULL. */
+octets token_for(const exchange *, const char *channel);
+
 /* Both ends of a session, in empty handles: the initiator's, and the acceptor's. */
 void meet(const exchange *, mk_session *client, mk_session *server);
 

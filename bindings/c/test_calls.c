@@ -43,11 +43,19 @@ static mk_reply make(const conversation *c, mk_acceptor *to) {
     return mk_acceptor_new(to, (const uint8_t *)c->name, strlen(c->name), c->key.at, c->key.length, 300);
 }
 
+/* What the client's checksum and its ticket have, as libkrb5 decrypts them: the flags REPLAY, SEQUENCE, CONF, INTEG and TRANS, and
+ * PRE-AUTHENT, TRANSITED-POLICY-CHECKED and ENC-PA-REP (RFC 4120, 5.3; RFC 6806, 11). */
+static void tell_flags(mk_reply flags, mk_reply ticket_flags) {
+    CHECK(flags.status == MK_OK && flags.length == 0 && flags.number == 0x13c);
+    CHECK(ticket_flags.status == MK_OK && ticket_flags.length == 0 && ticket_flags.number == 0x00290000);
+}
+
 /* A client is admitted once, and each message of its is opened once. */
 static void good(const conversation *c) {
     mk_acceptor acceptor = MK_EMPTY;
     mk_session session = MK_EMPTY, again = MK_EMPTY;
     uint8_t out[4096], mic[28];
+    mk_times times;
     CHECK(make(c, &acceptor).status == MK_OK);
     CHECK(mk_acceptor_reserve(&acceptor, 4).status == MK_OK);
     CHECK(mk_acceptor_key(&acceptor, (const uint8_t *)"HTTP/other.example.com", 22, c->key.at, 16).status == MK_OK);
@@ -60,6 +68,10 @@ static void good(const conversation *c) {
     CHECK(reply.status == MK_OK && reply.length == 0);
     reply = mk_session_peer(&session, out, sizeof out);
     CHECK(reply.status == MK_OK && reply.length == 17 && memcmp(out, "alice@example.com", 17) == 0);
+    reply = mk_session_client(&session, out, sizeof out);
+    CHECK(reply.status == MK_OK && reply.length == 17 && memcmp(out, "alice@EXAMPLE.COM", 17) == 0);
+    CHECK(mk_session_times(&session, &times).status == MK_OK && times.authtime <= times.starttime && times.starttime < times.endtime);
+    tell_flags(mk_session_flags(&session), mk_session_ticket_flags(&session));
     reply = mk_unwrap(&session, c->messages[1].at, c->messages[1].length, out, c->messages[1].length);
     CHECK(reply.status == MK_OK && reply.length == 1 && out[0] == 0x22 && mk_is_sealed(c->messages[1].at));
     CHECK(is_refused(mk_unwrap(&session, c->messages[1].at, c->messages[1].length, out, sizeof out), MK_CAUSE_REPEATED));
@@ -114,6 +126,7 @@ static void halves(const conversation *c) {
     reply = mk_session_client(&session, out, 3);
     CHECK(reply.status == MK_ROOM && reply.length == 17);
     CHECK(mk_session_times(&session, &times).status == MK_OK && times.authtime <= times.starttime && times.starttime < times.endtime);
+    tell_flags(mk_session_flags(&session), mk_session_ticket_flags(&session));
     mk_session_free(&session);
     CHECK(is_refused(mk_admit(&book, &again, &session), MK_CAUSE_REPLAYED) && again.count == 0);
     CHECK(mk_judge(&keys, &judged, c->token.at, c->token.length, &c->moment).status == MK_OK);
@@ -123,15 +136,22 @@ static void halves(const conversation *c) {
     mk_acceptor_free(&book);
 }
 
+/* The client gave no bindings. */
+static mk_reply bound(const conversation *c, mk_acceptor *keys, mk_judged *to, const char *data) {
+    return mk_judge_bound(keys, to, c->token.at, c->token.length, text(data), strlen(data), &c->moment);
+}
+
 /* What a judged token tells, and an admission by what a store has answered: once where it had no record. */
 static void told(const conversation *c) {
     static const char service[] = "host/server.example.com@EXAMPLE.COM";
     mk_acceptor keys = MK_EMPTY;
-    mk_judged judged = MK_EMPTY, again = MK_EMPTY;
+    mk_judged judged = MK_EMPTY, again = MK_EMPTY, unbound = MK_EMPTY;
     mk_session session = MK_EMPTY;
     uint8_t out[128], other[128], key[32];
+    const uint8_t tag[12] = {0xac, 0xa4, 0x0d, 0xdc, 0xbe, 0x93, 0x2f, 0xaa, 0xba, 0x16, 0xf9, 0xdc}; /* the end of the token */
     const uint64_t moment = c->moment.moment;
     CHECK(mk_judged_record(&judged, out, sizeof out).status == MK_HANDLE);
+    CHECK(mk_judged_flags(&judged).status == MK_HANDLE && mk_judged_tag(&judged, out, 12).status == MK_HANDLE);
     CHECK(mk_admit_told(&judged, &session, 300, moment, 0).status == MK_HANDLE);
     CHECK(make(c, &keys).status == MK_OK);
     CHECK(mk_judge(&keys, &judged, c->token.at, c->token.length, &c->moment).status == MK_OK);
@@ -144,6 +164,12 @@ static void told(const conversation *c) {
     CHECK(reply.status == MK_OK && reply.length > 33 && memcmp(out + 14, "Zalice@EXAMPLE.COM", 19) == 0);
     CHECK(mk_judged_record(&again, other, sizeof other).length == reply.length && memcmp(out, other, reply.length) == 0);
     CHECK(mk_judged_record(&judged, out, 20).status == MK_ROOM && judged.count == 1);
+    reply = mk_judged_flags(&judged);
+    CHECK(reply.status == MK_OK && reply.length == 0 && reply.number == 0x13c);
+    CHECK(mk_judged_tag(&judged, out, 11).status == MK_ROOM);
+    reply = mk_judged_tag(&judged, out, 12);
+    CHECK(reply.status == MK_OK && reply.length == 12 && memcmp(out, tag, 12) == 0);
+    CHECK(is_refused(bound(c, &keys, &unbound, "tls-unique:1"), MK_CAUSE_BINDINGS) && unbound.count == 0);
     CHECK(is_refused(mk_admit_told(&again, &session, 300, moment, 1), MK_CAUSE_REPLAYED) && again.count == 0);
     CHECK(mk_judge(&keys, &again, c->token.at, c->token.length, &c->moment).status == MK_OK);
     CHECK(is_refused(mk_admit_told(&again, &session, 300, moment + 302000000, 0), MK_CAUSE_SKEW) && session.count == 0);

@@ -191,7 +191,7 @@ static void use_session(const login *l, mk_session *session) {
     CHECK(gives(reply, out, l->sealed.at, l->sealed.length));
     CHECK(is_refused(mk_unwrap(session, out, reply.length, out + 2048, 2048), MK_CAUSE_DIRECTION));
     CHECK(mk_session_set_rules(session, MK_RULES_RFC).status == MK_OK);
-    CHECK(mk_session_set_rules(session, 0x200).status == MK_ARGUMENT);
+    CHECK(mk_session_set_rules(session, 0x1000).status == MK_ARGUMENT);
     CHECK(mk_session_set_rules(session, MK_RULES_NONE).status == MK_OK);
 }
 

@@ -78,7 +78,7 @@ void check_reply(const char *call, mk_reply reply, size_t room) {
     if (reply.status == MK_SASL) PROMISE(reply.number >= 1 && reply.number <= MK_SASL_FRAME, "%s: number %u", call, reply.number);
     if (reply.status == MK_REFUSED) {
         PROMISE(reply.kind >= 1 && reply.kind <= MK_KIND_OUT_OF_MEMORY, "%s: kind %u", call, reply.kind);
-        PROMISE(reply.cause >= 1 && reply.cause <= MK_CAUSE_REPLY_TIME, "%s: cause %u", call, reply.cause);
+        PROMISE(reply.cause >= 1 && reply.cause <= MK_CAUSE_TRANSITED, "%s: cause %u", call, reply.cause);
     }
 }
 

@@ -1,9 +1,9 @@
-/* Clients' tokens, to an acceptor: mk_accept, and mk_judge with mk_admit or mk_admit_told, which have to agree. Records:
+/* Clients' tokens, to an acceptor: mk_accept, and mk_judge with mk_admit or mk_admit_told, which have to agree, and mk_judge_bound. Records:
  *   1 the plain text of a ticket, and 2 that of an authenticator: both are sealed, and shown
  *   3 a token as it stands   4 options of the AP-REQ   6 a service's name, an octet 0, its key   7 the moment, eight octets */
 #include "common.h"
 
-static Count accepted("accepted"), halves("admitted in halves"), refused("refused");
+static Count accepted("accepted"), halves("admitted in halves"), refused("refused"), bound("bound to the channel");
 
 struct Service {
     bytes name = of(SERVICE), key = SERVICE_KEY, options = {0, 0, 0, 0};
@@ -37,19 +37,17 @@ static void send(mk_session *s) {
 }
 
 /* What is told of a session that was admitted: its answer has the length that was said. */
-static void ask(mk_session *s, bool judged, size_t answer_length) {
+static void ask(mk_session *s, size_t answer_length) {
     mk_times times;
     Got answer = get("mk_session_answer", [&](uint8_t *out, size_t room) { return mk_session_answer(s, out, room); });
     PROMISE(answer.reply.status == MK_OK && answer.octets.size() == answer_length, "an answer of %zu", answer.octets.size());
     Got peer = get("mk_session_peer", [&](uint8_t *out, size_t room) { return mk_session_peer(s, out, room); });
-    PROMISE(peer.reply.status == MK_OK, "no peer: %u", peer.reply.status);
-    if (judged) {
-        Got client = get("mk_session_client", [&](uint8_t *out, size_t room) { return mk_session_client(s, out, room); });
-        PROMISE(client.reply.status == MK_OK && mk_session_times(s, &times).status == MK_OK, "no client");
-    } else {
-        PROMISE(mk_session_client(s, nullptr, 0).status == MK_HANDLE, "mk_accept keeps a client");
-        PROMISE(mk_session_times(s, &times).status == MK_HANDLE, "mk_accept keeps times");
-    }
+    PROMISE(peer.reply.status == MK_OK || is_refused(peer.reply, MK_CAUSE_NO_IDENTITY), "no peer: %u", peer.reply.status);
+    Got client = get("mk_session_client", [&](uint8_t *out, size_t room) { return mk_session_client(s, out, room); });
+    PROMISE(client.reply.status == MK_OK && mk_session_times(s, &times).status == MK_OK, "no client");
+    mk_reply flags = mk_session_flags(s);
+    PROMISE(flags.status == MK_OK || is_refused(flags, MK_CAUSE_CHECKSUM), "no flags: %u", flags.status);
+    PROMISE(mk_session_ticket_flags(s).status == MK_OK, "no flags of the ticket");
     send(s);
 }
 
@@ -62,7 +60,7 @@ static mk_reply accept(const Service &service, mk_acceptor *acceptor, const Lent
     if (reply.status == MK_OK) {
         accepted++;
         PROMISE(mk_acceptor_kept(acceptor) == kept + 1, "no record is kept");
-        ask(&session, false, reply.length);
+        ask(&session, reply.length);
         mk_session_free(&session);
         PROMISE(is_refused(mk_accept(acceptor, &session, token.at, token.length, &service.moment), MK_CAUSE_REPLAYED), "it comes again");
     } else {
@@ -80,6 +78,30 @@ static void ask_judged(mk_judged *judged) {
     Got again = get("mk_judged_record", [&](uint8_t *out, size_t room) { return mk_judged_record(judged, out, room); });
     PROMISE(client.reply.status == MK_OK && service.reply.status == MK_OK && record.reply.status == MK_OK, "no candidate");
     PROMISE(record.octets == again.octets && holds(record.octets, client.octets), "another record");
+    Got tag = get("mk_judged_tag", [&](uint8_t *out, size_t room) { return mk_judged_tag(judged, out, room); });
+    PROMISE(tag.octets.size() == 12 && holds(record.octets, tag.octets), "a tag of %zu", tag.octets.size());
+    mk_reply flags = mk_judged_flags(judged);
+    PROMISE(flags.status == MK_OK || is_refused(flags, MK_CAUSE_CHECKSUM), "no flags: %u", flags.status);
+}
+
+/* A client that is held to a channel: what mk_judge refuses is refused so, and who passes is bound, or refused for its bindings. */
+static void bind(const Service &service, mk_acceptor *keys, const Lent &token, const mk_reply &plain) {
+    const bytes channel = of("tls-unique:7");
+    Lent data(channel);
+    mk_judged judged = MK_EMPTY;
+    mk_reply reply = mk_judge_bound(keys, &judged, token.at, token.length, data.at, data.length, &service.moment);
+    check_reply("mk_judge_bound", reply, SIZE_MAX - 1);
+    PROMISE((reply.status == MK_OK) == (judged.count == 1), "a bound candidate, and status %u", reply.status);
+    if (plain.status == MK_OK) {
+        PROMISE(reply.status == MK_OK || is_refused(reply, MK_CAUSE_CHECKSUM) || is_refused(reply, MK_CAUSE_BINDINGS), "cause %u", reply.cause);
+    } else {
+        PROMISE(plain.status == reply.status && plain.cause == reply.cause, "mk_judge %u, mk_judge_bound %u", plain.cause, reply.cause);
+    }
+    if (reply.status == MK_OK) {
+        bound++;
+        PROMISE(mk_judged_flags(&judged).status == MK_OK, "bindings without flags");
+    }
+    mk_judged_free(&judged);
 }
 
 static mk_reply admit(const Service &service, mk_acceptor *book, mk_judged *judged, bool told) {
@@ -90,7 +112,7 @@ static mk_reply admit(const Service &service, mk_acceptor *book, mk_judged *judg
     PROMISE((reply.status == MK_OK) == (session.count == 1), "a session, and status %u", reply.status);
     if (reply.status == MK_OK) {
         halves++;
-        ask(&session, true, reply.length);
+        ask(&session, reply.length);
         mk_session_free(&session);
     }
     return reply;
@@ -101,15 +123,12 @@ static void judge(const Service &service, mk_acceptor *keys, mk_acceptor *book, 
     mk_reply reply = mk_judge(keys, &judged, token.at, token.length, &service.moment);
     check_reply("mk_judge", reply, SIZE_MAX - 1);
     PROMISE((reply.status == MK_OK) == (judged.count == 1) && mk_acceptor_kept(keys) == 0, "a candidate, and status %u", reply.status);
+    bind(service, keys, token, reply);
     if (reply.status == MK_OK) {
         ask_judged(&judged);
         reply = admit(service, book, &judged, told);
     }
     if (is_refused(one, MK_CAUSE_REPLAYED) || is_refused(reply, MK_CAUSE_REPLAYED)) return; /* two books, two records */
-    if (is_refused(one, MK_CAUSE_CREDENTIALS) || is_refused(one, MK_CAUSE_SERVER_NAME)) { /* a TGT-REQ, of which mk_judge takes none */
-        PROMISE(is_refused(reply, MK_CAUSE_SHAPE), "a TGT-REQ is judged: status %u, cause %u", reply.status, reply.cause);
-        return;
-    }
     PROMISE(one.status == reply.status && (one.status != MK_REFUSED || (one.kind == reply.kind && one.cause == reply.cause)),
             "mk_accept %u %u, the halves %u %u", one.status, one.cause, reply.status, reply.cause);
 }

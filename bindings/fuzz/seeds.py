@@ -54,8 +54,11 @@ def ticket_part(etype, *more):
                             (7, time(LATER)), *more))
 
 
-def authenticator(microseconds, *more):
-    checksum = fields((0, integer(0x8003)), (1, tlv(4, b"\x10" + bytes(23))))
+NOT_BOUND, CHANNEL = bytes(16), bytes.fromhex("078762388d7cb673539ca3ed0e38dc5c")  # the second is the MD5 of the bindings "tls-unique:7" (RFC 4121, 4.1.1.2)
+
+
+def authenticator(microseconds, *more, bindings=NOT_BOUND):
+    checksum = fields((0, integer(0x8003)), (1, tlv(4, b"\x10" + bytes(3) + bindings + bytes(4))))
     return tlv(0x62, fields((0, integer(5)), (1, text("EXAMPLE.COM")), (2, names(1, "alice")), (3, checksum), (4, integer(microseconds)),
                             (5, time(NOW)), *more))
 
@@ -115,6 +118,7 @@ def accept():
         for options in (0, 0x20000000, 0x40000000):
             yield f"sealed-{etype}-{options}", (record(1, ticket_part(etype)) + record(2, authenticator(etype, (7, integer(9)))) +
                                                 record(4, options.to_bytes(4, "big")))
+    yield "bound", record(1, ticket_part(18)) + record(2, authenticator(2, (7, integer(9)), bindings=CHANNEL))
     data = tlv(0x30, fields((0, integer(1)), (1, tlv(4, tlv(0x30, fields((0, integer(128)), (1, tlv(4, b"p" * 64))))))))
     yield "authorization", record(1, ticket_part(18, (10, data))) + record(2, authenticator(1, (6, key(18, 0x33)), (8, data)))
 
@@ -128,7 +132,7 @@ def initiator():
     kinds = fields((1, integer(19)), (2, tlv(4, tlv(0x30, fields((0, integer(18)), (1, text("EXAMPLE.COMalice")))))))
     ask = record(9, krb_error(25, (12, tlv(4, tlv(0x30, kinds)))))
     for flags in (0x1001E, 0x1001C, 0x1021E, 0x1003E):
-        for rules in (0x301FF, 0, 0x1FF):
+        for rules in (0x1F0FFF, 0, 0xFFF):
             told = record(6, flags.to_bytes(4, "big")) + record(7, rules.to_bytes(4, "big"))
             yield f"honest-{flags:x}-{rules:x}", told + record(2, granting) + record(3, service) + record(5, answer)
         yield f"asked-{flags:x}", told + ask + record(2, granting) + record(3, service) + record(5, answer)
@@ -144,7 +148,7 @@ def messages():
         yield f"sealed-{name}", end + record(2, header(flags, 0, 28, 9) + b"hello") + record(2, header(flags, 0, 0, 10)) + record(2, header(flags, 16, 44, 9))
         yield f"clear-{name}", end + record(4, header(flags - 2, 12, 0, 9) + b"hello") + record(4, header(flags - 2, 12, 12, 80) + b"hello") + record(1, b"")
         yield f"mic-{name}", end + record(5, bytes([flags - 2]) + b"payload") + record(3, bytes([28]) + header(4, 0, 0, 1) + b"m" * 12 + b"payload")
-        yield f"rules-{name}", end + record(9, bytes(4)) + record(2, header(flags, 0, 28, 9) + b"hello") + record(9, bytes([0, 3, 1, 0xFF]))
+        yield f"rules-{name}", end + record(9, bytes(4)) + record(2, header(flags, 0, 28, 9) + b"hello") + record(9, bytes([0, 0x1F, 0xF, 0xFF]))
     yield "recorded", b"".join(record(1, octets(it.split()[1])) for it in (TOP / "crates/example_acceptor/stdin").read_text().splitlines()
                                if it.startswith("message "))
 

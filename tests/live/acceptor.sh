@@ -34,18 +34,6 @@ crowd() {
     return $status
 }
 
-# Two processes of one client may make authenticators of one microsecond. The second is refused as Replayed (RFC 4120, section 3.2.3),
-# and its client has to come again. Nothing else lets the crowd come again.
-crowd_soon() {
-    local before _
-    for _ in 1 2 3; do
-        before=$(wc -l < "$room/acceptor.log")
-        crowd && return 0
-        tail -n "+$((before + 1))" "$room/acceptor.log" | grep -q 'refused: .*Replayed' || return 1
-    done
-    return 1
-}
-
 # Whether what a relay kept gets no answer at a port: is_unanswered PORT FILE
 is_unanswered() { [ "$("$python" "$live/relay.py" again "$1" "$2")" = "answered by 0 octets" ]; }
 
@@ -173,7 +161,7 @@ try_acceptor() {
     check "-f: a file of $(wc -c < "$room/file") octets" verifies 1 "$acceptor_port" -f "$room/file"
     check "-na: a client that does not log in is refused" is_refused acceptor 'does not log in' -na 127.0.0.1 host@server.example.com hello
     check "a ticket for another service is refused" is_refused acceptor 'NoServiceKey' 127.0.0.1 imap@server.example.com hello
-    check "four clients at once, 120 messages" crowd_soon
+    check "four clients at once, 120 messages" crowd
     check "a token that comes again is refused" comes_again
     check "200 tokens with one octet changed are refused" changed_comes
     check "what is no token is refused" noise_comes

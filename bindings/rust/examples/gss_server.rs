@@ -5,8 +5,9 @@
 //!
 //! The keytab has the service's keys. A file with one key in hex, as `klist -k -K` prints it after 0x, is taken too. Clocks may be wrong
 //! by 300 seconds. The server waits for 600 seconds before it admits anybody, twice as long: a token that an earlier process admitted
-//! may be ahead by 300, and is then valid for 300 after its own time. That wait may be 0 if no earlier process had this key. Who needs
-//! other rules than those of the RFCs names them after the wait (docs/EMBEDDING.md), or `NONE`.
+//! may be ahead by 300, and is then valid for 300 after its own time. That wait may be 0 if no earlier process had this key. After the
+//! wait may come `channel:` and the data of a channel's bindings, to which each client is then held. Who needs other rules for messages
+//! than those of the RFCs names them at the end (docs/EMBEDDING.md), or `NONE`.
 
 #[path = "parts/causes.rs"]
 mod causes;
@@ -40,15 +41,27 @@ use std::{env, error::Error};
 
 type Answer<T> = Result<T, Box<dyn Error + Send + Sync>>;
 
+/// The data of a channel's bindings, where the first word has some, and the words after it.
+fn with_channel(words: &[String]) -> (Option<&str>, &[String]) {
+    let data = words.first().and_then(|word| word.strip_prefix("channel:"));
+    (data, &words[usize::from(data.is_some())..])
+}
+
 fn run(arguments: &[String]) -> Answer<()> {
     let [address, service, keys, skew, wait, words @ ..] = arguments else {
-        return Err("usage: gss_server ADDRESS SERVICE KEYTAB SKEW WAIT [RULE ..]".into());
+        return Err(
+            "usage: gss_server ADDRESS SERVICE KEYTAB SKEW WAIT [channel:DATA] [RULE ..]".into(),
+        );
     };
+    let (channel, words) = with_channel(words);
     let rules = rules::named(words)?;
     let (skew, wait) = (seconds("skew", skew)?, seconds("wait", wait)?);
     let acceptor = service::acceptor(service, keys, skew)?;
     let admit = |token: &[u8]| -> Answer<Session> {
-        let mut session = acceptor.accept(token)?;
+        let mut session = match channel {
+            Some(data) => acceptor.accept_bound(token, data.as_bytes())?,
+            None => acceptor.accept(token)?,
+        };
         if let Some(rules) = rules {
             session.set_rules(rules)?;
         }

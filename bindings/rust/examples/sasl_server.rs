@@ -73,10 +73,10 @@ fn log_in(
     let user = server.accept(&ask(connection, &offer)?)?;
     let layer = server.layer()?;
     connection.check_read()?;
-    // Whom a client may act for is the server's to decide: here for nobody but itself, in the realm that it is from. `peer` has no more
-    // of a name than its first component.
-    let peer = server.session().peer();
-    if user.is_empty() || user == peer {
+    // Whom a client may act for is the server's to decide: here for nobody but itself, by its whole name or its short one, `peer`. Short
+    // names of realms that differ in the case of letters are the same: trust one of them alone.
+    let (client, peer) = (server.session().client(), server.session().peer());
+    if user.is_empty() || user == peer || Some(user.as_str()) == client {
         Ok((server, layer))
     } else {
         Err(format!("{peer} may not act for {user}").into())

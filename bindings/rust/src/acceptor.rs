@@ -1,9 +1,11 @@
 //! Services, and the clients that they let in.
 
-use crate::error::{Error, done};
+use crate::error::{Error, done, told_flags};
+use crate::options::GssFlags;
 use crate::session::Session;
 use crate::sys::{self, Handle, Moment};
 use crate::{filled, microseconds, moment_of, random};
+use std::sync::atomic::{AtomicU32, Ordering};
 use std::sync::{Mutex, MutexGuard, PoisonError};
 use std::time::{Duration, SystemTime};
 
@@ -14,15 +16,15 @@ pub struct Acceptor {
     book: Mutex<Handle>,
     copies: Mutex<Copies>,
     /// By how many seconds a client's clock may be wrong.
-    skew: u32,
+    skew: AtomicU32,
     older: Option<Box<Acceptor>>,
 }
 
 /// Copies of the services that judge tokens, each for one thread at a time.
 struct Copies {
     idle: Vec<Handle>,
-    /// How many services were added: a copy that was made before is not kept.
-    added: usize,
+    /// How often the services or the limit were changed: a copy that was made before is not kept.
+    changes: usize,
 }
 
 // SAFETY: the library's handle of an acceptor may go to another thread (`Send` is proved of it), and the locks give each to one
@@ -98,9 +100,9 @@ impl Acceptor {
             book: Mutex::new(handle),
             copies: Mutex::new(Copies {
                 idle: Vec::new(),
-                added: 0,
+                changes: 0,
             }),
-            skew,
+            skew: AtomicU32::new(skew),
             older: None,
         }
     }
@@ -112,24 +114,24 @@ impl Acceptor {
         self
     }
 
-    /// A copy of the services for this thread, with how many had been added before it was made.
+    /// A copy of the services for this thread, with how many changes there had been before it was made.
     fn copy(&self) -> Result<(usize, Handle), Error> {
-        let added = {
+        let changes = {
             let mut copies = lock(&self.copies);
             if let Some(copy) = copies.idle.pop() {
-                return Ok((copies.added, copy));
+                return Ok((copies.changes, copy));
             }
-            copies.added
+            copies.changes
         };
         let mut copy = Handle::EMPTY;
         // SAFETY: the handle is the lock's, and the other one is empty.
         done(unsafe { sys::mk_acceptor_copy(&mut *lock(&self.book), &mut copy) })?;
-        Ok((added, copy))
+        Ok((changes, copy))
     }
 
-    fn put_back(&self, added: usize, mut copy: Handle) {
+    fn put_back(&self, changes: usize, mut copy: Handle) {
         let mut copies = lock(&self.copies);
-        if copies.added == added {
+        if copies.changes == changes {
             copies.idle.push(copy);
         } else {
             // SAFETY: the handle is ours.
@@ -149,9 +151,38 @@ impl Acceptor {
                 key.len(),
             )
         })?;
+        self.drop_copies();
+        Ok(())
+    }
+
+    fn drop_copies(&self) {
         let mut copies = lock(&self.copies);
-        copies.added += 1;
+        copies.changes += 1;
         copies.free();
+    }
+
+    /// Sets how many octets a token may have: a longer one is refused unread. An acceptor begins with 65,536.
+    pub fn limit_tokens(&self, most: usize) -> Result<(), Error> {
+        if let Some(older) = &self.older {
+            older.limit_tokens(most)?;
+        }
+        // SAFETY: the handle is the lock's.
+        done(unsafe { sys::mk_acceptor_limit_tokens(&mut *lock(&self.book), most) })?;
+        self.drop_copies();
+        Ok(())
+    }
+
+    /// Begins a new replay book, in which nobody is, for clocks that are wrong by so many seconds at most: where a token was judged by a
+    /// clock that was far ahead, and nobody is admitted since.
+    ///
+    /// # Security
+    /// Whoever was admitted before can be admitted again by the same token, as after a restart: wait for twice the skew before the next
+    /// admission.
+    pub fn new_book(&self, skew: Duration) -> Result<(), Error> {
+        let skew = seconds(skew)?;
+        // SAFETY: the handle is the lock's.
+        done(unsafe { sys::mk_acceptor_new_book(&mut *lock(&self.book), skew) })?;
+        self.skew.store(skew, Ordering::SeqCst);
         Ok(())
     }
 
@@ -183,6 +214,11 @@ impl Acceptor {
         self.admit(self.judge_at(token, moment, random)?)
     }
 
+    /// Admits the client that sent this token, as [`judge_bound`](Acceptor::judge_bound) judges it, by the system's clock.
+    pub fn accept_bound(&self, token: &[u8], data: &[u8]) -> Result<Session, Error> {
+        self.admit(self.judge_bound(token, data)?)
+    }
+
     /// The checks of a token before the replay book's, by the system's clock. Nobody is admitted yet.
     pub fn judge(&self, token: &[u8]) -> Result<Judged, Error> {
         self.judge_at(token, SystemTime::now(), random()?)
@@ -195,38 +231,68 @@ impl Acceptor {
         moment: SystemTime,
         random: [u8; 64],
     ) -> Result<Judged, Error> {
-        self.judge_in_turn(token, &moment_of(moment, random)?)
+        self.judge_in_turn(token, None, &moment_of(moment, random)?)
+    }
+
+    /// As [`judge`](Acceptor::judge), and the client is held to the channel below, by the data that
+    /// [`Initiator::bind`](crate::Initiator::bind) takes: of a TLS channel those of RFC 5929, as `tls-server-end-point:` and the hash of
+    /// the server's certificate. Refused as [`Cause::CHECKSUM`](crate::Cause::CHECKSUM) where the client's checksum has no room for
+    /// bindings, and as [`Cause::BINDINGS`](crate::Cause::BINDINGS) where it gave others, or none.
+    pub fn judge_bound(&self, token: &[u8], data: &[u8]) -> Result<Judged, Error> {
+        self.judge_bound_at(token, data, SystemTime::now(), random()?)
+    }
+
+    /// The same at this moment, with 64 octets that are random and fresh.
+    pub fn judge_bound_at(
+        &self,
+        token: &[u8],
+        data: &[u8],
+        moment: SystemTime,
+        random: [u8; 64],
+    ) -> Result<Judged, Error> {
+        self.judge_in_turn(token, Some(data), &moment_of(moment, random)?)
     }
 
     /// The newest keys first. The refusal is theirs where none opens the ticket, and else that of those that open it.
-    fn judge_in_turn(&self, token: &[u8], moment: &Moment) -> Result<Judged, Error> {
-        let judged = self.judge_by_own(token, moment);
+    fn judge_in_turn(
+        &self,
+        token: &[u8],
+        data: Option<&[u8]>,
+        moment: &Moment,
+    ) -> Result<Judged, Error> {
+        let judged = self.judge_by_own(token, data, moment);
         let (Err(error), Some(older)) = (&judged, &self.older) else {
             return judged;
         };
         if !error.is_of_key() {
             return judged;
         }
-        match older.judge_in_turn(token, moment) {
+        match older.judge_in_turn(token, data, moment) {
             Err(other) if other.is_of_key() => judged,
             other => other,
         }
     }
 
-    fn judge_by_own(&self, token: &[u8], moment: &Moment) -> Result<Judged, Error> {
-        let (added, mut copy) = self.copy()?;
+    fn judge_by_own(
+        &self,
+        token: &[u8],
+        data: Option<&[u8]>,
+        moment: &Moment,
+    ) -> Result<Judged, Error> {
+        let (changes, mut copy) = self.copy()?;
         let mut judged = Judged(Handle::EMPTY);
-        // SAFETY: the copy is ours, the other handle is empty, and the pointer and the length are those of one slice.
+        let (keys, to) = (&mut copy, &mut judged.0);
+        // SAFETY: the copy is ours, the other handle is empty, and each pointer and length are those of one slice.
         let reply = unsafe {
-            sys::mk_judge(
-                &mut copy,
-                &mut judged.0,
-                token.as_ptr(),
-                token.len(),
-                moment,
-            )
+            let (at, length) = (token.as_ptr(), token.len());
+            match data {
+                None => sys::mk_judge(keys, to, at, length, moment),
+                Some(data) => {
+                    sys::mk_judge_bound(keys, to, at, length, data.as_ptr(), data.len(), moment)
+                }
+            }
         };
-        self.put_back(added, copy);
+        self.put_back(changes, copy);
         done(reply)?;
         Ok(judged)
     }
@@ -258,7 +324,7 @@ impl Acceptor {
             sys::mk_admit_told(
                 &mut judged.0,
                 &mut session.handle,
-                self.skew,
+                self.skew.load(Ordering::SeqCst),
                 now,
                 u32::from(seen),
             )
@@ -287,6 +353,21 @@ impl Judged {
             sys::mk_judged_service(handle, out, room)
         })?;
         Ok(String::from_utf8_lossy(&text).into_owned())
+    }
+
+    /// What the client asked for. None where its checksum has no flags: a client of another protocol than GSS-API.
+    pub fn flags(&mut self) -> Result<Option<GssFlags>, Error> {
+        // SAFETY: the handle is ours.
+        told_flags(unsafe { sys::mk_judged_flags(&mut self.0) })
+    }
+
+    /// The last 12 octets of the encrypted authenticator. Two log-ins have the same ones by chance alone, once in 2^96, and a replay has
+    /// those of the first.
+    pub fn tag(&mut self) -> Result<[u8; 12], Error> {
+        let mut tag = [0; 12];
+        // SAFETY: the handle is ours, and the pointer and the length are those of one array.
+        done(unsafe { sys::mk_judged_tag(&mut self.0, tag.as_mut_ptr(), tag.len()) })?;
+        Ok(tag)
     }
 
     /// What a store that machines share keeps of it, for [`Acceptor::admit_told`]: two uses of one authenticator have the same octets.

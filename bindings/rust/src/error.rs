@@ -1,5 +1,6 @@
 //! Why a call was not done.
 
+use crate::options::GssFlags;
 use crate::sys;
 use std::{fmt, io};
 
@@ -98,6 +99,16 @@ impl Cause {
     pub const REPLY_NAMES: Cause = Cause(61);
     /// The ticket of a reply is not valid now, or the service's answer has not the time of the authenticator.
     pub const REPLY_TIME: Cause = Cause(62);
+    /// The ticket is not yet valid, or it has the flag INVALID.
+    pub const NOT_YET: Cause = Cause(15);
+    /// The client's checksum has no channel bindings and no flags.
+    pub const CHECKSUM: Cause = Cause(55);
+    /// The client's channel bindings are not those of this channel.
+    pub const BINDINGS: Cause = Cause(56);
+    /// The ticket came through further realms, and no KDC checked them.
+    pub const TRANSITED: Cause = Cause(63);
+    /// There is no identity: a client without a short name.
+    pub const NO_IDENTITY: Cause = Cause(31);
 }
 
 type NameCall = unsafe extern "C" fn(u32, *mut u8, usize) -> sys::Reply;
@@ -190,6 +201,15 @@ impl Error {
             Error::Refused(refusal) => Some(refusal.cause),
             _ => None,
         }
+    }
+}
+
+/// The number of a reply, where the call was done, and None where the client's checksum has no flags.
+pub(crate) fn told_flags(reply: sys::Reply) -> Result<Option<GssFlags>, Error> {
+    match done(reply) {
+        Ok(_) => Ok(Some(GssFlags(reply.number))),
+        Err(error) if error.cause() == Some(Cause::CHECKSUM) => Ok(None),
+        Err(error) => Err(error),
     }
 }
 

@@ -9,7 +9,7 @@
 //!     let mut session = acceptor.accept(token)?;
 //!     // session.answer() goes back to the client, if it is not empty.
 //!     let opened = session.unwrap(request)?;
-//!     println!("{} asks {:?}", session.peer(), opened.text);
+//!     println!("{} asks {:?}", session.client().unwrap_or_default(), opened.text); // alice@EXAMPLE.COM
 //!     session.wrap(b"it is late")
 //! }
 //!
@@ -40,7 +40,7 @@ mod sys;
 pub use acceptor::{Acceptor, Judged};
 pub use error::{Cause, Error, Kind, LayerRefusal, Refusal};
 pub use initiator::{Initiator, Next, Step};
-pub use options::{Flags, Rules};
+pub use options::{Flags, GssFlags, Rules};
 pub use sasl::{Layer, Layers, SaslClient, SaslServer};
 pub use session::{Opened, Session};
 

@@ -154,7 +154,7 @@ impl Drop for End {
 ///     let answer = ask(&server.offer()?);
 ///     let user = server.accept(&answer)?;
 ///     // Whether the client may act for that user is for the server to decide: here for nobody but itself.
-///     if user.is_empty() || user == server.session().peer() {
+///     if user.is_empty() || Some(user.as_str()) == server.session().client() {
 ///         return Ok(server);
 ///     }
 ///     Err(Error::Argument)

@@ -1,7 +1,7 @@
 //! A connection whose exchange is over, and its messages.
 
-use crate::error::{Error, done};
-use crate::options::Rules;
+use crate::error::{Cause, Error, done, told_flags};
+use crate::options::{GssFlags, Rules};
 use crate::sys::{self, Handle, Times};
 use crate::{filled, random};
 use std::time::{Duration, SystemTime, UNIX_EPOCH};
@@ -11,6 +11,9 @@ pub struct Session {
     pub(crate) handle: Handle,
     peer: String,
     client: Option<String>,
+    local_name: Option<String>,
+    flags: Option<GssFlags>,
+    ticket_flags: Option<u32>,
     ends: Option<SystemTime>,
     answer: Vec<u8>,
 }
@@ -33,6 +36,9 @@ impl Session {
             handle: Handle::EMPTY,
             peer: String::new(),
             client: None,
+            local_name: None,
+            flags: None,
+            ticket_flags: None,
             ends: None,
             answer: Vec::new(),
         }
@@ -45,17 +51,33 @@ impl Session {
         Ok(())
     }
 
-    /// Learns what the ticket of an admitted client says. The answer to it has so many octets.
+    /// Learns what the token of an admitted client said. The answer to it has so many octets.
     pub(crate) fn learn(&mut self, answer: usize) -> Result<(), Error> {
         self.answer = self.octets(answer, sys::mk_session_answer)?;
-        self.peer = self.text(sys::mk_session_peer)?;
-        self.client = Some(self.text(sys::mk_session_client)?);
+        let client = self.text(sys::mk_session_client)?;
+        self.local_name = self.short_name()?;
+        self.peer = self.local_name.clone().unwrap_or_else(|| client.clone());
+        self.client = Some(client);
+        // SAFETY: the handle is ours.
+        self.flags = told_flags(unsafe { sys::mk_session_flags(&mut self.handle) })?;
+        // SAFETY: as above.
+        let reply = unsafe { sys::mk_session_ticket_flags(&mut self.handle) };
+        done(reply)?;
+        self.ticket_flags = Some(reply.number);
         let mut times = Times::default();
         // SAFETY: both are ours.
         done(unsafe { sys::mk_session_times(&mut self.handle, &mut times) })?;
         let ends = u64::try_from(times.endtime).unwrap_or(0);
         self.ends = Some(UNIX_EPOCH + Duration::from_secs(ends));
         Ok(())
+    }
+
+    fn short_name(&mut self) -> Result<Option<String>, Error> {
+        match self.text(sys::mk_session_peer) {
+            Ok(name) => Ok(Some(name)),
+            Err(error) if error.cause() == Some(Cause::NO_IDENTITY) => Ok(None),
+            Err(error) => Err(error),
+        }
     }
 
     fn text(&mut self, call: sys::OutCall) -> Result<String, Error> {
@@ -69,16 +91,36 @@ impl Session {
         filled(room, |out, room| unsafe { call(handle, out, room) })
     }
 
-    /// Who the other end is. A client is `alice@example.com`, the first component of its name and the realm in small letters, so
-    /// that `alice/admin` has the same name as `alice`. A service is its name as the initiator was given it.
+    /// Who the other end is, to show to a person: a service as the initiator was given its name, a client by its
+    /// [`local_name`](Session::local_name) where it has one, and otherwise by its whole name.
     pub fn peer(&self) -> &str {
         &self.peer
     }
 
-    /// Who the client is, whole: all components of its name and the realm, as `alice/admin@EXAMPLE.COM`. An initiator's session does
-    /// not tell it.
+    /// Who the client is, whole: all components of its name and the realm, as `alice/admin@EXAMPLE.COM`. **Give rights by this name
+    /// alone.** Every client that was admitted has one, and an initiator's session has none.
     pub fn client(&self) -> Option<&str> {
         self.client.as_deref()
+    }
+
+    /// The short name of a client, `alice@example.com`: the one component of its name and the realm in small letters. A client whose
+    /// name is of another type than 1 or has further components, as `alice/admin` and `host/server.example.com`, has none.
+    ///
+    /// # Security
+    /// Clients of realms that differ in the case of letters have the same short name: give rights by [`client`](Session::client).
+    pub fn local_name(&self) -> Option<&str> {
+        self.local_name.as_deref()
+    }
+
+    /// What the client asked for. None where its checksum has no flags, and for an initiator's session.
+    pub fn flags(&self) -> Option<GssFlags> {
+        self.flags
+    }
+
+    /// The first 32 flags of the client's ticket, bit 0 the highest: FORWARDABLE, bit 1, is 0x40000000 (RFC 4120, section 5.3). An
+    /// initiator's session does not tell them.
+    pub fn ticket_flags(&self) -> Option<u32> {
+        self.ticket_flags
     }
 
     /// Returns the user's name if the client is a user of this realm: its realm is `realm`, byte for byte, and its name has one component,
@@ -86,8 +128,8 @@ impl Session {
     /// client of another realm, and for a session of an initiator.
     ///
     /// # Security
-    /// Give rights by this name or by [`client`](Session::client), and not by [`peer`](Session::peer), which is the same text for clients
-    /// of other realms.
+    /// Give rights by this name or by [`client`](Session::client), and not by [`peer`](Session::peer), which can be the same text for
+    /// clients of other realms.
     pub fn user_of(&self, realm: &str) -> Option<&str> {
         plain_user(self.client()?, realm)
     }

@@ -86,6 +86,8 @@ unsafe extern "C" {
     pub fn mk_acceptor_copy(acceptor: *mut Handle, to: *mut Handle) -> Reply;
     pub fn mk_acceptor_reserve(acceptor: *mut Handle, records: usize) -> Reply;
     pub fn mk_acceptor_kept(acceptor: *mut Handle) -> u64;
+    pub fn mk_acceptor_new_book(acceptor: *mut Handle, skew: u32) -> Reply;
+    pub fn mk_acceptor_limit_tokens(acceptor: *mut Handle, most: usize) -> Reply;
     pub fn mk_acceptor_free(acceptor: *mut Handle);
     pub fn mk_judge(
         keys: *mut Handle,
@@ -94,9 +96,20 @@ unsafe extern "C" {
         token_length: usize,
         moment: *const Moment,
     ) -> Reply;
+    pub fn mk_judge_bound(
+        keys: *mut Handle,
+        to: *mut Handle,
+        token: *const u8,
+        token_length: usize,
+        data: *const u8,
+        data_length: usize,
+        moment: *const Moment,
+    ) -> Reply;
     pub fn mk_admit(book: *mut Handle, judged: *mut Handle, to: *mut Handle) -> Reply;
     pub fn mk_judged_client(judged: *mut Handle, out: *mut u8, room: usize) -> Reply;
     pub fn mk_judged_service(judged: *mut Handle, out: *mut u8, room: usize) -> Reply;
+    pub fn mk_judged_flags(judged: *mut Handle) -> Reply;
+    pub fn mk_judged_tag(judged: *mut Handle, out: *mut u8, room: usize) -> Reply;
     pub fn mk_judged_record(judged: *mut Handle, out: *mut u8, room: usize) -> Reply;
     pub fn mk_admit_told(
         judged: *mut Handle,
@@ -110,6 +123,8 @@ unsafe extern "C" {
     pub fn mk_session_peer(session: *mut Handle, out: *mut u8, room: usize) -> Reply;
     pub fn mk_session_client(session: *mut Handle, out: *mut u8, room: usize) -> Reply;
     pub fn mk_session_times(session: *mut Handle, out: *mut Times) -> Reply;
+    pub fn mk_session_flags(session: *mut Handle) -> Reply;
+    pub fn mk_session_ticket_flags(session: *mut Handle) -> Reply;
     pub fn mk_session_key(session: *mut Handle, out: *mut u8, room: usize) -> Reply;
     pub fn mk_session_set_rules(session: *mut Handle, rules: u32) -> Reply;
     pub fn mk_session_free(session: *mut Handle);

@@ -1,6 +1,6 @@
 //! Calls through the whole library, over a conversation with a client of MIT's that was recorded.
 
-use menolavuri::{Acceptor, Cause, Error, Judged, Session, version};
+use menolavuri::{Acceptor, Cause, Error, GssFlags, Judged, Session, version};
 use std::time::{Duration, SystemTime, UNIX_EPOCH};
 
 /// The conversation of `crates/example_acceptor/stdin`.
@@ -44,7 +44,12 @@ fn a_client_is_admitted_once() {
     let acceptor = acceptor();
     let session = accept(&acceptor).unwrap();
     assert_eq!(session.peer(), "alice@example.com");
+    assert_eq!(session.client(), Some("alice@EXAMPLE.COM"));
+    assert_eq!(session.local_name(), Some("alice@example.com"));
     assert_eq!(session.user_of("EXAMPLE.COM"), Some("alice"));
+    // as libkrb5 decrypts them: REPLAY, SEQUENCE, CONF, INTEG, TRANS; PRE-AUTHENT, TRANSITED-POLICY-CHECKED, ENC-PA-REP
+    assert_eq!(session.flags().map(GssFlags::bits), Some(0x13c));
+    assert_eq!(session.ticket_flags(), Some(0x0029_0000));
     assert!(session.answer().is_empty());
     assert_eq!(acceptor.kept(), 1);
     let error = accept(&acceptor).err().unwrap();
@@ -73,6 +78,11 @@ fn a_store_is_asked_in_the_place_of_a_book() {
         "host/server.example.com@EXAMPLE.COM"
     );
     assert_eq!(judged.record().unwrap(), again.record().unwrap());
+    assert_eq!(judged.flags().unwrap().map(GssFlags::bits), Some(0x13c));
+    assert_eq!(
+        judged.tag().unwrap()[..],
+        octets("aca40ddcbe932faaba16f9dc")
+    );
     let mut session = acceptor.admit_told(judged, now(), false).unwrap();
     assert_eq!(session.client(), Some("alice@EXAMPLE.COM"));
     assert_eq!(session.key().unwrap().len(), 32);

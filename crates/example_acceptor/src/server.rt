@@ -1,9 +1,8 @@
 //! What a server does with the library: it admits a client by its token, and opens its messages.
 
-ghost use Rattle.std.specs.Prelude.{◌≡◌, Ok, IfOk};
+ghost use Rattle.std.specs.Prelude.{None, Ok, IfOk};
 ghost use Rattle.krb_context.specs.Unwraps.{Unwraps};
-ghost use Rattle.krb_entrance.specs.Candidates.{Passes, IsLetIn};
-ghost use Rattle.krb_entrance.specs.declared.candidate.Candidate.{Candidate};
+ghost use Rattle.krb_entrance.specs.Admits.{Admits};
 ghost use Rattle.krb_sessions.specs.Gives.{whole_message};
 
 use krb_entrance::{Draw, Error, Fault, OutOfMemory, Service, Session};
@@ -20,12 +19,9 @@ pub fn admit(
     draw: &Draw,
 ) -> Result<Session, Error>
     // The token passed every check, the replay book's among them.
-    ensures admitted { IfOk result (λ session. (candidate : Candidate)
-        × Passes service.old.properties token.now draw.now candidate.judged candidate.connection
-        × IsLetIn candidate service.old.book session service.new.book) }
+    ensures admitted { IfOk result (λ session. Admits service.old.keys None token.now draw.now service.old.book session service.new.book) }
 {
-    let candidate = service.judge(alloc, token, draw)?;
-    service.admit(alloc, candidate)
+    service.accept(alloc, token, draw)
 }
 
 fn room(alloc: Global, length: usize) -> Result<Vec<u8>, OutOfMemory> {

@@ -11,9 +11,10 @@ use Rattle.krb_replay.specs.Book.{StandsFor, IsUnchanged}
 use Rattle.krb_replay.specs.History.{no_history}
 use Rattle.krb_entrance.specs.declared.service.Service.{Service}
 use Rattle.krb_sessions.specs.declared.session.Session.{Session}
-use Rattle.krb_entrance.specs.Admits.{Waits, LetsIn, Admits, Rejects}
+use Rattle.krb_entrance.specs.Admits.{Admits, Rejects}
+use Rattle.krb_entrance.specs.Connections.{IsKeyless}
 use Rattle.krb_sessions.specs.Gives.{Delivers, IsShort, RefusesMic, after_making, after_opening}
-use Rattle.krb_entrance.specs.Services.{components}
+use Rattle.krb_entrance.specs.Services.{components, token_limit}
 use Rattle.sspi_core.specs.declared.cause.Cause.{Cause}
 use Rattle.sspi_core.specs.declared.cause.Cause.TheVariants.{Memory}
 use Rattle.sspi_core.specs.declared.draw.Draw.{Draw}
@@ -31,7 +32,8 @@ RefusedAs refuses _ = Unit {0}
 
 -- a service of this name and key, whose book was asked nothing
 pub record IsNew (name key : List ℕ) (skew : ℕ) (service : Service) : Type 0 where
-  pub properties : service.properties ≡ new_properties (components name) None skew (Some key)
+  pub properties : service.keys.properties ≡ new_properties (components name) None skew (Some key)
+  pub limit : service.keys.token_limit ≡ token_limit
   pub skew_is : service.book.skew ≡ skew
   pub book : StandsFor service.book no_history
 
@@ -48,8 +50,10 @@ pub record Adds (name key : List ℕ) (old : Option Service) (count : ℕ) (new 
   pub before : Service
   pub was : old ≡ Some before
   pub now : new ≡ Some (record before {
-    properties = record before.properties {
-      additional_service_keys = before.properties.additional_service_keys ++ (service_named (components name), key) ∷ [];
+    keys = record before.keys {
+      properties = record before.keys.properties {
+        additional_service_keys = before.keys.properties.additional_service_keys ++ (service_named (components name), key) ∷ [];
+      };
     };
   })
   pub none_written : count ≡ 0
@@ -62,10 +66,36 @@ pub record Reserves (records : ℕ) (old : Option Service) (count : ℕ) (new : 
   pub now : new ≡ Some after
   pub room : records ≤ after.book.spare
   pub book : IsUnchanged before.book after.book
-  pub properties : after.properties ≡ before.properties
+  pub keys : after.keys ≡ before.keys
   pub none_written : count ≡ 0
 
--- the client is admitted: its token passes all checks of the acceptor's, in their order, and the one book among them
+-- a new book with this skew, which was asked nothing
+pub record BeginsBook (skew : ℕ) (old : Option Service) (count : ℕ) (new : Option Service) : Type 0 where
+  pub before : Service
+  pub after : Service
+  pub was : old ≡ Some before
+  pub now : new ≡ Some after
+  pub skew_is : after.book.skew ≡ skew
+  pub book : StandsFor after.book no_history
+  pub keys : after.keys ≡ before.keys
+  pub none_written : count ≡ 0
+
+-- why there is no new book
+abbrev pub BeginsNot : Option Service → Failure → Type 0
+BeginsNot old (Refused error) = error ≡ error_of Memory
+BeginsNot old (Room count) = ⊥
+BeginsNot old Argument = ⊥
+BeginsNot old Handle = old ≡ None
+
+-- another limit of tokens
+pub record LimitsTokens (most : ℕ) (old : Option Service) (count : ℕ) (new : Option Service) : Type 0 where
+  pub before : Service
+  pub was : old ≡ Some before
+  pub now : new ≡ Some (record before { keys = record before.keys { token_limit = most } })
+  pub none_written : count ≡ 0
+
+-- the client is admitted: its token passes all checks of the acceptor's, in their order, and the one book among them. Its session has
+-- what the token said of the client (`client_told`), and no key of the acceptor's
 pub record AdmitsTo (token : List ℕ) (draw : Draw) (old : Option Service) (to : Option Session) (count : ℕ) (new : Option Service)
     (session : Option Session) : Type 0 where
   pub before : Service
@@ -75,8 +105,9 @@ pub record AdmitsTo (token : List ℕ) (draw : Draw) (old : Option Service) (to 
   pub now : new ≡ Some after
   pub was_empty : to ≡ None
   pub session_is : session ≡ Some guest
-  pub admits : Admits before.properties before.book token draw guest.answer guest.connection after.book
-  pub properties : after.properties ≡ before.properties
+  pub admits : Admits before.keys None token draw before.book guest after.book
+  pub keyless : IsKeyless guest.connection
+  pub keys : after.keys ≡ before.keys
   pub counted : count ≡ length guest.answer
 
 -- it is refused by the first check that fails, and the book is as that check leaves it
@@ -85,9 +116,9 @@ pub record RefusesToken (token : List ℕ) (draw : Draw) (old new : Option Servi
   pub after : Service
   pub was : old ≡ Some before
   pub now : new ≡ Some after
-  pub refuses : Refuses Elsewhere (Rejects before.properties before.book token draw after.book) error
+  pub refuses : Refuses Elsewhere (Rejects before.keys None token draw before.book after.book) error
   pub memory : error ≡ error_of Memory → IsUnchanged before.book after.book
-  pub properties : after.properties ≡ before.properties
+  pub keys : after.keys ≡ before.keys
 
 -- what an admission that is not done leaves of the acceptor
 abbrev pub Turns : List ℕ → Draw → Option Service → Option Service → Failure → Type 0

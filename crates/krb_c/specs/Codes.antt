@@ -10,7 +10,7 @@ use Rattle.sspi_core.specs.declared.cause.Cause.TheVariants.{Memory, Moment, Con
 use Rattle.sspi_core.specs.declared.cause.Cause.TheVariants.{NotYet, Expired, Replayed, ClientName, ApOptions, SubKey, Credentials, ServerName, KeytabUser, NotAscii, Reply, NoNumber, Number, NoSubKey}
 use Rattle.sspi_core.specs.declared.cause.Cause.TheVariants.{NoTarget, Target, NoIdentity, NoKdc, Scheme, Network, ReplyShort, EarlyAsRep, Kdc, EtypeEntry, Salt, Hops, SameRealm, Port}
 use Rattle.sspi_core.specs.declared.cause.Cause.TheVariants.{UserData, ResultCode, Buffers, TooSmall, Header, Direction, ExtraCount, Room, Old, Repeated, Sealed, NoKey, Checksum, Bindings}
-use Rattle.sspi_core.specs.declared.cause.Cause.TheVariants.{BadUser, Unsupported, Suspended, Nonce, ReplyNames, ReplyTime}
+use Rattle.sspi_core.specs.declared.cause.Cause.TheVariants.{BadUser, Unsupported, Suspended, Nonce, ReplyNames, ReplyTime, Transited}
 
 -- the number of a kind
 abbrev pub kind_code : ErrorKind → ℕ
@@ -106,6 +106,7 @@ cause_code Suspended = 59
 cause_code Nonce = 60
 cause_code ReplyNames = 61
 cause_code ReplyTime = 62
+cause_code Transited = 63
 
 -- the number that a cause has beside
 abbrev pub number_of : Cause → ℕ

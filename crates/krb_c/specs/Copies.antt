@@ -4,10 +4,10 @@ use Rattle.krb_entrance.specs.declared.service.Service.{Service}
 use Rattle.krb_replay.specs.Book.{StandsFor}
 use Rattle.krb_replay.specs.History.{no_history}
 
--- an acceptor with the same services and keys, whose book was asked nothing
+-- an acceptor with the same services, keys and limit, whose book was asked nothing
 pub record IsTwin (service twin : Service) : Type 0 where
-  pub properties : twin.properties ≡ service.properties
-  pub skew_is : twin.book.skew ≡ service.properties.max_time_skew
+  pub keys : twin.keys ≡ service.keys
+  pub skew_is : twin.book.skew ≡ service.keys.properties.max_time_skew
   pub book : StandsFor twin.book no_history
 
 -- the twin that is made, where the handle was empty

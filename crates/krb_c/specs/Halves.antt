@@ -2,9 +2,11 @@
 use Rattle.std.specs.Prelude.{◌≡◌, ℕ, List, length, Option, Some, None, Result, Ok}
 use Rattle.krb_c.specs.declared.reply.Failure.{Failure}
 use Rattle.krb_c.specs.declared.reply.Failure.TheVariants.{Refused, Room, Handle}
-use Rattle.krb_context.specs.declared.server.ServerProperties.{ServerProperties}
 use Rattle.krb_context.specs.Refusals.{Refuses}
+use Rattle.krb_authenticators.specs.Bindings.{bindings_hash}
+use Rattle.krb_dialogue.specs.Settings.{data_bindings}
 use Rattle.krb_entrance.specs.declared.candidate.Candidate.{Candidate}
+use Rattle.krb_entrance.specs.declared.keys.Keys.{Keys}
 use Rattle.krb_entrance.specs.declared.service.Service.{Service}
 use Rattle.krb_entrance.specs.Candidates.{Passes, Stops, IsLetIn, TurnsAway, client_told}
 use Rattle.krb_replay.specs.Book.{IsUnchanged}
@@ -16,33 +18,38 @@ use Rattle.sspi_core.specs.declared.error.Error.{Error}
 use Rattle.sspi_core.specs.declared.error.Place.TheVariants.{Elsewhere}
 use Rattle.sspi_core.specs.Kinds.{error_of}
 
--- a client whose token passed every check before the book, with what the ticket says of it
-pub record IsCandidate (service : ServerProperties) (token : List ℕ) (draw : Draw) (candidate : Candidate) : Type 0 where
-  pub passes : Passes service token draw candidate.judged candidate.connection
-  pub client : candidate.client.value ≡ client_told candidate.judged.request.part
+-- a client whose token passed every check before the book, held to its channel where there is one, with what its token says of it
+pub record IsCandidate (keys : Keys) (channel : Option (List ℕ)) (token : List ℕ) (draw : Draw) (candidate : Candidate) : Type 0 where
+  pub passes : Passes keys channel token draw candidate.judged candidate.connection
+  pub client : candidate.client.value ≡ client_told candidate.judged.request
+
+-- the hash of a channel's bindings, of which the caller has data as an initiator is bound to
+abbrev pub channel_of : List ℕ → List ℕ
+channel_of octets = bindings_hash (data_bindings octets)
 
 -- the candidate of a token, in a handle that was empty
-pub record JudgesTo (token : List ℕ) (draw : Draw) (acceptor : Option Service) (to : Option Candidate) (count : ℕ) (made : Option Candidate) : Type 0 where
+pub record JudgesTo (channel : Option (List ℕ)) (token : List ℕ) (draw : Draw) (acceptor : Option Service) (to : Option Candidate) (count : ℕ)
+    (made : Option Candidate) : Type 0 where
   pub service : Service
   pub candidate : Candidate
   pub was : acceptor ≡ Some service
   pub was_empty : to ≡ None
   pub made_is : made ≡ Some candidate
-  pub is_candidate : IsCandidate service.properties token draw candidate
+  pub is_candidate : IsCandidate service.keys channel token draw candidate
   pub none_written : count ≡ 0
 
 -- a check before the book refuses the token, the first that fails
-pub record StopsToken (token : List ℕ) (draw : Draw) (acceptor : Option Service) (error : Error) : Type 0 where
+pub record StopsToken (channel : Option (List ℕ)) (token : List ℕ) (draw : Draw) (acceptor : Option Service) (error : Error) : Type 0 where
   pub service : Service
   pub was : acceptor ≡ Some service
-  pub refuses : Refuses Elsewhere (Stops service.properties token draw) error
+  pub refuses : Refuses Elsewhere (Stops service.keys channel token draw) error
 
 -- why a token has no candidate
-abbrev pub JudgesNot : List ℕ → Draw → Option Service → Failure → Type 0
-JudgesNot token draw acceptor (Refused error) = StopsToken token draw acceptor error
-JudgesNot token draw acceptor _ = Unit {0}
+abbrev pub JudgesNot : Option (List ℕ) → List ℕ → Draw → Option Service → Failure → Type 0
+JudgesNot channel token draw acceptor (Refused error) = StopsToken channel token draw acceptor error
+JudgesNot channel token draw acceptor _ = Unit {0}
 
--- the candidate is admitted: the book says so, and no check behind it refuses
+-- the candidate is admitted: the book says so, and no check after it refuses
 pub record LetsInTo (old : Option Service) (judged : Option Candidate) (to : Option Session) (count : ℕ) (new : Option Service)
     (spent : Option Candidate) (session : Option Session) : Type 0 where
   pub before : Service
@@ -56,10 +63,10 @@ pub record LetsInTo (old : Option Service) (judged : Option Candidate) (to : Opt
   pub was_empty : to ≡ None
   pub session_is : session ≡ Some guest
   pub is_let_in : IsLetIn candidate before.book guest after.book
-  pub properties : after.properties ≡ before.properties
+  pub keys : after.keys ≡ before.keys
   pub counted : count ≡ length guest.answer
 
--- it is turned away, by the book or a check behind it, and the book is as that check leaves it
+-- it is turned away, by the book or a check after it, and the book is as that check leaves it
 pub record TurnsCandidate (old : Option Service) (judged : Option Candidate) (new : Option Service) (spent : Option Candidate) (error : Error) : Type 0 where
   pub before : Service
   pub after : Service
@@ -70,7 +77,7 @@ pub record TurnsCandidate (old : Option Service) (judged : Option Candidate) (ne
   pub is_spent : spent ≡ None
   pub refuses : Refuses Elsewhere (TurnsAway candidate before.book after.book) error
   pub memory : error ≡ error_of Memory → IsUnchanged before.book after.book
-  pub properties : after.properties ≡ before.properties
+  pub keys : after.keys ≡ before.keys
 
 -- nothing was asked
 pub record IsUnasked (old : Option Service) (judged : Option Candidate) (new : Option Service) (spent : Option Candidate) : Type 0 where

@@ -2,6 +2,7 @@
 use Rattle.std.specs.Prelude.{◌≡◌, ◌⊎◌, ◌-◌, ◌^◌, ℕ, List, [], length, min, Option, Some, None}
 use Rattle.krb_context.specs.ServiceKeys.{new_properties}
 use Rattle.krb_entrance.specs.declared.service.Service.{Service}
+use Rattle.krb_entrance.specs.Services.{token_limit}
 use Rattle.krb_keytab.specs.declared.entry.KeytabEntry.{KeytabEntry}
 use Rattle.krb_keytab.specs.declared.error.KeytabError.{KeytabError}
 use Rattle.krb_keytab.specs.declared.error.KeytabError.TheVariants.{Version, Entry, OutOfMemory}
@@ -17,7 +18,8 @@ use Rattle.sspi_core.specs.Kinds.{error_of}
 pub record IsOfKeytab (realm file : List ℕ) (skew : ℕ) (service : Service) (count : ℕ) : Type 0 where
   pub entries : List KeytabEntry
   pub spelled : Spells entries file
-  pub properties : service.properties ≡ with_keys (new_properties [] None skew None) (keys_of realm entries)
+  pub properties : service.keys.properties ≡ with_keys (new_properties [] None skew None) (keys_of realm entries)
+  pub limit : service.keys.token_limit ≡ token_limit
   pub skew_is : service.book.skew ≡ skew
   pub book : StandsFor service.book no_history
   pub counted : count ≡ min (length (keys_of realm entries)) (2 ^ 32 - 1)

@@ -1,4 +1,4 @@
-pub mod Rules
+pub mod Asked
 pub mod Calls
 pub mod Codes
 pub mod Copies
@@ -7,6 +7,7 @@ pub mod Halves
 pub mod Keytabs
 pub mod Places
 pub mod Replies
+pub mod Rules
 pub mod Sasl
 pub mod SaslReplies
 pub mod Steps

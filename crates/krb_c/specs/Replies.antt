@@ -44,6 +44,11 @@ reply_of (Err (Room length)) = plain_reply 3 length
 reply_of (Err Argument) = plain_reply 4 0
 reply_of (Err Handle) = plain_reply 5 0
 
+-- the reply to a call that tells a number
+abbrev pub number_reply : Result ℕ Failure → Reply
+number_reply (Ok number) = record { status = 0; kind = 0; cause = 0; number = number; length = 0 }
+number_reply (Err failure) = reply_of (Err failure)
+
 -- what comes next, as a number of C's
 abbrev pub next_code : Next → ℕ
 next_code AskKdc = 0

@@ -8,9 +8,9 @@ use Rattle.krb_dialogue.specs.Settings.{with_rules}
 use Rattle.krb_sessions.specs.declared.session.Session.{Session}
 use Rattle.sspi_core.specs.Flags.{has_flag}
 
--- each rule that there is: the nine bits from 0x1 to 0x100, and the two from 0x10000 on
+-- each rule that there is: the twelve bits from 0x1 to 0x800, and the five from 0x10000 on
 abbrev pub all_rules : ℕ
-all_rules = 0x301ff
+all_rules = 0x1f0fff
 
 -- each bit names a rule
 abbrev pub knows : ℕ → Bool

@@ -10,7 +10,7 @@ use Rattle.krb_sessions.specs.Principals.{principal_text}
 use Rattle.sspi_core.specs.declared.cause.Cause.TheVariants.{Memory}
 use Rattle.sspi_core.specs.Kinds.{error_of}
 
--- what a session knows of its client's ticket, if it was admitted in two halves
+-- who the client of a session is; an initiator's session has none
 abbrev pub client_in : Session → Option Client
 client_in session = option_map (λ client. client.value) session.client
 

@@ -1,17 +1,19 @@
 //! The admission of a client.
 
-ghost use Rattle.std.specs.Prelude.{◌≡◌, ◌≤◌, ℕ, length, Result, Ok, IfOk, IfErr, OnOk, OnErr};
+ghost use Rattle.std.specs.Prelude.{◌≡◌, ℕ, length, None, Result, IfOk, IfErr, OnErr};
 ghost use Rattle.sspi_core.specs.Kinds.{error_of};
 ghost use Rattle.sspi_core.specs.declared.cause.Cause.TheVariants as causes;
 ghost use Rattle.sspi_core.specs.declared.error.Place.TheVariants as places;
 ghost use Rattle.krb_context.specs.Refusals.{Refuses};
 ghost use Rattle.krb_replay.specs.Book.{IsUnchanged};
-ghost use Rattle.krb_entrance.specs.Admits.{Waits, Admits, Rejects};
+ghost use Rattle.krb_entrance.specs.Admits.{Admits, Rejects};
+ghost use Rattle.krb_entrance.specs.Connections.{IsKeyless};
 ghost use Rattle.krb_c.specs.declared.reply.Failure.{Failure};
 ghost use Rattle.krb_c.specs.Replies.{reply_of};
 ghost use Rattle.krb_c.specs.Calls.{AdmitsTo, Turns, draw_of};
 
 use crate::handles::{Acceptor, Connection};
+use crate::judge::blank;
 use crate::reply::{Failure, Reply, reply_of};
 use crate::texts::draw_of;
 use krb_der::boxed;
@@ -26,14 +28,6 @@ pub struct Moment {
     pub random: [u8; 64],
 }
 
-fn waiting(alloc: Global, service: &Service, draw: &Draw) -> Result<Box<Session>, Error>
-    ensures waits { IfOk result (λ session. Waits service.now.properties session.value.connection) }
-    ensures errors { IfErr result (λ error. error ≡ error_of causes.Memory) }
-{
-    let session = service.session(alloc, draw)?;
-    Ok(boxed(alloc, session)?)
-}
-
 /// The session of the client that sent this token, in a box that is there before the token is looked at.
 fn admit(
     alloc: Global,
@@ -41,14 +35,14 @@ fn admit(
     token: &[u8],
     draw: &Draw,
 ) -> Result<Box<Session>, Error>
-    ensures admits { IfOk result (λ session. Admits service.old.properties service.old.book token.now draw.now
-        session.value.answer session.value.connection service.new.book) }
-    ensures refused { IfErr result (Refuses places.Elsewhere (Rejects service.old.properties service.old.book token.now draw.now service.new.book)) }
+    ensures admits { IfOk result (λ session. Admits service.old.keys None token.now draw.now service.old.book session.value service.new.book) }
+    ensures keyless { IfOk result (λ session. IsKeyless session.value.connection) }
+    ensures refused { IfErr result (Refuses places.Elsewhere (Rejects service.old.keys None token.now draw.now service.old.book service.new.book)) }
     ensures memory { IfErr result (λ error. error ≡ error_of causes.Memory → IsUnchanged service.old.book service.new.book) }
-    ensures properties { service.new.properties ≡ service.old.properties }
+    ensures keys { service.new.keys ≡ service.old.keys }
 {
-    let mut session = waiting(alloc, service, draw)?;
-    service.accept(alloc, &mut session, token, draw)?;
+    let mut session = boxed(alloc, blank(alloc))?;
+    *session = service.accept(alloc, token, draw)?;
     Ok(session)
 }
 
@@ -94,10 +88,11 @@ fn accept(
     accept_at(alloc, acceptor, to, token, &draw)
 }
 
-/// Admits the client that sent this token, and makes its session in the empty handle `to`. The length is that of what goes back
-/// to the client, which `mk_session_answer` gives: 0 where the client asked for nothing.
+/// Admits the client that sent this token, and makes its session in the empty handle `to`: it has what the token said of the client, and
+/// no key of the acceptor's. The length is that of what goes back to the client, which `mk_session_answer` gives: 0 where the client asked
+/// for nothing.
 ///
-/// REFUSED says which check failed first. ARGUMENT where the moment is past the end of 9999-12-28; HANDLE where the acceptor
+/// REFUSED says which check failed first, as `mk_judge` and then `mk_admit` say it. ARGUMENT where the moment is past the end of 9999-12-28; HANDLE where the acceptor
 /// is empty, or `to` is not. Then `to` stays empty. Where memory runs out no record is made, so the token may come again.
 #[unsafe(no_mangle)]
 pub extern "C" fn mk_accept(

@@ -5,8 +5,9 @@ ghost use Rattle.krb_context.specs.ServiceKeys.{service_named, IsNotAscii};
 ghost use Rattle.krb_replay.specs.Book.{IsUnchanged};
 ghost use Rattle.krb_entrance.specs.Services.{components};
 ghost use Rattle.krb_c.specs.declared.reply.Failure.{Failure};
+ghost use Rattle.krb_c.specs.declared.reply.Failure.TheVariants as failures;
 ghost use Rattle.krb_c.specs.Replies.{reply_of};
-ghost use Rattle.krb_c.specs.Calls.{RefusedAs, IsNew, Makes, Adds, Reserves, kept_of};
+ghost use Rattle.krb_c.specs.Calls.{RefusedAs, IsNew, Makes, Adds, Reserves, BeginsBook, BeginsNot, LimitsTokens, kept_of};
 
 use crate::handles::Acceptor;
 use crate::reply::{Failure, Reply, reply_of};
@@ -77,8 +78,10 @@ pub extern "C" fn mk_acceptor_new(
 
 fn add_to(alloc: Global, service: &mut Service, name: &[u8], key: &[u8]) -> Result<usize, Failure>
     ensures added { OnOk result (service.new ≡ record service.old {
-      properties = record service.old.properties {
-        additional_service_keys = service.old.properties.additional_service_keys ++ (service_named (components name.now), key.now) ∷ [];
+      keys = record service.old.keys {
+        properties = record service.old.keys.properties {
+          additional_service_keys = service.old.keys.properties.additional_service_keys ++ (service_named (components name.now), key.now) ∷ [];
+        };
       };
     }) }
     ensures none_written { IfOk result (λ count. count ≡ 0) }
@@ -170,6 +173,64 @@ pub extern "C" fn mk_acceptor_kept(alloc: Global, acceptor: &mut Acceptor) -> u6
             kept
         }
     }
+}
+
+fn begin_book(alloc: Global, acceptor: &mut Acceptor, skew: u32) -> Result<usize, Failure>
+    ensures begun { IfOk result (λ count. BeginsBook skew acceptor.old.place.value count acceptor.new.place.value) }
+    ensures fails { IfErr result (BeginsNot acceptor.old.place.value) }
+    ensures stays { OnErr result (acceptor.new.place.value ≡ acceptor.old.place.value) }
+{
+    let Some(mut service) = acceptor.take(alloc) else {
+        return Err(Failure::Handle);
+    };
+    let begun = service.begin_book(alloc, skew);
+    acceptor.put(service);
+    match begun {
+        Ok(()) => Ok(0),
+        Err(error) => Err(Failure::Refused(Error::from(error))),
+    }
+}
+
+/// Begins a new book, which was asked nothing and has this skew, for a process whose clock was wrong: a book goes by the greatest moment
+/// that it was asked at. **All that was admitted can be admitted again**, as after a restart.
+///
+/// What is not done leaves the acceptor.
+#[unsafe(no_mangle)]
+pub extern "C" fn mk_acceptor_new_book(alloc: Global, acceptor: &mut Acceptor, skew: u32) -> Reply
+    ensures { (answer : Result ℕ Failure) × (result ≡ reply_of answer)
+        × IfOk answer (λ count. BeginsBook skew acceptor.old.place.value count acceptor.new.place.value)
+        × IfErr answer (BeginsNot acceptor.old.place.value)
+        × OnErr answer (acceptor.new.place.value ≡ acceptor.old.place.value) }
+{
+    reply_of(begin_book(alloc, acceptor, skew))
+}
+
+fn limit_tokens(alloc: Global, acceptor: &mut Acceptor, most: usize) -> Result<usize, Failure>
+    ensures limited { IfOk result (λ count. LimitsTokens most acceptor.old.place.value count acceptor.new.place.value) }
+    ensures fails { IfErr result (λ failure. (failure ≡ failures.Handle) × (acceptor.old.place.value ≡ None)) }
+    ensures stays { OnErr result (acceptor.new.place.value ≡ acceptor.old.place.value) }
+{
+    let Some(mut service) = acceptor.take(alloc) else {
+        return Err(Failure::Handle);
+    };
+    service.keys.token_limit = most;
+    acceptor.put(service);
+    Ok(0)
+}
+
+/// Sets how many octets a token may have: a longer one is refused as Shape, and not looked at. An acceptor begins with 65,536.
+#[unsafe(no_mangle)]
+pub extern "C" fn mk_acceptor_limit_tokens(
+    alloc: Global,
+    acceptor: &mut Acceptor,
+    most: usize,
+) -> Reply
+    ensures { (answer : Result ℕ Failure) × (result ≡ reply_of answer)
+        × IfOk answer (λ count. LimitsTokens most acceptor.old.place.value count acceptor.new.place.value)
+        × IfErr answer (λ failure. (failure ≡ failures.Handle) × (acceptor.old.place.value ≡ None))
+        × OnErr answer (acceptor.new.place.value ≡ acceptor.old.place.value) }
+{
+    reply_of(limit_tokens(alloc, acceptor, most))
 }
 
 /// Ends an acceptor: its memory is given back, and the handle is empty. An empty handle stays so.

@@ -107,6 +107,7 @@ pub(crate) fn cause_code(cause: Cause) -> u32
         Cause::Nonce => 60,
         Cause::ReplyNames => 61,
         Cause::ReplyTime => 62,
+        Cause::Transited => 63,
     }
 }
 
@@ -224,6 +225,7 @@ pub(crate) fn cause_at(code: u32) -> Option<Cause>
         60 => Some(Cause::Nonce),
         61 => Some(Cause::ReplyNames),
         62 => Some(Cause::ReplyTime),
+        63 => Some(Cause::Transited),
         _ => None,
     }
 }

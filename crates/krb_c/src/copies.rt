@@ -18,9 +18,9 @@ use std::alloc::Global;
 fn twin_of(alloc: Global, service: &Service) -> Result<Box<Service>, OutOfMemory>
     ensures { IfOk result (λ twin. IsTwin service.now twin.value) }
 {
-    let properties = service.properties.copy(alloc)?;
-    let book = ReplayBook::new(alloc, properties.max_time_skew)?;
-    boxed(alloc, Service { properties, book })
+    let keys = service.keys.copy(alloc)?;
+    let book = ReplayBook::new(alloc, keys.properties.max_time_skew)?;
+    boxed(alloc, Service { keys, book })
 }
 
 fn copy(alloc: Global, acceptor: &mut Acceptor, to: &mut Acceptor) -> Result<usize, Failure>
@@ -46,8 +46,9 @@ fn copy(alloc: Global, acceptor: &mut Acceptor, to: &mut Acceptor) -> Result<usi
     }
 }
 
-/// Makes in an empty handle an acceptor with the same services and keys, whose book was asked nothing: for another thread that
-/// calls `mk_judge`. **`mk_accept` and `mk_admit` are for one of them alone**: what one book has admitted the other admits again.
+/// Makes in an empty handle an acceptor with the same services, keys and limit, whose book was asked nothing: for another thread that
+/// calls `mk_judge` and `mk_judge_bound`. **`mk_accept` and `mk_admit` are for the first alone**: a copy's book admits again what the
+/// first's has admitted.
 #[unsafe(no_mangle)]
 pub extern "C" fn mk_acceptor_copy(
     alloc: Global,

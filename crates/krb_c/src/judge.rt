@@ -29,8 +29,8 @@ fn candidate_of(
     token: &[u8],
     draw: &Draw,
 ) -> Result<Box<Candidate>, Error>
-    ensures passes { IfOk result (λ candidate. IsCandidate service.now.properties token.now draw.now candidate.value) }
-    ensures refused { IfErr result (Refuses places.Elsewhere (Stops service.now.properties token.now draw.now)) }
+    ensures passes { IfOk result (λ candidate. IsCandidate service.now.keys None token.now draw.now candidate.value) }
+    ensures refused { IfErr result (Refuses places.Elsewhere (Stops service.now.keys None token.now draw.now)) }
 {
     let candidate = service.judge(alloc, token, draw)?;
     Ok(boxed(alloc, candidate)?)
@@ -43,8 +43,8 @@ fn judge_at(
     token: &[u8],
     draw: &Draw,
 ) -> Result<usize, Failure>
-    ensures judges { IfOk result (λ count. JudgesTo token.now draw.now acceptor.old.place.value to.old.place.value count to.new.place.value) }
-    ensures fails { IfErr result (JudgesNot token.now draw.now acceptor.old.place.value) }
+    ensures judges { IfOk result (λ count. JudgesTo None token.now draw.now acceptor.old.place.value to.old.place.value count to.new.place.value) }
+    ensures fails { IfErr result (JudgesNot None token.now draw.now acceptor.old.place.value) }
     ensures acceptor { acceptor.new.place.value ≡ acceptor.old.place.value }
     ensures stays { OnErr result (to.new.place.value ≡ to.old.place.value) }
 {
@@ -67,8 +67,8 @@ fn judge(
     token: &[u8],
     moment: &Moment,
 ) -> Result<usize, Failure>
-    ensures judges { IfOk result (λ count. JudgesTo token.now (draw_of moment.now) acceptor.old.place.value to.old.place.value count to.new.place.value) }
-    ensures fails { IfErr result (JudgesNot token.now (draw_of moment.now) acceptor.old.place.value) }
+    ensures judges { IfOk result (λ count. JudgesTo None token.now (draw_of moment.now) acceptor.old.place.value to.old.place.value count to.new.place.value) }
+    ensures fails { IfErr result (JudgesNot None token.now (draw_of moment.now) acceptor.old.place.value) }
     ensures acceptor { acceptor.new.place.value ≡ acceptor.old.place.value }
     ensures stays { OnErr result (to.new.place.value ≡ to.old.place.value) }
 {
@@ -90,8 +90,8 @@ pub extern "C" fn mk_judge(
     moment: &Moment,
 ) -> Reply
     ensures told { (answer : Result ℕ Failure) × (result ≡ reply_of answer)
-        × IfOk answer (λ count. JudgesTo token.now (draw_of moment.now) acceptor.old.place.value to.old.place.value count to.new.place.value)
-        × IfErr answer (JudgesNot token.now (draw_of moment.now) acceptor.old.place.value)
+        × IfOk answer (λ count. JudgesTo None token.now (draw_of moment.now) acceptor.old.place.value to.old.place.value count to.new.place.value)
+        × IfErr answer (JudgesNot None token.now (draw_of moment.now) acceptor.old.place.value)
         × OnErr answer (to.new.place.value ≡ to.old.place.value) }
     ensures acceptor { acceptor.new.place.value ≡ acceptor.old.place.value }
 {
@@ -120,7 +120,7 @@ fn let_in(
     ensures lets_in { IfOk result (λ session. IsLetIn candidate.value service.old.book session.value service.new.book) }
     ensures refused { IfErr result (Refuses places.Elsewhere (TurnsAway candidate.value service.old.book service.new.book)) }
     ensures memory { IfErr result (λ error. error ≡ error_of causes.Memory → IsUnchanged service.old.book service.new.book) }
-    ensures properties { service.new.properties ≡ service.old.properties }
+    ensures keys { service.new.keys ≡ service.old.keys }
 {
     let mut session = boxed(alloc, blank(alloc))?;
     *session = service.admit(alloc, Box::into_inner(candidate))?;

@@ -4,6 +4,7 @@ ghost use Rattle.std.specs.Prelude.{◌≡◌, ◌-◌, ◌^◌, ℕ, [], length
 ghost use Rattle.sspi_core.specs.Kinds.{error_of};
 ghost use Rattle.sspi_core.specs.declared.cause.Cause.TheVariants as causes;
 ghost use Rattle.krb_context.specs.ServiceKeys.{new_properties};
+ghost use Rattle.krb_entrance.specs.Services.{token_limit};
 ghost use Rattle.krb_keytab.specs.Format.{Spells};
 ghost use Rattle.krb_keytab.specs.Installing.{keys_of, with_keys};
 ghost use Rattle.krb_replay.specs.Book.{StandsFor};
@@ -17,10 +18,13 @@ use crate::handles::Acceptor;
 use crate::reply::{Failure, Reply, reply_of};
 use krb_context::ServerProperties;
 use krb_der::{Name, boxed};
-use krb_entrance::{Cause, Error, OutOfMemory, Service};
+use krb_entrance::{Cause, Error, Keys, OutOfMemory, Service};
 use krb_keytab::{Keytab, KeytabError};
 use krb_replay::ReplayBook;
 use std::alloc::Global;
+
+/// How many octets a token may have, unless the caller sets another limit.
+const TOKEN_LIMIT: usize = 65_536;
 
 /// A realm's name, where it is ASCII.
 fn realm_of(alloc: Global, realm: &[u8]) -> Result<Name, Failure>
@@ -87,7 +91,8 @@ fn install(
 
 /// A service whose book was asked nothing.
 fn blank(alloc: Global, skew: u32) -> Result<Box<Service>, Error>
-    ensures properties { IfOk result (λ service. service.value.properties ≡ new_properties [] None skew None) }
+    ensures properties { IfOk result (λ service. service.value.keys.properties ≡ new_properties [] None skew None) }
+    ensures limit { IfOk result (λ service. service.value.keys.token_limit ≡ token_limit) }
     ensures skew { IfOk result (λ service. service.value.book.skew ≡ skew) }
     ensures book { IfOk result (λ service. StandsFor service.value.book no_history) }
     ensures memory { IfErr result (λ error. error ≡ error_of causes.Memory) }
@@ -104,12 +109,17 @@ fn boxed_service(
     properties: ServerProperties,
     skew: u32,
 ) -> Result<Box<Service>, OutOfMemory>
-    ensures properties { IfOk result (λ service. service.value.properties ≡ properties) }
+    ensures properties { IfOk result (λ service. service.value.keys.properties ≡ properties) }
+    ensures limit { IfOk result (λ service. service.value.keys.token_limit ≡ token_limit) }
     ensures skew { IfOk result (λ service. service.value.book.skew ≡ skew) }
     ensures book { IfOk result (λ service. StandsFor service.value.book no_history) }
 {
     let book = ReplayBook::new(alloc, skew)?;
-    boxed(alloc, Service { properties, book })
+    let keys = Keys {
+        properties,
+        token_limit: TOKEN_LIMIT,
+    };
+    boxed(alloc, Service { keys, book })
 }
 
 /// The services of the realm that have a key in the keytab, and how many they are.
@@ -119,14 +129,15 @@ fn services_of(
     realm: &Name,
     skew: u32,
 ) -> Result<(Box<Service>, u32), Error>
-    ensures properties { IfOk result (λ made. made.0.value.properties ≡ with_keys (new_properties [] None skew None) (keys_of realm.now keytab.now.entries)) }
+    ensures properties { IfOk result (λ made. made.0.value.keys.properties ≡ with_keys (new_properties [] None skew None) (keys_of realm.now keytab.now.entries)) }
+    ensures limit { IfOk result (λ made. made.0.value.keys.token_limit ≡ token_limit) }
     ensures skew { IfOk result (λ made. made.0.value.book.skew ≡ skew) }
     ensures book { IfOk result (λ made. StandsFor made.0.value.book no_history) }
     ensures count { IfOk result (λ made. made.1 ≡ min (length (keys_of realm.now keytab.now.entries)) (2 ^ 32 - 1)) }
     ensures memory { IfErr result (λ error. error ≡ error_of causes.Memory) }
 {
     let mut service = blank(alloc, skew)?;
-    match install(alloc, keytab, realm, &mut service.properties) {
+    match install(alloc, keytab, realm, &mut service.keys.properties) {
         Ok(count) => Ok((service, count)),
         Err(error) => Err(error),
     }

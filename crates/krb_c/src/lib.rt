@@ -6,12 +6,14 @@
 
 mod accept;
 mod acceptor;
+mod asked;
 mod codes;
 mod copies;
 mod handed;
 mod handles;
 mod initiator;
 mod judge;
+mod judge_bound;
 mod keytab;
 mod messages;
 mod names;

@@ -66,7 +66,7 @@ fn peer(alloc: Global, session: &mut Connection, out: &mut [u8]) -> Result<usize
     let Some(guest) = session.take(alloc) else {
         return Err(Failure::Handle);
     };
-    let answer = guest.name(alloc, out);
+    let answer = guest.local_name(alloc, out);
     session.put(guest);
     match answer {
         Ok(count) => Ok(count),
@@ -74,8 +74,8 @@ fn peer(alloc: Global, session: &mut Connection, out: &mut [u8]) -> Result<usize
     }
 }
 
-/// Who the client is, in UTF-8: `alice@example.com`, its first component and the realm in small letters, or the account as it
-/// stands where the ticket's name is of type 10.
+/// A short name of the client, in UTF-8: `alice@example.com`, its one component and the realm in small letters. REFUSED as NoIdentity
+/// where it has none: only a name of type 1 and one component has one. **Rights are given by `mk_session_client` alone.**
 #[unsafe(no_mangle)]
 pub extern "C" fn mk_session_peer(alloc: Global, session: &mut Connection, out: &mut [u8]) -> Reply
     ensures { (answer : Result ℕ Failure) × (result ≡ reply_of answer)

@@ -1,7 +1,7 @@
 //! What a call answers.
 
 ghost use Rattle.std.specs.Prelude.{◌≡◌};
-ghost use Rattle.krb_c.specs.Replies.{reply_of, reply_to, plain_reply, next_code, step_reply};
+ghost use Rattle.krb_c.specs.Replies.{reply_of, reply_to, plain_reply, number_reply, next_code, step_reply};
 
 use crate::codes::{cause_code, kind_code, number_of};
 use krb_dialogue::Next;
@@ -110,6 +110,22 @@ pub(crate) fn reply_of(answer: Result<usize, Failure>) -> Reply
         Err(Failure::Room(length)) => plain_reply(ROOM, length),
         Err(Failure::Argument) => plain_reply(ARGUMENT, 0),
         Err(Failure::Handle) => plain_reply(HANDLE, 0),
+    }
+}
+
+/// The answer that is a number, as C has it.
+pub(crate) fn number_reply(answer: Result<u32, Failure>) -> Reply
+    ensures { result ≡ number_reply answer }
+{
+    match answer {
+        Ok(number) => Reply {
+            status: DONE,
+            kind: 0,
+            cause: 0,
+            number,
+            length: 0,
+        },
+        Err(failure) => reply_of(Err(failure)),
     }
 }
 

@@ -14,7 +14,7 @@ use krb_context::Rules;
 use std::alloc::Global;
 
 /// All rules that there are.
-const ALL_RULES: u32 = 0x3_01ff;
+const ALL_RULES: u32 = 0x1f_0fff;
 
 /// The rules of these bits, where each names one.
 fn rules_of(bits: u32) -> Result<Rules, Failure>

@@ -63,7 +63,7 @@ fn client(alloc: Global, session: &mut Connection, out: &mut [u8]) -> Result<usi
 }
 
 /// Who the client is, whole: all components of its name and the realm, as `alice/admin@EXAMPLE.COM`, with a backslash before
-/// those of these marks that stand in them (RFC 1964, section 2.1.1). HANDLE for a session that `mk_accept` made.
+/// those of these marks that stand in them (RFC 1964, section 2.1.1). HANDLE for an initiator's session.
 #[unsafe(no_mangle)]
 pub extern "C" fn mk_session_client(
     alloc: Global,
@@ -127,7 +127,7 @@ fn tell_times(alloc: Global, session: &mut Connection, out: &mut Times) -> Resul
     answer
 }
 
-/// The times of the client's ticket. HANDLE for a session that `mk_accept` made.
+/// The times of the client's ticket. HANDLE for an initiator's session.
 #[unsafe(no_mangle)]
 pub extern "C" fn mk_session_times(
     alloc: Global,

@@ -1,4 +1,5 @@
+mod ChannelLemmas
 mod Named
-mod AnswerLemmas
+mod OneCall
 mod TurnLemmas
 mod TurnedAway

@@ -1,21 +1,31 @@
 -- How a candidate is turned away.
-use Rattle.std.proofs.Common.{◌≡◌, Result, Ok, Err}
-use Rattle.krb_admission.specs.Halves.{AdmitsPrepared}
+use Rattle.std.proofs.Common.{◌≡◌, ◌≤◌, ℕ, nat_le, IsTrue, List, length, Option, Some, Result, Ok, Err, refl, ap, ◌∙◌, subst, inl, inr, arith}
+use Rattle.std.proofs.lemmas.Bool.Decides.{nat_tests}
+use Rattle.krb_admission.specs.Halves.{Prepared, AdmitsPrepared}
 use Rattle.krb_admission.specs.declared.admission.Answer.{Answer}
 use Rattle.krb_context.specs.Refusals.{Refuses}
 use Rattle.krb_context.specs.declared.context.Kerberos.{Kerberos}
-use Rattle.krb_entrance.specs.Candidates.{TurnsAway}
+use Rattle.krb_context.specs.declared.server.ServerProperties.{ServerProperties}
+use Rattle.krb_entrance.specs.Admits.{Rejects}
+use Rattle.krb_entrance.specs.Candidates.{Checks, Passes, Stops, TurnsAway}
+use Rattle.krb_entrance.specs.Connections.{Waits, new_connection, keyless}
+use Rattle.krb_entrance.specs.declared.keys.Keys.{Keys}
 use Rattle.krb_entrance.specs.declared.candidate.Candidate.{Candidate}
 use Rattle.krb_entrance.specs.Told.{IsToldAway}
 use Rattle.krb_replay.specs.Book.{Book, Follows, StandsFor}
 use Rattle.krb_replay.specs.Telling.{AdmitsAsTold}
 use Rattle.krb_replay.specs.declared.telling.TellingGate.{TellingGate}
-use Rattle.sspi_core.specs.Checks.{told}
+use Rattle.sspi_core.specs.Checks.{told, Answers}
 use Rattle.sspi_core.specs.Kinds.{error_at, error_of}
 use Rattle.sspi_core.specs.declared.cause.Cause.{Cause}
 use Rattle.sspi_core.specs.declared.cause.Cause.TheVariants.{Memory}
+use Rattle.sspi_core.specs.declared.draw.Draw.{Draw}
 use Rattle.sspi_core.specs.declared.error.Error.{Error}
 use Rattle.sspi_core.specs.declared.error.Place.TheVariants.{Elsewhere}
+use Rattle.sspi_core.proofs.Chain.{same_err, passed, held}
+
+short_token : (count limit : ℕ) → IsTrue (nat_le count limit) → count ≤ limit
+short_token count limit h = grind (arith, nat_tests)
 
 -- a refusal is told of the cause that the checks refuse by
 told_refusal : {A : Type 0} (checks : Result A Cause → Type 0) (error : Error) (answer : Result A Cause) → Err error ≡ told Elsewhere answer → checks answer
@@ -43,4 +53,58 @@ pub told_away : (candidate : Candidate) (left : Kerberos) (gate behind : Telling
     → Refuses Elsewhere (IsToldAway candidate gate) error
 told_away candidate left gate behind error refuses = record {
   so = λ ne. let there = refuses.so ne in (there.0, there.1, record { left = left; behind = behind; admits = there.2 });
+}
+
+-- checks that may run out of memory refuse so
+pub refused_as : {A : Type 0} (checks : Result A Cause → Type 0) (cause : Cause) (error : Error) → Answers checks (Err cause) → error ≡ error_of cause → Refuses Elsewhere checks error
+refused_as {A} checks cause error answers is = record { so = λ ne. (cause, is, answers.so (λ z. ne (is ∙ ap error_of (same_err {A = A} cause Memory z)))) }
+
+pub passed_as : {A : Type 0} (checks : Result A Cause → Type 0) (value : A) → Answers checks (Ok value) → checks (Ok value)
+passed_as checks value answers = answers.so (λ z. absurd cc)
+
+-- a refusal at a connection that waits is the services'
+pub stopped : (keys : Keys) (channel : Option (List ℕ)) (token : List ℕ) (draw : Draw) (own : ServerProperties) (connection : Kerberos) (error : Error)
+    → Waits own channel connection → Refuses Elsewhere (Checks keys connection token draw) error → Refuses Elsewhere (Stops keys channel token draw) error
+unfolding Checks
+stopped keys channel token draw own connection error waits refuses = record {
+  so = λ ne.
+      let there = refuses.so ne in
+      let C : Kerberos → Type 0 = λ c. Checks keys c token draw (Err there.0) in (
+        there.0,
+        there.1,
+        record {
+          waiting = new_connection waits.config (keyless keys.properties) channel waits.number;
+          waits = record { config = waits.config; number = waits.number; waits = refl };
+          judges = subst C waits.waits there.2;
+        },
+      );
+}
+
+-- what passes at a connection that waits passes at the same with the service's name
+pub passes_at : (keys : Keys) (channel : Option (List ℕ)) (token : List ℕ) (draw : Draw) (own : ServerProperties) (connection : Kerberos) (prepared : Prepared)
+    → Waits own channel connection → Checks keys connection token draw (Ok prepared)
+    → Passes keys channel token draw prepared (record connection { server = Some (keyless keys.properties) })
+unfolding Checks
+passes_at keys channel token draw own connection prepared waits checks =
+    let there = passed _ _ _ checks in
+    let S : Kerberos → Kerberos = λ c. record c { server = Some (keyless keys.properties) } in
+    record {
+      waits = record { config = waits.config; number = waits.number; waits = ap S waits.waits };
+      short = short_token (length token) keys.token_limit (held _ _ _ there.first_held);
+      prepares = there.rest_held;
+    }
+
+-- ---- both halves
+
+pub stopped_before : (keys : Keys) (channel : Option (List ℕ)) (token : List ℕ) (draw : Draw) (book : Book) (error : Error)
+    → Refuses Elsewhere (Stops keys channel token draw) error → Refuses Elsewhere (Rejects keys channel token draw book book) error
+stopped_before keys channel token draw book error refuses = record {
+  so = λ ne. let there = refuses.so ne in (there.0, there.1, inl (record { cause = there.0; answer_is = refl; stops = there.2; book_stays = refl }));
+}
+
+pub stopped_after : (keys : Keys) (channel : Option (List ℕ)) (token : List ℕ) (draw : Draw) (candidate : Candidate) (old new : Book) (error : Error)
+    → Passes keys channel token draw candidate.judged candidate.connection → Refuses Elsewhere (TurnsAway candidate old new) error
+    → Refuses Elsewhere (Rejects keys channel token draw old new) error
+stopped_after keys channel token draw candidate old new error passes refuses = record {
+  so = λ ne. let there = refuses.so ne in (there.0, there.1, inr (record { candidate = candidate; passes = passes; turns = there.2 }));
 }

@@ -1,5 +1,6 @@
 pub mod Admits
 pub mod Candidates
+pub mod Channels
 pub mod Connections
 pub mod Services
 pub mod Told

@@ -1,6 +1,6 @@
 //! A client between the checks before the book and its admission.
 
-ghost use Rattle.std.specs.Prelude.{◌≡◌, true, false, None, Ok, IfOk, IfErr};
+ghost use Rattle.std.specs.Prelude.{◌≡◌, true, Some, Ok, IfOk, IfErr, OnOk};
 ghost use Rattle.std.specs.Option.{option_copied};
 ghost use Rattle.sspi_core.specs.Checks.{Answers};
 ghost use Rattle.sspi_core.specs.Kinds.{error_of};
@@ -9,6 +9,7 @@ ghost use Rattle.sspi_core.specs.declared.error.Place.TheVariants as places;
 ghost use Rattle.krb_admission.specs.Halves.{AdmitsPrepared};
 ghost use Rattle.krb_context.specs.Refusals.{Refuses};
 ghost use Rattle.krb_replay.specs.Book.{Follows, StandsFor, IsUnchanged};
+ghost use Rattle.krb_entrance.specs.Connections.{keyless};
 ghost use Rattle.krb_entrance.specs.Candidates.{Checks, Passes, Stops, IsLetIn, TurnsAway, client_told};
 
 use crate::connection::{keyless, waiting};
@@ -72,7 +73,6 @@ fn client_told(alloc: Global, judged: &Judged) -> Result<Client, OutOfMemory>
 }
 
 /// The checks before the book, at a connection that waits: the token's length, and then those of an AP-REQ.
-#[tactic(auto, unfolding(crate::specs::Candidates::Checks))]
 fn check(
     alloc: Global,
     keys: &Keys,
@@ -86,24 +86,43 @@ fn check(
     judge_with(alloc, &keys.properties, connection, false, token, draw)
 }
 
-/// What comes to the book, and who is told of it.
-fn judge_at(
+fn checked(
     alloc: Global,
     keys: &Keys,
     connection: &Kerberos,
     token: &[u8],
     draw: &Draw,
-) -> Result<(Judged, Box<Client>), Error>
-    ensures passes { IfOk result (λ told. Checks keys.now connection.now token.now draw.now (Ok told.0)) }
-    ensures client { IfOk result (λ told. told.1.value ≡ client_told told.0.request) }
+) -> Result<Judged, Error>
+    ensures passes { IfOk result (λ judged. Checks keys.now connection.now token.now draw.now (Ok judged)) }
     ensures refused { IfErr result (Refuses places.Elsewhere (Checks keys.now connection.now token.now draw.now)) }
 {
-    let judged = boxed(alloc, check(alloc, keys, connection, token, draw)?)?;
+    match check(alloc, keys, connection, token, draw) {
+        Ok(judged) => Ok(judged),
+        Err(cause) => Err(Error::from(cause)),
+    }
+}
+
+/// What comes to the book, and who is told of it. The connection has the service's name then. Nothing is copied before the token has
+/// passed.
+fn judge_at(
+    alloc: Global,
+    keys: &Keys,
+    connection: &mut Kerberos,
+    token: &[u8],
+    draw: &Draw,
+) -> Result<(Judged, Box<Client>), Error>
+    ensures passes { IfOk result (λ told. Checks keys.now connection.old token.now draw.now (Ok told.0)) }
+    ensures client { IfOk result (λ told. told.1.value ≡ client_told told.0.request) }
+    ensures named { OnOk result (connection.new ≡ record connection.old { server = Some (keyless keys.now.properties) }) }
+    ensures refused { IfErr result (Refuses places.Elsewhere (Checks keys.now connection.old token.now draw.now)) }
+{
+    let judged = boxed(alloc, checked(alloc, keys, connection, token, draw)?)?;
     let client = boxed(alloc, client_told(alloc, &judged)?)?;
+    connection.server = Some(keyless(alloc, &keys.properties)?);
     Ok((Box::into_inner(judged), client))
 }
 
-/// Judges a token without the book, at a connection that is made for it. Nothing is copied before the token has passed.
+/// Judges a token without the book, at a connection that is made for it.
 pub(crate) fn judge(
     alloc: Global,
     keys: &Keys,
@@ -115,14 +134,18 @@ pub(crate) fn judge(
     ensures client { IfOk result (λ candidate. candidate.client.value ≡ client_told candidate.judged.request) }
     ensures refused { IfErr result (Refuses places.Elsewhere (Stops keys.now channel token.now draw.now)) }
 {
-    let mut connection = boxed(alloc, waiting(alloc, channel, draw)?)?;
-    let (judged, client) = judge_at(alloc, keys, &connection, token, draw)?;
-    connection.server = Some(keyless(alloc, &keys.properties)?);
-    Ok(Candidate {
-        judged,
-        connection: Box::into_inner(connection),
-        client,
-    })
+    let mut connection = waiting(alloc, channel, draw)?;
+    match judge_at(alloc, keys, &mut connection, token, draw) {
+        Ok((judged, client)) => Ok(Candidate {
+            judged,
+            connection,
+            client,
+        }),
+        Err(error) => {
+            drop(connection);
+            Err(error)
+        }
+    }
 }
 
 fn admit_at(

@@ -1,9 +1,10 @@
 //! The hash of a channel's bindings.
 
-ghost use Rattle.std.specs.Prelude.{◌≡◌, ◌≤◌, ◌↔◌, ◌^◌, length, true, false, IfOk, IfErr, OnErr};
+ghost use Rattle.std.specs.Prelude.{◌≡◌, false, IfOk, IfErr, OnErr};
 ghost use Rattle.sspi_core.specs.Kinds.{error_of};
 ghost use Rattle.sspi_core.specs.declared.cause.Cause.TheVariants as causes;
-ghost use Rattle.krb_authenticators.specs.Bindings.{bindings_hash, AreShortBindings};
+ghost use Rattle.krb_authenticators.specs.Bindings.{bindings_hash};
+ghost use Rattle.krb_entrance.specs.Channels.{is_short, are_short};
 
 use krb_authenticators::bindings_hash;
 use krb_server::{Cause, Error, Octets};
@@ -13,13 +14,13 @@ use sspi_core::ChannelBindings;
 const PART_LIMIT: usize = 1 << 24;
 
 fn is_short(part: &Octets) -> bool
-    ensures { result ≡ true ↔ length part.now ≤ 2 ^ 24 }
+    ensures { result ≡ is_short part.now }
 {
     part.as_slice().len() <= PART_LIMIT
 }
 
 fn are_short(bindings: &ChannelBindings) -> bool
-    ensures { result ≡ true ↔ AreShortBindings bindings.now }
+    ensures { result ≡ are_short bindings.now }
 {
     is_short(&bindings.initiator)
         && is_short(&bindings.acceptor)
@@ -31,10 +32,11 @@ fn are_short(bindings: &ChannelBindings) -> bool
 pub fn channel_hash(bindings: &ChannelBindings) -> Result<[u8; 16], Error>
     ensures hash { IfOk result (λ hash. hash ≡ bindings_hash bindings.now) }
     ensures refused { IfErr result (λ error. error ≡ error_of causes.Bindings) }
-    ensures long { OnErr result (AreShortBindings bindings.now → ⊥) }
+    ensures long { OnErr result (are_short bindings.now ≡ false) }
 {
-    if !are_short(bindings) {
-        return Err(Error::from(Cause::Bindings));
+    if are_short(bindings) {
+        Ok(bindings_hash(bindings))
+    } else {
+        Err(Error::from(Cause::Bindings))
     }
-    Ok(bindings_hash(bindings))
 }

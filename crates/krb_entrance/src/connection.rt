@@ -6,8 +6,8 @@ ghost use Rattle.krb_entrance.specs.Connections.{Waits, keyless};
 
 use krb_der::{Blank, Copier};
 use krb_server::{
-    AdditionalServiceKeys, Draw, Flags, Kerberos, KerberosConfig, OutOfMemory, Rules,
-    ServerProperties, Text,
+    AdditionalServiceKeys, Draw, Kerberos, KerberosConfig, OutOfMemory, Rules, ServerProperties,
+    Text,
 };
 use std::alloc::Global;
 

@@ -119,7 +119,14 @@ impl Service {
         ensures memory { IfErr result (λ error. error ≡ error_of causes.Memory → IsUnchanged self.old.book self.new.book) }
         ensures keys { self.new.keys ≡ self.old.keys }
     {
-        accept(alloc, &self.keys, &mut self.book, Some(channel), token, draw)
+        accept(
+            alloc,
+            &self.keys,
+            &mut self.book,
+            Some(channel),
+            token,
+            draw,
+        )
     }
 
     /// Judges a token without the book: the first half of an admission, with every cipher in it. The keys are read alone, so

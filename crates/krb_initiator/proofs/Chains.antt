@@ -12,6 +12,7 @@ use Rattle.sspi_generator.specs.declared.network.NetworkRequest.{NetworkRequest}
 use Rattle.sspi_generator.specs.declared.network.NetFault.{NetFault}
 use Rattle.krb_as.specs.declared.kdc.Kdc.{Kdc}
 use Rattle.sspi_core.proofs.Chain.{passed, gave}
+use Rattle.krb_context.specs.Rules.{has_rule, fresh_replies}
 use Rattle.krb_replies.specs.Realms.{referral_realm}
 use Rattle.krb_as.specs.declared.turn.Turn.{Turn}
 use Rattle.krb_as.specs.declared.turn.Turn.TheVariants.{Asks, Ends}
@@ -23,6 +24,8 @@ use Rattle.krb_as.specs.Askers.{default_salt}
 use Rattle.krb_as.specs.AsPhases.{TakesReplyWithin}
 use Rattle.krb_as.proofs.AsTurns.{asked_first, AskedSecond, WentOn, WentOnEarly, error_taken, as_rep_taken}
 use Rattle.krb_as.specs.declared.key.Grant.{Grant}
+use Rattle.krb_tgs.proofs.Asked.{referred_to}
+use Rattle.krb_tgs.specs.Fresh.{is_for_target, referral_of}
 use Rattle.krb_tgs.proofs.Chains.{key_of, chain_begins, chain_goes_on, taken_tgs, TgsTaken}
 use Rattle.krb_ap.specs.Shown.{shown as shown_to, ShowsTicket}
 use Rattle.krb_initiator.specs.declared.seeker.Seeker.{Seeker}
@@ -38,7 +41,7 @@ use Rattle.krb_initiator.specs.Came.{IsGranted, AreGranted, is_referral, LeaveSa
 asked : (request made : NetworkRequest) (next phase : InitPhase) → ◌≡◌ {A = Turn InitPhase InitDone} (Asks made next) (Asks request phase) → next ≡ phase
 asked request made next phase e = cc
 
--- behind the start there is no reply
+-- after the start there is no reply
 pub begins : (seeker : Seeker) (draw : Draw) (request : NetworkRequest) (phase : InitPhase) → Starts (Seeks seeker) New draw (Ok (Asks request phase)) → Came seeker [] phase
 begins seeker draw request phase h =
     let first = asked_first InAsExchange seeker.asker (body_of seeker draw) (Asks request phase) h in
@@ -128,7 +131,7 @@ module _ (seeker : Seeker) (reply : Result (List ℕ) NetFault) (draw : Draw) wh
       step false b c h goes = h
 
   module _ (leg : TgsLeg) (replies : List (Result (List ℕ) NetFault)) (shown : Grant) (came : CameWithKey seeker replies leg)
-      (taken : TgsTaken seeker.asker.rules seeker.wanted.target leg.question draw.moment leg.kdc.protocol leg.suite leg.key reply shown) where
+      (taken : TgsTaken seeker.asker.rules seeker.wanted.target leg.question draw.moment leg.kdc leg.suite leg.key reply shown) where
     one_more : HasChain seeker (replies ++ (reply ∷ [])) shown.suite (came.reps ++ (taken.rep ∷ [])) shown.key
     one_more = record {
       before = came.has.before;
@@ -148,11 +151,17 @@ module _ (seeker : Seeker) (reply : Result (List ℕ) NetFault) (draw : Draw) wh
           came.has.chain taken.opened;
     }
 
-    -- whether it is a referral
-    named_so : (referral : Option (List ℕ)) → referral_realm shown.rep.ticket.sname ≡ referral → is_referral taken.rep ≡ is_some referral
-    named_so referral e = ap (λ (r : KdcRep). is_some (referral_realm r.ticket.sname)) (sym taken.brought) ∙ ap is_some e
+    -- where it refers to
+    abbrev referral : Option (List ℕ)
+    referral = referral_of seeker.asker.rules seeker.wanted.target shown.facts shown.rep
 
-    refers : (request : NetworkRequest) (next : InitPhase) (realm : List ℕ) → referral_realm shown.rep.ticket.sname ≡ Some realm → Refers seeker leg realm shown draw (Ok (Asks request next))
+    -- what is followed is a referral
+    named_so : (realm : List ℕ) → referral ≡ Some realm → is_referral taken.rep ≡ true
+    named_so realm e =
+        ap (λ (r : KdcRep). is_some (referral_realm r.ticket.sname)) (sym taken.brought)
+        ∙ ap is_some (referred_to (has_rule seeker.asker.rules fresh_replies && is_for_target seeker.wanted.target shown.facts) (referral_realm shown.rep.ticket.sname) realm e)
+
+    refers : (request : NetworkRequest) (next : InitPhase) (realm : List ℕ) → referral ≡ Some realm → Refers seeker leg realm shown draw (Ok (Asks request next))
         → Came seeker (replies ++ (reply ∷ [])) next
     unfolding Refers
     refers request next realm e h =
@@ -161,11 +170,11 @@ module _ (seeker : Seeker) (reply : Result (List ℕ) NetFault) (draw : Draw) wh
         (record {
           reps = came.reps ++ (taken.rep ∷ []);
           has = one_more;
-          referrals = more_referrals came.reps taken.rep came.referrals (named_so (Some realm) e);
+          referrals = more_referrals came.reps taken.rep came.referrals (named_so realm e);
           count = length-append came.reps (taken.rep ∷ []) ∙ ap (λ (n : ℕ). n + 1) came.count;
         })
 
-    arrives : (done : InitDone) → referral_realm shown.rep.ticket.sname ≡ None → Arrives seeker leg shown draw (Ok (Ends done)) → IsSession seeker (replies ++ (reply ∷ [])) done
+    arrives : (done : InitDone) → referral ≡ None → Arrives seeker leg shown draw (Ok (Ends done)) → IsSession seeker (replies ++ (reply ∷ [])) done
     unfolding Arrives ShowsTicket shown_to
     arrives done e h =
         let made = passed _ _ _ h in
@@ -179,7 +188,7 @@ module _ (seeker : Seeker) (reply : Result (List ℕ) NetFault) (draw : Draw) wh
           last = taken.rep;
           has = one_more;
           are_referrals = came.referrals;
-          is_service = named_so None e;
+          is_service = ap (λ (r : KdcRep). referral_of seeker.asker.rules seeker.wanted.target shown.facts r) (sym taken.brought) ∙ e;
           session_key = ap (λ (d : InitDone). d.change.encryption_params.session_key) (is ∙ end_is);
           encryption_type = ap (λ (d : InitDone). d.change.encryption_params.encryption_type) (is ∙ end_is);
         }
@@ -187,13 +196,13 @@ module _ (seeker : Seeker) (reply : Result (List ℕ) NetFault) (draw : Draw) wh
         ended : (x y : InitDone) → ◌≡◌ {A = Turn InitPhase InitDone} (Ends x) (Ends y) → x ≡ y
         ended x y e = cc
 
-    goes : (referral : Option (List ℕ)) (request : NetworkRequest) (next : InitPhase) → referral_realm shown.rep.ticket.sname ≡ referral → GoesTo referral seeker leg shown draw (Ok (Asks request next))
+    goes : (to : Option (List ℕ)) (request : NetworkRequest) (next : InitPhase) → referral ≡ to → GoesTo to seeker leg shown draw (Ok (Asks request next))
         → Came seeker (replies ++ (reply ∷ [])) next
     unfolding Arrives
     goes None request next e h = let made = passed _ _ _ h in let f = gave _ _ made.rest_held in absurd cc
     goes (Some realm) request next e h = refers request next realm e h
 
-    ends_at : (referral : Option (List ℕ)) (done : InitDone) → referral_realm shown.rep.ticket.sname ≡ referral → GoesTo referral seeker leg shown draw (Ok (Ends done))
+    ends_at : (to : Option (List ℕ)) (done : InitDone) → referral ≡ to → GoesTo to seeker leg shown draw (Ok (Ends done))
         → IsSession seeker (replies ++ (reply ∷ [])) done
     unfolding Refers
     ends_at None done e h = arrives done e h
@@ -204,14 +213,14 @@ module _ (seeker : Seeker) (reply : Result (List ℕ) NetFault) (draw : Draw) wh
   unfolding TakesNext
   next_goes leg replies request next came h =
       let shown = passed _ _ _ h in
-      goes leg replies shown.found came (taken_tgs seeker.asker.rules seeker.wanted.target leg.question draw.moment leg.kdc.protocol leg.suite leg.key reply shown.found shown.first_held) _ request next refl shown.rest_held
+      goes leg replies shown.found came (taken_tgs seeker.asker.rules seeker.wanted.target leg.question draw.moment leg.kdc leg.suite leg.key reply shown.found shown.first_held) _ request next refl shown.rest_held
 
   next_ends : (leg : TgsLeg) (replies : List (Result (List ℕ) NetFault)) (done : InitDone) → CameWithKey seeker replies leg → TakesNext seeker leg reply draw (Ok (Ends done))
       → IsSession seeker (replies ++ (reply ∷ [])) done
   unfolding TakesNext
   next_ends leg replies done came h =
       let shown = passed _ _ _ h in
-      ends_at leg replies shown.found came (taken_tgs seeker.asker.rules seeker.wanted.target leg.question draw.moment leg.kdc.protocol leg.suite leg.key reply shown.found shown.first_held) _ done refl shown.rest_held
+      ends_at leg replies shown.found came (taken_tgs seeker.asker.rules seeker.wanted.target leg.question draw.moment leg.kdc leg.suite leg.key reply shown.found shown.first_held) _ done refl shown.rest_held
 
 pub goes_on : (seeker : Seeker) (replies : List (Result (List ℕ) NetFault)) (phase : InitPhase) (reply : Result (List ℕ) NetFault) (draw : Draw) (request : NetworkRequest) (next : InitPhase)
     → Came seeker replies phase → Next (Seeks seeker) phase reply draw (Ok (Asks request next)) → Came seeker (replies ++ (reply ∷ [])) next

@@ -16,7 +16,7 @@ use Rattle.krb_as.specs.declared.key.Grant.{Grant}
 use Rattle.krb_as.specs.declared.turn.Turn.TheVariants.{Asks}
 use Rattle.krb_as.proofs.Few.{asked, first_down, second_down, grant_down}
 use Rattle.krb_as.proofs.Tasks.{turns_down}
-use Rattle.krb_replies.specs.Realms.{referral_realm}
+use Rattle.krb_tgs.specs.Fresh.{referral_of}
 use Rattle.krb_tgs.specs.TgsAsked.{Follows}
 use Rattle.krb_initiator.specs.declared.init_run.InitRun.{InitRun}
 use Rattle.krb_initiator.specs.declared.seeker.Seeker.{Seeker}
@@ -73,7 +73,7 @@ module _ (seeker : Seeker) (draw : Draw) (request : NetworkRequest) (phase : Ini
       (λ grant asks. omega (arith, tgs_down grant asks)) h
   next_down (InAsExchange (AwaitsAsRep sealed)) reply h =
       grant_down InitDone InAsExchange turns_left 10 seeker.asker (λ grant. AsksFirstTgs seeker grant draw) reply draw request phase sealed tgs_down h
-  next_down (AwaitsTgsRep leg) reply h = let shown = passed _ _ _ h in goes_down (referral_realm shown.found.rep.ticket.sname) leg shown.found shown.rest_held
+  next_down (AwaitsTgsRep leg) reply h = let shown = passed _ _ _ h in goes_down (referral_of seeker.asker.rules seeker.wanted.target shown.found.facts shown.found.rep) leg shown.found shown.rest_held
   next_down Over reply h = absurd h
 
 resume_down : (initiation : Initiation) (old : InitPhase) (reply : Result (List ℕ) NetFault) (draw : Draw) (request : NetworkRequest) (phase : InitPhase)

@@ -1,6 +1,6 @@
 -- Each reply of a run answers the request that the run made, and so does the service's answer.
-use Rattle.std.proofs.Common.{◌≡◌, inl, inr, ℕ, Bool, true, List, [], ◌∷◌, ◌++◌, Option, Some, None, Result, Ok, refl, sym, ap, ◌∙◌, subst, append_assoc}
-use Rattle.std.specs.Prelude.{◌⊎◌, ◌||◌, is_some, not}
+use Rattle.std.proofs.Common.{◌≡◌, inl, inr, ℕ, Bool, true, false, List, [], ◌∷◌, ◌++◌, Option, Some, None, Result, Ok, refl, sym, ap, ◌∙◌, subst, append_assoc}
+use Rattle.std.specs.Prelude.{◌⊎◌, ◌&&◌, ◌||◌, if◌then◌else◌, is_some, not, unwrap_or}
 use Rattle.std.proofs.lemmas.Bool.{and_parts}
 use Rattle.krb_crypto.specs.declared.suite.CipherSuite.{CipherSuite}
 use Rattle.krb_exchange.specs.declared.kdc_req.KdcReqBody.{KdcReqBody}
@@ -13,7 +13,7 @@ use Rattle.sspi_core.specs.declared.draw.Draw.{Draw}
 use Rattle.sspi_core.specs.declared.protocol.NetworkProtocol.{NetworkProtocol}
 use Rattle.sspi_core.proofs.Chain.{passed, gave, held, took}
 use Rattle.sspi_generator.specs.declared.network.NetworkRequest.{NetworkRequest}
-use Rattle.krb_replies.specs.Fresh.{AskedFor, same_components}
+use Rattle.krb_replies.specs.Fresh.{AnswersRequest, AskedFor, same_components}
 use Rattle.krb_replies.specs.Keys.{BringsNext}
 use Rattle.krb_replies.specs.Realms.{referral_realm}
 use Rattle.krb_as.specs.Askers.{default_salt}
@@ -31,7 +31,8 @@ use Rattle.krb_as.specs.declared.turn.Turn.{Turn}
 use Rattle.krb_as.specs.declared.turn.Turn.TheVariants.{Asks, Ends}
 use Rattle.krb_as.proofs.AsTurns.{asked_first, AskedSecond, WentOn, WentOnEarly, error_taken, as_rep_taken}
 use Rattle.krb_tgs.specs.Fresh as tgs_replies
-use Rattle.krb_tgs.specs.Fresh.{question_of, AnswersTgsReq}
+use Rattle.krb_tgs.specs.Fresh.{question_of, AnswersTgsReq, referral_of}
+use Rattle.krb_tgs.proofs.Asked.{asked_realm, followed_realm, referred_to}
 use Rattle.krb_tgs.specs.TgsAsked.{service_of}
 use Rattle.krb_tgs.specs.declared.fresh.TgsQuestion.{TgsQuestion}
 use Rattle.krb_tgs.proofs.Chains.{key_of, taken_tgs, TgsTaken}
@@ -40,9 +41,10 @@ use Rattle.krb_ap.specs.Initiators.{is_bare}
 use Rattle.krb_ap.specs.Shown.{shown as shown_to, ShowsTicket}
 use Rattle.krb_ap.specs.declared.initiator.Initiator.{Initiator}
 use Rattle.krb_initiator.specs.Came.{LeaveSalt}
-use Rattle.krb_initiator.specs.FreshRuns.{Arrival, replies_in, AnswersStart, AnswersShown, BringsFurtherTicket, LeadsOn, IsFreshChain, CameAgain, CameWithTicket, CameFresh, IsFreshSession, AnswersAuthenticator}
+use Rattle.krb_initiator.specs.FreshRuns.{Arrival, replies_in, AnswersStart, AnswersShown, BringsFurtherTicket, next_realm, LeadsOn, IsFreshChain, CameAgain, CameWithTicket, CameFresh, IsFreshSession, AnswersAuthenticator}
 use Rattle.krb_initiator.specs.InitSteps.{body_of, AsksFirstTgs, Refers, Arrives, GoesTo, TakesNext, HearsAnswer}
 use Rattle.krb_initiator.specs.InitRuns.{Starts, Next}
+use Rattle.krb_initiator.specs.Tgts.{first_tickets}
 use Rattle.krb_initiator.specs.declared.seeker.Seeker.{Seeker}
 use Rattle.krb_initiator.specs.declared.seeker.TgsLeg.{TgsLeg}
 use Rattle.krb_initiator.specs.declared.seeker.Initiation.TheVariants.{Seeks}
@@ -59,54 +61,67 @@ same_end x y e = cc
 -- ---- what the checks let through
 
 first_answers : (seeker : Seeker) (start : Draw) (moment : ℕ) (ticket : Grant) → AnswersAsReq (body_of seeker start) moment ticket.rep ticket.facts (Ok tt) → AnswersStart seeker start moment ticket
-unfolding AnswersAsReq first_body
+unfolding AnswersRequest first_body
 first_answers seeker start moment ticket h =
     let nonce = passed _ _ _ h in
     let names = passed _ _ _ nonce.rest_held in
     let both = and_parts (as_replies.names_client (body_of seeker start) ticket.rep) (as_replies.names_service (body_of seeker start) ticket.facts) (held ReplyNames _ names.found names.first_held) in
     record { nonce = held Nonce _ nonce.found nonce.first_held; client = both.0; service = both.1; valid = held ReplyTime _ tt names.rest_held }
 
-next_answers : (target : List ℕ) (shown : Grant) (asked : Draw) (moment : ℕ) (ticket : Grant) → AnswersTgsReq target (question_of shown.rep asked) moment ticket.rep ticket.facts (Ok tt)
-    → AnswersShown target shown asked moment ticket
-unfolding AnswersTgsReq
-next_answers target shown asked moment ticket h =
+next_answers : (target realm : List ℕ) (shown : Grant) (asked : Draw) (moment : ℕ) (ticket : Grant)
+    → AnswersTgsReq target realm (question_of shown.rep asked) moment ticket.rep ticket.facts (Ok tt) → AnswersShown target realm shown asked moment ticket
+unfolding AnswersRequest
+next_answers target realm shown asked moment ticket h =
     let nonce = passed _ _ _ h in
     let names = passed _ _ _ nonce.rest_held in
-    let both = and_parts (tgs_replies.names_client (question_of shown.rep asked) ticket.rep) (tgs_replies.names_service target ticket.rep ticket.facts) (held ReplyNames _ names.found names.first_held) in
+    let both = and_parts (tgs_replies.names_client (question_of shown.rep asked) ticket.rep) (tgs_replies.names_service target realm ticket.rep ticket.facts) (held ReplyNames _ names.found names.first_held) in
     record { nonce = held Nonce _ nonce.found nonce.first_held; client = both.0; service = both.1; valid = held ReplyTime _ tt names.rest_held }
 
 -- a ticket that is no referral is for the target
-is_for_target : (target : List ℕ) (shown : Grant) (asked : Draw) (moment : ℕ) (ticket : Grant) → AnswersShown target shown asked moment ticket → referral_realm ticket.rep.ticket.sname ≡ None
-    → same_components ticket.facts.sname.name_string (service_of target) ≡ true
-is_for_target target shown asked moment ticket h none =
-    let to : Bool = same_components ticket.facts.sname.name_string (service_of target) in
-    let both = and_parts (same_components ticket.facts.sname.name_string ticket.rep.ticket.sname.name_string) (is_some (referral_realm ticket.rep.ticket.sname) || to) h.service in
-    subst (λ (o : Option (List ℕ)). (is_some o || to) ≡ true) none both.1
+not_referred : (rule is : Bool) (named : Option (List ℕ)) → rule ≡ true → (if rule && is then None else named) ≡ None → (is_some named || is) ≡ true → is ≡ true
+not_referred rule true named a e h = refl
+not_referred true false None a e h = h
+not_referred true false (Some realm) a e h = absurd cc
+not_referred false false named a e h = absurd cc
+
+ends_at_target : (seeker : Seeker) (realm : List ℕ) (shown : Grant) (asked : Draw) (moment : ℕ) (ticket : Grant) → has_rule seeker.asker.rules fresh_replies ≡ true
+    → AnswersShown seeker.wanted.target realm shown asked moment ticket → referral_of seeker.asker.rules seeker.wanted.target ticket.facts ticket.rep ≡ None
+    → same_components ticket.facts.sname.name_string (service_of seeker.wanted.target) ≡ true
+ends_at_target seeker realm shown asked moment ticket rule h none =
+    not_referred (has_rule seeker.asker.rules fresh_replies) (tgs_replies.is_for_target seeker.wanted.target ticket.facts) (referral_realm ticket.rep.ticket.sname) rule none
+    (and_parts _ _ h.service).1
 
 -- ---- one TGS-REP more
 
-module _ (seeker : Seeker) (last : Grant) (at : Draw) (arrival : Arrival) (ticket : Grant) (brings : BringsFurtherTicket seeker last at arrival ticket) where
-  leads_more : (shown : Grant) (asked : Draw) (arrivals : List Arrival) → LeadsOn seeker shown asked arrivals last at → LeadsOn seeker shown asked (arrivals ++ arrival ∷ []) ticket arrival.draw
-  leads_more shown asked [] h =
-      (ticket, subst (λ (g : Grant). BringsFurtherTicket seeker g asked arrival ticket) (sym h.0) (subst (λ (d : Draw). BringsFurtherTicket seeker last d arrival ticket) (sym h.1) brings), (refl, refl))
-  leads_more shown asked (x ∷ arrivals) h = (h.0, h.1, leads_more h.0 x.draw arrivals h.2)
+module _ (seeker : Seeker) (to : List ℕ) (last : Grant) (at : Draw) (arrival : Arrival) (ticket : Grant) (brings : BringsFurtherTicket seeker to last at arrival ticket) where
+  brings_so : (realm : List ℕ) (shown : Grant) (asked : Draw) → realm ≡ to → shown ≡ last → asked ≡ at → BringsFurtherTicket seeker realm shown asked arrival ticket
+  brings_so realm shown asked e f g =
+      subst (λ (r : List ℕ). BringsFurtherTicket seeker r shown asked arrival ticket) (sym e)
+      (subst (λ (t : Grant). BringsFurtherTicket seeker to t asked arrival ticket) (sym f) (subst (λ (d : Draw). BringsFurtherTicket seeker to last d arrival ticket) (sym g) brings))
 
-  chain_more : (start : Draw) (arrivals : List Arrival) → IsFreshChain seeker start arrivals last at → IsFreshChain seeker start (arrivals ++ arrival ∷ []) ticket arrival.draw
-  chain_more start arrivals chain = record {
-    before = chain.before;
-    first = chain.first;
-    rest = chain.rest ++ arrival ∷ [];
-    are = ap (λ (a : List Arrival). a ++ arrival ∷ []) chain.are ∙ append_assoc chain.before (chain.first ∷ chain.rest) (arrival ∷ []);
-    salt = chain.salt;
-    leave = chain.leave;
-    ticket = chain.ticket;
-    begins = chain.begins;
-    leads = leads_more chain.ticket chain.first.draw chain.rest chain.leads;
-  }
+  leads_more : (realm : List ℕ) (shown : Grant) (asked : Draw) (arrivals : List Arrival) → LeadsOn seeker realm shown asked arrivals to last at
+      → LeadsOn seeker realm shown asked (arrivals ++ arrival ∷ []) (next_realm ticket) ticket arrival.draw
+  leads_more realm shown asked [] h = (ticket, brings_so realm shown asked h.0 h.1 h.2, (refl, refl, refl))
+  leads_more realm shown asked (x ∷ arrivals) h = (h.0, h.1, leads_more (next_realm h.0) h.0 x.draw arrivals h.2)
+
+chain_more : (seeker : Seeker) (last : Grant) (at : Draw) (arrival : Arrival) (ticket : Grant) (start : Draw) (arrivals : List Arrival) (chain : IsFreshChain seeker start arrivals last at)
+    → BringsFurtherTicket seeker chain.to last at arrival ticket → IsFreshChain seeker start (arrivals ++ arrival ∷ []) ticket arrival.draw
+chain_more seeker last at arrival ticket start arrivals chain brings = record {
+  before = chain.before;
+  first = chain.first;
+  rest = chain.rest ++ arrival ∷ [];
+  are = ap (λ (a : List Arrival). a ++ arrival ∷ []) chain.are ∙ append_assoc chain.before (chain.first ∷ chain.rest) (arrival ∷ []);
+  salt = chain.salt;
+  leave = chain.leave;
+  ticket = chain.ticket;
+  begins = chain.begins;
+  to = next_realm ticket;
+  leads = leads_more seeker chain.to last at arrival ticket brings chain.ticket.rep.crealm chain.ticket chain.first.draw chain.rest chain.leads;
+}
 
 -- ---- the run
 
--- behind the start there is no reply
+-- after the start there is no reply
 pub begins_fresh : (seeker : Seeker) (start : Draw) (request : NetworkRequest) (phase : InitPhase) → Starts (Seeks seeker) New start (Ok (Asks request phase)) → CameFresh seeker start [] phase
 begins_fresh seeker start request phase h =
     let first = asked_first InAsExchange seeker.asker (body_of seeker start) (Asks request phase) h in
@@ -151,11 +166,13 @@ module _ (seeker : Seeker) (start : Draw) (rule : has_rule seeker.asker.rules fr
             brought = on.taken.brought;
             answers = first_answers seeker start arrival.draw.moment on.grant answers;
           };
-          leads = (refl, refl);
+          to = on.grant.rep.crealm;
+          leads = (refl, refl, refl);
         };
         suite = refl;
         key = refl;
         question = refl;
+        realm = asked_realm seeker.asker seeker.wanted on.grant on.grant.rep.crealm on.grant.rep.crealm arrival.draw begun.found (first_tickets seeker.tgt) begun.first_held;
       })
 
   -- the error, or an AS-REP at once
@@ -196,34 +213,52 @@ module _ (seeker : Seeker) (start : Draw) (rule : has_rule seeker.asker.rules fr
       goes_on_asking sealed.kdc.protocol sealed.body sealed.salt done (as_rep_taken InAsExchange AsksTgs seeker.asker arrival.reply arrival.draw (Ends done) sealed h)
 
   module _ (leg : TgsLeg) (shown : Grant) (came : CameWithTicket seeker start arrivals leg)
-      (taken : TgsTaken seeker.asker.rules seeker.wanted.target leg.question arrival.draw.moment leg.kdc.protocol leg.suite leg.key arrival.reply shown) where
-    checked : AnswersTgsReq seeker.wanted.target leg.question arrival.draw.moment shown.rep shown.facts (Ok tt)
-    checked = subst (λ (b : Bool). AskedFor b (AnswersTgsReq seeker.wanted.target leg.question arrival.draw.moment shown.rep shown.facts) (Ok tt)) rule taken.fresh
+      (taken : TgsTaken seeker.asker.rules seeker.wanted.target leg.question arrival.draw.moment leg.kdc leg.suite leg.key arrival.reply shown) where
+    checked : AnswersTgsReq seeker.wanted.target leg.kdc.realm leg.question arrival.draw.moment shown.rep shown.facts (Ok tt)
+    checked = subst (λ (b : Bool). AskedFor b (AnswersTgsReq seeker.wanted.target leg.kdc.realm leg.question arrival.draw.moment shown.rep shown.facts) (Ok tt)) rule taken.fresh
 
-    answers : AnswersShown seeker.wanted.target came.last came.at arrival.draw.moment shown
+    answers : AnswersShown seeker.wanted.target came.chain.to came.last came.at arrival.draw.moment shown
     answers =
-        next_answers seeker.wanted.target came.last came.at arrival.draw.moment shown
-        (subst (λ (q : TgsQuestion). AnswersTgsReq seeker.wanted.target q arrival.draw.moment shown.rep shown.facts (Ok tt)) came.question checked)
+        next_answers seeker.wanted.target came.chain.to came.last came.at arrival.draw.moment shown
+        (subst (λ (r : List ℕ). AnswersTgsReq seeker.wanted.target r (question_of came.last.rep came.at) arrival.draw.moment shown.rep shown.facts (Ok tt)) came.realm
+        (subst (λ (q : TgsQuestion). AnswersTgsReq seeker.wanted.target leg.kdc.realm q arrival.draw.moment shown.rep shown.facts (Ok tt)) came.question checked))
 
     opened : BringsNext seeker.asker.rules came.last.suite came.last.key taken.rep (Ok (key_of shown))
     opened =
         subst (λ (s : CipherSuite). BringsNext seeker.asker.rules s came.last.key taken.rep (Ok (key_of shown))) came.suite
         (subst (λ (k : List ℕ). BringsNext seeker.asker.rules leg.suite k taken.rep (Ok (key_of shown))) came.key taken.opened)
 
-    brings : BringsFurtherTicket seeker came.last came.at arrival shown
+    brings : BringsFurtherTicket seeker came.chain.to came.last came.at arrival shown
     brings = record { tgs_rep = taken.rep; granted = record { protocol = leg.kdc.protocol; granted = taken.granted }; opened = opened; brought = taken.brought; answers = answers }
 
     one_more : IsFreshChain seeker start now shown arrival.draw
-    one_more = chain_more seeker came.last came.at arrival shown brings start arrivals came.chain
+    one_more = chain_more seeker came.last came.at arrival shown start arrivals came.chain brings
 
-    refers : (request : NetworkRequest) (next : InitPhase) (realm : List ℕ) → Refers seeker leg realm shown arrival.draw (Ok (Asks request next)) → CameFresh seeker start now next
+    abbrev referral : Option (List ℕ)
+    referral = referral_of seeker.asker.rules seeker.wanted.target shown.facts shown.rep
+
+    -- the realm that the ticket refers to is asked next
+    refers_to : (realm : List ℕ) → referral ≡ Some realm → next_realm shown ≡ realm
+    refers_to realm e =
+        ap (λ (r : Option (List ℕ)). unwrap_or r [])
+        (referred_to (has_rule seeker.asker.rules fresh_replies && tgs_replies.is_for_target seeker.wanted.target shown.facts) (referral_realm shown.rep.ticket.sname) realm e)
+
+    refers : (request : NetworkRequest) (next : InitPhase) (realm : List ℕ) → referral ≡ Some realm → Refers seeker leg realm shown arrival.draw (Ok (Asks request next)) → CameFresh seeker start now next
     unfolding Refers
-    refers request next realm h =
+    refers request next realm e h =
         let begun = passed _ _ _ h in
         subst (λ (p : InitPhase). CameFresh seeker start now p) (sym (same_turn _ request next _ (gave _ _ begun.rest_held)))
-        (record { last = shown; at = arrival.draw; chain = one_more; suite = refl; key = refl; question = refl })
+        (record {
+          last = shown;
+          at = arrival.draw;
+          chain = one_more;
+          suite = refl;
+          key = refl;
+          question = refl;
+          realm = followed_realm seeker.asker seeker.wanted shown leg.home realm arrival.draw begun.found leg.hops leg.kdc.realm begun.first_held ∙ sym (refers_to realm e);
+        })
 
-    arrives : (done : InitDone) → referral_realm shown.rep.ticket.sname ≡ None → Arrives seeker leg shown arrival.draw (Ok (Ends done)) → IsFreshSession seeker start now done
+    arrives : (done : InitDone) → referral ≡ None → Arrives seeker leg shown arrival.draw (Ok (Ends done)) → IsFreshSession seeker start now done
     unfolding Arrives ShowsTicket shown_to
     arrives done e h =
         let made = passed _ _ _ h in
@@ -235,25 +270,25 @@ module _ (seeker : Seeker) (start : Draw) (rule : has_rule seeker.asker.rules fr
           at = arrival.draw;
           chain = one_more;
           is_service = e;
-          for_target = is_for_target seeker.wanted.target came.last came.at arrival.draw.moment shown answers e;
+          for_target = ends_at_target seeker came.chain.to came.last came.at arrival.draw.moment shown rule answers e;
           session_key = ap (λ (d : InitDone). d.change.encryption_params.session_key) (is ∙ end_is);
           asked_at = ap (λ (d : InitDone). d.change.asked_at) (is ∙ end_is);
           state = ap (λ (d : InitDone). d.change.state) (is ∙ end_is);
         }
 
-    goes : (referral : Option (List ℕ)) (request : NetworkRequest) (next : InitPhase) → GoesTo referral seeker leg shown arrival.draw (Ok (Asks request next)) → CameFresh seeker start now next
+    goes : (to : Option (List ℕ)) (request : NetworkRequest) (next : InitPhase) → referral ≡ to → GoesTo to seeker leg shown arrival.draw (Ok (Asks request next)) → CameFresh seeker start now next
     unfolding Arrives
-    goes None request next h = let made = passed _ _ _ h in let f = gave _ _ made.rest_held in absurd cc
-    goes (Some realm) request next h = refers request next realm h
+    goes None request next e h = let made = passed _ _ _ h in let f = gave _ _ made.rest_held in absurd cc
+    goes (Some realm) request next e h = refers request next realm e h
 
-    ends_at : (referral : Option (List ℕ)) (done : InitDone) → referral_realm shown.rep.ticket.sname ≡ referral → GoesTo referral seeker leg shown arrival.draw (Ok (Ends done))
+    ends_at : (to : Option (List ℕ)) (done : InitDone) → referral ≡ to → GoesTo to seeker leg shown arrival.draw (Ok (Ends done))
         → IsFreshSession seeker start now done
     unfolding Refers
     ends_at None done e h = arrives done e h
     ends_at (Some realm) done e h = let begun = passed _ _ _ h in let f = gave _ _ begun.rest_held in absurd cc
 
   abbrev TakenNext : TgsLeg → Grant → Type 0
-  TakenNext leg shown = TgsTaken seeker.asker.rules seeker.wanted.target leg.question arrival.draw.moment leg.kdc.protocol leg.suite leg.key arrival.reply shown
+  TakenNext leg shown = TgsTaken seeker.asker.rules seeker.wanted.target leg.question arrival.draw.moment leg.kdc leg.suite leg.key arrival.reply shown
 
   next_goes : (leg : TgsLeg) (request : NetworkRequest) (next : InitPhase) → CameWithTicket seeker start arrivals leg → TakesNext seeker leg arrival.reply arrival.draw (Ok (Asks request next))
       → CameFresh seeker start now next
@@ -261,15 +296,15 @@ module _ (seeker : Seeker) (start : Draw) (rule : has_rule seeker.asker.rules fr
   next_goes leg request next came h =
       let shown = passed _ _ _ h in
       let taken : TakenNext leg shown.found =
-      taken_tgs seeker.asker.rules seeker.wanted.target leg.question arrival.draw.moment leg.kdc.protocol leg.suite leg.key arrival.reply shown.found shown.first_held in
-      goes leg shown.found came taken _ request next shown.rest_held
+      taken_tgs seeker.asker.rules seeker.wanted.target leg.question arrival.draw.moment leg.kdc leg.suite leg.key arrival.reply shown.found shown.first_held in
+      goes leg shown.found came taken _ request next refl shown.rest_held
 
   next_ends : (leg : TgsLeg) (done : InitDone) → CameWithTicket seeker start arrivals leg → TakesNext seeker leg arrival.reply arrival.draw (Ok (Ends done)) → IsFreshSession seeker start now done
   unfolding TakesNext
   next_ends leg done came h =
       let shown = passed _ _ _ h in
       let taken : TakenNext leg shown.found =
-      taken_tgs seeker.asker.rules seeker.wanted.target leg.question arrival.draw.moment leg.kdc.protocol leg.suite leg.key arrival.reply shown.found shown.first_held in
+      taken_tgs seeker.asker.rules seeker.wanted.target leg.question arrival.draw.moment leg.kdc leg.suite leg.key arrival.reply shown.found shown.first_held in
       ends_at leg shown.found came taken _ done refl shown.rest_held
 
   pub goes_on_fresh : (phase : InitPhase) (request : NetworkRequest) (next : InitPhase) → CameFresh seeker start arrivals phase

@@ -22,10 +22,10 @@ use Rattle.sspi_core.specs.declared.draw.Draw.{Draw}
 use Rattle.sspi_core.specs.declared.error.Error.{Error}
 use Rattle.sspi_core.specs.declared.identity.CredentialsBuffers.{CredentialsBuffers}
 use Rattle.sspi_generator.specs.declared.network.NetFault.{NetFault}
-use Rattle.krb_replies.specs.Realms.{referral_realm}
 use Rattle.krb_replies.specs.Tickets.{IsTgtRep, HasTicket, TakesTicket}
 use Rattle.krb_replies.specs.Unseals.{IsRead}
 use Rattle.krb_as.proofs.Once.{names_client_once, begins_within_once, takes_reply_within_once}
+use Rattle.krb_tgs.specs.Fresh.{referral_of}
 use Rattle.krb_tgs.proofs.Once.{asks_tgs_once, follows_once, takes_tgs_rep_once}
 use Rattle.krb_as.specs.declared.key.Grant.{Grant}
 use Rattle.krb_ap.proofs.Once.{shows_ticket_once, takes_ap_rep_once}
@@ -207,7 +207,8 @@ goes_to_once (Some realm) seeker leg shown draw = record { same = λ r s h k. (r
 takes_next_once : (seeker : Seeker) (leg : TgsLeg) (reply : Result (List ℕ) NetFault) (draw : Draw) → Once (TakesNext seeker leg reply draw)
 unfolding TakesNext
 takes_next_once seeker leg reply draw =
-    then_once _ _ (takes_tgs_rep_once seeker.asker.rules seeker.wanted.target leg.question draw.moment leg.kdc.protocol leg.suite leg.key reply) (λ shown. goes_to_once (referral_realm shown.rep.ticket.sname) seeker leg shown draw)
+    then_once _ _ (takes_tgs_rep_once seeker.asker.rules seeker.wanted.target leg.question draw.moment leg.kdc leg.suite leg.key reply)
+    (λ shown. goes_to_once (referral_of seeker.asker.rules seeker.wanted.target shown.facts shown.rep) seeker leg shown draw)
 
 hears_answer_once : (initiator : Initiator) (token : List ℕ) (draw : Draw) → Once (HearsAnswer initiator token draw)
 unfolding HearsAnswer

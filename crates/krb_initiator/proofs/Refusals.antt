@@ -4,7 +4,6 @@ use Rattle.krb_crypto.specs.declared.suite.CipherSuite.{CipherSuite}
 use Rattle.krb_messages.specs.declared.ticket.Ticket.{Ticket}
 use Rattle.krb_messages.specs.declared.ap_rep.ApRep.{ApRep}
 use Rattle.krb_messages.specs.declared.ap_rep.EncApRepPart.{EncApRepPart}
-use Rattle.krb_exchange.specs.declared.kdc_rep.KdcRep.{KdcRep}
 use Rattle.krb_exchange.specs.declared.kdc_rep.TgsRep.{TgsRep}
 use Rattle.sspi_core.specs.declared.cause.Cause.{Cause}
 use Rattle.sspi_core.specs.declared.cause.Cause.TheVariants.{Shape, KeyLength, NoKdc, Scheme, Hops, SameRealm, Reply, Inner, NoSubKey, NoNumber, Nonce, ReplyNames, ReplyTime}
@@ -15,17 +14,15 @@ use Rattle.krb_as.specs.Kdcs.{FindsKdc}
 use Rattle.krb_replies.specs.Unseals.{Unseals, OpensSealed}
 use Rattle.krb_context.specs.declared.rules.Rules.{Rules}
 use Rattle.krb_context.specs.Rules.{has_rule, fresh_replies}
-use Rattle.krb_replies.specs.declared.facts.ReplyFacts.{ReplyFacts}
 use Rattle.krb_replies.specs.Keys.{BringsNext}
 use Rattle.krb_replies.specs.Answered.{OpensApRep}
-use Rattle.krb_replies.specs.Realms.{referral_realm}
 use Rattle.krb_as.specs.declared.asker.Asker.{Asker}
-use Rattle.krb_as.proofs.Refusals.{IsNetwork, Refuses, then_refuses, finds_refuses, takes_refuses, holds_refuses, gives_refuses, asked_for_refuses, not_nonce, not_names, not_time, begins_within_refuses, takes_reply_within_refuses, takes_key_refuses, grants_refuse}
+use Rattle.krb_as.proofs.Refusals.{IsNetwork, Refuses, then_refuses, finds_refuses, takes_refuses, holds_refuses, gives_refuses, asked_for_refuses, answers_refuse, not_time, begins_within_refuses, takes_reply_within_refuses, takes_key_refuses, grants_refuse}
 use Rattle.krb_tgs.specs.declared.wanted.Wanted.{Wanted}
 use Rattle.krb_as.specs.declared.key.Grant.{Grant}
 use Rattle.krb_tgs.specs.TgsAsked.{AsksTgs, Follows}
 use Rattle.krb_tgs.specs.declared.fresh.TgsQuestion.{TgsQuestion}
-use Rattle.krb_tgs.specs.Fresh.{AnswersTgsReq}
+use Rattle.krb_tgs.specs.Fresh.{AnswersTgsReq, referral_of}
 use Rattle.krb_tgs.specs.Taken.{BringsFresh, TakesTgsRep}
 use Rattle.krb_ap.specs.declared.initiator.Initiator.{Initiator}
 use Rattle.krb_ap.specs.Shown.{ShowsTicket}
@@ -140,23 +137,18 @@ starts_refuse initiation (InAsExchange phase) draw e h z = h
 starts_refuse initiation (AwaitsTgsRep leg) draw e h z = h
 starts_refuse initiation Over draw e h z = h
 
-answers_refuse : (P : Type 0) (target : List ℕ) (question : TgsQuestion) (moment : ℕ) (rep : KdcRep) (facts : ReplyFacts) → Refuses P (AnswersTgsReq target question moment rep facts)
-unfolding AnswersTgsReq
-answers_refuse P target question moment rep facts =
-    then_refuses P _ _ (holds_refuses P Nonce _ (not_nonce P)) (λ _. then_refuses P _ _ (holds_refuses P ReplyNames _ (not_names P)) (λ _. holds_refuses P ReplyTime _ (not_time P)))
-
-fresh_refuses : (P : Type 0) (rules : Rules) (target : List ℕ) (question : TgsQuestion) (moment : ℕ) (suite : CipherSuite) (key : List ℕ) (rep : TgsRep)
-    → Refuses P (BringsFresh rules target question moment suite key rep)
+fresh_refuses : (P : Type 0) (rules : Rules) (target realm : List ℕ) (question : TgsQuestion) (moment : ℕ) (suite : CipherSuite) (key : List ℕ) (rep : TgsRep)
+    → Refuses P (BringsFresh rules target realm question moment suite key rep)
 unfolding BringsFresh
-fresh_refuses P rules target question moment suite key rep =
+fresh_refuses P rules target realm question moment suite key rep =
     then_refuses P _ _ (brings_refuse P rules suite key rep)
-    (λ next. then_refuses P _ _ (asked_for_refuses P (has_rule rules fresh_replies) (AnswersTgsReq target question moment rep.0 next.facts) (answers_refuse P target question moment rep.0 next.facts)) (λ _. gives_refuses P _))
+    (λ next. then_refuses P _ _ (asked_for_refuses P (has_rule rules fresh_replies) (AnswersTgsReq target realm question moment rep.0 next.facts) (answers_refuse P _ _ moment next.facts)) (λ _. gives_refuses P _))
 
 takes_next_refuses : (seeker : Seeker) (leg : TgsLeg) (reply : Result (List ℕ) NetFault) (draw : Draw) → Refuses (IsFailure reply) (TakesNext seeker leg reply draw)
 unfolding TakesNext TakesTgsRep
 takes_next_refuses seeker leg reply draw =
-    then_refuses _ _ _ (then_refuses _ _ _ (grants_refuse reply leg.kdc.protocol _) (λ rep. then_refuses _ _ _ (fresh_refuses _ seeker.asker.rules seeker.wanted.target leg.question draw.moment leg.suite leg.key rep) (λ next. gives_refuses _ _)))
-    (λ shown. goes_refuse _ (referral_realm shown.rep.ticket.sname) seeker leg shown draw)
+    then_refuses _ _ _ (then_refuses _ _ _ (grants_refuse reply leg.kdc.protocol _) (λ rep. then_refuses _ _ _ (fresh_refuses _ seeker.asker.rules seeker.wanted.target leg.kdc.realm leg.question draw.moment leg.suite leg.key rep) (λ next. gives_refuses _ _)))
+    (λ shown. goes_refuse _ (referral_of seeker.asker.rules seeker.wanted.target shown.facts shown.rep) seeker leg shown draw)
 
 continues_refuse : (seeker : Seeker) (phase : InitPhase) (reply : Result (List ℕ) NetFault) (draw : Draw) (e : Cause) → Continues seeker phase reply draw (Err e) → IsNetwork e → IsFailure reply
 continues_refuse seeker New reply draw e h z = absurd h

@@ -1,6 +1,6 @@
 -- Which replies brought an initiator so far, and that each of them answers the request that this very run made (RFC 4120, sections 3.1.5 and
 -- 3.3.4); and whether a service's answer is for the authenticator that was shown (section 3.2.5): beside the run, as contracts see it.
-use Rattle.std.specs.Prelude.{◌≡◌, ℕ, true, List, [], ◌∷◌, ◌++◌, map, take, Some, None, Result, Ok}
+use Rattle.std.specs.Prelude.{◌≡◌, ℕ, true, List, [], ◌∷◌, ◌++◌, map, take, Some, None, unwrap_or, Result, Ok}
 use Rattle.std.specs.Int.{w32, from_be_bytes}
 use Rattle.krb_exchange.specs.declared.kdc_rep.AsRep.{AsRep}
 use Rattle.krb_exchange.specs.declared.kdc_rep.TgsRep.{TgsRep}
@@ -20,7 +20,7 @@ use Rattle.krb_as.specs.declared.done.InitDone.{InitDone}
 use Rattle.krb_as.specs.declared.key.Grant.{Grant}
 use Rattle.krb_as.specs.declared.key.SealedTime.{SealedTime}
 use Rattle.krb_tgs.specs.Fresh as tgs_replies
-use Rattle.krb_tgs.specs.Fresh.{question_of}
+use Rattle.krb_tgs.specs.Fresh.{question_of, referral_of}
 use Rattle.krb_tgs.specs.TgsAsked.{drawn_nonce, service_of}
 use Rattle.krb_ap.specs.Answered.{IsApRep, is_time_of}
 use Rattle.krb_ap.specs.Initiators.{is_bare}
@@ -63,35 +63,40 @@ pub record BringsFirstTicket (seeker : Seeker) (start : Draw) (arrival : Arrival
 
 -- ---- the TGS-REPs
 
--- a ticket answers the TGS-REQ that showed another: by its value it has the nonce that was drawn for that request, octets four to seven of
--- that draw; it is for the client of the ticket that was shown, and for the target or for a further ticket-granting service; and it is
--- valid at the moment at which it came (RFC 4120, section 3.3.4; RFC 6806, section 8)
-pub record AnswersShown (target : List ℕ) (shown : Grant) (asked : Draw) (moment : ℕ) (ticket : Grant) : Type 0 where
+-- a ticket answers the TGS-REQ that showed another to the KDC of this realm: by its value it has the nonce that was drawn for that request,
+-- octets four to seven of that draw; it is for the client of the ticket that was shown; it is one of that realm, for the target or for a
+-- further ticket-granting service; and it is valid at the moment at which it came (RFC 4120, section 3.3.4; RFC 6806, section 8)
+pub record AnswersShown (target realm : List ℕ) (shown : Grant) (asked : Draw) (moment : ℕ) (ticket : Grant) : Type 0 where
   pub nonce : has_value (from_be_bytes w32 (drawn_nonce asked)) ticket.facts.nonce ≡ true
   pub client : tgs_replies.names_client (question_of shown.rep asked) ticket.rep ≡ true
-  pub service : tgs_replies.names_service target ticket.rep ticket.facts ≡ true
+  pub service : tgs_replies.names_service target realm ticket.rep ticket.facts ≡ true
   pub valid : is_valid_at moment ticket.facts ≡ true
 
 -- a TGS-REP came that brings this ticket: it is sealed under the session key of the ticket that was shown, and answers the TGS-REQ that
--- showed it
-pub record BringsFurtherTicket (seeker : Seeker) (shown : Grant) (asked : Draw) (arrival : Arrival) (ticket : Grant) : Type 0 where
+-- showed it to the KDC of this realm
+pub record BringsFurtherTicket (seeker : Seeker) (realm : List ℕ) (shown : Grant) (asked : Draw) (arrival : Arrival) (ticket : Grant) : Type 0 where
   pub tgs_rep : TgsRep
   pub granted : IsGranted arrival.reply tgs_rep
   pub opened : BringsNext seeker.asker.rules shown.suite shown.key tgs_rep (Ok (record { suite = ticket.suite; key = ticket.key; facts = ticket.facts }))
   pub brought : ticket.rep ≡ tgs_rep.0
-  pub answers : AnswersShown seeker.wanted.target shown asked arrival.draw.moment ticket
+  pub answers : AnswersShown seeker.wanted.target realm shown asked arrival.draw.moment ticket
 
--- from a ticket, which a request showed that was drawn so, these TGS-REPs lead to the last ticket. The request that shows a ticket is
--- drawn at the step to which the ticket came
-abbrev pub LeadsOn : Seeker → Grant → Draw → List Arrival → Grant → Draw → Type 0
-LeadsOn seeker shown asked [] last at = (shown ≡ last) × (asked ≡ at)
-LeadsOn seeker shown asked (arrival ∷ arrivals) last at =
-    (ticket : Grant) × BringsFurtherTicket seeker shown asked arrival ticket × LeadsOn seeker ticket arrival.draw arrivals last at
+-- the realm that a ticket refers to, whose KDC is asked next
+abbrev pub next_realm : Grant → List ℕ
+next_realm ticket = unwrap_or (referral_realm ticket.rep.ticket.sname) []
+
+-- from a ticket, which a request showed to the KDC of a realm that was drawn so, these TGS-REPs lead to the last ticket, and to the realm
+-- whose KDC is asked with it. The request that shows a ticket is drawn at the step to which the ticket came
+abbrev pub LeadsOn : Seeker → List ℕ → Grant → Draw → List Arrival → List ℕ → Grant → Draw → Type 0
+LeadsOn seeker realm shown asked [] to last at = (realm ≡ to) × (shown ≡ last) × (asked ≡ at)
+LeadsOn seeker realm shown asked (arrival ∷ arrivals) to last at =
+    (ticket : Grant) × BringsFurtherTicket seeker realm shown asked arrival ticket × LeadsOn seeker (next_realm ticket) ticket arrival.draw arrivals to last at
 
 -- ---- the run
 
--- mostly an error, an AS-REP, and TGS-REPs, of which each answers the request that the run made behind the one before it; the last brought
--- this ticket, at the step of this draw
+-- mostly an error, an AS-REP, and TGS-REPs, of which each answers the request that the run made after the one before it; the last brought
+-- this ticket, at the step of this draw. The first ticket is shown to the KDC of the client's own realm, and each further one to that of the
+-- realm that it refers to
 pub record IsFreshChain (seeker : Seeker) (start : Draw) (arrivals : List Arrival) (last : Grant) (at : Draw) : Type 0 where
   pub before : List Arrival
   pub first : Arrival
@@ -101,7 +106,8 @@ pub record IsFreshChain (seeker : Seeker) (start : Draw) (arrivals : List Arriva
   pub leave : LeaveSalt seeker (replies_in before) salt
   pub ticket : Grant
   pub begins : BringsFirstTicket seeker start first salt ticket
-  pub leads : LeadsOn seeker ticket first.draw rest last at
+  pub to : List ℕ
+  pub leads : LeadsOn seeker ticket.rep.crealm ticket first.draw rest to last at
 
 -- the error alone: what was asked first is asked again, with the time sealed beside it
 pub record CameAgain (seeker : Seeker) (start : Draw) (arrivals : List Arrival) (sealed : SealedTime) : Type 0 where
@@ -110,7 +116,7 @@ pub record CameAgain (seeker : Seeker) (start : Draw) (arrivals : List Arrival) 
   pub names : NamesFirst seeker error.reply sealed.salt
   pub body : sealed.body ≡ body_of seeker start
 
--- all of that, and the last ticket was shown
+-- all of that, and the last ticket was shown to that KDC
 pub record CameWithTicket (seeker : Seeker) (start : Draw) (arrivals : List Arrival) (leg : TgsLeg) : Type 0 where
   pub last : Grant
   pub at : Draw
@@ -118,6 +124,7 @@ pub record CameWithTicket (seeker : Seeker) (start : Draw) (arrivals : List Arri
   pub suite : leg.suite ≡ last.suite
   pub key : leg.key ≡ last.key
   pub question : leg.question ≡ question_of last.rep at
+  pub realm : leg.kdc.realm ≡ chain.to
 
 -- these replies, in their order, bring an initiator that began with this draw to this phase
 abbrev pub CameFresh : Seeker → Draw → List Arrival → InitPhase → Type 0
@@ -133,7 +140,7 @@ pub record IsFreshSession (seeker : Seeker) (start : Draw) (arrivals : List Arri
   pub last : Grant
   pub at : Draw
   pub chain : IsFreshChain seeker start arrivals last at
-  pub is_service : referral_realm last.rep.ticket.sname ≡ None
+  pub is_service : referral_of seeker.asker.rules seeker.wanted.target last.facts last.rep ≡ None
   pub for_target : same_components last.facts.sname.name_string (service_of seeker.wanted.target) ≡ true
   pub session_key : done.change.encryption_params.session_key ≡ Some last.key
   pub asked_at : done.change.asked_at ≡ Some at.moment

@@ -4,11 +4,10 @@ ghost use Rattle.std.specs.Prelude.{◌≡◌, ◌+◌, ◌-◌, ◌<◌, ◌≤
 ghost use Rattle.sspi_core.specs.Moments.{last_moment};
 ghost use Rattle.sspi_core.specs.Checks.{Answers, Gives};
 ghost use Rattle.krb_authenticators.specs.TgsRequests.{AreShortTickets};
-ghost use Rattle.krb_replies.specs.Realms.{referral_realm};
 ghost use Rattle.krb_as.specs.declared.turn.Turn.TheVariants as turns;
 ghost use Rattle.krb_as.specs.Granted.{IsSendable};
 ghost use Rattle.krb_tgs.specs.TgsAsked.{AsksTgs};
-ghost use Rattle.krb_tgs.specs.Fresh.{question_of};
+ghost use Rattle.krb_tgs.specs.Fresh.{question_of, referral_of};
 ghost use Rattle.krb_initiator.specs.declared.seeker.InitPhase.TheVariants as phases;
 ghost use Rattle.krb_initiator.specs.Tgts.{first_tickets};
 ghost use Rattle.krb_initiator.specs.Seekers.{CanSeek};
@@ -20,11 +19,11 @@ use crate::seeker::{InitPhase, Seeker, TgsLeg};
 use crate::service_steps::end;
 use krb_ap::show_ticket;
 use krb_as::{Grant, InitDone, Turn, short_name};
+use krb_context::Rules;
 use krb_der::{Items, Name, Octets, OutOfMemory, TryCopy, boxed};
 use krb_exchange::KdcRep;
 use krb_messages::Ticket;
-use krb_replies::referral_target_realm;
-use krb_tgs::{Begun, TgsQuestion, ask_tgs, follow, take_tgs_rep};
+use krb_tgs::{Begun, TgsQuestion, ask_tgs, follow, referral_of, take_tgs_rep};
 use sspi_core::{Cause, Draw};
 use sspi_generator::NetFault;
 use std::alloc::Global;
@@ -76,7 +75,7 @@ fn question_of(rep: KdcRep, draw: &Draw) -> TgsQuestion
     }
 }
 
-/// The phase behind the first request to a ticket-granting service.
+/// The phase after the first request to a ticket-granting service.
 fn sent_first_tgs(
     alloc: Global,
     begun: Begun,
@@ -123,7 +122,7 @@ pub(crate) fn ask_first_tgs(
     sent_first_tgs(alloc, begun, shown, draw)
 }
 
-/// The phase behind a request that follows a referral.
+/// The phase after a request that follows a referral.
 fn sent_next_tgs(
     alloc: Global,
     begun: Begun,
@@ -213,11 +212,16 @@ fn arrive(
 }
 
 /// The realm of a referral; None where the ticket is the service's.
-fn referral_in(alloc: Global, rep: &KdcRep) -> Result<Option<Name>, OutOfMemory>
-    ensures realm { IfOk result (λ realm. realm ≡ referral_realm rep.now.ticket.sname) }
+fn referral_in(
+    alloc: Global,
+    rules: Rules,
+    target: &Name,
+    shown: &Grant,
+) -> Result<Option<Name>, OutOfMemory>
+    ensures realm { IfOk result (λ realm. realm ≡ referral_of rules target.now shown.now.facts shown.now.rep) }
     ensures short { IfOk result (λ realm. IfSome realm (λ (r : List ℕ). length r ≤ 2 ^ 24)) }
 {
-    match referral_target_realm(&rep.ticket.sname) {
+    match referral_of(rules, target, &shown.facts, &shown.rep) {
         None => Ok(None),
         Some(realm) => Ok(Some(short_name(alloc, realm)?)),
     }
@@ -234,10 +238,12 @@ fn go_to(
     requires seeker { CanSeek seeker.now }
     requires rep { IsSendable shown.rep }
     requires moment { draw.now.moment ≤ last_moment }
-    ensures step { Answers (GoesTo (referral_realm shown.rep.ticket.sname) seeker.now leg.now shown draw.now) result }
+    ensures step { Answers (GoesTo (referral_of seeker.now.asker.rules seeker.now.wanted.target shown.facts shown.rep)
+        seeker.now leg.now shown draw.now) result }
     ensures down { IfOk result (λ turn. GoesDown IsAtTgs turns_left (9 - leg.now.hops) turn) }
 {
-    let referral = referral_in(alloc, &shown.rep)?;
+    let rules = seeker.asker.rules;
+    let referral = referral_in(alloc, rules, &seeker.wanted.target, &shown)?;
     match referral {
         None => arrive(alloc, seeker, leg, shown, draw),
         Some(realm) => refer(alloc, seeker, leg, &realm, shown, draw),
@@ -259,14 +265,13 @@ pub(crate) fn take_next(
     ensures down { IfOk result (λ turn. GoesDown IsAtTgs turns_left (9 - leg.now.hops) turn) }
 {
     let rules = seeker.asker.rules;
-    let protocol = leg.kdc.protocol;
     let shown = take_tgs_rep(
         alloc,
         rules,
         &seeker.wanted.target,
         &leg.question,
         draw.moment,
-        protocol,
+        &leg.kdc,
         leg.suite,
         &leg.key,
         reply,

@@ -9,6 +9,7 @@ use Rattle.krb_server.specs.Whole.{AcceptsToken}
 use Rattle.krb_server.specs.declared.accept.Accepted.{Accepted}
 use Rattle.krb_conf.specs.declared.env.Env.{Env}
 use Rattle.krb_context.specs.declared.context.Kerberos.{Kerberos}
+use Rattle.krb_context.specs.declared.rules.Rules.{Rules}
 use Rattle.krb_exchange.specs.declared.user_to_user.TgtReq.{TgtReq}
 use Rattle.sspi_core.specs.declared.cause.Cause.{Cause}
 use Rattle.sspi_core.specs.declared.draw.Draw.{Draw}
@@ -37,17 +38,17 @@ module _ {G H : Type 0} (admits : G → Ask → Verdict → G → Type 0) (hears
   stays : (old new : G) (h : H) (Holds : H → Type 0) → new ≡ old → keeps old h → Holds h → Paced keeps count h new Holds
   stays old new h Holds same k holds = let K : G → Type 0 = λ g. keeps g h in record { next = h; holds = holds; paces = subst K (sym same) k; one = omega arith }
 
-  asks_paced : (moment : ℕ) (old new : G) (h : H) (request : Result Request Cause) (verdict : Verdict) → keeps old h → Asks admits moment old request verdict new
-      → Paced keeps count h new (λ next. Asks hears moment h request verdict next)
-  asks_paced moment old new h (Ok request) verdict k asks = step old new (ask_of request moment) verdict h k asks
-  asks_paced moment old new h (Err cause) verdict k same = stays old new h (λ next. next ≡ h) same k refl
+  asks_paced : (rules : Rules) (moment : ℕ) (old new : G) (h : H) (request : Result Request Cause) (verdict : Verdict) → keeps old h → Asks admits rules moment old request verdict new
+      → Paced keeps count h new (λ next. Asks hears rules moment h request verdict next)
+  asks_paced rules moment old new h (Ok request) verdict k asks = step old new (ask_of rules request moment) verdict h k asks
+  asks_paced rules moment old new h (Err cause) verdict k same = stays old new h (λ next. next ≡ h) same k refl
 
   made_paced : (server : Kerberos) (dce : Bool) (token : List ℕ) (env : Env) (draw : Draw) (old new : G) (h : H) (found : Option TgtReq) (answer : Result Accepted Cause) (server' : Kerberos) → keeps old h
       → AcceptsToken admits server dce token env draw old found answer server' new → Paced keeps count h new (λ next. AcceptsToken hears server dce token env draw h found answer server' next)
   made_paced server dce token env draw old new h (Some tgt_req) answer server' k m =
       stays old new h (λ next. AcceptsToken hears server dce token env draw h (Some tgt_req) answer server' next) m.2 k (m.0, m.1, refl)
   made_paced server dce token env draw old new h None answer server' k m =
-      let a = asks_paced draw.moment old new h m.accepts.request m.accepts.verdict k m.accepts.gate in
+      let a = asks_paced server.rules draw.moment old new h m.accepts.request m.accepts.verdict k m.accepts.gate in
       record {
         next = a.next;
         holds = record {

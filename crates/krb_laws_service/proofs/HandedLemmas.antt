@@ -15,6 +15,7 @@ use Rattle.krb_context.specs.declared.server.ServerProperties.{ServerProperties}
 use Rattle.krb_context.specs.declared.state.KerberosState.{KerberosState}
 use Rattle.krb_as.specs.declared.client.Client.{Client}
 use Rattle.krb_crypto.specs.declared.suite.CipherSuite.{CipherSuite}
+use Rattle.krb_laws_ends.proofs.BoundLemmas.{bound_to}
 use Rattle.krb_laws_ends.proofs.BeginLemmas.{begins as seeker_begins, asks_mutual}
 use Rattle.krb_laws_ends.proofs.FetchLemmas.{served, ends_with_offer}
 use Rattle.krb_laws_ends.proofs.HonestLemmas.{begins as request_begins, is_answered}
@@ -22,7 +23,7 @@ use Rattle.krb_laws_ends.proofs.ReachLemmas.{reach}
 use Rattle.krb_laws_ends.specs.Answers.{AdmitsOnly, IsDraw, AreNew, AreEstablished, AreEstablishedBy, EndsWellIn, IsTaken, admission_for}
 use Rattle.krb_laws_ends.specs.Fetches.{CanBegin, seeker_for, EndsWithOffer, HoldsKey}
 use Rattle.krb_laws_ends.specs.HonestKdc.{Answers, steps_of, AreHonestKdcs}
-use Rattle.krb_laws_ends.specs.Offers.{request_of, offered_token, IsFor}
+use Rattle.krb_laws_ends.specs.Offers.{request_of, offered_token, FitsRules, IsBoundTo, MeetsChannel, IsFor}
 use Rattle.krb_exchange.specs.declared.kdc_rep.TgsRep.{TgsRep}
 use Rattle.krb_initiator.specs.Beginnings.{BeginsInitiation}
 use Rattle.krb_initiator.specs.InitRuns.{Starts}
@@ -32,6 +33,7 @@ use Rattle.krb_initiator.specs.declared.seeker.Initiation.TheVariants.{Seeks}
 use Rattle.krb_initiator.specs.declared.seeker.Seeker.{Seeker}
 use Rattle.krb_ap.specs.Initiators.{is_bare}
 use Rattle.krb_messages.specs.declared.enc_ticket_part.EncTicketPart.{EncTicketPart}
+use Rattle.krb_messages.specs.declared.encryption.Checksum.{Checksum}
 use Rattle.krb_messages.specs.declared.ticket.Ticket.{Ticket}
 use Rattle.krb_replay.specs.declared.ask.Ask.{Ask}
 use Rattle.krb_replay.specs.declared.ask.Verdict.{Verdict}
@@ -41,7 +43,8 @@ use Rattle.krb_script.specs.declared.item.Event.{Event}
 use Rattle.krb_admission.specs.Accepts.{BeginsAdmission}
 use Rattle.krb_context.specs.Drawn.{drawn_key}
 use Rattle.krb_admission.specs.Admission.{with_client, mutual_admission, settled as admitted}
-use Rattle.krb_admission.specs.Clients.{client_of}
+use Rattle.krb_admission.specs.Allowed.{channel_held}
+use Rattle.krb_admission.specs.Clients.{user_of}
 use Rattle.krb_admission.specs.Requests.{ask_of}
 use Rattle.krb_machine.proofs.CallLemmas.{token-step}
 use Rattle.krb_machine.specs.Exchanges.{answer_of}
@@ -99,14 +102,18 @@ module _ {G : Type 0} (admits : G → Ask → Verdict → G → Type 0) where
 
 -- ---- both ends
 
-module _ {G : Type 0} (admits : G → Ask → Verdict → G → Type 0) (initiator acceptor : Connection) (flags : ClientRequestFlags) (env : Env) (target service_key : List ℕ) (credentials : CredentialsBuffers) (client : Client) (suite : CipherSuite) (answers : Answers) (rep : TgsRep) (part : EncTicketPart) (user : UserName) (draw : Draw) where
+module _ {G : Type 0} (admits : G → Ask → Verdict → G → Type 0) (initiator acceptor : Connection) (flags : ClientRequestFlags) (env : Env) (target service_key : List ℕ) (credentials : CredentialsBuffers) (client : Client) (suite : CipherSuite) (answers : Answers) (rep : TgsRep) (part : EncTicketPart) (draw : Draw) where
   abbrev options : InitOptions
   options = options_of initiator env flags []
 
   abbrev seeker : Seeker
   seeker = seeker_for initiator.context options target credentials client
 
-  module _ (can : CanBegin initiator.context options target credentials client) (kdcs : AreHonestKdcs seeker suite service_key draw answers rep part) (holds : HoldsKey acceptor.context target service_key) (named : client_of part.cname part.crealm ≡ Some user) (are_new : AreNew initiator.context acceptor.context) (initiator_free : initiator.exchange ≡ None) (acceptor_free : acceptor.exchange ≡ None) (end : EndsWithOffer initiator.context seeker service_key suite draw answers rep part) where
+  -- the user name that the acceptor has of its client
+  abbrev user : Option UserName
+  user = user_of acceptor.context.rules part.cname part.crealm
+
+  module _ (can : CanBegin initiator.context options target credentials client) (kdcs : AreHonestKdcs seeker suite service_key draw answers rep part) (holds : HoldsKey acceptor.context target service_key) (fits : FitsRules acceptor.context.rules part) (unbound : channel_held acceptor.context ≡ None) (are_new : AreNew initiator.context acceptor.context) (initiator_free : initiator.exchange ≡ None) (acceptor_free : acceptor.exchange ≡ None) (end : EndsWithOffer initiator.context seeker service_key suite draw answers rep part) where
     -- the initiator once its token was said
     abbrev shown : Connection
     shown = record initiator { context = settled initiator.context end.done.change; exchange = None }
@@ -132,6 +139,9 @@ module _ {G : Type 0} (admits : G → Ask → Verdict → G → Type 0) (initiat
         let F : Connection → Connection = λ c. record c { context = settled c.context end.done.change; exchange = None } in
         record { reply_is = ends.reply_is ∙ ap (λ (s : SecurityStatus). Done s end.done.token false) end.status; waiting_is = ends.final_is ∙ ap F waits }
 
+    meets : MeetsChannel (channel_held acceptor.context) options.channel_bindings
+    meets = subst (λ (held : Option (List ℕ)). MeetsChannel held None) (sym unbound) tt
+
     is_for : IsFor acceptor.context user end.offer
     is_for =
         let serves = (served seeker suite kdcs.as_rep.0.crealm service_key kdcs.known answers.referrals answers.last rep part kdcs.honest).1 in record {
@@ -141,7 +151,10 @@ module _ {G : Type 0} (admits : G → Ask → Verdict → G → Type 0) (initiat
           key = service_key;
           holds = ap (λ (t : Ticket). key_of_service holds.properties t.sname.name_string) end.ticket ∙ ap (key_of_service holds.properties) serves.named ∙ holds.holds;
           honest = end.honest;
-          client_named = ap (λ (p : EncTicketPart). client_of p.cname p.crealm) end.part_is ∙ named;
+          fits = subst (λ (p : EncTicketPart). FitsRules acceptor.context.rules p) (sym end.part_is) fits;
+          bound =
+              subst (λ (c : Option Checksum). IsBoundTo (channel_held acceptor.context) c) (sym end.cksum) (bound_to (channel_held acceptor.context) options.channel_bindings options.flags.0 meets);
+          client_is = ap (λ (p : EncTicketPart). user_of acceptor.context.rules p.cname p.crealm) end.part_is;
         }
 
     judging : is_acceptor acceptor.context ≡ true
@@ -167,14 +180,14 @@ module _ {G : Type 0} (admits : G → Ask → Verdict → G → Type 0) (initiat
             begun = begun;
           }
 
-      only : AdmitsOnly admits state.gate (ask_of (request_of end.offer) event.moment) after.gate
+      only : AdmitsOnly admits state.gate (ask_of acceptor.context.rules (request_of end.offer) event.moment) after.gate
       only = let_in (request_of end.offer) brings
 
       ends_well : (more : InitOptions) (own : Draw) → is_bare more.flags ≡ is_bare flags → IsDraw own
           → EndsWellIn (is_bare flags) admits (settled initiator.context end.done.change) j.server more own (draw_of event) end.offer j.answer
       ends_well more own same drawn =
-          reach initiator.context acceptor.context j.server options more target service_key credentials client suite answers rep part user state.env draw own (draw_of event) admits state.gate after.gate j.answer
-          same kdcs holds named are_new drawn handed.draw end accepts only
+          reach initiator.context acceptor.context j.server options more target service_key credentials client suite answers rep part state.env draw own (draw_of event) admits state.gate after.gate j.answer
+          same kdcs holds fits meets are_new drawn handed.draw end accepts only
 
       settled_so : j.server ≡ admitted acceptor.context (admission_for acceptor.context (draw_of event) user end.offer)
       settled_so =
@@ -272,9 +285,9 @@ module _ {G : Type 0} (admits : G → Ask → Verdict → G → Type 0) (initiat
         record { token = end.done.token; told = w.reply_is; on = on }
 
   pub both-by-events : (reply : Reply) (waiting : Connection) → CanBegin initiator.context options target credentials client → AreHonestKdcs seeker suite service_key draw answers rep part → IsDraw answers.last.draw
-      → HoldsKey acceptor.context target service_key → client_of part.cname part.crealm ≡ Some user → AreNew initiator.context acceptor.context → initiator.exchange ≡ None → acceptor.exchange ≡ None
+      → HoldsKey acceptor.context target service_key → FitsRules acceptor.context.rules part → channel_held acceptor.context ≡ None → AreNew initiator.context acceptor.context → initiator.exchange ≡ None → acceptor.exchange ≡ None
       → IsFetched admits flags env draw answers initiator reply waiting → IsShown admits suite part acceptor.context.encryption_params.ec (is_bare flags) reply waiting acceptor
-  both-by-events reply waiting can kdcs drawn holds named are_new initiator_free acceptor_free f =
+  both-by-events reply waiting can kdcs drawn holds fits unbound are_new initiator_free acceptor_free f =
       let asks = asks_mutual initiator.context options target credentials client can in
       let end = ends_with_offer seeker suite service_key draw answers rep part kdcs asks drawn initiator.context can.role in
-      shown_so can kdcs holds named are_new initiator_free acceptor_free end reply waiting f
+      shown_so can kdcs holds fits unbound are_new initiator_free acceptor_free end reply waiting f

@@ -21,7 +21,6 @@ use Rattle.krb_script.specs.declared.input.Input.TheVariants.{Token, Start, KdcR
 use Rattle.krb_script.specs.declared.item.Event.{Event}
 use Rattle.sspi_core.specs.Checks.{ok_or}
 use Rattle.sspi_core.specs.Moments.{last_moment}
-use Rattle.sspi_core.specs.Usernames.{UserName}
 use Rattle.sspi_core.specs.declared.cause.Cause.TheVariants as causes
 use Rattle.sspi_core.specs.declared.identity.CredentialsBuffers.{CredentialsBuffers}
 use Rattle.sspi_core.specs.declared.results.SecurityStatus.TheVariants.{Ok as Complete, ContinueNeeded}
@@ -37,8 +36,8 @@ reached_same one other event same =
     ap (λ (found : Option Connection). ((check causes.Moment (nat_le event.moment last_moment) >>= (λ u. ok_or causes.Connection found)) >>= freed) >>= judges (input_token event.input)) same
 
 module _ {G : Type 0} (admits : G → Ask → Verdict → G → Type 0) (before : State G) (e : Exchanged) (initiator acceptor : Connection) (target service_key : List ℕ)
-    (credentials : CredentialsBuffers) (client : Client) (suite : CipherSuite) (rep : TgsRep) (part : EncTicketPart) (user : UserName)
-    (ready : AreReady before e initiator acceptor target service_key credentials client suite rep part user) where
+    (credentials : CredentialsBuffers) (client : Client) (suite : CipherSuite) (rep : TgsRep) (part : EncTicketPart)
+    (ready : AreReady before e initiator acceptor target service_key credentials client suite rep part) where
   abbrev started : Event
   started = event_at e.initiator e.flags e.start Start
 
@@ -146,8 +145,8 @@ module _ {G : Type 0} (admits : G → Ask → Verdict → G → Type 0) (before 
   module _ (said : Reply) (four : State G) (told : Told said four) (let_in : CanOnlyAdmit admits before (handing e said)) where
     shown : IsShown admits suite part filler (is_bare e.flags) said told.waiting acceptor
     shown =
-        both-by-events admits initiator acceptor e.flags before.env target service_key credentials client suite (replies_of e) rep part user e.start said told.waiting
-        ready.can ready.honest ready.drawn.1.1.1.0 ready.holds ready.named ready.are_new ready.initiator_free ready.acceptor_free told.fetched
+        both-by-events admits initiator acceptor e.flags before.env target service_key credentials client suite (replies_of e) rep part e.start said told.waiting
+        ready.can ready.honest ready.drawn.1.1.1.0 ready.holds ready.fits ready.unbound ready.are_new ready.initiator_free ready.acceptor_free told.fetched
 
     said_is : said ≡ Done ContinueNeeded (token_in said) false
     said_is = shown.told ∙ ap (λ (r : Reply). Done ContinueNeeded (token_in r) false) (sym shown.told)
@@ -164,7 +163,7 @@ module _ {G : Type 0} (admits : G → Ask → Verdict → G → Type 0) (before 
           let same : reached before.connections (handing e said) ≡ reached four.connections (handing e said) =
           reached_same before.connections four.connections (handing e said) (ready.accepts ∙ sym told.accepts) in
           let brings : Brings before.connections (handing e said) request = record { connection = b.connection; token = b.token; reaches = same ∙ b.reaches; begun = b.begun } in
-          subst (λ (g : G). AdmitsOnly admits g (ask_of request e.accepting.moment) five.gate) (sym told.gate_is) (let_in request five.gate brings)
+          subst (λ (g : G). AdmitsOnly admits g (ask_of b.connection.context.rules request e.accepting.moment) five.gate) (sym told.gate_is) (let_in request five.gate brings)
 
       admitted : Admitted
       admitted =

@@ -1,7 +1,7 @@
 -- An exchange of both ends, at two connections of one service, as one list of events.
 use Rattle.std.specs.Prelude.{◌≡◌, ◌==◌, ℕ, true, false, List, [], ◌∷◌, Some, None}
 use Rattle.std.specs.List.{AllByRecursion}
-use Rattle.krb_admission.specs.Clients.{client_of}
+use Rattle.krb_admission.specs.Allowed.{channel_held}
 use Rattle.krb_admission.specs.Requests.{ask_of}
 use Rattle.krb_admission.specs.declared.request.Request.{Request}
 use Rattle.krb_as.specs.declared.client.Client.{Client}
@@ -9,6 +9,7 @@ use Rattle.krb_crypto.specs.declared.suite.CipherSuite.{CipherSuite}
 use Rattle.krb_laws_ends.specs.Answers.{AdmitsOnly, AreNew, IsDraw}
 use Rattle.krb_laws_ends.specs.Fetches.{CanBegin, seeker_for, HoldsKey}
 use Rattle.krb_laws_ends.specs.HonestKdc.{Step, Answers, AreHonestKdcs}
+use Rattle.krb_laws_ends.specs.Offers.{FitsRules}
 use Rattle.krb_exchange.specs.declared.kdc_rep.TgsRep.{TgsRep}
 use Rattle.krb_machine.specs.Initiations.{options_of}
 use Rattle.krb_machine.specs.Policy.{State, Brings}
@@ -22,7 +23,6 @@ use Rattle.krb_script.specs.Script.{at_id}
 use Rattle.krb_script.specs.declared.input.Input.{Input}
 use Rattle.krb_script.specs.declared.input.Input.TheVariants.{Token, Start, KdcReply}
 use Rattle.krb_script.specs.declared.item.Event.{Event}
-use Rattle.sspi_core.specs.Usernames.{UserName}
 use Rattle.sspi_core.specs.declared.draw.Draw.{Draw}
 use Rattle.sspi_core.specs.declared.flags.ClientRequestFlags.{ClientRequestFlags}
 use Rattle.sspi_core.specs.declared.identity.CredentialsBuffers.{CredentialsBuffers}
@@ -81,9 +81,9 @@ abbrev pub closing_of : Exchanged → Reply → List Event
 closing_of e ended = event_at e.acceptor e.flags e.closing (Token (token_in ended)) ∷ []
 
 -- an initiator and an acceptor of a service, which await no KDC; the replies are those of an honest KDC, and the acceptor holds the
--- service's key
+-- service's key. The ticket is one that the acceptor's rules let in, and they hold its clients to no channel
 pub record AreReady {G : Type 0} (before : State G) (e : Exchanged) (initiator acceptor : Connection) (target service_key : List ℕ) (credentials : CredentialsBuffers)
-    (client : Client) (suite : CipherSuite) (rep : TgsRep) (part : EncTicketPart) (user : UserName) : Type 0 where
+    (client : Client) (suite : CipherSuite) (rep : TgsRep) (part : EncTicketPart) : Type 0 where
   pub initiates : at_id e.initiator before.connections ≡ Some initiator
   pub accepts : at_id e.acceptor before.connections ≡ Some acceptor
   pub apart : (e.initiator == e.acceptor) ≡ false
@@ -93,14 +93,16 @@ pub record AreReady {G : Type 0} (before : State G) (e : Exchanged) (initiator a
   pub honest : AreHonestKdcs (seeker_for initiator.context (options_of initiator before.env e.flags []) target credentials client) suite service_key
       e.start (replies_of e) rep part
   pub holds : HoldsKey acceptor.context target service_key
-  pub named : client_of part.cname part.crealm ≡ Some user
+  pub fits : FitsRules acceptor.context.rules part
+  pub unbound : channel_held acceptor.context ≡ None
   pub are_new : AreNew initiator.context acceptor.context
   pub drawn : AllByRecursion IsDraw (e.start ∷ e.error.draw ∷ e.first.draw ∷ e.last.draw ∷ e.accepting ∷ e.ending ∷ e.closing ∷ [])
 
 module _ {G : Type 0} (admits : G → Asks → Verdict → G → Type 0) where
   -- asked for the request that an event brings, the gate can do nothing but admit it
   abbrev pub CanOnlyAdmit : State G → Event → Type 0
-  CanOnlyAdmit state event = (request : Request) (new : G) → Brings state.connections event request → AdmitsOnly admits state.gate (ask_of request event.moment) new
+  CanOnlyAdmit state event = (request : Request) (new : G) (brings : Brings state.connections event request)
+      → AdmitsOnly admits state.gate (ask_of brings.connection.context.rules request event.moment) new
 
 -- the connections stand in the service, and have one context
 pub record MeetIn {G : Type 0} (e : Exchanged) (suite : CipherSuite) (part : EncTicketPart) (ec : ℕ) (after : State G) : Type 0 where

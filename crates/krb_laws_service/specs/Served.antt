@@ -87,7 +87,8 @@ module _ {G : Type 0} (admits : G → Ask → Verdict → G → Type 0) where
 
   -- the gate can do nothing but admit the request that an event brings
   abbrev pub IsLetIn : State G → Event → State G → Type 0
-  IsLetIn state event after = (request : Request) → Brings state.connections event request → AdmitsOnly admits state.gate (ask_of request event.moment) after.gate
+  IsLetIn state event after = (request : Request) (brings : Brings state.connections event request)
+      → AdmitsOnly admits state.gate (ask_of brings.connection.context.rules request event.moment) after.gate
 
   -- of an exchange in this suite, with this ticket, at ends that had so many octets of filler
   module _ (suite : CipherSuite) (part : EncTicketPart) (ec : ℕ) where

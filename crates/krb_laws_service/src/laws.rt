@@ -4,20 +4,20 @@ ghost use Rattle.std.specs.Prelude.{◌≡◌, ℕ, List, [], ◌∷◌, Some, N
 ghost use Rattle.sspi_core.specs.declared.draw.Draw.{Draw};
 ghost use Rattle.sspi_core.specs.declared.flags.ClientRequestFlags.{ClientRequestFlags};
 ghost use Rattle.sspi_core.specs.declared.identity.CredentialsBuffers.{CredentialsBuffers};
-ghost use Rattle.sspi_core.specs.Usernames.{UserName};
 ghost use Rattle.krb_conf.specs.declared.env.Env.{Env};
 ghost use Rattle.krb_crypto.specs.declared.suite.CipherSuite.{CipherSuite};
 ghost use Rattle.krb_messages.specs.declared.enc_ticket_part.EncTicketPart.{EncTicketPart};
 ghost use Rattle.krb_exchange.specs.declared.kdc_rep.TgsRep.{TgsRep};
 ghost use Rattle.krb_as.specs.declared.client.Client.{Client};
 ghost use Rattle.krb_ap.specs.Initiators.{is_bare};
-ghost use Rattle.krb_admission.specs.Clients.{client_of};
+ghost use Rattle.krb_admission.specs.Allowed.{channel_held};
 ghost use Rattle.krb_machine.specs.Initiations.{options_of};
 ghost use Rattle.krb_machine.specs.declared.connection.Connection.{Connection};
 ghost use Rattle.krb_machine.specs.declared.reply.Reply.{Reply};
 ghost use Rattle.krb_laws_ends.specs.Answers.{AreNew, IsDraw, AreEstablished};
 ghost use Rattle.krb_laws_ends.specs.Fetches.{CanBegin, seeker_for, HoldsKey};
 ghost use Rattle.krb_laws_ends.specs.HonestKdc.{Answers, AreHonestKdcs};
+ghost use Rattle.krb_laws_ends.specs.Offers.{FitsRules};
 ghost use Rattle.krb_laws_service.specs.Served.{IsFetched, IsShown, ArePlayed, answer_to};
 ghost use Rattle.krb_script.specs.Script.{at_id};
 ghost use Rattle.krb_script.specs.declared.item.Event.{Event};
@@ -30,15 +30,17 @@ use krb_replay::ReplayGate;
 /// Both ends over a service, or over two: an initiator that is started, and whose honest KDCs' replies are handed in, says a token.
 /// Handed to an acceptor that holds the service's key, and whose gate admits the client, it is answered by one; that is handed to the
 /// initiator, and in DCE style the initiator's last word to the acceptor. Then both are established with one session key, one
-/// sub-session key, one suite and one length of the filler. Events of other connections may come between.
+/// sub-session key, one suite and one length of the filler. Events of other connections may come between. The acceptor may go by any rules:
+/// the ticket is one that they let in, and they hold its clients to no channel, since the initiator has no bindings here.
 pub fn both_ends_reach_one_context_by_events<G: ReplayGate>()
     ensures { (initiator waiting acceptor : Connection) (flags : ClientRequestFlags) (env : Env) (target service_key : List ℕ)
         (credentials : CredentialsBuffers) (client : Client) (suite : CipherSuite) (answers : Answers) (rep : TgsRep) (part : EncTicketPart)
-        (user : UserName) (draw : Draw) (reply : Reply)
+        (draw : Draw) (reply : Reply)
         → CanBegin initiator.context (options_of initiator env flags []) target credentials client
         → AreHonestKdcs (seeker_for initiator.context (options_of initiator env flags []) target credentials client) suite service_key draw answers rep part
-        → IsDraw answers.last.draw → HoldsKey acceptor.context target service_key → client_of part.cname part.crealm ≡ Some user
-        → AreNew initiator.context acceptor.context → initiator.exchange ≡ None → acceptor.exchange ≡ None
+        → IsDraw answers.last.draw → HoldsKey acceptor.context target service_key → FitsRules acceptor.context.rules part
+        → channel_held acceptor.context ≡ None → AreNew initiator.context acceptor.context
+        → initiator.exchange ≡ None → acceptor.exchange ≡ None
         → IsFetched G.admits flags env draw answers initiator reply waiting
         → IsShown G.admits suite part acceptor.context.encryption_params.ec (is_bare flags) reply waiting acceptor }
 {}
@@ -65,16 +67,16 @@ pub fn established_connections_understand_each_other<G: ReplayGate>()
 /// initiator's last word, too.
 pub fn one_list_of_events_brings_both_to_one_context<G: ReplayGate>()
     ensures plain { (before after : State G) (e : Exchanged) (initiator acceptor : Connection) (target service_key : List ℕ)
-        (credentials : CredentialsBuffers) (client : Client) (suite : CipherSuite) (rep : TgsRep) (part : EncTicketPart) (user : UserName)
+        (credentials : CredentialsBuffers) (client : Client) (suite : CipherSuite) (rep : TgsRep) (part : EncTicketPart)
         (asked again wanted said answered ended : Reply)
-        → AreReady before e initiator acceptor target service_key credentials client suite rep part user
+        → AreReady before e initiator acceptor target service_key credentials client suite rep part
         → CanOnlyAdmit G.admits before (handing e said) → is_bare e.flags ≡ false
         → Runs G.admits before (events_of e said answered []) (asked ∷ again ∷ wanted ∷ said ∷ answered ∷ ended ∷ []) after
         → EndsPlainly e suite part acceptor.context.encryption_params.ec said answered ended after }
     ensures dce { (before after : State G) (e : Exchanged) (initiator acceptor : Connection) (target service_key : List ℕ)
-        (credentials : CredentialsBuffers) (client : Client) (suite : CipherSuite) (rep : TgsRep) (part : EncTicketPart) (user : UserName)
+        (credentials : CredentialsBuffers) (client : Client) (suite : CipherSuite) (rep : TgsRep) (part : EncTicketPart)
         (asked again wanted said answered ended closed : Reply)
-        → AreReady before e initiator acceptor target service_key credentials client suite rep part user
+        → AreReady before e initiator acceptor target service_key credentials client suite rep part
         → CanOnlyAdmit G.admits before (handing e said) → is_bare e.flags ≡ true
         → Runs G.admits before (events_of e said answered (closing_of e ended))
         (asked ∷ again ∷ wanted ∷ said ∷ answered ∷ ended ∷ closed ∷ []) after

@@ -18,6 +18,7 @@ use Rattle.krb_conf.specs.declared.env.Env.{Env}
 use Rattle.krb_context.specs.ServiceKeys.{service_key}
 use Rattle.krb_context.specs.States.{is_waiting}
 use Rattle.krb_context.specs.declared.context.Kerberos.{Kerberos}
+use Rattle.krb_context.specs.declared.rules.Rules.{Rules}
 use Rattle.krb_context.specs.declared.server.ServerProperties.{ServerProperties}
 use Rattle.sspi_core.proofs.Chain.{takes_some, holds_true, follows, gives}
 use Rattle.krb_exchange.specs.declared.user_to_user.TgtReq.{TgtReq}
@@ -25,18 +26,20 @@ use Rattle.krb_replay.specs.Book.{Book, Follows, StandsFor}
 use Rattle.krb_replay.specs.History.{History, verdict_of}
 use Rattle.krb_replay.specs.Verdicts.{is_admitted}
 use Rattle.krb_replay.specs.declared.ask.Verdict.{Verdict}
-use Rattle.krb_replay.specs.declared.ask.Verdict.TheVariants.{Admitted, Skew, NotYet, Expired, Replayed}
+use Rattle.krb_replay.specs.declared.ask.Verdict.TheVariants as verdicts
+use Rattle.krb_replay.specs.declared.ask.Verdict.TheVariants.{Admitted}
 use Rattle.krb_replies.specs.Unseals.{suite_of_integer, own_key, Unseals, OpensSealed, OpensData}
 use Rattle.krb_admission.specs.Accepts.{asks_dce_style, BeginsAdmission, FinishesAdmission, DecidesAdmission, Asks, refusal}
 use Rattle.krb_admission.specs.Admission.{reply_message, token_with, state_behind, status_in, admission_of, answer_for, mutual_admission, one_way_admission}
-use Rattle.krb_admission.specs.Clients.{client_of}
+use Rattle.krb_admission.specs.Allowed.{channel_held, is_validated, is_transit_checked, tells_bindings, is_bound, Allows}
+use Rattle.krb_admission.specs.Clients.{is_known_client}
 use Rattle.krb_admission.specs.Complete.{is_known_options, is_mutual, has_good_subkey, Completes}
 use Rattle.krb_admission.specs.Requests.{is_same_client, OpensTicket, OpensAuthenticator, Requests, ask_of}
 use Rattle.krb_admission.specs.Tokens.{IsApReq, ReceivesApReq}
 use Rattle.krb_admission.specs.declared.admission.Answer.{Answer}
 use Rattle.krb_admission.specs.declared.admission.Admission.{Admission}
 use Rattle.krb_admission.specs.declared.request.Request.{Request}
-use Rattle.krb_admission.proofs.Begun.{passed, opened}
+use Rattle.krb_admission.proofs.Begun.{passed, opened, allowed}
 use Rattle.krb_admission.proofs.Once.{begins_once}
 use Rattle.krb_admission.proofs.Steps.{completed}
 use Rattle.krb_server.specs.Whole.{RunsAs, accepted_as, answered_as, AcceptsToken}
@@ -47,7 +50,7 @@ use Rattle.sspi_core.specs.Checks.{Holds, Takes, Passes, Goes, told, ◌>>◌}
 use Rattle.sspi_core.specs.declared.error.Place.TheVariants.{Elsewhere}
 use Rattle.sspi_core.specs.Usernames.{UserName}
 use Rattle.sspi_core.specs.declared.cause.Cause.{Cause}
-use Rattle.sspi_core.specs.declared.cause.Cause.TheVariants.{Sequence, NoServiceKey, Etype, Names, ClientName, ApOptions, SubKey, Shape}
+use Rattle.sspi_core.specs.declared.cause.Cause.TheVariants.{Sequence, NoServiceKey, Etype, Names, NotYet, Transited, Checksum, Bindings, ClientName, ApOptions, SubKey, Shape}
 use Rattle.sspi_core.specs.declared.draw.Draw.{Draw}
 use Rattle.sspi_core.specs.declared.results.SecurityStatus.TheVariants as statuses
 use Rattle.sspi_generator.specs.declared.network.NetFault.{NetFault}
@@ -63,7 +66,7 @@ use Rattle.krb_machine.proofs.BookLemmas.{never-forgets}
 use Rattle.krb_machine.proofs.CallLemmas.{call-admits_not, token-step}
 use Rattle.krb_machine.proofs.ExchangeLemmas.{same_state, settles_admitted, answer-admits_not, turn-admits_not}
 use Rattle.krb_machine.proofs.LeftLemmas.{made_admission, judged-other, passed_admitted, passing-done}
-use Rattle.krb_machine.specs.Admitted.{IsEncryptionOf, IsGenuine, IsInOrder, IsAdmissible, admitted_reply, reply_to, service_behind}
+use Rattle.krb_machine.specs.Admitted.{IsEncryptionOf, IsGenuine, IsAllowed, IsInOrder, IsAdmissible, user_at, admitted_reply, reply_to, service_behind}
 
 -- ---- checks that passed
 
@@ -122,17 +125,17 @@ opened_ticket server message part h =
     let P : EncTicketPart → Type 0 = λ p. IsEncryptionOf enc_ticket_part_layout d.found.0 k.found 2 p message.ticket.enc_part in
     record { key = k.found; has_key = taken _ _ _ k.held; suite = d.found.0; ticket = subst P (sym e) (encryption _ _ _ _ _ d.held) }
 
-record OpenedAuthenticator (message : ApReq) (part : EncTicketPart) (sealed : CipherSuite × Authenticator) : Type 0 where
+record OpenedAuthenticator (rules : Rules) (message : ApReq) (part : EncTicketPart) (sealed : CipherSuite × Authenticator) : Type 0 where
   authenticator : IsEncryptionOf authenticator_layout sealed.0 part.key.key_value 11 sealed.1 message.authenticator
-  same_client : is_same_client part sealed.1 ≡ true
+  same_client : is_same_client rules part sealed.1 ≡ true
 
-opened_authenticator : (message : ApReq) (part : EncTicketPart) (sealed : CipherSuite × Authenticator) → OpensAuthenticator message part (Ok sealed) → OpenedAuthenticator message part sealed
+opened_authenticator : (rules : Rules) (message : ApReq) (part : EncTicketPart) (sealed : CipherSuite × Authenticator) → OpensAuthenticator rules message part (Ok sealed) → OpenedAuthenticator rules message part sealed
 unfolding OpensAuthenticator
-opened_authenticator message part sealed h =
+opened_authenticator rules message part sealed h =
     let u = passed _ _ _ h in
     let v = passed _ _ _ u.rest in
     let e : sealed ≡ u.found = same_ok _ _ v.rest.is in
-    let P : CipherSuite × Authenticator → Type 0 = λ s. OpenedAuthenticator message part s in
+    let P : CipherSuite × Authenticator → Type 0 = λ s. OpenedAuthenticator rules message part s in
     subst P (sym e) (record { authenticator = encryption _ _ _ _ _ u.held; same_client = held_true _ _ _ v.held })
 
 record ReceivedToken (dce : Bool) (token : List ℕ) (message : ApReq) : Type 0 where
@@ -145,17 +148,17 @@ received_token dce token message h =
     let r = passed _ _ _ h in
     record { short = leb-true (length token) 16777216 (held_true _ _ _ r.held); is_ap_req = r.rest.is }
 
-genuine_found : (server : ServerProperties) (dce : Bool) (token : List ℕ) (request : Request) → Requests server dce token (Ok request) → IsGenuine server dce token request
+genuine_found : (rules : Rules) (server : ServerProperties) (dce : Bool) (token : List ℕ) (request : Request) → Requests rules server dce token (Ok request) → IsGenuine rules server dce token request
 unfolding Requests
-genuine_found server dce token request h =
+genuine_found rules server dce token request h =
     let m = passed _ _ _ h in
     let t = passed _ _ _ m.rest in
     let s = passed _ _ _ t.rest in
     let e = same_ok _ _ s.rest.is in
     let received = received_token dce token m.found m.held in
     let ticket = opened_ticket server m.found t.found t.held in
-    let authenticator = opened_authenticator m.found t.found s.found s.held in
-    let P : Request → Type 0 = λ q. IsGenuine server dce token q in
+    let authenticator = opened_authenticator rules m.found t.found s.found s.held in
+    let P : Request → Type 0 = λ q. IsGenuine rules server dce token q in
     subst P (sym e) (record {
       short = received.short;
       is_ap_req = received.is_ap_req;
@@ -167,9 +170,9 @@ genuine_found server dce token request h =
       same_client = authenticator.same_client;
     })
 
-genuine_requests : (server : ServerProperties) (dce : Bool) (token : List ℕ) (request : Request) → IsGenuine server dce token request → Requests server dce token (Ok request)
+genuine_requests : (rules : Rules) (server : ServerProperties) (dce : Bool) (token : List ℕ) (request : Request) → IsGenuine rules server dce token request → Requests rules server dce token (Ok request)
 unfolding Requests OpensTicket OpensAuthenticator ReceivesApReq
-genuine_requests server dce token request g =
+genuine_requests rules server dce token request g =
     follows _ _ request.message _
     (follows _ _ tt _ (holds_true Shape (nat_le (length token) 16777216) (le-leb (length token) 16777216 g.short)) (record { is = g.is_ap_req }))
     (follows _ _ request.part _
@@ -178,8 +181,26 @@ genuine_requests server dce token request g =
     (follows _ _ (request.suite, request.authenticator) _
     (follows _ _ (request.suite, request.authenticator) _
     (opens authenticator_layout request.suite request.part.key.key_value 11 request.authenticator request.message.authenticator g.authenticator)
-    (follows _ _ tt _ (holds_true Names (is_same_client request.part request.authenticator) g.same_client) (gives (request.suite, request.authenticator))))
+    (follows _ _ tt _ (holds_true Names (is_same_client rules request.part request.authenticator) g.same_client) (gives (request.suite, request.authenticator))))
     (gives request)))
+
+-- ---- what the rules ask of it
+
+allowed_found : (context : Kerberos) (request : Request) (u : Unit {0}) → Allows context request (Ok u) → IsAllowed context request
+unfolding Allows
+allowed_found context request u h =
+    let v = passed _ _ _ h in
+    let t = passed _ _ _ v.rest in
+    let b = passed _ _ _ t.rest in
+    record { validated = held_true _ _ _ v.held; transit = held_true _ _ _ t.held; told = held_true _ _ _ b.held; bound = held_true _ _ _ b.rest }
+
+allows_it : (context : Kerberos) (request : Request) → IsAllowed context request → Allows context request (Ok tt)
+unfolding Allows
+allows_it context request a =
+    follows _ _ tt _ (holds_true NotYet (is_validated context.rules request.part) a.validated)
+    (follows _ _ tt _ (holds_true Transited (is_transit_checked context.rules request.part) a.transit)
+    (follows _ _ tt _ (holds_true Checksum (tells_bindings (channel_held context) request.authenticator.cksum) a.told)
+    (holds_true Bindings (is_bound (channel_held context) request.authenticator.cksum) a.bound)))
 
 -- ---- where such a request may come
 
@@ -187,52 +208,59 @@ record Waiting (context : Kerberos) (dce : Bool) (token : List ℕ) (request : R
   waits : is_waiting context.state ≡ true
   server : ServerProperties
   has : context.server ≡ Some server
-  genuine : IsGenuine server dce token request
+  genuine : IsGenuine context.rules server dce token request
+  allowed : IsAllowed context request
 
 waiting_found : (context : Kerberos) (dce : Bool) (token : List ℕ) (request : Request) → BeginsAdmission context dce token (Ok request) → Waiting context dce token request
-unfolding BeginsAdmission
 waiting_found context dce token request h =
-    let a = passed _ _ _ h in
-    let b = passed _ _ _ a.rest in
-    record { waits = held_true _ _ _ a.held; server = b.found; has = taken _ _ _ b.held; genuine = genuine_found b.found dce token request b.rest }
+    let a = allowed context dce token request h in
+    record {
+      waits = a.waits;
+      server = a.properties;
+      has = a.has;
+      genuine = genuine_found context.rules a.properties dce token request a.requests;
+      allowed = allowed_found context request a.done a.allows;
+    }
 
 begins_there : (context : Kerberos) (dce : Bool) (token : List ℕ) (request : Request) → Waiting context dce token request → BeginsAdmission context dce token (Ok request)
 unfolding BeginsAdmission
 begins_there context dce token request w =
     follows _ _ tt _ (holds_true Sequence (is_waiting context.state) w.waits)
-    (follows _ _ w.server _ (takes_some Sequence context.server w.server w.has) (genuine_requests w.server dce token request w.genuine))
+    (follows _ _ w.server _ (takes_some Sequence context.server w.server w.has)
+    (follows _ _ request _ (genuine_requests context.rules w.server dce token request w.genuine)
+    (follows _ _ tt _ (allows_it context request w.allowed) (gives request))))
 
 -- ---- what is in order
 
-in_order_found : (context : Kerberos) (dce : Bool) (draw : Draw) (request : Request) (admission : Admission) → FinishesAdmission context dce draw request (Ok admission) → IsInOrder request
+in_order_found : (context : Kerberos) (dce : Bool) (draw : Draw) (request : Request) (admission : Admission) → FinishesAdmission context dce draw request (Ok admission) → IsInOrder context.rules request
 unfolding FinishesAdmission Completes
 in_order_found context dce draw request admission h =
     let c = passed _ _ _ h in
     let t = passed _ _ _ c.held in
     let o = passed _ _ _ t.rest in
     let s = passed _ _ _ o.rest in
-    record { client = t.found; named = taken _ _ _ t.held; options = held_true _ _ _ o.held; subkey = held_true _ _ _ s.held }
+    record { known = held_true _ _ _ t.held; options = held_true _ _ _ o.held; subkey = held_true _ _ _ s.held }
 
-finishes_there : (context : Kerberos) (dce : Bool) (draw : Draw) (request : Request) (o : IsInOrder request)
-    → FinishesAdmission context dce draw request (Ok (admission_of dce context.krb5_user_to_user context.seq_number draw request o.client))
+finishes_there : (context : Kerberos) (dce : Bool) (draw : Draw) (request : Request) → IsInOrder context.rules request
+    → FinishesAdmission context dce draw request (Ok (admission_of dce context.krb5_user_to_user context.seq_number draw request (user_at context request)))
 unfolding FinishesAdmission Completes
 finishes_there context dce draw request o =
-    follows _ _ o.client _
-    (follows _ _ o.client _ (takes_some ClientName (client_of request.authenticator.cname request.authenticator.crealm) o.client o.named)
+    follows _ _ (user_at context request) _
+    (follows _ _ tt _ (holds_true ClientName (is_known_client context.rules request.authenticator.cname request.authenticator.crealm) o.known)
     (follows _ _ tt _ (holds_true ApOptions (is_known_options request.message.ap_options) o.options)
-    (follows _ _ tt _ (holds_true SubKey (has_good_subkey request) o.subkey) (gives o.client))))
-    (gives (admission_of dce context.krb5_user_to_user context.seq_number draw request o.client))
+    (follows _ _ tt _ (holds_true SubKey (has_good_subkey request) o.subkey) (gives (user_at context request)))))
+    (gives (admission_of dce context.krb5_user_to_user context.seq_number draw request (user_at context request)))
 
 -- ---- what is answered
 
-reply_by : (asked dce user_to_user : Bool) (number : ℕ) (draw : Draw) (request : Request) (client : UserName)
+reply_by : (asked dce user_to_user : Bool) (number : ℕ) (draw : Draw) (request : Request) (client : Option UserName)
     → reply_of (Ok (answer_for (if asked then mutual_admission dce user_to_user number draw request client else one_way_admission number request client)))
     ≡ (if asked then Done (status_in (state_behind dce)) (token_with dce user_to_user (reply_message number draw request)) true else Done statuses.Ok [] true)
 unfolding mutual_admission one_way_admission
 reply_by true dce user_to_user number draw request client = refl
 reply_by false dce user_to_user number draw request client = refl
 
-reply_is : (dce user_to_user : Bool) (number : ℕ) (draw : Draw) (request : Request) (client : UserName)
+reply_is : (dce user_to_user : Bool) (number : ℕ) (draw : Draw) (request : Request) (client : Option UserName)
     → reply_of (Ok (answer_for (admission_of dce user_to_user number draw request client))) ≡ admitted_reply dce user_to_user number draw request
 reply_is dce user_to_user number draw request client = reply_by (is_mutual request.message.ap_options) dce user_to_user number draw request client
 
@@ -255,10 +283,10 @@ admissible-answered skew state after event reply step a =
     let dce = asks_dce_style (server_flags event.flags) in
     let context = a.connection.context in
     let draw = draw_of event in
-    let begun = begins_there context dce a.token a.request (record { waits = a.waits; server = a.server; has = a.has; genuine = a.genuine }) in
-    let admission = admission_of dce context.krb5_user_to_user context.seq_number draw a.request a.in_order.client in
+    let begun = begins_there context dce a.token a.request (record { waits = a.waits; server = a.server; has = a.has; genuine = a.genuine; allowed = a.allowed }) in
+    let admission = admission_of dce context.krb5_user_to_user context.seq_number draw a.request (user_at context a.request) in
     passing-done skew state after event reply a.connection a.token a.request admission step a.reaches begun a.verdict (finishes_there context dce draw a.request a.in_order)
-    ∙ reply_is dce context.krb5_user_to_user context.seq_number draw a.request a.in_order.client
+    ∙ reply_is dce context.krb5_user_to_user context.seq_number draw a.request (user_at context a.request)
 
 -- and makes this of the service
 pub admissible-made : (skew : ℕ) (state after : State History) (event : Event) (reply : Reply) → Steps (Remembers skew) state event reply after → (a : IsAdmissible skew state event) → after ≡ service_behind a
@@ -266,12 +294,12 @@ admissible-made skew state after event reply step a =
     let dce = asks_dce_style (server_flags event.flags) in
     let context = a.connection.context in
     let draw = draw_of event in
-    let admission = admission_of dce context.krb5_user_to_user context.seq_number draw a.request a.in_order.client in
-    let begun = begins_there context dce a.token a.request (record { waits = a.waits; server = a.server; has = a.has; genuine = a.genuine }) in
+    let admission = admission_of dce context.krb5_user_to_user context.seq_number draw a.request (user_at context a.request) in
+    let begun = begins_there context dce a.token a.request (record { waits = a.waits; server = a.server; has = a.has; genuine = a.genuine; allowed = a.allowed }) in
     let j = token-step (Remembers skew) state event a.connection a.token reply after a.reaches step in
     let other = judged-other (Remembers skew) state after event reply a.connection a.token a.request j begun in
     let same = (begins_once context dce a.token).same other.accepts.request (Ok a.request) other.accepts.begun begun in
-    let A : Result Request Cause → Type 0 = λ r. Asks (Remembers skew) event.moment state.gate r other.accepts.verdict after.gate in
+    let A : Result Request Cause → Type 0 = λ r. Asks (Remembers skew) context.rules event.moment state.gate r other.accepts.verdict after.gate in
     let asked = subst A same other.accepts.gate in
     let done = completed (Remembers skew) context dce a.token draw state.gate after.gate other.judged j.server admission other.accepts (asked.0 ∙ a.verdict)
     (judged_there context dce a.token draw a.request admission begun (finishes_there context dce draw a.request a.in_order)) in
@@ -284,20 +312,20 @@ admissible-made skew state after event reply step a =
 
 admitted_is : (verdict : Verdict) → is_admitted verdict ≡ true → verdict ≡ Admitted
 admitted_is Admitted e = refl
-admitted_is Skew e = absurd (cc)
-admitted_is NotYet e = absurd (cc)
-admitted_is Expired e = absurd (cc)
-admitted_is Replayed e = absurd (cc)
+admitted_is verdicts.Skew e = absurd (cc)
+admitted_is verdicts.NotYet e = absurd (cc)
+admitted_is verdicts.Expired e = absurd (cc)
+admitted_is verdicts.Replayed e = absurd (cc)
 
 -- what an admission was judged by
 record Passing (skew moment : ℕ) (h : History) (context : Kerberos) (dce : Bool) (token : List ℕ) : Type 0 where
   request : Request
   waiting : Waiting context dce token request
-  verdict : verdict_of skew h (ask_of request moment) ≡ Admitted
-  in_order : IsInOrder request
+  verdict : verdict_of skew h (ask_of context.rules request moment) ≡ Admitted
+  in_order : IsInOrder context.rules request
 
 judged_passing : (skew : ℕ) (h after : History) (context : Kerberos) (dce : Bool) (token : List ℕ) (draw : Draw) (verdict : Verdict) (request : Result Request Cause) (admission : Admission)
-    → BeginsAdmission context dce token request → Asks (Remembers skew) draw.moment h request verdict after → DecidesAdmission context dce token draw verdict (Ok admission) → Passing skew draw.moment h context dce token
+    → BeginsAdmission context dce token request → Asks (Remembers skew) context.rules draw.moment h request verdict after → DecidesAdmission context dce token draw verdict (Ok admission) → Passing skew draw.moment h context dce token
 unfolding DecidesAdmission
 judged_passing skew h after context dce token draw verdict (Ok request) admission begun asks judged =
     let same : judged.middle ≡ Ok request = (begins_once context dce token).same judged.middle (Ok request) judged.held begun in
@@ -344,6 +372,7 @@ behind_admissible skew state after event (Ok found) reply reaches b done =
       has = p.waiting.has;
       request = p.request;
       genuine = p.waiting.genuine;
+      allowed = p.waiting.allowed;
       verdict = p.verdict;
       in_order = p.in_order;
     }

@@ -34,7 +34,7 @@ book-left-once before after events replies h runs stands =
 
 pub book-passing-done : (before after : State Book) (h : History) (event : Event) (reply : Reply) (connection : Connection) (token : List ℕ) (request : Request) (admission : Admission) → StandsFor before.gate h
     → Steps (Follows StandsFor) before event reply after → reached before.connections event ≡ Ok (connection, token)
-    → BeginsAdmission connection.context (asks_dce_style (server_flags event.flags)) token (Ok request) → verdict_of before.gate.skew h (ask_of request event.moment) ≡ Admitted
+    → BeginsAdmission connection.context (asks_dce_style (server_flags event.flags)) token (Ok request) → verdict_of before.gate.skew h (ask_of connection.context.rules request event.moment) ≡ Admitted
     → FinishesAdmission connection.context (asks_dce_style (server_flags event.flags)) (draw_of event) request (Ok admission) → reply ≡ reply_of (Ok (answer_for admission))
 book-passing-done before after h event reply connection token request admission stands step reaches begun admitted finished =
     let skew = before.gate.skew in

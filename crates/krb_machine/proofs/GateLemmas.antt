@@ -1,6 +1,7 @@
 -- What holds of a service over any gate, from what every gate owes alone.
 use Rattle.std.proofs.Common.{◌≡◌, ℕ, Bool, true, false, List, [], ◌∷◌, Option, Some, None, MatchOption, Result, Ok, Err, refl, ap, sym, ◌∙◌, subst}
 use Rattle.krb_context.specs.declared.context.Kerberos.{Kerberos}
+use Rattle.krb_context.specs.declared.rules.Rules.{Rules}
 use Rattle.krb_replay.proofs.Window.{admitted_in_time}
 use Rattle.krb_replay.specs.Clock.{clock_refusal}
 use Rattle.krb_replay.specs.Gate.{IsJudged, IsOpen}
@@ -59,14 +60,14 @@ open_not (Some w) verdict v m e = m ∙ some_same w v e
 
 -- a run leaves the skew of a gate whose calls leave it
 module _ {G : Type 0} (admits : G → Ask → Verdict → G → Type 0) (skew : G → ℕ) (keeps : (old new : G) (ask : Ask) (verdict : Verdict) → admits old ask verdict new → skew new ≡ skew old) where
-  asks_skew : (at : ℕ) (old new : G) (request : Result Request Cause) (verdict : Verdict) → Asks admits at old request verdict new → skew new ≡ skew old
-  asks_skew at old new (Ok request) verdict step = keeps old new (ask_of request at) verdict step
-  asks_skew at old new (Err cause) verdict same = ap skew same
+  asks_skew : (rules : Rules) (at : ℕ) (old new : G) (request : Result Request Cause) (verdict : Verdict) → Asks admits rules at old request verdict new → skew new ≡ skew old
+  asks_skew rules at old new (Ok request) verdict step = keeps old new (ask_of rules request at) verdict step
+  asks_skew rules at old new (Err cause) verdict same = ap skew same
 
   made_skew : (server : Kerberos) (dce : Bool) (token : List ℕ) (env : Env) (draw : Draw) (old : G) (found : Option TgtReq) (answer : Result Accepted Cause) (server' : Kerberos) (new : G)
       → AcceptsToken admits server dce token env draw old found answer server' new → skew new ≡ skew old
   made_skew server dce token env draw old (Some tgt_req) answer server' new made = ap skew made.2
-  made_skew server dce token env draw old None answer server' new made = asks_skew draw.moment old new made.accepts.request made.accepts.verdict made.accepts.gate
+  made_skew server dce token env draw old None answer server' new made = asks_skew server.rules draw.moment old new made.accepts.request made.accepts.verdict made.accepts.gate
 
   behind_skew : (state after : State G) (event : Event) (found : Result (Connection × List ℕ) Cause) (reply : Reply) → Behind admits state event found reply after → skew after.gate ≡ skew state.gate
   behind_skew state after event (Ok found) reply b = made_skew _ _ _ _ _ state.gate b.accepts.tgt_req b.answer b.server after.gate b.accepts.made
@@ -97,7 +98,7 @@ module _ {G : Type 0} (admits : G → Ask → Verdict → G → Type 0) (skew mo
   record GateJudges (state after : State G) (event : Event) (reply : Reply) (request : Request) (connection : Connection) (token : List ℕ) : Type 0 where
     judges : Judges admits state event connection token reply after
     other : JudgesOther admits connection.context (asks_dce_style (server_flags event.flags)) token (draw_of event) state.gate judges.answer judges.server after.gate
-    verdict : IsJudged (skew state.gate) (moment after.gate) (ask_of request event.moment) other.accepts.verdict
+    verdict : IsJudged (skew state.gate) (moment after.gate) (ask_of connection.context.rules request event.moment) other.accepts.verdict
 
   gate_judges : (state after : State G) (event : Event) (reply : Reply) (request : Request) (step : Steps admits state event reply after) (b : Brings state.connections event request)
       → GateJudges state after event reply request b.connection b.token
@@ -105,12 +106,12 @@ module _ {G : Type 0} (admits : G → Ask → Verdict → G → Type 0) (skew mo
       let j = token-step admits state event b.connection b.token reply after b.reaches step in
       let other = judged-other admits state after event reply b.connection b.token request j b.begun in
       let same = (begins_once b.connection.context (asks_dce_style (server_flags event.flags)) b.token).same other.accepts.request (Ok request) other.accepts.begun b.begun in
-      let A : Result Request Cause → Type 0 = λ r. Asks admits event.moment state.gate r other.accepts.verdict after.gate in
-      record { judges = j; other = other; verdict = judged state.gate after.gate (ask_of request event.moment) other.accepts.verdict (subst A same other.accepts.gate) }
+      let A : Result Request Cause → Type 0 = λ r. Asks admits b.connection.context.rules event.moment state.gate r other.accepts.verdict after.gate in
+      record { judges = j; other = other; verdict = judged state.gate after.gate (ask_of b.connection.context.rules request event.moment) other.accepts.verdict (subst A same other.accepts.gate) }
 
   -- what admits its peer was in time
-  pub done_in_time : (state after : State G) (event : Event) (reply : Reply) (request : Request) → Steps admits state event reply after → Brings state.connections event request → admits_peer reply ≡ true
-      → clock_refusal (skew state.gate) (moment after.gate) (ask_of request event.moment) ≡ None
+  pub done_in_time : (state after : State G) (event : Event) (reply : Reply) (request : Request) → Steps admits state event reply after → (b : Brings state.connections event request) → admits_peer reply ≡ true
+      → clock_refusal (skew state.gate) (moment after.gate) (ask_of b.connection.context.rules request event.moment) ≡ None
   done_in_time state after event reply request step b done =
       let g = gate_judges state after event reply request step b in
       let other = g.other in
@@ -119,19 +120,19 @@ module _ {G : Type 0} (admits : G → Ask → Verdict → G → Type 0) (skew mo
       let t = settles_admitted (draw_of event) _ g.judges.answer reply g.judges.next g.judges.settles done in
       let a = made_admission admits server dce b.token (draw_of event) state.gate after.gate g.judges.answer g.judges.server other t.accepted t.answer_is (ap admits_peer (sym t.reply_is) ∙ done) in
       let J : Result Admission Cause → Type 0 = λ o. DecidesAdmission server dce b.token (draw_of event) other.accepts.verdict o in
-      admitted_in_time (skew state.gate) (moment after.gate) (ask_of request event.moment) other.accepts.verdict g.verdict
+      admitted_in_time (skew state.gate) (moment after.gate) (ask_of server.rules request event.moment) other.accepts.verdict g.verdict
       (admitted_by server dce b.token (draw_of event) other.accepts.verdict request a.0 b.begun (subst J a.1 other.accepts.judged))
 
   -- what the clock refuses is refused so
-  pub clock_refuses : (state after : State G) (event : Event) (reply : Reply) (request : Request) (v : Verdict) (cause : Cause) → Steps admits state event reply after → Brings state.connections event request
-      → clock_refusal (skew state.gate) (moment after.gate) (ask_of request event.moment) ≡ Some v → refusal v ≡ Some cause → reply ≡ reply_of (Err cause)
+  pub clock_refuses : (state after : State G) (event : Event) (reply : Reply) (request : Request) (v : Verdict) (cause : Cause) → Steps admits state event reply after → (b : Brings state.connections event request)
+      → clock_refusal (skew state.gate) (moment after.gate) (ask_of b.connection.context.rules request event.moment) ≡ Some v → refusal v ≡ Some cause → reply ≡ reply_of (Err cause)
   clock_refuses state after event reply request v cause step b clock is =
       let g = gate_judges state after event reply request step b in
       let other = g.other in
       let server = b.connection.context in
       let dce = asks_dce_style (server_flags event.flags) in
       let draw = draw_of event in
-      let same : other.accepts.verdict ≡ v = open_not (clock_refusal (skew state.gate) (moment after.gate) (ask_of request event.moment)) other.accepts.verdict v g.verdict.first clock in
+      let same : other.accepts.verdict ≡ v = open_not (clock_refusal (skew state.gate) (moment after.gate) (ask_of server.rules request event.moment)) other.accepts.verdict v g.verdict.first clock in
       let J : Verdict → Type 0 = λ w. DecidesAdmission server dce b.token draw w other.accepts.outcome in
       let out = one_outcome_lem server dce b.token draw v other.accepts.outcome (Err cause) (subst J same other.accepts.judged) (refused_by server dce b.token draw v request cause b.begun is) in
       let E : Bool → Type 0 = λ last. Ends last server b.token other.accepts.outcome other.judged g.judges.server in

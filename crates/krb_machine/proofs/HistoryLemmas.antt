@@ -9,6 +9,7 @@ use Rattle.krb_server.specs.Whole.{AcceptsToken}
 use Rattle.krb_server.specs.declared.accept.Accepted.{Accepted}
 use Rattle.krb_conf.specs.declared.env.Env.{Env}
 use Rattle.krb_context.specs.declared.context.Kerberos.{Kerberos}
+use Rattle.krb_context.specs.declared.rules.Rules.{Rules}
 use Rattle.krb_exchange.specs.declared.user_to_user.TgtReq.{TgtReq}
 use Rattle.krb_machine.specs.declared.run.Run.{Run}
 use Rattle.sspi_core.specs.declared.draw.Draw.{Draw}
@@ -32,17 +33,17 @@ record Keeps (skew : ℕ) (book : Book) (h : History) : Type 0 where
   own_skew : book.skew ≡ skew
 
 -- the book's step is one of the gate that never forgets
-asks_remembered : (skew moment : ℕ) (old : Book) (h : History) (request : Result Request Cause) (verdict : Verdict) (new : Book) → Keeps skew old h → Asks (Follows StandsFor) moment old request verdict new
-    → (next : History) × Asks (Remembers skew) moment h request verdict next × Keeps skew new next
-asks_remembered skew moment old h (Ok request) verdict new k step =
-    let ask = ask_of request moment in
+asks_remembered : (skew : ℕ) (rules : Rules) (moment : ℕ) (old : Book) (h : History) (request : Result Request Cause) (verdict : Verdict) (new : Book) → Keeps skew old h → Asks (Follows StandsFor) rules moment old request verdict new
+    → (next : History) × Asks (Remembers skew) rules moment h request verdict next × Keeps skew new next
+asks_remembered skew rules moment old h (Ok request) verdict new k step =
+    let ask = ask_of rules request moment in
     let V : ℕ → Type 0 = λ s. verdict ≡ verdict_of s h ask in
     let S : ℕ → Type 0 = λ s. StandsFor new (history_after s h ask) in (
       history_after skew h ask,
       (subst V k.own_skew (step.answer h k.stands), refl),
       record { stands = subst S k.own_skew (step.history h k.stands); own_skew = step.skew ∙ k.own_skew },
     )
-asks_remembered skew moment old h (Err cause) verdict new k same =
+asks_remembered skew rules moment old h (Err cause) verdict new k same =
     let S : Book → Type 0 = λ b. StandsFor b h in (
       h,
       refl,
@@ -62,7 +63,7 @@ made_remembered skew server dce token env draw old new h (Some tgt_req) answer s
     let K : Book → Type 0 = λ b. Keeps skew b h in
     record { after = h; made = (m.0, m.1, refl); keeps = subst K (sym m.2) k; left = refl }
 made_remembered skew server dce token env draw old new h None answer server' k m =
-    let a = asks_remembered skew draw.moment old h m.accepts.request m.accepts.verdict new k m.accepts.gate in
+    let a = asks_remembered skew server.rules draw.moment old h m.accepts.request m.accepts.verdict new k m.accepts.gate in
     record {
       after = a.0;
       made = record {

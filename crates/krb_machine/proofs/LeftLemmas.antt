@@ -3,6 +3,7 @@ use Rattle.std.proofs.Common.{◌≡◌, ℕ, Bool, true, false, List, [], ◌�
 use Rattle.std.specs.Prelude.{if◌then◌else◌}
 use Rattle.std.proofs.lemmas.List.{append-nil}
 use Rattle.krb_context.specs.declared.context.Kerberos.{Kerberos}
+use Rattle.krb_context.specs.declared.rules.Rules.{Rules}
 use Rattle.krb_replay.proofs.Runs.{admits_once}
 use Rattle.krb_replay.specs.History.{History, verdict_of}
 use Rattle.krb_replay.specs.Records.{IsDistinct}
@@ -54,10 +55,10 @@ record Leaves (before after : List Record) (left : List Record) : Type 0 where
   is : after ≡ before ++ left
   distinct : IsDistinct after
 
-asks_left : (skew moment : ℕ) (h : History) (request : Result Request Cause) (verdict : Verdict) (after : History) → Asks (Remembers skew) moment h request verdict after → IsDistinct h.admitted
-    → Leaves h.admitted after.admitted (left_by request verdict moment)
-asks_left skew moment h (Ok request) verdict after step distinct =
-    let ask = ask_of request moment in
+asks_left : (skew : ℕ) (rules : Rules) (moment : ℕ) (h : History) (request : Result Request Cause) (verdict : Verdict) (after : History) → Asks (Remembers skew) rules moment h request verdict after → IsDistinct h.admitted
+    → Leaves h.admitted after.admitted (left_by rules request verdict moment)
+asks_left skew rules moment h (Ok request) verdict after step distinct =
+    let ask = ask_of rules request moment in
     let given = verdict_of skew h ask in
     let now : after.admitted ≡ h.admitted ++ (if is_admitted given then ask.entry ∷ [] else []) =
     ap (λ (g : History). g.admitted) step.1 ∙ recorded_is h.admitted ask.entry (is_admitted given) in
@@ -66,7 +67,7 @@ asks_left skew moment h (Ok request) verdict after step distinct =
       is = now ∙ ap (λ (v : Verdict). h.admitted ++ (if is_admitted v then ask.entry ∷ [] else [])) (sym step.0);
       distinct = subst IsDistinct (sym now) once;
     }
-asks_left skew moment h (Err cause) verdict after same distinct =
+asks_left skew rules moment h (Err cause) verdict after same distinct =
     let D : History → Type 0 = λ g. IsDistinct g.admitted in
     record { is = ap (λ (g : History). g.admitted) same ∙ sym (append-nil h.admitted); distinct = subst D (sym same) distinct }
 
@@ -77,7 +78,7 @@ made_left_once skew server dce token env draw h (Some tgt_req) answer server' af
     let D : History → Type 0 = λ g. IsDistinct g.admitted in
     record { is = ap (λ (g : History). g.admitted) made.2 ∙ sym (append-nil h.admitted); distinct = subst D (sym made.2) distinct }
 made_left_once skew server dce token env draw h None answer server' after made distinct =
-    asks_left skew draw.moment h made.accepts.request made.accepts.verdict after made.accepts.gate distinct
+    asks_left skew server.rules draw.moment h made.accepts.request made.accepts.verdict after made.accepts.gate distinct
 
 behind_left : (skew : ℕ) (state : State History) (event : Event) (found : Result (Connection × List ℕ) Cause) (reply : Reply) (after : State History)
     → (b : Behind (Remembers skew) state event found reply after) → IsDistinct state.gate.admitted
@@ -135,17 +136,17 @@ passed_admitted Expired (Err e) next admission is goes = absurd (cc)
 passed_admitted Replayed (Ok u) next admission is goes = absurd (cc)
 passed_admitted Replayed (Err e) next admission is goes = absurd (cc)
 
-one_left : (verdict : Verdict) (request : Request) (moment : ℕ) → is_admitted verdict ≡ true → length (left_by (Ok request) verdict moment) ≡ 1
-one_left verdict request moment is = rw is refl
+one_left : (rules : Rules) (verdict : Verdict) (request : Request) (moment : ℕ) → is_admitted verdict ≡ true → length (left_by rules (Ok request) verdict moment) ≡ 1
+one_left rules verdict request moment is = rw is refl
 
 goes_left : (server : Kerberos) (dce : Bool) (token : List ℕ) (draw : Draw) (verdict : Verdict) (request : Result Request Cause) (admission : Admission) → BeginsAdmission server dce token request
-    → DecidesAdmission server dce token draw verdict (Ok admission) → length (left_by request verdict draw.moment) ≡ 1
+    → DecidesAdmission server dce token draw verdict (Ok admission) → length (left_by server.rules request verdict draw.moment) ≡ 1
 unfolding DecidesAdmission
 goes_left server dce token draw verdict (Ok request) admission begun judged =
     let same : judged.middle ≡ Ok request = (begins_once server dce token).same judged.middle (Ok request) judged.held begun in
     let R : Result Request Cause → Type 0 = λ m. Goes (λ (request : Request). Passes (refusal verdict) >> FinishesAdmission server dce draw request) m (Ok admission) in
     let passed : (Passes (refusal verdict) >> FinishesAdmission server dce draw request) (Ok admission) = subst R same judged.rest in
-    one_left verdict request draw.moment (passed_admitted verdict passed.middle _ admission passed.held.is passed.rest)
+    one_left server.rules verdict request draw.moment (passed_admitted verdict passed.middle _ admission passed.held.is passed.rest)
 goes_left server dce token draw verdict (Err cause) admission begun judged =
     let same : judged.middle ≡ Err cause = (begins_once server dce token).same judged.middle (Err cause) judged.held begun in
     let R : Result Request Cause → Type 0 = λ m. Goes (λ (request : Request). Passes (refusal verdict) >> FinishesAdmission server dce draw request) m (Ok admission) in
@@ -242,15 +243,15 @@ judged_admitted : (server : Kerberos) (dce : Bool) (token : List ℕ) (draw : Dr
 unfolding DecidesAdmission
 judged_admitted server dce token draw request admission begun finished = follows _ _ request _ begun (follows _ _ tt _ (record { is = refl }) finished)
 
-asked_verdict : (skew moment : ℕ) (h : History) (p : Result Request Cause) (request : Request) (verdict : Verdict) (after : History) → p ≡ Ok request → Asks (Remembers skew) moment h p verdict after
-    → verdict ≡ verdict_of skew h (ask_of request moment)
-asked_verdict skew moment h p request verdict after is asks =
-    let A : Result Request Cause → Type 0 = λ r. Asks (Remembers skew) moment h r verdict after in (subst A is asks).0
+asked_verdict : (skew : ℕ) (rules : Rules) (moment : ℕ) (h : History) (p : Result Request Cause) (request : Request) (verdict : Verdict) (after : History) → p ≡ Ok request → Asks (Remembers skew) rules moment h p verdict after
+    → verdict ≡ verdict_of skew h (ask_of rules request moment)
+asked_verdict skew rules moment h p request verdict after is asks =
+    let A : Result Request Cause → Type 0 = λ r. Asks (Remembers skew) rules moment h r verdict after in (subst A is asks).0
 
 -- an event that passes every check, and that the gate admits, is answered Done
 pub passing-done : (skew : ℕ) (state after : State History) (event : Event) (reply : Reply) (connection : Connection) (token : List ℕ) (request : Request) (admission : Admission)
     → Steps (Remembers skew) state event reply after → reached state.connections event ≡ Ok (connection, token)
-    → BeginsAdmission connection.context (asks_dce_style (server_flags event.flags)) token (Ok request) → verdict_of skew state.gate (ask_of request event.moment) ≡ Admitted
+    → BeginsAdmission connection.context (asks_dce_style (server_flags event.flags)) token (Ok request) → verdict_of skew state.gate (ask_of connection.context.rules request event.moment) ≡ Admitted
     → FinishesAdmission connection.context (asks_dce_style (server_flags event.flags)) (draw_of event) request (Ok admission) → reply ≡ reply_of (Ok (answer_for admission))
 passing-done skew state after event reply connection token request admission step reaches begun admitted finished =
     let j = token-step (Remembers skew) state event connection token reply after reaches step in
@@ -258,7 +259,7 @@ passing-done skew state after event reply connection token request admission ste
     let draw = draw_of event in
     let other = judged-other (Remembers skew) state after event reply connection token request j begun in
     let same = (begins_once connection.context dce token).same other.accepts.request (Ok request) other.accepts.begun begun in
-    let verdict = asked_verdict skew event.moment state.gate other.accepts.request request other.accepts.verdict after.gate same other.accepts.gate ∙ admitted in
+    let verdict = asked_verdict skew connection.context.rules event.moment state.gate other.accepts.request request other.accepts.verdict after.gate same other.accepts.gate ∙ admitted in
     let done = completed (Remembers skew) connection.context dce token draw state.gate after.gate other.judged j.server admission other.accepts verdict (judged_admitted connection.context dce token draw request admission begun finished) in
     let S : Result Accepted Cause → Type 0 = λ a. Settles draw (record connection { context = j.server }) (told Elsewhere a) reply j.next in
     settles_done draw (record connection { context = j.server }) (answer_for admission) reply j.next (subst S (other.answer_is ∙ ap answered_as done.0) j.settles)

@@ -19,5 +19,6 @@ pub mod BookLemmas
 pub mod GateLemmas
 pub mod AdmittedLemmas
 pub mod SetLemmas
+pub mod RulesLemmas
 pub mod WindowLemmas
 pub mod OpenedLemmas

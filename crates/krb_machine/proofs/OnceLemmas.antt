@@ -64,10 +64,10 @@ remembers-determined skew = record { same = λ old ask v w a b h k. (h.0 ∙ sym
 
 module _ {G : Type 0} (admits : G → Ask → Verdict → G → Type 0) (determined : IsDetermined admits) where
   outcome_once : (server : Kerberos) (dce : Bool) (token : List ℕ) (draw : Draw) (old : G) (p q : Result Request Cause) (v w : Verdict) (a b : G) (o u : Result Admission Cause) → p ≡ q
-      → BeginsAdmission server dce token p → Asks admits draw.moment old p v a → Asks admits draw.moment old q w b
+      → BeginsAdmission server dce token p → Asks admits server.rules draw.moment old p v a → Asks admits server.rules draw.moment old q w b
       → DecidesAdmission server dce token draw v o → DecidesAdmission server dce token draw w u → (o ≡ u) × (a ≡ b)
   outcome_once server dce token draw old (Ok x) (Ok y) v w a b o u e begun h k j l =
-      let P : Result Request Cause → Type 0 = λ r. Asks admits draw.moment old r w b in
+      let P : Result Request Cause → Type 0 = λ r. Asks admits server.rules draw.moment old r w b in
       let same = determined.same old _ v w a b h (subst P (sym e) k) in
       let J : Verdict → Type 0 = λ x. DecidesAdmission server dce token draw x o in
       (one_outcome_lem server dce token draw w o u (subst J same.0 j) l, same.1)

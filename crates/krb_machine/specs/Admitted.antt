@@ -1,5 +1,5 @@
 -- When an event admits its peer, and what it is answered then (RFC 4120, sections 3.2.3 and 3.2.4). Nothing here decrypts.
-use Rattle.std.specs.Prelude.{◌≡◌, ◌≤◌, ◌^◌, ℕ, Bool, true, List, [], length, Some, Ok, if◌then◌else◌}
+use Rattle.std.specs.Prelude.{◌≡◌, ◌≤◌, ◌^◌, ℕ, Bool, true, List, [], length, Option, Some, Ok, if◌then◌else◌}
 use Rattle.std.specs.Ordering.{nat_cmp}
 use Rattle.std.specs.BTreeMap.{is_at}
 use Rattle.std.specs.Map.{set_value}
@@ -11,6 +11,8 @@ use Rattle.krb_messages.specs.Layouts.{enc_ticket_part_layout, authenticator_lay
 use Rattle.krb_messages.specs.declared.encryption.EncryptedData.{EncryptedData}
 use Rattle.krb_context.specs.ServiceKeys.{service_key}
 use Rattle.krb_context.specs.States.{is_waiting}
+use Rattle.krb_context.specs.declared.context.Kerberos.{Kerberos}
+use Rattle.krb_context.specs.declared.rules.Rules.{Rules}
 use Rattle.krb_context.specs.declared.server.ServerProperties.{ServerProperties}
 use Rattle.krb_replay.specs.History.{History, verdict_of, history_after}
 use Rattle.krb_replay.specs.declared.ask.Verdict.TheVariants.{Admitted}
@@ -18,11 +20,13 @@ use Rattle.krb_replies.specs.Unseals.{suite_of_integer, IsRead}
 use Rattle.krb_admission.specs.Accepts.{asks_dce_style}
 use Rattle.krb_admission.specs.Admission.{reply_message, token_with, state_behind, status_in, admission_of, settled}
 use Rattle.krb_admission.specs.declared.admission.Admission.{Admission}
-use Rattle.krb_admission.specs.Clients.{client_of}
+use Rattle.krb_admission.specs.Allowed.{channel_held, is_validated, is_transit_checked, tells_bindings, is_bound}
+use Rattle.krb_admission.specs.Clients.{is_known_client, user_of}
 use Rattle.krb_admission.specs.Complete.{is_known_options, is_mutual, has_good_subkey}
 use Rattle.krb_admission.specs.Requests.{is_same_client, ask_of}
 use Rattle.krb_admission.specs.Tokens.{IsApReq}
 use Rattle.krb_admission.specs.declared.request.Request.{Request}
+use Rattle.krb_script.specs.Script.{at_id}
 use Rattle.krb_script.specs.declared.item.Event.{Event}
 use Rattle.krb_machine.specs.Policy.{State, reached, server_flags, draw_of}
 use Rattle.krb_machine.specs.declared.connection.Connection.{Connection}
@@ -41,8 +45,8 @@ pub record IsEncryptionOf {A : Type 0} (layout : Layout A) (suite : CipherSuite)
   pub sealed : IsSealed suite key usage part.cipher plain
 
 -- a token is an AP-REQ: its ticket is encrypted under the key of the service that it names, with usage 2, its authenticator under the
--- key inside the ticket, with usage 11, and both speak of one client
-pub record IsGenuine (server : ServerProperties) (dce : Bool) (token : List ℕ) (request : Request) : Type 0 where
+-- key inside the ticket, with usage 11, and both speak of one client. By a rule the type of its name is a hint (RFC 4120, section 6.2)
+pub record IsGenuine (rules : Rules) (server : ServerProperties) (dce : Bool) (token : List ℕ) (request : Request) : Type 0 where
   pub short : length token ≤ 2 ^ 24
   pub is_ap_req : IsApReq dce token request.message
   pub key : List ℕ
@@ -50,17 +54,33 @@ pub record IsGenuine (server : ServerProperties) (dce : Bool) (token : List ℕ)
   pub ticket_suite : CipherSuite
   pub ticket : IsEncryptionOf enc_ticket_part_layout ticket_suite key 2 request.part request.message.ticket.enc_part
   pub authenticator : IsEncryptionOf authenticator_layout request.suite request.part.key.key_value 11 request.authenticator request.message.authenticator
-  pub same_client : is_same_client request.part request.authenticator ≡ true
+  pub same_client : is_same_client rules request.part request.authenticator ≡ true
 
--- its client has a name that is known here, its options are known, and a subkey that is to be taken fits its type
-pub record IsInOrder (request : Request) : Type 0 where
-  pub client : UserName
-  pub named : client_of request.authenticator.cname request.authenticator.crealm ≡ Some client
+-- the ticket and its authenticator are as the rules of the context ask. Each field asks something only by a rule, and of bindings only
+-- where the context has those of its channel
+pub record IsAllowed (context : Kerberos) (request : Request) : Type 0 where
+  -- the ticket is not INVALID (RFC 4120, section 3.2.3)
+  pub validated : is_validated context.rules request.part ≡ true
+  -- it came through no further realms, or a KDC checked them (RFC 4120, section 2.7)
+  pub transit : is_transit_checked context.rules request.part ≡ true
+  -- the checksum of the authenticator tells the bindings of its client's channel (RFC 4121, section 4.1.1)
+  pub told : tells_bindings (channel_held context) request.authenticator.cksum ≡ true
+  -- and they are those of this channel (RFC 4121, section 4.1.1.2)
+  pub bound : is_bound (channel_held context) request.authenticator.cksum ≡ true
+
+-- each connection of a service goes by these rules
+abbrev pub GoBy : {G : Type 0} → Rules → State G → Type 0
+GoBy rules state = (id : ℕ) (connection : Connection) → at_id id state.connections ≡ Some connection → connection.context.rules ≡ rules
+
+-- its client is known here: by a user name, or by a rule with any name that has a component (RFC 4120, section 6.2). Its options are known,
+-- and a subkey that is to be taken fits its type
+pub record IsInOrder (rules : Rules) (request : Request) : Type 0 where
+  pub known : is_known_client rules request.authenticator.cname request.authenticator.crealm ≡ true
   pub options : is_known_options request.message.ap_options ≡ true
   pub subkey : has_good_subkey request ≡ true
 
--- an event is to be admitted: the first checks let its token through to an acceptor that waits for one, the token is a genuine AP-REQ,
--- the gate that never forgets says Admitted, and the request is in order
+-- an event is to be admitted: the first checks let its token through to an acceptor that waits for one, the token is a genuine AP-REQ, the
+-- rules allow it, the gate that never forgets says Admitted, and the request is in order
 pub record IsAdmissible (skew : ℕ) (state : State History) (event : Event) : Type 0 where
   pub connection : Connection
   pub token : List ℕ
@@ -69,9 +89,10 @@ pub record IsAdmissible (skew : ℕ) (state : State History) (event : Event) : T
   pub server : ServerProperties
   pub has : connection.context.server ≡ Some server
   pub request : Request
-  pub genuine : IsGenuine server (asks_dce_style (server_flags event.flags)) token request
-  pub verdict : verdict_of skew state.gate (ask_of request event.moment) ≡ Admitted
-  pub in_order : IsInOrder request
+  pub genuine : IsGenuine connection.context.rules server (asks_dce_style (server_flags event.flags)) token request
+  pub allowed : IsAllowed connection.context request
+  pub verdict : verdict_of skew state.gate (ask_of connection.context.rules request event.moment) ≡ Admitted
+  pub in_order : IsInOrder connection.context.rules request
 
 -- an AP-REP where the request asks for one, and else nothing but that the client is admitted
 abbrev pub admitted_reply : Bool → Bool → ℕ → Draw → Request → Reply
@@ -84,11 +105,16 @@ reply_to {skew} {state} {event} admissible =
     let context = admissible.connection.context in
     admitted_reply (asks_dce_style (server_flags event.flags)) context.krb5_user_to_user context.seq_number (draw_of event) admissible.request
 
+-- the user name that the acceptor has of the client, where it has one
+abbrev pub user_at : Kerberos → Request → Option UserName
+user_at context request = user_of context.rules request.authenticator.cname request.authenticator.crealm
+
 -- what the admission makes: the client, the suite and the keys, the number and the state that the options of the request ask for
 abbrev pub admission_to : {skew : ℕ} {state : State History} {event : Event} → IsAdmissible skew state event → Admission
 admission_to {skew} {state} {event} admissible =
     let context = admissible.connection.context in
-    admission_of (asks_dce_style (server_flags event.flags)) context.krb5_user_to_user context.seq_number (draw_of event) admissible.request admissible.in_order.client
+    let request = admissible.request in
+    admission_of (asks_dce_style (server_flags event.flags)) context.krb5_user_to_user context.seq_number (draw_of event) request (user_at context request)
 
 -- the service then: the client is admitted at the connection, the gate has the record, and all else stays
 abbrev pub service_behind : {skew : ℕ} {state : State History} {event : Event} → IsAdmissible skew state event → State History
@@ -97,5 +123,5 @@ service_behind {skew} {state} {event} admissible =
       connections =
           set_value (is_at (nat_cmp event.connection)) state.connections (record connection { context = settled connection.context (admission_to admissible) });
       env = state.env;
-      gate = history_after skew state.gate (ask_of admissible.request event.moment);
+      gate = history_after skew state.gate (ask_of connection.context.rules admissible.request event.moment);
     }

@@ -6,6 +6,7 @@ use Rattle.krb_replay.specs.declared.ask.Verdict.{Verdict}
 use Rattle.krb_replay.specs.declared.record.Record.{Record}
 use Rattle.krb_conf.specs.declared.env.Env.{Env}
 use Rattle.krb_context.specs.declared.context.Kerberos.{Kerberos}
+use Rattle.krb_context.specs.declared.rules.Rules.{Rules}
 use Rattle.krb_exchange.specs.declared.user_to_user.TgtReq.{TgtReq}
 use Rattle.krb_admission.specs.Requests.{ask_of}
 use Rattle.krb_server.specs.Whole.{AcceptsToken}
@@ -21,10 +22,10 @@ use Rattle.krb_machine.specs.MessageCalls.{is_call}
 use Rattle.krb_machine.specs.Exchanges.{answer_of}
 use Rattle.krb_machine.specs.Policy.{State, Behind, TakesPart, StepsOnward, StepsBy, Steps, Runs, reached, is_initiator}
 
--- that of a request which the gate admits
-abbrev pub left_by : Result Request Cause → Verdict → ℕ → List Record
-left_by (Ok request) verdict moment = if is_admitted verdict then (ask_of request moment).entry ∷ [] else []
-left_by (Err cause) verdict moment = []
+-- that of a request which the gate admits, by the rules of the context that judged it
+abbrev pub left_by : Rules → Result Request Cause → Verdict → ℕ → List Record
+left_by rules (Ok request) verdict moment = if is_admitted verdict then (ask_of rules request moment).entry ∷ [] else []
+left_by rules (Err cause) verdict moment = []
 
 module _ {G : Type 0} (admits : G → Ask → Verdict → G → Type 0) where
   -- a TGT-REQ asks no gate
@@ -32,7 +33,7 @@ module _ {G : Type 0} (admits : G → Ask → Verdict → G → Type 0) where
       (answer : Result Accepted Cause) (server' : Kerberos) (new : G)
       → AcceptsToken admits server dce token env draw old found answer server' new → List Record
   left_made server dce token env draw old (Some tgt_req) answer server' new made = []
-  left_made server dce token env draw old None answer server' new made = left_by made.accepts.request made.accepts.verdict draw.moment
+  left_made server dce token env draw old None answer server' new made = left_by server.rules made.accepts.request made.accepts.verdict draw.moment
 
   abbrev pub left_behind : (state : State G) (event : Event) (found : Result (Connection × List ℕ) Cause) (reply : Reply) (after : State G)
       → Behind admits state event found reply after → List Record

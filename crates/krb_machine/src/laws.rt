@@ -6,7 +6,9 @@ ghost use Rattle.std.specs.Prelude.{◌≡◌, ℕ, List, Result, ◌≢◌, ◌
 ghost use Rattle.sspi_core.specs.declared.cause.Cause.{Cause};
 ghost use Rattle.sspi_core.specs.declared.draw.Draw.{Draw};
 ghost use Rattle.sspi_generator.specs.declared.network.NetFault.{NetFault};
+ghost use Rattle.krb_context.specs.Rules.{no_rules};
 ghost use Rattle.krb_context.specs.declared.context.Kerberos.{Kerberos};
+ghost use Rattle.krb_context.specs.declared.rules.Rules.{Rules};
 ghost use Rattle.krb_initiator.specs.Beginnings.{BeginsInitiation};
 ghost use Rattle.krb_initiator.specs.declared.options.InitOptions.{InitOptions};
 ghost use Rattle.krb_initiator.specs.declared.seeker.Initiation.{Initiation};
@@ -24,13 +26,14 @@ ghost use Rattle.krb_admission.specs.Admission.{answer_for};
 ghost use Rattle.krb_admission.specs.Requests.{ask_of};
 ghost use Rattle.krb_admission.specs.declared.request.Request.{Request};
 ghost use Rattle.krb_admission.specs.declared.admission.Admission.{Admission};
+ghost use Rattle.krb_script.specs.Script.{Setup};
 ghost use Rattle.krb_script.specs.declared.item.Event.{Event};
 ghost use Rattle.krb_machine.specs.declared.connection.Connection.{Connection};
 ghost use Rattle.krb_machine.specs.declared.reply.Reply.{Reply};
 ghost use Rattle.krb_machine.specs.Policy.{State, Steps, Runs, Says, Brings, reached, reply_of, server_flags, draw_of};
-ghost use Rattle.krb_machine.specs.Described.{Remembers, with_gate};
+ghost use Rattle.krb_machine.specs.Described.{Remembers, service_of, with_gate};
 ghost use Rattle.krb_machine.specs.Left.{record_left, records_left};
-ghost use Rattle.krb_machine.specs.Admitted.{IsAdmissible, reply_to, service_behind};
+ghost use Rattle.krb_machine.specs.Admitted.{IsAllowed, GoBy, IsAdmissible, reply_to, service_behind};
 ghost use Rattle.krb_machine.specs.Reply.{admits_peer};
 ghost use Rattle.krb_machine.specs.Opened.{Lists, StandFor, AreJudgedBy, lists_behind, BringOctets};
 ghost use Rattle.krb_machine.specs.Serve.{Written, end_of};
@@ -79,7 +82,7 @@ pub fn records_are_left_once()
 
 /// An event admits its peer exactly where it is admissible: its token came to an acceptor that waits for one and is an AP-REQ, whose
 /// ticket is encrypted under the service's key, whose authenticator is encrypted under the ticket's, whose record no event left before,
-/// and which is in time and in order. It is answered by the AP-REP that its options ask for, and makes what they ask for of the connection.
+/// and which the rules of the context allow, in time and in order. It is answered by the AP-REP that its options ask for, and makes what they ask for of the connection.
 pub fn admitted_exactly_where()
     ensures exactly { (skew : ℕ) (state after : State History) (event : Event) (reply : Reply)
         → Steps (Remembers skew) state event reply after → (admits_peer reply ≡ true) ↔ IsAdmissible skew state event }
@@ -95,6 +98,19 @@ pub fn admitted_exactly_where()
         → (admissible : IsAdmissible before.gate.skew (with_gate before h) event) → reply ≡ reply_to admissible }
 {}
 
+/// A context without rules allows every request, and each connection that the lines of an input describe is without them. How clients are
+/// compared then, which are known, and what their records are, the laws of `krb_admission` say whose names begin so.
+pub fn without_rules_nothing_is_asked_besides()
+    ensures allowed { (context : Kerberos) (request : Request) → context.rules ≡ no_rules → IsAllowed context request }
+    ensures lines { (setup : Setup) → GoBy no_rules (service_of setup) }
+{}
+
+/// No event changes the rules of a connection, whatever the gate.
+pub fn rules_stay<G: ReplayGate>()
+    ensures { (rules : Rules) (state after : State G) (events : List Event) (replies : List Reply)
+        → Runs G.admits state events replies after → GoBy rules state → GoBy rules after }
+{}
+
 /// An event in time, at an acceptor that waits for a token, whose AP-REQ passes every check and is admitted by the gate that
 /// never forgets, is answered Done.
 pub fn completeness()
@@ -102,7 +118,7 @@ pub fn completeness()
         (request : Request) (admission : Admission)
         → Steps (Remembers skew) state event reply after → reached state.connections event ≡ Ok (connection, token)
         → BeginsAdmission connection.context (asks_dce_style (server_flags event.flags)) token (Ok request)
-        → verdict_of skew state.gate (ask_of request event.moment) ≡ Admitted
+        → verdict_of skew state.gate (ask_of connection.context.rules request event.moment) ≡ Admitted
         → FinishesAdmission connection.context (asks_dce_style (server_flags event.flags)) (draw_of event) request (Ok admission)
         → reply ≡ reply_of (Ok (answer_for admission)) }
 {}
@@ -133,7 +149,7 @@ pub fn completeness_over_a_book()
         (request : Request) (admission : Admission) → StandsFor before.gate h
         → Steps (Follows StandsFor) before event reply after → reached before.connections event ≡ Ok (connection, token)
         → BeginsAdmission connection.context (asks_dce_style (server_flags event.flags)) token (Ok request)
-        → verdict_of before.gate.skew h (ask_of request event.moment) ≡ Admitted
+        → verdict_of before.gate.skew h (ask_of connection.context.rules request event.moment) ≡ Admitted
         → FinishesAdmission connection.context (asks_dce_style (server_flags event.flags)) (draw_of event) request (Ok admission)
         → reply ≡ reply_of (Ok (answer_for admission)) }
 {}
@@ -143,12 +159,12 @@ pub fn completeness_over_a_book()
 /// leaves the skew.
 pub fn gates_refuse_by_the_clock<G: ReplayGate>()
     ensures refused { (state after : State G) (event : Event) (reply : Reply) (request : Request) (verdict : Verdict) (cause : Cause)
-        → Steps G.admits state event reply after → Brings state.connections event request
-        → clock_refusal (G.skew state.gate) (G.moment after.gate) (ask_of request event.moment) ≡ Some verdict
+        → Steps G.admits state event reply after → (brings : Brings state.connections event request)
+        → clock_refusal (G.skew state.gate) (G.moment after.gate) (ask_of brings.connection.context.rules request event.moment) ≡ Some verdict
         → refusal verdict ≡ Some cause → reply ≡ reply_of (Err cause) }
     ensures done { (state after : State G) (event : Event) (reply : Reply) (request : Request)
-        → Steps G.admits state event reply after → Brings state.connections event request → admits_peer reply ≡ true
-        → clock_refusal (G.skew state.gate) (G.moment after.gate) (ask_of request event.moment) ≡ None }
+        → Steps G.admits state event reply after → (brings : Brings state.connections event request) → admits_peer reply ≡ true
+        → clock_refusal (G.skew state.gate) (G.moment after.gate) (ask_of brings.connection.context.rules request event.moment) ≡ None }
     ensures skew { (state after : State G) (events : List Event) (replies : List Reply)
         → Runs G.admits state events replies after → G.skew after.gate ≡ G.skew state.gate }
 {}

@@ -27,7 +27,7 @@ use Rattle.krb_requests.specs.PaDatas.{pac_request, enc_timestamp, timestamp, pl
 use Rattle.krb_requests.specs.declared.options.GenerateAsReqOptions.{GenerateAsReqOptions}
 use Rattle.krb_requests.specs.Bodies.{tgt_req, as_req_with, as_req_body, component_octets, user_components, AreShort}
 
-pub le_trans : (a b c : ℕ) → a ≤ b → b ≤ c → a ≤ c
+le_trans : (a b c : ℕ) → a ≤ b → b ≤ c → a ≤ c
 le_trans a b c h k = omega arith
 
 le_refl : (a : ℕ) → a ≤ a
@@ -36,7 +36,7 @@ le_refl a = omega arith
 same_ok : {A : Type 0} (x y : A) → ◌≡◌ {A = Result A Cause} (Ok x) (Ok y) → x ≡ y
 same_ok x y e = cc
 
-pub time_short : (seconds : ℤ) → length (time_octets seconds) ≤ 15
+time_short : (seconds : ℤ) → length (time_octets seconds) ≤ 15
 unfolding time_octets
 time_short seconds = lit≤ tt
 

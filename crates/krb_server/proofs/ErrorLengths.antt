@@ -1,5 +1,5 @@
 -- How long the error is that a client is told.
-use Rattle.std.proofs.Common.{◌≡◌, ℕ, ◌+◌, ◌*◌, ◌≤◌, ◌^◌, ◌%◌, List, [], ◌∷◌, length, sym, subst, lit≤, lit<, arith}
+use Rattle.std.proofs.Common.{◌≡◌, ℕ, ℤ, ◌+◌, ◌*◌, ◌≤◌, ◌^◌, ◌%◌, List, [], ◌∷◌, length, sym, subst, lit≤, lit<, arith}
 use Rattle.std.specs.Int.{w32, to_be_bytes}
 use Rattle.krb_der.specs.Der.{tlv}
 use Rattle.krb_der.specs.Moment.{time_octets}
@@ -9,8 +9,15 @@ use Rattle.krb_exchange.specs.Layouts.{krb_error_row, krb_error_layout}
 use Rattle.krb_messages.specs.declared.principal_name.PrincipalName.{PrincipalName}
 use Rattle.krb_requests.specs.Bodies.{component_octets}
 use Rattle.krb_requests.specs.Pieces.{Fits, principal}
-use Rattle.krb_requests.proofs.Lengths.{le_trans, time_short, principal_complete, principal_le}
+use Rattle.krb_requests.proofs.Lengths.{principal_complete, principal_le}
 use Rattle.krb_server.specs.ErrorTokens.{error_told}
+
+le_trans : (a b c : ℕ) → a ≤ b → b ≤ c → a ≤ c
+le_trans a b c h k = omega arith
+
+time_short : (seconds : ℤ) → length (time_octets seconds) ≤ 15
+unfolding time_octets
+time_short seconds = lit≤ tt
 
 told_fits : (realm : List ℕ) (components : List (List ℕ)) (moment code : ℕ) → length realm ≤ 65536 → length (component_octets components) ≤ 7 * 65536 + 6
     → Fits krb_error_layout (2 ^ 20) (error_told realm (principal 2 components) moment code)

@@ -15,7 +15,7 @@ use Rattle.krb_exchange.proofs.Spelled.{same_record}
 use Rattle.krb_replies.specs.Unseals.{IsRead}
 use Rattle.sspi_core.specs.declared.cause.Cause.{Cause}
 use Rattle.sspi_core.proofs.Once.{Once, then_once, takes_once}
-use Rattle.krb_admission.proofs.Begun.{passed}
+use Rattle.krb_admission.proofs.Begun.{passed, allowed}
 use Rattle.krb_admission.proofs.Frames.{same_behind, same_message}
 use Rattle.krb_admission.specs.Accepts.{BeginsAdmission}
 use Rattle.krb_admission.specs.Requests.{Requests}
@@ -57,11 +57,10 @@ no_tgt_req true token message tgt_req h k = other_tag token message tgt_req h k
 no_tgt_req false token message tgt_req h k = other_token_id _ _ _ _ token h.frame k.frame
 
 ap_req_in : (server : Kerberos) (dce : Bool) (token : List ℕ) (request : Request) → BeginsAdmission server dce token (Ok request) → (message : ApReq) × IsApReq dce token message
-unfolding BeginsAdmission Requests ReceivesApReq
+unfolding Requests ReceivesApReq
 ap_req_in server dce token request h =
-    let a = passed _ _ _ h in
-    let b = passed _ _ _ a.rest in
-    let m = passed _ _ _ b.rest in
+    let a = allowed server dce token request h in
+    let m = passed _ _ _ a.requests in
     let s = passed _ _ _ m.held in
     (m.found, s.rest.is)
 

@@ -177,7 +177,8 @@ fn accept<G: ReplayGate>(
 /// them the AP-REP's confounder.
 ///
 /// The refusals of an AP-REQ, in their order: OutOfSequence Sequence where the context waits for no token; those of the checks
-/// of RFC 4120, section 3.2.3, as `specs/Requests` of `krb_admission` has them, the gate's, and those of its `specs/Complete`.
+/// of RFC 4120, section 3.2.3, as `specs/Requests` of `krb_admission` has them; those that only the rules of the context ask for, as its
+/// `specs/Allowed` has them; the gate's; and those of its `specs/Complete`.
 /// InvalidToken Shape is that of a token that is nothing. The refusals of the last word are those of its `specs/ThirdLeg`:
 /// InvalidToken Shape, DecryptFailure Reply, InvalidToken Inner, NoNumber, Number.
 pub fn accept_security_context<G: ReplayGate>(

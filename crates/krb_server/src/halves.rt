@@ -22,7 +22,8 @@ use std::alloc::Global;
 ///
 /// There is a [`Judged`] exactly for an AP-REQ that passes every check before the gate, at a context that waits for one.
 /// Refused, in this order, as OutOfSequence Sequence where the context waits for none, as where it waits for the initiator's
-/// last word; and then as the checks of RFC 4120, section 3.2.3, before the gate. A TGT-REQ is InvalidToken Shape: where the
+/// last word; and then as the checks of RFC 4120, section 3.2.3, before the gate, and those that only the rules of the context ask for:
+/// InvalidToken NotYet and InvalidToken Transited of the ticket, InvalidParameter Checksum and InvalidToken Bindings of the channel. A TGT-REQ is InvalidToken Shape: where the
 /// service is a user, or speaks DCE style, give its tokens to `accept_security_context`, which asks no gate at a TGT-REQ and at
 /// a last word.
 ///
@@ -63,7 +64,7 @@ pub fn admit<G: ReplayGate>(
     ensures step { (result ≡ Err (error_of causes.Memory) → ⊥)
         → (answer : Result Answer Cause) × (result ≡ told places.Elsewhere answer)
         × AdmitsPrepared G.admits judged server.old gate.old answer server.new gate.new }
-    // It is the gate alone that may run out of memory: context and gate are as before then.
+    // Memory may run out at the gate, or before it for the tag of the record: context and gate are as before then.
     ensures memory { result ≡ Err (error_of causes.Memory) → (server.new ≡ server.old) × G.is_same gate.old gate.new }
 {
     match krb_admission::admit(alloc, judged, server, gate) {

@@ -37,6 +37,7 @@ pub(crate) fn first_ask(alloc: Global) -> Result<Ask, Fail> {
             cusec: Octets::new(Vec::from_slice(alloc, &[0])?),
             realm,
             name: principal(alloc, 1)?,
+            tag: Octets::new(Vec::new(alloc)),
         },
         sname: principal(alloc, 2)?,
         start: Time::new(BEGIN),

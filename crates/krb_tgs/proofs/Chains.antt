@@ -3,7 +3,6 @@ use Rattle.std.proofs.Common.{◌≡◌, refl, sym, subst, ap, ◌∙◌, ℕ, L
 use Rattle.krb_crypto.specs.declared.suite.CipherSuite.{CipherSuite}
 use Rattle.krb_exchange.specs.declared.kdc_rep.AsRep.{AsRep}
 use Rattle.krb_exchange.specs.declared.kdc_rep.TgsRep.{TgsRep}
-use Rattle.sspi_core.specs.declared.protocol.NetworkProtocol.{NetworkProtocol}
 use Rattle.sspi_core.specs.declared.cause.Cause.{Cause}
 use Rattle.sspi_core.specs.Checks.{Gives}
 use Rattle.sspi_generator.specs.declared.network.NetFault.{NetFault}
@@ -19,6 +18,7 @@ use Rattle.sspi_core.proofs.Chain.{passed, gave}
 use Rattle.krb_exchange.specs.Layouts.{tgs_rep_layout}
 use Rattle.krb_as.specs.Replied.{Grants}
 use Rattle.krb_as.specs.ReplyKeys.{TakesReplyKey}
+use Rattle.krb_as.specs.declared.kdc.Kdc.{Kdc}
 use Rattle.krb_as.specs.declared.key.Grant.{Grant}
 use Rattle.krb_tgs.specs.declared.fresh.TgsQuestion.{TgsQuestion}
 use Rattle.krb_tgs.specs.Fresh.{AnswersTgsReq}
@@ -52,22 +52,22 @@ abbrev pub key_of : Grant → ReplyKey
 key_of shown = record { suite = shown.suite; key = shown.key; facts = shown.facts }
 
 -- what was taken from a TGS-REP: the key that it hands on
-pub record TgsTaken (rules : Rules) (target : List ℕ) (question : TgsQuestion) (moment : ℕ) (protocol : NetworkProtocol) (suite : CipherSuite) (key : List ℕ) (reply : Result (List ℕ) NetFault) (shown : Grant) : Type 0 where
+pub record TgsTaken (rules : Rules) (target : List ℕ) (question : TgsQuestion) (moment : ℕ) (kdc : Kdc) (suite : CipherSuite) (key : List ℕ) (reply : Result (List ℕ) NetFault) (shown : Grant) : Type 0 where
   pub rep : TgsRep
-  pub granted : Grants protocol tgs_rep_layout reply (Ok rep)
+  pub granted : Grants kdc.protocol tgs_rep_layout reply (Ok rep)
   pub opened : BringsNext rules suite key rep (Ok (key_of shown))
-  pub fresh : AskedFor (has_rule rules fresh_replies) (AnswersTgsReq target question moment shown.rep shown.facts) (Ok tt)
+  pub fresh : AskedFor (has_rule rules fresh_replies) (AnswersTgsReq target kdc.realm question moment shown.rep shown.facts) (Ok tt)
   pub brought : shown.rep ≡ rep.0
 
 tgs_given : (next : ReplyKey) (rep : TgsRep) (shown : Grant) → Gives {E = Cause} (record { suite = next.suite; key = next.key; facts = next.facts; rep = rep.0 }) (Ok shown)
     → shown ≡ record { suite = next.suite; key = next.key; facts = next.facts; rep = rep.0 }
 tgs_given next rep shown h = gave _ _ h
 
-pub taken_tgs : (rules : Rules) (target : List ℕ) (question : TgsQuestion) (moment : ℕ) (protocol : NetworkProtocol) (suite : CipherSuite) (key : List ℕ)
+pub taken_tgs : (rules : Rules) (target : List ℕ) (question : TgsQuestion) (moment : ℕ) (kdc : Kdc) (suite : CipherSuite) (key : List ℕ)
     (reply : Result (List ℕ) NetFault) (shown : Grant)
-    → TakesTgsRep rules target question moment protocol suite key reply (Ok shown) → TgsTaken rules target question moment protocol suite key reply shown
+    → TakesTgsRep rules target question moment kdc suite key reply (Ok shown) → TgsTaken rules target question moment kdc suite key reply shown
 unfolding TakesTgsRep BringsFresh
-taken_tgs rules target question moment protocol suite key reply shown h =
+taken_tgs rules target question moment kdc suite key reply shown h =
     let rep = passed _ _ _ h in
     let next = passed _ _ _ rep.rest_held in
     let is = tgs_given next.found rep.found shown next.rest_held in
@@ -79,7 +79,7 @@ taken_tgs rules target question moment protocol suite key reply shown h =
       granted = rep.first_held;
       opened = subst (λ (k : ReplyKey). BringsNext rules suite key rep.found (Ok k)) (sym same) own.first_held;
       fresh =
-          subst (λ (r : KdcRep). AskedFor (has_rule rules fresh_replies) (AnswersTgsReq target question moment r shown.facts) (Ok tt)) (sym (ap (λ (s : Grant). s.rep) is))
-          (subst (λ (k : ReplyKey). AskedFor (has_rule rules fresh_replies) (AnswersTgsReq target question moment rep.found.0 k.facts) (Ok tt)) (sym same) answers.first_held);
+          subst (λ (r : KdcRep). AskedFor (has_rule rules fresh_replies) (AnswersTgsReq target kdc.realm question moment r shown.facts) (Ok tt)) (sym (ap (λ (s : Grant). s.rep) is))
+          (subst (λ (k : ReplyKey). AskedFor (has_rule rules fresh_replies) (AnswersTgsReq target kdc.realm question moment rep.found.0 k.facts) (Ok tt)) (sym same) answers.first_held);
       brought = ap (λ (s : Grant). s.rep) is;
     }

@@ -1,3 +1,4 @@
 mod TgsRequests
 pub mod Chains
 pub mod Once
+pub mod Asked

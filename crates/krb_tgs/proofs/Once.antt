@@ -8,17 +8,15 @@ use Rattle.krb_exchange.specs.Results.{HasOneResult}
 use Rattle.krb_exchange.proofs.Results.{one_result_of}
 use Rattle.sspi_core.proofs.Once.{Once, then_once, holds_once, gives_once}
 use Rattle.sspi_core.specs.declared.draw.Draw.{Draw}
-use Rattle.sspi_core.specs.declared.protocol.NetworkProtocol.{NetworkProtocol}
 use Rattle.sspi_generator.specs.declared.network.NetFault.{NetFault}
 use Rattle.krb_context.specs.declared.rules.Rules.{Rules}
-use Rattle.krb_exchange.specs.declared.kdc_rep.KdcRep.{KdcRep}
 use Rattle.krb_exchange.specs.declared.kdc_rep.TgsRep.{TgsRep}
 use Rattle.krb_context.specs.Rules.{has_rule, fresh_replies}
-use Rattle.krb_replies.specs.declared.facts.ReplyFacts.{ReplyFacts}
-use Rattle.krb_replies.proofs.Once.{brings_next_once, asked_for_once}
+use Rattle.krb_replies.proofs.Once.{brings_next_once, answers_request_once, asked_for_once}
 use Rattle.krb_as.proofs.Once.{finds_kdc_once, grants_once}
 use Rattle.krb_as.specs.declared.asker.Asker.{Asker}
 use Rattle.krb_tgs.specs.declared.wanted.Wanted.{Wanted}
+use Rattle.krb_as.specs.declared.kdc.Kdc.{Kdc}
 use Rattle.krb_as.specs.declared.key.Grant.{Grant}
 use Rattle.krb_tgs.specs.TgsAsked.{AsksTgs, Follows}
 use Rattle.krb_tgs.specs.declared.fresh.TgsQuestion.{TgsQuestion}
@@ -40,19 +38,16 @@ tgs_rep_once : HasOneResult tgs_rep_layout
 unfolding tgs_rep krb_error
 tgs_rep_once = one_result_of tgs_rep_layout (λ e. omega (arith, e))
 
-answers_tgs_req_once : (target : List ℕ) (question : TgsQuestion) (moment : ℕ) (rep : KdcRep) (facts : ReplyFacts) → Once (AnswersTgsReq target question moment rep facts)
-unfolding AnswersTgsReq
-answers_tgs_req_once target question moment rep facts = then_once _ _ (holds_once _ _) (λ _. then_once _ _ (holds_once _ _) (λ _. holds_once _ _))
-
-brings_fresh_once : (rules : Rules) (target : List ℕ) (question : TgsQuestion) (moment : ℕ) (suite : CipherSuite) (key : List ℕ) (tgs_rep : TgsRep)
-    → Once (BringsFresh rules target question moment suite key tgs_rep)
+brings_fresh_once : (rules : Rules) (target realm : List ℕ) (question : TgsQuestion) (moment : ℕ) (suite : CipherSuite) (key : List ℕ) (tgs_rep : TgsRep)
+    → Once (BringsFresh rules target realm question moment suite key tgs_rep)
 unfolding BringsFresh
-brings_fresh_once rules target question moment suite key tgs_rep =
+brings_fresh_once rules target realm question moment suite key tgs_rep =
     then_once _ _ (brings_next_once rules suite key tgs_rep)
-    (λ next. then_once _ _ (asked_for_once (has_rule rules fresh_replies) (AnswersTgsReq target question moment tgs_rep.0 next.facts) (answers_tgs_req_once target question moment tgs_rep.0 next.facts)) (λ _. gives_once _))
+    (λ next. then_once _ _ (asked_for_once (has_rule rules fresh_replies) (AnswersTgsReq target realm question moment tgs_rep.0 next.facts) (answers_request_once _ _ moment next.facts)) (λ _. gives_once _))
 
-pub takes_tgs_rep_once : (rules : Rules) (target : List ℕ) (question : TgsQuestion) (moment : ℕ) (protocol : NetworkProtocol) (suite : CipherSuite) (key : List ℕ) (reply : Result (List ℕ) NetFault)
-    → Once (TakesTgsRep rules target question moment protocol suite key reply)
+pub takes_tgs_rep_once : (rules : Rules) (target : List ℕ) (question : TgsQuestion) (moment : ℕ) (kdc : Kdc) (suite : CipherSuite) (key : List ℕ) (reply : Result (List ℕ) NetFault)
+    → Once (TakesTgsRep rules target question moment kdc suite key reply)
 unfolding TakesTgsRep
-takes_tgs_rep_once rules target question moment protocol suite key reply =
-    then_once _ _ (grants_once protocol tgs_rep_layout reply tgs_rep_once) (λ tgs_rep. then_once _ _ (brings_fresh_once rules target question moment suite key tgs_rep) (λ next. gives_once _))
+takes_tgs_rep_once rules target question moment kdc suite key reply =
+    then_once _ _ (grants_once kdc.protocol tgs_rep_layout reply tgs_rep_once)
+    (λ tgs_rep. then_once _ _ (brings_fresh_once rules target kdc.realm question moment suite key tgs_rep) (λ next. gives_once _))

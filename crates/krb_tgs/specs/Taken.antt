@@ -2,7 +2,6 @@
 use Rattle.std.specs.Prelude.{ℕ, List, Result}
 use Rattle.krb_crypto.specs.declared.suite.CipherSuite.{CipherSuite}
 use Rattle.krb_exchange.specs.Layouts.{tgs_rep_layout}
-use Rattle.sspi_core.specs.declared.protocol.NetworkProtocol.{NetworkProtocol}
 use Rattle.sspi_core.specs.declared.cause.Cause.{Cause}
 use Rattle.sspi_core.specs.Checks.{Gives, ◌>>=◌, ◌>>◌}
 use Rattle.sspi_generator.specs.declared.network.NetFault.{NetFault}
@@ -13,20 +12,21 @@ use Rattle.krb_replies.specs.declared.keys.ReplyKey.{ReplyKey}
 use Rattle.krb_replies.specs.Fresh.{AskedFor}
 use Rattle.krb_replies.specs.Keys.{BringsNext}
 use Rattle.krb_as.specs.Replied.{Grants}
+use Rattle.krb_as.specs.declared.kdc.Kdc.{Kdc}
 use Rattle.krb_as.specs.declared.key.Grant.{Grant}
 use Rattle.krb_tgs.specs.declared.fresh.TgsQuestion.{TgsQuestion}
 use Rattle.krb_tgs.specs.Fresh.{AnswersTgsReq}
 
 -- the key that is sealed in a TGS-REP under the session key of the ticket that was shown. The reply answers the request where that is a rule
-unfoldable pub BringsFresh : Rules → List ℕ → TgsQuestion → ℕ → CipherSuite → List ℕ → TgsRep → Result ReplyKey Cause → Type 0
-BringsFresh rules target question moment suite key tgs_rep = do
+unfoldable pub BringsFresh : Rules → List ℕ → List ℕ → TgsQuestion → ℕ → CipherSuite → List ℕ → TgsRep → Result ReplyKey Cause → Type 0
+BringsFresh rules target realm question moment suite key tgs_rep = do
   next ← BringsNext rules suite key tgs_rep
-  AskedFor (has_rule rules fresh_replies) (AnswersTgsReq target question moment tgs_rep.0 next.facts)
+  AskedFor (has_rule rules fresh_replies) (AnswersTgsReq target realm question moment tgs_rep.0 next.facts)
   Gives next
 
--- what it brings; the target and the question are those of the request, and the moment is that of the reply
-unfoldable pub TakesTgsRep : Rules → List ℕ → TgsQuestion → ℕ → NetworkProtocol → CipherSuite → List ℕ → Result (List ℕ) NetFault → Result Grant Cause → Type 0
-TakesTgsRep rules target question moment protocol suite key reply = do
-  tgs_rep ← Grants protocol tgs_rep_layout reply
-  next ← BringsFresh rules target question moment suite key tgs_rep
+-- what it brings; the target, the question and the KDC are those of the request, and the moment is that of the reply
+unfoldable pub TakesTgsRep : Rules → List ℕ → TgsQuestion → ℕ → Kdc → CipherSuite → List ℕ → Result (List ℕ) NetFault → Result Grant Cause → Type 0
+TakesTgsRep rules target question moment kdc suite key reply = do
+  tgs_rep ← Grants kdc.protocol tgs_rep_layout reply
+  next ← BringsFresh rules target kdc.realm question moment suite key tgs_rep
   Gives (record { suite = next.suite; key = next.key; facts = next.facts; rep = tgs_rep.0 })

@@ -1,20 +1,18 @@
 //! Whether a TGS-REP answers the TGS-REQ of this exchange (RFC 4120, section 3.3.4; RFC 6806, section 8).
 
 ghost use Rattle.std.specs.Prelude.{◌≡◌, ◌∷◌, [], ◌&&◌};
-ghost use Rattle.sspi_core.specs.declared.cause.Cause.TheVariants as causes;
-ghost use Rattle.sspi_core.specs.Checks.{Holds};
+ghost use Rattle.std.specs.Option.{option_copied};
 ghost use Rattle.krb_context.specs.Rules.{has_rule, fresh_replies};
-ghost use Rattle.krb_replies.specs.Fresh.{has_value, is_valid_at, same_components, AskedFor};
-ghost use Rattle.krb_tgs.specs.TgsAsked.{service_of};
-ghost use Rattle.krb_tgs.specs.Fresh.{names_client, names_service, AnswersTgsReq};
+ghost use Rattle.krb_replies.specs.Fresh.{same_components, AskedFor};
+ghost use Rattle.krb_tgs.specs.Fresh.{names_client, is_for_target, names_service, AnswersTgsReq, referral_of};
 
 use krb_conf::parse_target_name;
 use krb_context::Rules;
 use krb_der::{Items, Name};
 use krb_exchange::KdcRep;
 use krb_messages::PrincipalName;
-use krb_replies::{ReplyFacts, has_value, referral_target_realm};
-use sspi_core::{Cause, hold};
+use krb_replies::{ReplyFacts, check_answer, has_value, referral_target_realm};
+use sspi_core::Cause;
 
 /// What a request to a ticket-granting service asked, as its reply has to repeat it.
 #[derive(Drop)]
@@ -37,13 +35,14 @@ fn are_parts(service: &str, host: &str, components: &Items<Name>) -> bool
     }
 }
 
-/// Whether the name is that of the target, by its components.
-fn is_target(target: &str, name: &PrincipalName) -> bool
-    ensures { result ≡ same_components name.now.name_string (service_of target.now) }
+/// Whether the name that is sealed is that of the target, by its components.
+fn is_for_target(target: &Name, facts: &ReplyFacts) -> bool
+    ensures { result ≡ is_for_target target.now facts.now }
 {
-    match parse_target_name(target) {
-        Ok((service, host)) => are_parts(service, host, &name.name_string),
-        Err(_) => are_parts("", "", &name.name_string),
+    let components = &facts.sname.name_string;
+    match parse_target_name(target.as_str()) {
+        Ok((service, host)) => are_parts(service, host, components),
+        Err(_) => are_parts("", "", components),
     }
 }
 
@@ -54,88 +53,56 @@ fn names_client(question: &TgsQuestion, rep: &KdcRep) -> bool
         && rep.cname.name_string == question.cname.name_string
 }
 
-/// Whether the ticket is for the target, or refers to another realm.
-fn names_service(target: &Name, rep: &KdcRep, facts: &ReplyFacts) -> bool
-    ensures { result ≡ names_service target.now rep.now facts.now }
+/// Whether the ticket is one of the realm that was asked, for the target or for the ticket-granting service of another realm.
+fn names_service(target: &Name, realm: &Name, rep: &KdcRep, facts: &ReplyFacts) -> bool
+    ensures { result ≡ names_service target.now realm.now rep.now facts.now }
 {
-    facts.sname.name_string == rep.ticket.sname.name_string
-        && (referral_target_realm(&rep.ticket.sname).is_some()
-            || is_target(target.as_str(), &facts.sname))
+    facts.srealm.as_slice() == realm.as_slice()
+        && facts.sname.name_string == rep.ticket.sname.name_string
+        && (referral_target_realm(&rep.ticket.sname).is_some() || is_for_target(target, facts))
 }
 
-fn check_nonce(question: &TgsQuestion, facts: &ReplyFacts) -> Result<(), Cause>
-    ensures { Holds causes.Nonce (has_value question.now.nonce facts.now.nonce) result }
-{
-    hold(has_value(question.nonce, &facts.nonce), Cause::Nonce)
-}
-
-fn check_names(
-    target: &Name,
-    question: &TgsQuestion,
-    rep: &KdcRep,
-    facts: &ReplyFacts,
-) -> Result<(), Cause>
-    ensures { Holds causes.ReplyNames (names_client question.now rep.now && names_service target.now rep.now facts.now) result }
-{
-    hold(
-        names_client(question, rep) && names_service(target, rep, facts),
-        Cause::ReplyNames,
-    )
-}
-
-fn check_time(moment: u64, facts: &ReplyFacts) -> Result<(), Cause>
-    ensures { Holds causes.ReplyTime (is_valid_at moment facts.now) result }
-{
-    hold(facts.is_valid_at(moment), Cause::ReplyTime)
-}
-
-/// Refused as `Nonce`, as `ReplyNames` and as `ReplyTime`, in this order.
-#[tactic(auto, unfolding(crate::specs::Fresh::AnswersTgsReq))]
-fn check_answer(
-    target: &Name,
-    question: &TgsQuestion,
-    moment: u64,
-    rep: &KdcRep,
-    facts: &ReplyFacts,
-) -> Result<(), Cause>
-    ensures { AnswersTgsReq target.now question.now moment rep.now facts.now result }
-{
-    check_nonce(question, facts)?;
-    check_names(target, question, rep, facts)?;
-    check_time(moment, facts)
-}
-
-fn check_by(
-    is_rule: bool,
-    target: &Name,
-    question: &TgsQuestion,
-    moment: u64,
-    rep: &KdcRep,
-    facts: &ReplyFacts,
-) -> Result<(), Cause>
-    ensures { AskedFor is_rule (AnswersTgsReq target.now question.now moment rep.now facts.now) result }
-{
-    if is_rule {
-        check_answer(target, question, moment, rep, facts)
-    } else {
-        Ok(())
-    }
-}
-
-/// Checks that a TGS-REP answers this question about the target at this moment, in microseconds since 1970, where that is a rule.
+/// Checks that a TGS-REP answers this question about the target, which the KDC of this realm was asked, at this moment, in microseconds
+/// since 1970, where that is a rule.
 ///
 /// Refused as `Nonce` where it has another nonce; as `ReplyNames` where its client is another, or the service that is sealed in it is
-/// neither the target nor a referral; as `ReplyTime` where its ticket is not valid, give or take 300 seconds.
+/// of another realm, or neither the target nor a referral; as `ReplyTime` where its ticket is not valid, give or take 300 seconds.
 pub(crate) fn check_fresh(
     rules: Rules,
     target: &Name,
+    realm: &Name,
     question: &TgsQuestion,
     moment: u64,
     rep: &KdcRep,
     facts: &ReplyFacts,
 ) -> Result<(), Cause>
-    ensures { AskedFor (has_rule rules fresh_replies) (AnswersTgsReq target.now question.now moment rep.now facts.now) result }
+    ensures { AskedFor (has_rule rules fresh_replies) (AnswersTgsReq target.now realm.now question.now moment rep.now facts.now) result }
 {
-    let is_rule = rules.has(Rules::FRESH_REPLIES);
-    check_by(is_rule, target, question, moment, rep, facts)
+    let repeats = has_value(question.nonce, &facts.nonce);
+    let names = names_client(question, rep) && names_service(target, realm, rep, facts);
+    check_answer(rules, repeats, names, moment, facts)
+}
+
+/// Whether a reply has to answer its request, and is for the target.
+fn ends_at_target(rules: Rules, target: &Name, facts: &ReplyFacts) -> bool
+    ensures { result ≡ (has_rule rules fresh_replies && is_for_target target.now facts.now) }
+{
+    rules.has(Rules::FRESH_REPLIES) && is_for_target(target, facts)
+}
+
+/// The realm that a ticket refers to, by its clear name; None where it is the target's. Where a reply has to answer its request, a ticket
+/// that is sealed for the target is the target's, even one for a service called `krbtgt`.
+pub fn referral_of<'a>(
+    rules: Rules,
+    target: &Name,
+    facts: &ReplyFacts,
+    rep: &'a KdcRep,
+) -> Option<&'a Name>
+    ensures { option_copied result ≡ referral_of rules target.now facts.now rep.entry.now }
+{
+    if ends_at_target(rules, target, facts) {
+        None
+    } else {
+        referral_target_realm(&rep.ticket.sname)
+    }
 }

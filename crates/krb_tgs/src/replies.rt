@@ -7,13 +7,13 @@ ghost use Rattle.krb_as.specs.Granted.{IsSendable};
 ghost use Rattle.krb_tgs.specs.Taken.{BringsFresh, TakesTgsRep};
 
 use crate::fresh::{TgsQuestion, check_fresh};
-use krb_as::{Grant, granted_tgs_rep};
+use krb_as::{Grant, Kdc, granted_tgs_rep};
 use krb_context::Rules;
 use krb_crypto::CipherSuite;
 use krb_der::{Name, Octets};
 use krb_exchange::TgsRep;
 use krb_replies::{ReplyKey, key_in_tgs_rep};
-use sspi_core::{Cause, NetworkProtocol, Secret};
+use sspi_core::{Cause, Secret};
 use sspi_generator::NetFault;
 use std::alloc::Global;
 
@@ -50,20 +50,22 @@ fn fresh_key(
     alloc: Global,
     rules: Rules,
     target: &Name,
+    realm: &Name,
     question: &TgsQuestion,
     moment: u64,
     suite: CipherSuite,
     key: &Secret<Octets>,
     tgs_rep: &TgsRep,
 ) -> Result<ReplyKey, Cause>
-    ensures { Answers (BringsFresh rules target.now question.now moment suite key.now tgs_rep.now) result }
+    ensures { Answers (BringsFresh rules target.now realm.now question.now moment suite key.now tgs_rep.now) result }
 {
     let next = next_key(alloc, rules, suite, key, tgs_rep)?;
-    check_fresh(rules, target, question, moment, &tgs_rep.0, &next.facts)?;
+    let (rep, facts) = (&tgs_rep.0, &next.facts);
+    check_fresh(rules, target, realm, question, moment, rep, facts)?;
     Ok(next)
 }
 
-/// What a TGS-REP brings: its ticket, and the session key that is sealed in it under that of the ticket that was shown.
+/// What a TGS-REP of this KDC brings: its ticket, and the session key that is sealed in it under that of the ticket that was shown.
 ///
 /// Refused as `granted_tgs_rep` refuses; then as `Reply` where nothing is sealed to it under that key, as `Inner` where what is
 /// sealed is no EncTGSRepPart; as `Etype` where the key goes by its own suite, and that is not known; where a reply has to answer its request,
@@ -75,15 +77,17 @@ pub fn take_tgs_rep(
     target: &Name,
     question: &TgsQuestion,
     moment: u64,
-    protocol: NetworkProtocol,
+    kdc: &Kdc,
     suite: CipherSuite,
     key: &Secret<Octets>,
     reply: Result<Octets, NetFault>,
 ) -> Result<Grant, Cause>
-    ensures step { Answers (TakesTgsRep rules target.now question.now moment protocol suite key.now reply) result }
+    ensures step { Answers (TakesTgsRep rules target.now question.now moment kdc.now suite key.now reply) result }
     ensures sendable { IfOk result (λ shown. IsSendable shown.rep) }
 {
-    let tgs_rep = granted_tgs_rep(alloc, protocol, reply)?;
-    let next = fresh_key(alloc, rules, target, question, moment, suite, key, &tgs_rep)?;
+    let tgs_rep = granted_tgs_rep(alloc, kdc.protocol, reply)?;
+    let next = fresh_key(
+        alloc, rules, target, &kdc.realm, question, moment, suite, key, &tgs_rep,
+    )?;
     shown_by_tgs(next, tgs_rep)
 }

@@ -9,6 +9,7 @@ use Rattle.krb_server.specs.Whole.{AcceptsToken}
 use Rattle.krb_server.specs.declared.accept.Accepted.{Accepted}
 use Rattle.krb_conf.specs.declared.env.Env.{Env}
 use Rattle.krb_context.specs.declared.context.Kerberos.{Kerberos}
+use Rattle.krb_context.specs.declared.rules.Rules.{Rules}
 use Rattle.krb_exchange.specs.declared.user_to_user.TgtReq.{TgtReq}
 use Rattle.krb_machine.specs.declared.run.Run.{Run}
 use Rattle.sspi_core.specs.declared.draw.Draw.{Draw}
@@ -70,20 +71,20 @@ module _ {G N : Type 0} (admits : G → Ask → Verdict → G → Type 0) (log :
         kept_is = q.kept_is ∙ p.kept_is;
       }
 
-  record AsksBy (moment : ℕ) (old : G) (request : Result Request Cause) (verdict : Verdict) (new : G) : Type 0 where
+  record AsksBy (rules : Rules) (moment : ℕ) (old : G) (request : Result Request Cause) (verdict : Verdict) (new : G) : Type 0 where
     gained : List Entry
     gains : Gains old new gained
-    asks : (more : List Entry) → Asks (Reads (seat old)) moment (rest_at old (gained ++ more)) request verdict (rest_at new more)
+    asks : (more : List Entry) → Asks (Reads (seat old)) rules moment (rest_at old (gained ++ more)) request verdict (rest_at new more)
 
-  asks_by : (moment : ℕ) (old : G) (request : Result Request Cause) (verdict : Verdict) (new : G) → Asks admits moment old request verdict new → AsksBy moment old request verdict new
-  asks_by moment old (Ok request) verdict new asks =
-      let s = step old (ask_of request moment) verdict new asks in
+  asks_by : (rules : Rules) (moment : ℕ) (old : G) (request : Result Request Cause) (verdict : Verdict) (new : G) → Asks admits rules moment old request verdict new → AsksBy rules moment old request verdict new
+  asks_by rules moment old (Ok request) verdict new asks =
+      let s = step old (ask_of rules request moment) verdict new asks in
       record {
-        gained = record { seat = seat old; call = next old; ask = ask_of request moment; verdict = verdict } ∷ [];
+        gained = record { seat = seat old; call = next old; ask = ask_of rules request moment; verdict = verdict } ∷ [];
         gains = record { log_is = s.log_is; own = (refl, tt); seat_is = s.seat_is; kept_is = s.kept_is };
         asks = λ more. record { entries = refl; call = s.next_is };
       }
-  asks_by moment old (Err cause) verdict new same = record { gained = []; gains = gains_none old new same; asks = λ more. ap (λ g. rest_at g more) same }
+  asks_by rules moment old (Err cause) verdict new same = record { gained = []; gains = gains_none old new same; asks = λ more. ap (λ g. rest_at g more) same }
 
   record MadeBy (server : Kerberos) (dce : Bool) (token : List ℕ) (env : Env) (draw : Draw) (old : G) (found : Option TgtReq) (answer : Result Accepted Cause) (server' : Kerberos) (new : G) : Type 0 where
     gained : List Entry
@@ -95,7 +96,7 @@ module _ {G N : Type 0} (admits : G → Ask → Verdict → G → Type 0) (log :
   made_by server dce token env draw old (Some tgt_req) answer server' new m =
       record { gained = []; gains = gains_none old new m.2; made = λ more. (m.0, m.1, ap (λ g. rest_at g more) m.2) }
   made_by server dce token env draw old None answer server' new m =
-      let a = asks_by draw.moment old m.accepts.request m.accepts.verdict new m.accepts.gate in
+      let a = asks_by server.rules draw.moment old m.accepts.request m.accepts.verdict new m.accepts.gate in
       record {
         gained = a.gained;
         gains = a.gains;

@@ -8,8 +8,13 @@ mod established;
 mod gates;
 mod halves;
 mod long;
+mod recorded;
+mod records;
+mod refusals;
+mod rules;
 mod states;
 mod third_leg;
+mod told;
 
 use bitflags::Flags;
 use krb_conf::{Env, KerberosConfig};

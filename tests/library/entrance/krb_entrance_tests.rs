@@ -1,6 +1,8 @@
 //! Clients that are let in, in one call and in two halves, and their messages.
 
+mod bound;
 mod halves;
+mod keys;
 mod messages;
 mod one_call;
 

@@ -44,6 +44,7 @@ fn record(alloc: Global, realm: &[u8], cusec: u8, ctime: i64) -> Result<Record, 
         cusec,
         realm,
         name: principal(alloc, 1)?,
+        tag: Octets::new(Vec::new(alloc)),
     })
 }
 
@@ -317,6 +318,59 @@ fn records_go_by_their_parts(rt: HostRuntime) -> Result<(), Fail> {
         return Err(Fail::from("four records"));
     };
     assert!(rt; first == again && are_ordered(first, other, later));
+    Ok(())
+}
+
+/// The record of a client at `T0`, with a tag of these octets.
+fn tagged(alloc: Global, tag: &[u8]) -> Result<Record, Fail> {
+    let mut record = record(alloc, b"EXAMPLE.COM", 0, T0)?;
+    record.tag = Octets::new(Vec::from_slice(alloc, tag)?);
+    Ok(record)
+}
+
+#[test]
+fn a_tag_tells_records_apart(rt: HostRuntime) -> Result<(), Fail> {
+    let alloc = rt.alloc();
+    let mut records = Vec::new(alloc);
+    for tag in [b"".as_slice(), b"a", b"b", b"b"] {
+        records.push(tagged(alloc, tag)?)?;
+    }
+    let [first, other, later, again] = records.as_slice() else {
+        return Err(Fail::from("four records"));
+    };
+    assert!(rt; later == again && are_ordered(first, other, later));
+    Ok(())
+}
+
+/// Log-ins of one microsecond by their tags, the verdicts of a book, and how many records it keeps then.
+static TAGGED: [(&str, Verdict, u64); 5] = [
+    ("a", Admitted, 1),
+    ("b", Admitted, 2),
+    ("a", Replayed, 2),
+    ("", Admitted, 3),
+    ("", Replayed, 3),
+];
+
+fn tags() -> &'static [(&'static str, Verdict, u64)] {
+    &TAGGED
+}
+
+fn verdict_of_tag(alloc: Global, book: &mut ReplayBook, tag: &str) -> Result<Verdict, Fail> {
+    let ask = ask_for(alloc, 2, tagged(alloc, tag.as_bytes())?, (T0, FAR), M0)?;
+    verdict_of(book, ask)
+}
+
+#[test]
+fn a_book_keeps_a_record_for_each_tag(rt: HostRuntime) -> Result<(), Fail> {
+    let mut book = ReplayBook::new(rt.alloc(), 300)?;
+    for (tag, verdict, kept) in tags() {
+        assert_eq!(rt;
+            verdict_of_tag(rt.alloc(), &mut book, tag)?,
+            *verdict,
+            "{tag}"
+        );
+        assert_eq!(rt; book.kept(), *kept);
+    }
     Ok(())
 }
 

@@ -35,6 +35,7 @@ pub(crate) fn ask(alloc: Global) -> Result<Ask, Fail> {
             cusec: Octets::new(Vec::from_slice(alloc, &[0])?),
             realm,
             name: principal(alloc, 1)?,
+            tag: Octets::new(Vec::new(alloc)),
         },
         sname: principal(alloc, 2)?,
         start: Time::new(SECOND),

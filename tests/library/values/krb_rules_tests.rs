@@ -5,7 +5,7 @@ use krb_context::Rules;
 use std::rt::HostRuntime;
 
 /// A name, and its bit.
-static NAMED: [(&str, u32); 11] = [
+static NAMED: [(&str, u32); 17] = [
     ("AS_REP_TAGGED_26", 0x1),
     ("NO_PREAUTHENTICATION", 0x2),
     ("SUITE_OF_EACH_KEY", 0x4),
@@ -15,8 +15,14 @@ static NAMED: [(&str, u32); 11] = [
     ("THIRD_LEG_BY_VALUE", 0x40),
     ("ONE_WAY_IS_SETTLED", 0x80),
     ("EXTRA_COUNT_BY_TOKEN", 0x100),
+    ("NAMES_BY_COMPONENTS", 0x200),
+    ("CLIENTS_OF_ANY_NAME", 0x400),
+    ("RECORDS_BY_TAG", 0x800),
     ("FRESH_REPLIES", 0x10000),
     ("ANSWERS_ITS_AUTHENTICATOR", 0x20000),
+    ("VALID_TICKETS", 0x40000),
+    ("CHECKED_TRANSIT", 0x80000),
+    ("BOUND_TO_ITS_CHANNEL", 0x100000),
 ];
 
 fn named() -> &'static [(&'static str, u32)] {

@@ -15,6 +15,15 @@ pub fn advice(error: &Error) -> Option<&'static str> {
             "it was changed on its way, or the password or the key here is not the KDC's, perhaps by its version; a keytab can be made anew",
         ),
         Cause::SKEW => Some("the clocks of the two ends differ by more than the skew; set both"),
+        Cause::NOT_YET => {
+            Some("the client's ticket is not valid yet; a postdated one is validated by kinit -v")
+        }
+        Cause::TRANSITED => Some(
+            "the ticket came through realms that no KDC has checked; capaths and the KDC's policy say which may",
+        ),
+        Cause::BINDINGS | Cause::CHECKSUM => Some(
+            "the client did not bind its log-in to this channel; who is between here and there?",
+        ),
         Cause::EXPIRED => Some("the client's ticket has ended; kinit brings another"),
         Cause::REPLAYED => Some("this token was let in before; the client is to make another"),
         Cause::REPEATED | Cause::OLD => Some("a message came again, or far too late"),

@@ -1,6 +1,8 @@
 //! A client that makes AP-REQs for the tests (RFC 4120, 4121, 3961, 3962), apart from the library: it has the service's key, so it
 //! makes its own tickets.
 
+#![allow(dead_code)] // no test needs all of it
+
 /// 2026-11-27T16:51:22Z, in seconds since 1970.
 pub const NOW: u64 = 1_795_798_282;
 const NOW_TEXT: &str = "20261127165122Z";
@@ -232,6 +234,42 @@ fn encrypted(cipher: &[u8]) -> Vec<u8> {
     sequence(&[(0, number(18)), (2, der(4, cipher))])
 }
 
+/// What a KDC says of a client in a ticket for host/server.example.com.
+pub struct Ticket<'a> {
+    pub name_type: u32,
+    pub name: &'a [&'a str],
+    pub flags: [u8; 4],
+    /// The realms that it came through, in RFC 4120's compression.
+    pub transited: &'a [u8],
+}
+
+/// A user of the realm, with the flags FORWARDABLE and RENEWABLE.
+pub const USER: Ticket = Ticket {
+    name_type: 1,
+    name: &["alice"],
+    flags: [0x40, 0x80, 0, 0],
+    transited: b"",
+};
+
+/// What a client asks for in its authenticator.
+#[derive(Clone)]
+pub struct Asked<'a> {
+    /// The microsecond of the second `NOW`.
+    pub microsecond: u32,
+    pub name_type: u32,
+    pub name: &'a [&'a str],
+    /// The checksum's type and octets, if there is one.
+    pub checksum: Option<(u32, Vec<u8>)>,
+    /// Each octet of the confounder.
+    pub confounder: u8,
+}
+
+/// The checksum of RFC 4121, section 4.1.1, over the MD5 of bindings.
+pub fn checksum(bindings: [u8; 16], flags: u32) -> Option<(u32, Vec<u8>)> {
+    let octets = [&[16, 0, 0, 0][..], &bindings, &flags.to_le_bytes()].concat();
+    Some((0x8003, octets))
+}
+
 /// A client, with a ticket for the service host/server.example.com.
 pub struct Client {
     ticket: Vec<u8>,
@@ -241,13 +279,19 @@ pub struct Client {
 impl Client {
     /// A client with this name in EXAMPLE.COM, with a ticket under the service's key.
     pub fn new(service_key: &[u8; 32], account: &str) -> Client {
+        let name = &[account];
+        Client::of(service_key, &Ticket { name, ..USER })
+    }
+
+    /// A client in EXAMPLE.COM with this ticket under the service's key.
+    pub fn of(service_key: &[u8; 32], told: &Ticket) -> Client {
         let session_key = [0x5e; 32];
         let part = sequence(&[
-            (0, flags([0x40, 0x80, 0, 0])),
+            (0, flags(told.flags)),
             (1, key(&session_key)),
             (2, text("EXAMPLE.COM")),
-            (3, name(1, &[account])),
-            (4, sequence(&[(0, number(1)), (1, der(4, b""))])),
+            (3, name(told.name_type, told.name)),
+            (4, sequence(&[(0, number(1)), (1, der(4, told.transited))])),
             (5, time(NOW_TEXT)),
             (7, time("20261128165122Z")),
         ]);
@@ -264,22 +308,35 @@ impl Client {
         }
     }
 
-    /// The token of a connection, at this microsecond of the second `NOW`.
+    /// The token of a connection, at this microsecond of the second `NOW`, with no bindings: replay, sequence, confidentiality, integrity.
     pub fn token(&self, account: &str, microsecond: u32) -> Vec<u8> {
-        let mut checksum = vec![0; 24];
-        checksum[0] = 16;
-        checksum[20] = 0x3c; // replay, sequence, confidentiality, integrity
-        let part = sequence(&[
+        self.ask(&Asked {
+            microsecond,
+            name_type: 1,
+            name: &[account],
+            checksum: checksum([0; 16], 0x3c),
+            confounder: 0xc2,
+        })
+    }
+
+    /// The token of a connection.
+    pub fn ask(&self, asked: &Asked) -> Vec<u8> {
+        let mut fields = vec![
             (0, number(5)),
             (1, text("EXAMPLE.COM")),
-            (2, name(1, &[account])),
-            (3, sequence(&[(0, number(0x8003)), (1, der(4, &checksum))])),
-            (4, number(microsecond)),
+            (2, name(asked.name_type, asked.name)),
+        ];
+        if let Some((kind, octets)) = &asked.checksum {
+            fields.push((3, sequence(&[(0, number(*kind)), (1, der(4, octets))])));
+        }
+        fields.extend([
+            (4, number(asked.microsecond)),
             (5, time(NOW_TEXT)),
             (6, key(&[0x6b; 32])),
-            (7, number(0x1000_0000 + microsecond)),
+            (7, number(0x1000_0000 + asked.microsecond)),
         ]);
-        let cipher = sealed(&self.session_key, 11, 0xc2, &der(0x62, &part));
+        let part = der(0x62, &sequence(&fields));
+        let cipher = sealed(&self.session_key, 11, asked.confounder, &part);
         let request = sequence(&[
             (0, number(5)),
             (1, number(14)),

@@ -27,8 +27,13 @@ fn refusals(alloc: Global, service: &mut Service, token: &str) -> Result<Refusal
     }
 }
 
-/// Its time, its client and the octet 0, and then its microseconds.
+/// Its time, its client and the octet 0, and then its microseconds and the tag of its cipher.
 const STORED: &[u8] = b"20231114221322Zalice/admin@EXAMPLE.COM\0";
+
+/// The last twelve octets of the token, whose authenticator is at its end.
+const TAG: &[u8] = &[
+    0x02, 0x61, 0xed, 0x13, 0xc0, 0x0c, 0xdf, 0x91, 0x15, 0xe9, 0xae, 0x31,
+];
 
 fn tells(alloc: Global, candidate: &Candidate) -> Result<bool, Fail> {
     let name = candidate.client.principal(alloc)?;
@@ -36,6 +41,8 @@ fn tells(alloc: Global, candidate: &Candidate) -> Result<bool, Fail> {
     Ok(
         name.as_slice() == b"alice/admin@EXAMPLE.COM".as_slice()
             && stored.as_slice().starts_with(STORED)
+            && stored.as_slice().ends_with(TAG)
+            && candidate.client.tag.as_slice() == TAG
             && candidate.client.endtime.seconds() == 1_700_036_000
             && candidate.judged.clock_distance() == 2_000_000,
     )

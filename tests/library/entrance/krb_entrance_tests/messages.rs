@@ -1,8 +1,8 @@
 //! Messages between a client and an acceptor whose exchange is over.
 
-use super::{draw, gave, octets, service};
+use super::{gave, octets};
 use krb_conf::KerberosConfig;
-use krb_context::{Kerberos, KerberosState};
+use krb_context::{Kerberos, KerberosState, ServerProperties};
 use krb_crypto::CipherSuite;
 use krb_der::{Octets, Text, boxed};
 use krb_entrance::{Fault, Session};
@@ -20,26 +20,33 @@ fn establish(alloc: Global, connection: &mut Kerberos) -> Result<(), Fail> {
     Ok(())
 }
 
-fn acceptor(alloc: Global) -> Result<Box<Session>, Fail> {
-    let service = service(alloc)?;
-    let mut session = boxed(alloc, service.session(alloc, &draw())?)?;
+fn config(alloc: Global) -> Result<KerberosConfig, Fail> {
+    let name = Text::new(String::from_str(alloc, "client")?);
+    Ok(KerberosConfig::new(alloc, "", name)?)
+}
+
+/// A session of this connection, with a key.
+fn established(alloc: Global, connection: Kerberos) -> Result<Box<Session>, Fail> {
+    let session = Session {
+        answer: Octets::new(Vec::new(alloc)),
+        connection,
+        client: None,
+    };
+    let mut session = boxed(alloc, session)?;
     establish(alloc, &mut session.connection)?;
     Ok(session)
 }
 
+/// The first number is 2^32 - 1.
+fn acceptor(alloc: Global) -> Result<Box<Session>, Fail> {
+    let properties = ServerProperties::new(alloc, &["host", "server"], None, 300, None)?;
+    let connection = Kerberos::new_server_from_config(config(alloc)?, properties, [255; 4])?;
+    established(alloc, connection)
+}
+
 fn initiator(alloc: Global) -> Result<Box<Session>, Fail> {
-    let name = Text::new(String::from_str(alloc, "client")?);
-    let config = KerberosConfig::new(alloc, "", name)?;
-    let mut session = boxed(
-        alloc,
-        Session {
-            answer: Octets::new(Vec::new(alloc)),
-            connection: Kerberos::new_client_from_config(config, [0; 4]),
-            client: None,
-        },
-    )?;
-    establish(alloc, &mut session.connection)?;
-    Ok(session)
+    let connection = Kerberos::new_client_from_config(config(alloc)?, [0; 4]);
+    established(alloc, connection)
 }
 
 /// Whether the receiver opens this token to the text, and only once.

@@ -22,9 +22,8 @@ fn accepted(
     token: &str,
 ) -> Result<Result<Box<Session>, Error>, Fail> {
     let token = hex::decode(alloc, token)?;
-    let mut session = boxed(alloc, service.session(alloc, &draw())?)?;
-    match service.accept(alloc, &mut session, &token, &draw()) {
-        Ok(()) => Ok(Ok(session)),
+    match service.accept(alloc, &token, &draw()) {
+        Ok(session) => Ok(Ok(boxed(alloc, session)?)),
         Err(error) => Ok(Err(error)),
     }
 }
@@ -44,7 +43,7 @@ fn answers(alloc: Global, session: &Session) -> Result<bool, Fail> {
 
 fn tells_the_name(alloc: Global, session: &Session) -> bool {
     let mut room = [0; 64];
-    let count = session.name(alloc, &mut room);
+    let count = session.local_name(alloc, &mut room);
     gave(count, &room, b"alice@example.com")
 }
 

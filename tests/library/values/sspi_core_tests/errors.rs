@@ -11,7 +11,7 @@ struct Row {
     text: &'static str,
 }
 
-static ROWS: [Row; 14] = [
+static ROWS: [Row; 15] = [
     Row {
         place: Place::Elsewhere,
         cause: Cause::Skew,
@@ -46,6 +46,11 @@ static ROWS: [Row; 14] = [
         place: Place::Elsewhere,
         cause: Cause::ReplyTime,
         text: "TimeSkew ReplyTime",
+    },
+    Row {
+        place: Place::Elsewhere,
+        cause: Cause::Transited,
+        text: "InvalidToken Transited",
     },
     Row {
         place: Place::Elsewhere,

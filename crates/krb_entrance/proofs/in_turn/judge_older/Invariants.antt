@@ -3,5 +3,5 @@ use Rattle.std.specs.Prelude.{All}
 use Rattle.krb_entrance.specs.Turns.{IsClosed}
 use Rattle.krb_entrance.proofs.in_turn.judge_older.Given as goal
 
-abbrev pub invariant-loop-properties : goal.invariant-loop-properties
-invariant-loop-properties l = All (IsClosed l.token l.draw) (take l.properties-index l.older)
+abbrev pub invariant-loop-keys : goal.invariant-loop-keys
+invariant-loop-keys l = All (IsClosed l.channel l.token l.draw) (take l.keys-index l.older)

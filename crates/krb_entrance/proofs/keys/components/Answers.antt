@@ -1,7 +1,7 @@
 use Rattle.std.proofs.Common.{arith}
 use Rattle.std.proofs.lemmas.Iterator.Consumers.{map_from_collect}
 use Rattle.std.proofs.lemmas.Iterator.Splits.{YieldsList-from_str_split}
-use Rattle.krb_entrance.proofs.service.components.Goals as goal
+use Rattle.krb_entrance.proofs.keys.components.Goals as goal
 
 pub returns : goal.returns
 returns c =

@@ -5,7 +5,7 @@ use Rattle.krb_exchange.specs.declared.krb_error.KrbError.{KrbError}
 use Rattle.krb_exchange.specs.Layouts.{krb_error_layout}
 use Rattle.krb_server.specs.ErrorTokens.{error_message}
 use Rattle.krb_server.proofs.ErrorLengths.{error_fits}
-use Rattle.krb_server.proofs.error_token.error_message.Goals as goal
+use Rattle.krb_server.proofs.error_tokens.error_message.Goals as goal
 
 pub write-requires-clause-complete : goal.write-requires-clause-complete
 write-requires-clause-complete c =

@@ -1,0 +1,138 @@
+/* test_acceptor EXCHANGE [ROUNDS]: what an acceptor of the library holds its clients to, and what it is told of them: channel bindings, names,
+ * flags, the length of tokens, and a new book. Its clients are initiators of the library. Prints 'N passed, M failed'. */
+#include "meeting.h"
+
+#include <stdio.h>
+#include <stdlib.h>
+#include <string.h>
+
+static const char CHANNEL[] = "tls-server-end-point:0123456789abcdef0123456789abcdef";
+
+static mk_reply judge_bound(const exchange *x, mk_acceptor *acceptor, mk_judged *to, const octets *token, const char *data) {
+    return mk_judge_bound(acceptor, to, token->at, token->length, text(data), strlen(data), &x->moment);
+}
+
+static void make(const exchange *x, mk_acceptor *to) {
+    CHECK(mk_acceptor_new(to, text(x->name), strlen(x->name), x->key.at, x->key.length, 300).status == MK_OK);
+}
+
+/* A client is admitted over the channel that it gave, and over no other. */
+static void bind_clients(const exchange *x, const octets *bound, const octets *unbound) {
+    mk_acceptor acceptor = MK_EMPTY, none = MK_EMPTY;
+    mk_judged judged = MK_EMPTY;
+    mk_session session = MK_EMPTY;
+    uint8_t out[64];
+    CHECK(judge_bound(x, &none, &judged, bound, CHANNEL).status == MK_HANDLE);
+    make(x, &acceptor);
+    CHECK(is_refused(judge_bound(x, &acceptor, &judged, bound, "tls-server-end-point:other"), MK_CAUSE_BINDINGS));
+    CHECK(is_refused(judge_bound(x, &acceptor, &judged, bound, ""), MK_CAUSE_BINDINGS));
+    CHECK(is_refused(judge_bound(x, &acceptor, &judged, unbound, CHANNEL), MK_CAUSE_BINDINGS));
+    CHECK(is_refused(judge_bound(x, &acceptor, &judged, unbound, ""), MK_CAUSE_BINDINGS));
+    CHECK(is_refused(mk_judge_bound(&acceptor, &judged, bound->at, 1, text(CHANNEL), 1, &x->moment), MK_CAUSE_SHAPE));
+    CHECK(judged.count == 0);
+    CHECK(judge_bound(x, &acceptor, &judged, bound, CHANNEL).status == MK_OK);
+    CHECK(judge_bound(x, &acceptor, &judged, bound, CHANNEL).status == MK_HANDLE);
+    mk_reply reply = mk_judged_flags(&judged);
+    CHECK(reply.status == MK_OK && reply.number == (MK_GSS_C_MUTUAL_FLAG | MK_GSS_C_REPLAY_FLAG | MK_GSS_C_SEQUENCE_FLAG | MK_GSS_C_CONF_FLAG |
+                                                    MK_GSS_C_INTEG_FLAG));
+    CHECK(mk_admit(&acceptor, &judged, &session).status == MK_OK);
+    reply = mk_session_client(&session, out, sizeof out);
+    CHECK(reply.status == MK_OK && reply.length == 17 && memcmp(out, "alice@EXAMPLE.COM", 17) == 0);
+    mk_session_free(&session);
+    CHECK(mk_judge(&acceptor, &judged, unbound->at, unbound->length, &x->moment).status == MK_OK);
+    mk_judged_free(&judged);
+    CHECK(mk_judge(&acceptor, &judged, bound->at, bound->length, &x->moment).status == MK_OK);
+    CHECK(is_refused(mk_admit(&acceptor, &judged, &session), MK_CAUSE_REPLAYED));
+    mk_acceptor_free(&acceptor);
+}
+
+/* A session of mk_accept knows its client whole; one of an initiator has none. */
+static void know_clients(const exchange *x) {
+    mk_session client = MK_EMPTY, server = MK_EMPTY, none = MK_EMPTY;
+    uint8_t out[64];
+    mk_times times;
+    meet(x, &client, &server);
+    mk_reply reply = mk_session_client(&server, out, sizeof out);
+    CHECK(reply.status == MK_OK && reply.length == 17 && memcmp(out, "alice@EXAMPLE.COM", 17) == 0);
+    CHECK(mk_session_times(&server, &times).status == MK_OK && times.starttime < times.endtime);
+    reply = mk_session_flags(&server);
+    CHECK(reply.status == MK_OK && reply.length == 0 && reply.number == 0x3e);
+    CHECK(mk_session_ticket_flags(&server).status == MK_OK);
+    CHECK(mk_session_client(&client, out, sizeof out).status == MK_HANDLE && mk_session_times(&client, &times).status == MK_HANDLE);
+    CHECK(mk_session_flags(&client).status == MK_HANDLE && mk_session_ticket_flags(&client).status == MK_HANDLE);
+    CHECK(mk_session_flags(&none).status == MK_HANDLE && mk_session_ticket_flags(&none).status == MK_HANDLE);
+    mk_session_free(&client);
+    mk_session_free(&server);
+}
+
+/* A token past the limit is refused unread, by a copy too. */
+static void limit(const exchange *x, const octets *token) {
+    mk_acceptor acceptor = MK_EMPTY, copy = MK_EMPTY;
+    mk_judged judged = MK_EMPTY;
+    CHECK(mk_acceptor_limit_tokens(&acceptor, 9).status == MK_HANDLE);
+    make(x, &acceptor);
+    CHECK(mk_acceptor_limit_tokens(&acceptor, token->length - 1).status == MK_OK);
+    CHECK(mk_acceptor_copy(&acceptor, &copy).status == MK_OK);
+    CHECK(is_refused(mk_judge(&acceptor, &judged, token->at, token->length, &x->moment), MK_CAUSE_SHAPE));
+    CHECK(is_refused(mk_judge(&copy, &judged, token->at, token->length, &x->moment), MK_CAUSE_SHAPE));
+    CHECK(mk_acceptor_limit_tokens(&acceptor, token->length).status == MK_OK);
+    CHECK(mk_judge(&acceptor, &judged, token->at, token->length, &x->moment).status == MK_OK);
+    mk_judged_free(&judged);
+    mk_acceptor_free(&acceptor);
+    mk_acceptor_free(&copy);
+}
+
+/* One token at a moment that is far ahead moves the book for everybody, until another begins. */
+static void begin_again(const exchange *x, const octets *token, const octets *other) {
+    mk_acceptor acceptor = MK_EMPTY;
+    mk_session session = MK_EMPTY;
+    mk_moment late = x->moment;
+    late.moment += 3600000000u;
+    CHECK(mk_acceptor_new_book(&acceptor, 300).status == MK_HANDLE);
+    make(x, &acceptor);
+    CHECK(mk_accept(&acceptor, &session, token->at, token->length, &x->moment).status == MK_OK);
+    mk_session_free(&session);
+    CHECK(is_refused(mk_accept(&acceptor, &session, other->at, other->length, &late), MK_CAUSE_SKEW));
+    CHECK(is_refused(mk_accept(&acceptor, &session, other->at, other->length, &x->moment), MK_CAUSE_SKEW));
+    CHECK(mk_acceptor_new_book(&acceptor, 300).status == MK_OK && mk_acceptor_kept(&acceptor) == 0);
+    CHECK(mk_accept(&acceptor, &session, other->at, other->length, &x->moment).status == MK_OK);
+    mk_session_free(&session);
+    CHECK(mk_accept(&acceptor, &session, token->at, token->length, &x->moment).status == MK_OK); /* as the header says: once more */
+    mk_session_free(&session);
+    mk_acceptor_free(&acceptor);
+}
+
+/* Data of a channel that are too long: more than 16 MiB. */
+static void bind_too_much(const exchange *x, const octets *token) {
+    mk_acceptor acceptor = MK_EMPTY;
+    mk_judged judged = MK_EMPTY;
+    const size_t length = ((size_t)1 << 24) + 1;
+    uint8_t *large = calloc(length, 1);
+    make(x, &acceptor);
+    if (large != NULL) {
+        CHECK(mk_judge_bound(&acceptor, &judged, token->at, token->length, large, length, &x->moment).status == MK_ARGUMENT);
+        CHECK(is_refused(mk_judge_bound(&acceptor, &judged, token->at, token->length, large, length - 1, &x->moment), MK_CAUSE_BINDINGS));
+    }
+    free(large);
+    mk_acceptor_free(&acceptor);
+}
+
+int main(int count, char **words) {
+    static exchange x;
+    int rounds = count > 2 ? atoi(words[2]) : 1;
+    if (count < 2 || !read_exchange(words[1], &x)) {
+        fprintf(stderr, "usage: test_acceptor EXCHANGE [ROUNDS]\n");
+        return 2;
+    }
+    for (int i = 0; i < rounds; i++) {
+        octets bound = token_for(&x, CHANNEL), unbound = token_for(&x, NULL);
+        if (i == 0) {
+            bind_too_much(&x, &unbound);
+        }
+        bind_clients(&x, &bound, &unbound);
+        know_clients(&x);
+        limit(&x, &unbound);
+        begin_again(&x, &bound, &unbound);
+    }
+    return tell_checks();
+}
