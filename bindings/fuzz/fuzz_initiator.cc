@@ -87,7 +87,7 @@ static bytes reply_of(Run &run, const Record &it, const bytes &part) {
 }
 
 /* With both checks a reply that is taken has the nonce of its request, an AS-REP the service's realm too, and an AP-REP the time of its
- * token. The realm in a TGS-REP is not compared. */
+ * token. The realm in a TGS-REP is that of the KDC that was asked, which a referral changes. */
 static void check_taken(const Run &run, const Record &it, const bytes &part, const bytes &nonce) {
     if ((it.tag == 2 || it.tag == 3) && (run.rules & MK_FRESH_REPLIES)) {
         PROMISE(nonce.size() != 4 || holds(part, nonce), "a reply of tag %u is taken without the nonce", it.tag);
