@@ -175,7 +175,7 @@ module _ (seeker : Seeker) (reply : Result (List ℕ) NetFault) (draw : Draw) wh
         })
 
     arrives : (done : InitDone) → referral ≡ None → Arrives seeker leg shown draw (Ok (Ends done)) → IsSession seeker (replies ++ (reply ∷ [])) done
-    unfolding Arrives ShowsTicket shown_to
+    unfolding Arrives ShowsTicket shown_to one_more
     arrives done e h =
         let made = passed _ _ _ h in
         let key = passed _ _ _ made.first_held in

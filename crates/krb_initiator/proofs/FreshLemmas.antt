@@ -244,7 +244,7 @@ module _ (seeker : Seeker) (start : Draw) (rule : has_rule seeker.asker.rules fr
         (referred_to (has_rule seeker.asker.rules fresh_replies && tgs_replies.is_for_target seeker.wanted.target shown.facts) (referral_realm shown.rep.ticket.sname) realm e)
 
     refers : (request : NetworkRequest) (next : InitPhase) (realm : List ℕ) → referral ≡ Some realm → Refers seeker leg realm shown arrival.draw (Ok (Asks request next)) → CameFresh seeker start now next
-    unfolding Refers
+    unfolding Refers one_more referral_realm chain_more
     refers request next realm e h =
         let begun = passed _ _ _ h in
         subst (λ (p : InitPhase). CameFresh seeker start now p) (sym (same_turn _ request next _ (gave _ _ begun.rest_held)))

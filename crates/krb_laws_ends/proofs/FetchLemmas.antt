@@ -248,16 +248,16 @@ module _ (seeker : Seeker) (suite : CipherSuite) where
 
   -- and it answers the request, where that is a rule
   hands_on_fresh : (known : Known) (step : Step) (rep : TgsRep) (key : List ℕ) → length known.key ≡ key_size suite → (next : IsNext known step rep key)
-      → BringsFresh seeker.asker.rules seeker.wanted.target known.question step.draw.moment suite known.key rep (Ok (taken_key key next.part.0))
+      → BringsFresh seeker.asker.rules seeker.wanted.target known.kdc.realm known.question step.draw.moment suite known.key rep (Ok (taken_key key next.part.0))
   unfolding BringsFresh
   hands_on_fresh known step rep key fits next =
       follows _ _ (taken_key key next.part.0) _ (hands_on known step rep key fits next)
       (follows _ _ tt _
-      (asked_for (has_rule seeker.asker.rules fresh_replies) (AnswersTgsReq seeker.wanted.target known.question step.draw.moment rep.0 (facts_in next.part.0)) next.answers)
+      (asked_for (has_rule seeker.asker.rules fresh_replies) (AnswersTgsReq seeker.wanted.target known.kdc.realm known.question step.draw.moment rep.0 (facts_in next.part.0)) next.answers)
       (gives (taken_key key next.part.0)))
 
   takes_tgs_rep : (known : Known) (step : Step) (rep : TgsRep) (key : List ℕ) → length known.key ≡ key_size suite → (next : IsNext known step rep key)
-      → TakesTgsRep seeker.asker.rules seeker.wanted.target known.question step.draw.moment known.kdc.protocol suite known.key (Ok step.reply)
+      → TakesTgsRep seeker.asker.rules seeker.wanted.target known.question step.draw.moment known.kdc suite known.key (Ok step.reply)
       (Ok (shown key (facts_in next.part.0) rep.0))
   unfolding TakesTgsRep
   takes_tgs_rep known step rep key fits next =

@@ -24,13 +24,12 @@ use Rattle.krb_as.specs.Replies.{Unwraps}
 use Rattle.krb_replies.specs.Unseals.{IsRead}
 use Rattle.krb_replies.specs.Keys.{is_tagged_26, IsFirstPart, HasSuite, facts_in}
 use Rattle.krb_replies.specs.Salts.{NamesSalt, TellsEtype}
-use Rattle.krb_replies.specs.Realms.{referral_realm}
 use Rattle.krb_as.specs.declared.asker.Asker.{Asker}
 use Rattle.krb_as.specs.Askers.{client_key, default_salt, sized_key}
 use Rattle.krb_as.specs.Replied.{LeavesSuite}
 use Rattle.krb_as.specs.Fresh.{AnswersAsReq}
 use Rattle.krb_tgs.specs.declared.fresh.TgsQuestion.{TgsQuestion}
-use Rattle.krb_tgs.specs.Fresh.{question_of, AnswersTgsReq}
+use Rattle.krb_tgs.specs.Fresh.{question_of, referral_of, AnswersTgsReq}
 use Rattle.krb_tgs.specs.TgsAsked.{service_of, url_for, is_same_realm}
 use Rattle.krb_initiator.specs.declared.seeker.Seeker.{Seeker}
 use Rattle.krb_initiator.specs.InitSteps.{body_of}
@@ -88,7 +87,7 @@ pub record Step : Type 0 where
   pub draw : Draw
 
 -- a TGS-REP is sealed under that key, with usage 8, and the next key of the suite is in it; the rules are those of who asked. Where that is a
--- rule, it answers the question about the target at the moment at which it comes
+-- rule, it answers the question about the target, which the KDC of this realm was asked, at the moment at which it comes
 pub record GrantsNext (rules : Rules) (target : List ℕ) (suite : CipherSuite) (known : Known) (step : Step) (rep : TgsRep) (key : List ℕ) : Type 0 where
   pub brings : Brings tgs_rep_layout known.kdc.protocol step.reply rep
   pub part : EncTgsRepPart
@@ -96,7 +95,7 @@ pub record GrantsNext (rules : Rules) (target : List ℕ) (suite : CipherSuite) 
   pub same_suite : HasSuite (has_rule rules suite_of_each_key) suite part.0.key.key_type (Ok suite)
   pub key_is : part.0.key.key_value ≡ key
   pub fits : length key ≡ key_size suite
-  pub answers : has_rule rules fresh_replies ≡ true → AnswersTgsReq target known.question step.draw.moment rep.0 (facts_in part.0) (Ok tt)
+  pub answers : has_rule rules fresh_replies ≡ true → AnswersTgsReq target known.kdc.realm known.question step.draw.moment rep.0 (facts_in part.0) (Ok tt)
 
 -- the KDC of a realm is known to a client of this home
 abbrev pub HasKdc : Asker → List ℕ → List ℕ → Kdc → Type 0
@@ -107,7 +106,7 @@ pub record Refers (asker : Asker) (target home : List ℕ) (suite : CipherSuite)
   pub rep : TgsRep
   pub grants : GrantsNext asker.rules target suite known step rep next.key
   pub asked : next.question ≡ question_of rep.0 step.draw
-  pub named : referral_realm rep.0.ticket.sname ≡ Some next.kdc.realm
+  pub named : referral_of asker.rules target (facts_in grants.part.0) rep.0 ≡ Some next.kdc.realm
   pub other : is_same_realm known.kdc.realm next.kdc.realm ≡ false
   pub found : HasKdc asker home next.kdc.realm next.kdc
 
@@ -116,7 +115,7 @@ pub record Serves (rules : Rules) (target : List ℕ) (suite : CipherSuite) (ser
     (part : EncTicketPart) : Type 0 where
   pub grants : GrantsNext rules target suite known step rep part.key.key_value
   pub named : rep.0.ticket.sname.name_string ≡ service_of target
-  pub refers_no_more : referral_realm rep.0.ticket.sname ≡ None
+  pub refers_no_more : referral_of rules target (facts_in grants.part.0) rep.0 ≡ None
   pub ticket : IsServiceTicket suite service_key rep.0.ticket part
   pub same_realm : part.crealm ≡ rep.0.crealm
   pub same_name : part.cname ≡ rep.0.cname

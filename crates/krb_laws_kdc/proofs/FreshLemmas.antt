@@ -1,9 +1,10 @@
 -- What a KDC grants answers what was asked.
-use Rattle.std.proofs.Common.{◌≡◌, ℕ, ◌+◌, ◌*◌, ◌/◌, ◌^◌, ℤ, pos, ◌-ℤ◌, Bool, true, false, List, [], ◌∷◌, length, drop, Some, refl, sym, ap, ◌∙◌, arith, Ok, length-drop, nat_lt, int_lt, get_or, if◌then◌else◌}
+use Rattle.std.proofs.Common.{◌≡◌, ℕ, ◌+◌, ◌*◌, ◌/◌, ◌^◌, ℤ, pos, ◌-ℤ◌, Bool, true, false, List, [], ◌∷◌, length, drop, Some, None, refl, sym, subst, ap, ◌∙◌, arith, Ok, length-drop, nat_lt, int_lt, get_or, if◌then◌else◌}
 use Rattle.std.specs.Prelude.{◌==◌, ◌&&◌, ◌||◌, not, is_some, bytes_eq}
 use Rattle.std.specs.Int.{w32, from_be_bytes}
 use Rattle.std.specs.Ordering.{int_eq}
-use Rattle.std.specs.Cmp.Lexicographic.{pointwise}
+use Rattle.std.specs.Cmp.{unsigned_Decides}
+use Rattle.std.specs.Cmp.Lexicographic.{pointwise, pointwise_decides}
 use Rattle.std.proofs.lemmas.Bool.{le-ltb, and_from, or_left, or_right}
 use Rattle.std.proofs.lemmas.List.{length-take}
 use Rattle.krb_der.specs.Integer.{integer_value}
@@ -13,6 +14,8 @@ use Rattle.krb_messages.specs.declared.principal_name.PrincipalName.{PrincipalNa
 use Rattle.krb_exchange.specs.declared.kdc_rep.KdcRep.{KdcRep}
 use Rattle.krb_exchange.specs.declared.kdc_req.KdcReqBody.{KdcReqBody}
 use Rattle.krb_context.proofs.PlaceLemmas.{int_eq-same}
+use Rattle.krb_context.specs.Rules.{has_rule, fresh_replies}
+use Rattle.krb_context.specs.declared.rules.Rules.{Rules}
 use Rattle.krb_crypto.specs.declared.suite.CipherSuite.{CipherSuite}
 use Rattle.sspi_core.specs.declared.cause.Cause.TheVariants.{Nonce, ReplyNames, ReplyTime}
 use Rattle.sspi_core.specs.declared.draw.Draw.{Draw}
@@ -26,7 +29,7 @@ use Rattle.krb_requests.specs.Pieces.{principal as name_with, three_days_after, 
 use Rattle.krb_as.specs.Fresh.{is_asked, is_alias, names_client, names_service, AnswersAsReq}
 use Rattle.krb_tgs.specs.declared.fresh.TgsQuestion.{TgsQuestion}
 use Rattle.krb_tgs.specs.declared.wanted.Wanted.{Wanted}
-use Rattle.krb_tgs.specs.Fresh.{question_of, names_client as names_holder, names_service as names_target, AnswersTgsReq}
+use Rattle.krb_tgs.specs.Fresh.{question_of, names_client as names_holder, names_service as names_target, is_for_target, referral_of, AnswersTgsReq}
 use Rattle.krb_tgs.specs.TgsAsked.{drawn_nonce, service_of}
 use Rattle.krb_laws_ends.specs.Answers.{IsDraw}
 use Rattle.krb_laws_ends.proofs.HonestLemmas.{same_octets}
@@ -37,6 +40,7 @@ use Rattle.krb_kdc.specs.declared.tgs_req.Target.{Target}
 use Rattle.krb_kdc.specs.Answering.{first_grant, next_grant}
 use Rattle.krb_kdc.specs.Clocks.{earlier, ten_hours_after, asks_latest, granted_end}
 use Rattle.krb_kdc.specs.Grants.{reply_part, ticket, as_rep, tgs_rep}
+use Rattle.krb_kdc.specs.Requests.{granting}
 use Rattle.krb_laws_kdc.specs.Asking.{AreNear, AsksFirst, client_with}
 use Rattle.krb_laws_kdc.specs.Fetching.{body_at}
 use Rattle.krb_laws_kdc.specs.Granting.{IsValidAt, IsFirstAnswer, IsNextAnswer}
@@ -125,22 +129,23 @@ module _ (suite : CipherSuite) (realm nonce : List ℕ) (draw : Draw) (grant : G
       (holds_true ReplyTime (is_valid_at moment facts) (valid a.valid)))
 
   -- the name is that of the target, or that of a realm's ticket-granting service
-  pub answers_tgs_req : (key target : List ℕ) (question : TgsQuestion) → IsNextAnswer question moment nonce draw grant
+  pub answers_tgs_req : (key target asked : List ℕ) (question : TgsQuestion) → IsNextAnswer question asked moment realm nonce draw grant
       → (is_some (referral_realm grant.sname) || same_components grant.sname.name_string (service_of target)) ≡ true
-      → AnswersTgsReq target question moment (tgs_rep suite realm draw nonce key grant).0 (facts_in (reply_part suite realm draw nonce grant)) (Ok tt)
-  unfolding AnswersTgsReq tgs_rep ticket reply_part
-  answers_tgs_req key target question a named =
+      → AnswersTgsReq target asked question moment (tgs_rep suite realm draw nonce key grant).0 (facts_in (reply_part suite realm draw nonce grant)) (Ok tt)
+  unfolding AnswersRequest tgs_rep ticket reply_part
+  answers_tgs_req key target asked question a named =
       let facts : ReplyFacts = facts_in (reply_part suite realm draw nonce grant) in
       let rep : KdcRep = (tgs_rep suite realm draw nonce key grant).0 in
       let client : names_holder question rep ≡ true =
       and_from (bytes_eq grant.crealm question.crealm) (same_components grant.cname.name_string question.cname.name_string)
       (ap (λ (r : List ℕ). bytes_eq r question.crealm) a.crealm_is ∙ same_octets question.crealm)
       (ap (λ (n : PrincipalName). same_components n.name_string question.cname.name_string) a.cname_is ∙ same_parts question.cname.name_string) in
-      let service : names_target target rep facts ≡ true =
-      and_from (same_components grant.sname.name_string grant.sname.name_string)
-      (is_some (referral_realm grant.sname) || same_components grant.sname.name_string (service_of target)) (same_parts grant.sname.name_string) named in
+      let same : Bool = same_components grant.sname.name_string grant.sname.name_string in
+      let service : names_target target asked rep facts ≡ true =
+      and_from (bytes_eq realm asked && same) (is_some (referral_realm grant.sname) || same_components grant.sname.name_string (service_of target))
+      (and_from (bytes_eq realm asked) same (ap (λ (r : List ℕ). bytes_eq r asked) a.realm_is ∙ same_octets asked) (same_parts grant.sname.name_string)) named in
       follows _ _ tt _ (holds_true Nonce (has_value question.nonce facts.nonce) (ap (λ (n : ℕ). has_value n nonce) a.nonce_is ∙ value_is nonce a.nonce_size))
-      (follows _ _ tt _ (holds_true ReplyNames (names_holder question rep && names_target target rep facts) (and_from (names_holder question rep) (names_target target rep facts) client service))
+      (follows _ _ tt _ (holds_true ReplyNames (names_holder question rep && names_target target asked rep facts) (and_from (names_holder question rep) (names_target target asked rep facts) client service))
       (holds_true ReplyTime (is_valid_at moment facts) (valid a.valid)))
 
 -- the components of a name that is the target's
@@ -149,6 +154,38 @@ pub target_named : (name : PrincipalName) (target : List ℕ) → name ≡ name_
 target_named name target is =
     or_right (is_some (referral_realm name)) (same_components name.name_string (service_of target))
     (ap (λ (n : PrincipalName). same_components n.name_string (service_of target)) is ∙ same_parts (service_of target))
+
+-- ---- what a ticket refers to
+
+-- a referral to a realm is no ticket for the target, so the client goes on
+pub goes_on : (rules : Rules) (target : List ℕ) (facts : ReplyFacts) (rep : KdcRep) (realm : List ℕ) → referral_realm rep.ticket.sname ≡ Some realm
+    → (has_rule rules fresh_replies ≡ true → is_for_target target facts ≡ false) → referral_of rules target facts rep ≡ Some realm
+goes_on rules target facts rep realm refers other = go (has_rule rules fresh_replies) other ∙ refers
+  where
+    go : (fresh : Bool) → (fresh ≡ true → is_for_target target facts ≡ false)
+        → (if fresh && is_for_target target facts then None else referral_realm rep.ticket.sname) ≡ referral_realm rep.ticket.sname
+    go true o = ap (λ (b : Bool). if b then None else referral_realm rep.ticket.sname) (o refl)
+    go false o = refl
+
+-- and the ticket of a service that is not called as the ticket-granting service is refers nowhere
+pub goes_nowhere : (rules : Rules) (target : List ℕ) (facts : ReplyFacts) (rep : KdcRep) → referral_realm rep.ticket.sname ≡ None → referral_of rules target facts rep ≡ None
+goes_nowhere rules target facts rep none = go (has_rule rules fresh_replies && is_for_target target facts)
+  where
+    go : (b : Bool) → (if b then None else referral_realm rep.ticket.sname) ≡ None
+    go true = refl
+    go false = none
+
+-- such a service has not the components of a ticket-granting service's name
+pub not_granting : (realm : List ℕ) (service : List (List ℕ)) → referral_realm (name_with 2 service) ≡ None → same_components (granting realm) service ≡ false
+unfolding referral_realm
+not_granting realm service none = go (same_components (granting realm) service) refl
+  where
+    go : (b : Bool) → same_components (granting realm) service ≡ b → b ≡ false
+    go false e = refl
+    go true e =
+        let is : granting realm ≡ service = (pointwise_decides (pointwise_decides unsigned_Decides) (granting realm) service).0 e in
+        let refers : referral_realm (name_with 2 (granting realm)) ≡ None = subst (λ (s : List (List ℕ)). referral_realm (name_with 2 s) ≡ None) (sym is) none in
+        absurd cc
 
 -- ---- a KDC's grants answer what was asked
 
@@ -205,10 +242,12 @@ nonce_size own d = omega (arith, length-take 4 (drop 4 own.random), length-drop 
 
 pub next_answer : (kdc : Kdc) (wanted : Wanted) (rep : KdcRep) (part : EncTicketPart) (own draw : Draw) (later : ℕ) (target : Target) → IsDraw own
     → AreNear grace own.moment draw.moment → AreNear grace later draw.moment → rep.crealm ≡ part.crealm → rep.cname ≡ part.cname → Outlives later part.endtime
-    → IsNextAnswer (question_of rep own) later (drawn_nonce own) draw (next_grant draw.moment (body_at wanted kdc.realm own) part target)
-next_answer kdc wanted rep part own draw later target d near near_later crealm cname outlives = record {
+    → (asked : List ℕ) → kdc.realm ≡ asked
+    → IsNextAnswer (question_of rep own) asked later kdc.realm (drawn_nonce own) draw (next_grant draw.moment (body_at wanted kdc.realm own) part target)
+next_answer kdc wanted rep part own draw later target d near near_later crealm cname outlives asked is = record {
   nonce_is = refl;
   nonce_size = nonce_size own d;
+  realm_is = is;
   crealm_is = sym crealm;
   cname_is = sym cname;
   valid = record {

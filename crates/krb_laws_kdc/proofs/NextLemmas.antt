@@ -21,6 +21,7 @@ use Rattle.sspi_core.specs.declared.protocol.NetworkProtocol.TheVariants.{Tcp}
 use Rattle.krb_as.specs.declared.kdc.Kdc.{Kdc as Address}
 use Rattle.krb_as.specs.Replies.{Unwraps}
 use Rattle.krb_replies.specs.Fresh.{same_components}
+use Rattle.krb_replies.specs.Keys.{facts_in}
 use Rattle.krb_replies.specs.Realms.{referral_realm}
 use Rattle.krb_requests.specs.Pieces.{principal as name_with}
 use Rattle.krb_as.specs.declared.asker.Asker.{Asker}
@@ -38,7 +39,7 @@ use Rattle.krb_kdc.specs.Grants.{reply_confounder, reply_part, ticket_part, tick
 use Rattle.krb_kdc.specs.Requests.{granting}
 use Rattle.krb_laws_kdc.specs.Granting.{IsSoundGrant, IsSoundClient, IsNextAnswer}
 use Rattle.krb_laws_kdc.proofs.ErrorLemmas.{unwraps_tcp, ascii_octets, short-octet}
-use Rattle.krb_laws_kdc.proofs.FreshLemmas.{answers_tgs_req, target_named}
+use Rattle.krb_laws_kdc.proofs.FreshLemmas.{answers_tgs_req, target_named, goes_on, goes_nowhere}
 use Rattle.krb_laws_kdc.proofs.RepLemmas.{short-time, data_sound, confounder_size, confounder_octets, drawn_fits, now_is_time, short-key, short-flags, ticket_sound}
 use Rattle.krb_laws_kdc.proofs.TicketLemmas.{is_service_ticket}
 
@@ -77,7 +78,7 @@ module _ (suite : CipherSuite) (realm : List ℕ) (draw : Draw) (d : IsDraw draw
     abbrev reply : List ℕ
     reply = with_length (spelling tgs_rep_layout (tgs_rep suite realm draw nonce known.key grant))
 
-    pub grants_next : (rules : Rules) (target : List ℕ) (own : Draw) → (has_rule rules fresh_replies ≡ true → IsNextAnswer known.question own.moment nonce draw grant)
+    pub grants_next : (rules : Rules) (target : List ℕ) (own : Draw) → (has_rule rules fresh_replies ≡ true → IsNextAnswer known.question known.kdc.realm own.moment realm nonce draw grant)
         → (is_some (referral_realm grant.sname) || same_components grant.sname.name_string (service_of target)) ≡ true
         → GrantsNext rules target suite known (record { reply = reply; draw = own }) (tgs_rep suite realm draw nonce known.key grant) (drawn_key suite draw)
     unfolding tgs_rep reply_part
@@ -104,37 +105,43 @@ module _ (suite : CipherSuite) (realm : List ℕ) (draw : Draw) (d : IsDraw draw
           same_suite = has_suite (has_rule rules suite_of_each_key) suite;
           key_is = refl;
           fits = drawn_fits suite realm draw d;
-          answers = λ asks. answers_tgs_req suite realm nonce draw grant own.moment known.key target known.question (fresh asks) named;
+          answers = λ asks. answers_tgs_req suite realm nonce draw grant own.moment known.key target known.kdc.realm known.question (fresh asks) named;
         }
 
     -- to a route: a referral
     unfoldable pub refers_on : (asker : Asker) (target home : List ℕ) (address : Address) (own : Draw)
-        → (has_rule asker.rules fresh_replies ≡ true → IsNextAnswer known.question own.moment nonce draw grant) → grant.sname ≡ name_with 2 (granting address.realm)
-        → is_same_realm known.kdc.realm address.realm ≡ false → HasKdc asker home address.realm address
+        → (has_rule asker.rules fresh_replies ≡ true → IsNextAnswer known.question known.kdc.realm own.moment realm nonce draw grant) → grant.sname ≡ name_with 2 (granting address.realm)
+        → is_same_realm known.kdc.realm address.realm ≡ false
+        → (has_rule asker.rules fresh_replies ≡ true → same_components (granting address.realm) (service_of target) ≡ false)
+        → HasKdc asker home address.realm address
         → Refers asker target home suite known (record { reply = reply; draw = own })
         (record { key = drawn_key suite draw; kdc = address; question = question_of (tgs_rep suite realm draw nonce known.key grant).0 own })
-    unfolding tgs_rep ticket referral_realm
-    refers_on asker target home address own fresh named other found = record {
+    unfolding tgs_rep ticket reply_part referral_realm grants_next
+    refers_on asker target home address own fresh named other apart found = record {
       rep = tgs_rep suite realm draw nonce known.key grant;
       grants =
           grants_next asker.rules target own fresh
           (or_left (is_some (referral_realm grant.sname)) (same_components grant.sname.name_string (service_of target)) (ap (λ n. is_some (referral_realm n)) named));
       asked = refl;
-      named = ap referral_realm named;
+      named =
+          goes_on asker.rules target (facts_in (reply_part suite realm draw nonce grant)) (tgs_rep suite realm draw nonce known.key grant).0 address.realm
+          (ap referral_realm named) (λ asks. ap (λ n. same_components n.name_string (service_of target)) named ∙ apart asks);
       other = other;
       found = found;
     }
 
     -- to a principal: the service's ticket
-    unfoldable pub serves : (rules : Rules) (target : List ℕ) (own : Draw) → (has_rule rules fresh_replies ≡ true → IsNextAnswer known.question own.moment nonce draw grant)
+    unfoldable pub serves : (rules : Rules) (target : List ℕ) (own : Draw) → (has_rule rules fresh_replies ≡ true → IsNextAnswer known.question known.kdc.realm own.moment realm nonce draw grant)
         → IsSoundClient grant.crealm grant.cname → length grant.key ≡ key_size suite → grant.sname ≡ name_with 2 (service_of target)
         → referral_realm (name_with 2 (service_of target)) ≡ None
         → Serves rules target suite grant.key known (record { reply = reply; draw = own }) (tgs_rep suite realm draw nonce known.key grant) (ticket_part suite draw grant)
-    unfolding tgs_rep ticket ticket_part
+    unfolding tgs_rep ticket ticket_part reply_part grants_next
     serves rules target own fresh client fits named no_referral = record {
       grants = grants_next rules target own fresh (target_named grant.sname target named);
       named = ap (λ n. n.name_string) named;
-      refers_no_more = ap referral_realm named ∙ no_referral;
+      refers_no_more =
+          goes_nowhere rules target (facts_in (reply_part suite realm draw nonce grant)) (tgs_rep suite realm draw nonce known.key grant).0
+          (ap referral_realm named ∙ no_referral);
       ticket = is_service_ticket suite realm draw d grant client g.authtime g.endtime fits;
       same_realm = refl;
       same_name = refl;

@@ -64,7 +64,7 @@ use Rattle.krb_laws_kdc.proofs.AddressLemmas.{address_realm}
 use Rattle.krb_laws_kdc.proofs.ErrorLemmas.{short-sname}
 use Rattle.krb_laws_kdc.proofs.NameLemmas.{AreNames, principal_names, name_sound, name_octets}
 use Rattle.krb_laws_kdc.proofs.AskLemmas.{same_request}
-use Rattle.krb_laws_kdc.proofs.FreshLemmas.{next_answer}
+use Rattle.krb_laws_kdc.proofs.FreshLemmas.{next_answer, not_granting}
 use Rattle.krb_laws_kdc.proofs.HeldLemmas.{IsHeld, near, replied, service_short, next_sound, next_held}
 use Rattle.krb_laws_kdc.proofs.NextLemmas.{refers_on, serves}
 use Rattle.krb_laws_kdc.proofs.RepLemmas.{drawn_fits}
@@ -140,13 +140,14 @@ module _ (seeker : Seeker) (pairs : List (List ℕ × Kdc)) (suite : CipherSuite
 
     -- what the KDC grants is what was asked, and comes in time
     answers_it : (target : Target) → IsTimely start span next_own → has_rule seeker.asker.rules fresh_replies ≡ true
-        → IsNextAnswer known.question next_own.moment (drawn_nonce own) draw (granted suite seeker.wanted kdc held target own draw)
+        → IsNextAnswer known.question stands.address.realm next_own.moment kdc.realm (drawn_nonce own) draw (granted suite seeker.wanted kdc held target own draw)
     unfolding ticket_part
     answers_it target v asks =
         let living = h.living in
         next_answer kdc seeker.wanted held.rep (ticket_part suite held.draw held.grant) own draw next_own.moment target t.is
         (near start span grace own draw t u (fresh asks)) (near start span grace next_own draw v u (fresh asks)) h.crealm_is h.cname_is
         (lives start span grace next_own.moment living.second held.grant.endtime living.is living.after v.upto (fresh asks))
+        stands.address.realm (sym (address_realm stands))
 
     payload_is : (request held stands.address own).payload ≡ payload held kdc own
     unfolding tgs_request
@@ -278,7 +279,8 @@ module _ (seeker : Seeker) (pairs : List (List ℕ × Kdc)) (suite : CipherSuite
           let next_known : Known = known_of held_then next_stands.address next_own in
           let referred : Refers seeker.asker seeker.wanted.target home suite known step next_known =
           refers_on suite kdc.realm draw u.is (drawn_nonce own) grant sound known stands.tcp octets sizes.reply seeker.asker seeker.wanted.target home next_stands.address next_own
-          (answers_it (target_at to) v) (ap (λ (r : List ℕ). name_with 2 (granting r)) (to.to ∙ sym (address_realm next_stands))) other found in
+          (answers_it (target_at to) v) (ap (λ (r : List ℕ). name_with 2 (granting r)) (to.to ∙ sym (address_realm next_stands))) other
+          (λ asks. not_granting next_stands.address.realm (service_of seeker.wanted.target) no_referral) found in
           let asked : Next (Seeks seeker) (AwaitsTgsRep (leg seeker suite known home hops)) (Ok message) next_own
           (Ok (Asks (request held_then next_stands.address next_own) (AwaitsTgsRep (leg seeker suite next_known home (hops + 1))))) =
           subst (λ (q : NetworkRequest). Next (Seeks seeker) (AwaitsTgsRep (leg seeker suite known home hops)) (Ok message) next_own

@@ -51,7 +51,7 @@ ghost use Rattle.krb_context.specs.Rules.{has_rule, fresh_replies};
 ghost use Rattle.krb_exchange.specs.declared.kdc_rep.KdcRep.{KdcRep};
 ghost use Rattle.krb_replay.specs.Clock.{in_microseconds, is_later};
 ghost use Rattle.krb_as.specs.declared.kdc.Kdc.{Kdc as Address};
-ghost use Rattle.krb_replies.specs.Fresh.{grace};
+ghost use Rattle.krb_replies.specs.Fresh.{grace, same_components};
 ghost use Rattle.krb_replies.specs.Realms.{referral_realm};
 ghost use Rattle.krb_as.specs.declared.done.InitDone.{InitDone};
 ghost use Rattle.krb_as.specs.Turns.{IsWant};
@@ -162,8 +162,9 @@ pub fn next_replies_are_honest()
         (target home : List ℕ) (address : Address) → IsDraw draw → IsSoundGrant realm nonce grant → known.kdc.protocol ≡ Tcp
         → IsOctets (with_length (spelling tgs_rep_layout (tgs_rep suite realm draw nonce known.key grant)))
         → length (spelling tgs_rep_layout (tgs_rep suite realm draw nonce known.key grant)) ≤ 2 ^ 23
-        → (has_rule asker.rules fresh_replies ≡ true → IsNextAnswer known.question own.moment nonce draw grant)
+        → (has_rule asker.rules fresh_replies ≡ true → IsNextAnswer known.question known.kdc.realm own.moment realm nonce draw grant)
         → grant.sname ≡ name_with 2 (granting address.realm) → is_same_realm known.kdc.realm address.realm ≡ false
+        → (has_rule asker.rules fresh_replies ≡ true → same_components (granting address.realm) (service_of target) ≡ false)
         → HasKdc asker home address.realm address
         → Refers asker target home suite known
         (record { reply = with_length (spelling tgs_rep_layout (tgs_rep suite realm draw nonce known.key grant)); draw = own })
@@ -172,7 +173,7 @@ pub fn next_replies_are_honest()
         (target : List ℕ) → IsDraw draw → IsSoundGrant realm nonce grant → known.kdc.protocol ≡ Tcp
         → IsOctets (with_length (spelling tgs_rep_layout (tgs_rep suite realm draw nonce known.key grant)))
         → length (spelling tgs_rep_layout (tgs_rep suite realm draw nonce known.key grant)) ≤ 2 ^ 23
-        → (has_rule options fresh_replies ≡ true → IsNextAnswer known.question own.moment nonce draw grant)
+        → (has_rule options fresh_replies ≡ true → IsNextAnswer known.question known.kdc.realm own.moment realm nonce draw grant)
         → IsSoundClient grant.crealm grant.cname → length grant.key ≡ key_size suite → grant.sname ≡ name_with 2 (service_of target)
         → referral_realm (name_with 2 (service_of target)) ≡ None
         → Serves options target suite grant.key known
@@ -188,7 +189,7 @@ pub fn grants_answer_what_was_asked()
     ensures next { (kdc : Kdc) (wanted : Wanted) (rep : KdcRep) (part : EncTicketPart) (own draw : Draw) (later : ℕ) (target : Target) → IsDraw own
         → AreNear grace own.moment draw.moment → AreNear grace later draw.moment → rep.crealm ≡ part.crealm → rep.cname ≡ part.cname
         → is_later (pos later) (in_microseconds part.endtime) grace ≡ false
-        → IsNextAnswer (question_of rep own) later (drawn_nonce own) draw (next_grant draw.moment (body_at wanted kdc.realm own) part target) }
+        → IsNextAnswer (question_of rep own) kdc.realm later kdc.realm (drawn_nonce own) draw (next_grant draw.moment (body_at wanted kdc.realm own) part target) }
 {}
 
 /// A KDC opens its own ticket to its ticket-granting service, and the KDC that it refers to opens the ticket that it gave.

@@ -1,12 +1,16 @@
 -- The key that an initiation ends with has its origin in the replies that led to it.
-use Rattle.std.proofs.Common.{◌≡◌, ℕ, ◌+◌, true, false, List, [], ◌∷◌, ◌++◌, length, Some, Result, Ok, refl, sym, ap, ◌∙◌, subst, arith, length-append}
+use Rattle.std.proofs.Common.{◌≡◌, ℕ, ◌+◌, true, false, List, [], ◌∷◌, ◌++◌, length, Some, None, Result, Ok, refl, sym, ap, ◌∙◌, subst, arith, length-append}
+use Rattle.std.specs.Prelude.{is_some}
 use Rattle.std.proofs.lemmas.List.{length-map}
+use Rattle.krb_exchange.specs.declared.kdc_rep.TgsRep.{TgsRep}
 use Rattle.sspi_generator.specs.declared.network.NetFault.{NetFault}
 use Rattle.krb_as.specs.declared.done.InitDone.{InitDone}
 use Rattle.krb_context.specs.Rules.{no_rules, has_rule, no_preauthentication}
 use Rattle.krb_context.specs.declared.rules.Rules.{Rules}
+use Rattle.krb_replies.specs.declared.facts.ReplyFacts.{ReplyFacts}
 use Rattle.krb_tgs.specs.Chain.{IsChain}
-use Rattle.krb_initiator.specs.Came.{AreGranted, GrantsFirst, NamesFirst, LeaveSalt}
+use Rattle.krb_tgs.specs.Fresh.{referral_of}
+use Rattle.krb_initiator.specs.Came.{AreGranted, GrantsFirst, NamesFirst, LeaveSalt, is_referral}
 use Rattle.krb_initiator.specs.declared.seeker.Seeker.{Seeker}
 use Rattle.krb_laws_origin.specs.Origins.{handed, LeavesSalt, LeadTo}
 use Rattle.krb_laws_origin.proofs.PhaseLemmas.{LedToEnd, granted_length}
@@ -52,6 +56,10 @@ came_error seeker [] salt set h = let may : false ≡ true = sym (ap (λ (o : Ru
 came_error seeker (error ∷ []) salt set h = record { error = error; are = refl; names = h }
 came_error seeker (error ∷ (more ∷ rest)) salt set h = absurd h
 
+-- without rules, a ticket that refers nowhere is told by its clear name
+no_referral : (rules : Rules) (target : List ℕ) (facts : ReplyFacts) (rep : TgsRep) → rules ≡ no_rules → referral_of rules target facts rep.0 ≡ None → is_referral rep ≡ false
+no_referral rules target facts rep set none = ap is_some (subst (λ (o : Rules). referral_of o target facts rep.0 ≡ None) set none)
+
 pub ends_with : (seeker : Seeker) (replies : List (List ℕ)) (done : InitDone) → seeker.asker.rules ≡ no_rules → LedToEnd seeker replies done → EndsWith seeker replies done
 ends_with seeker replies done set led =
     let session = led.session in
@@ -81,7 +89,7 @@ ends_with seeker replies done set led =
         granted = granted;
         few = omega (arith, all, rest, mapped, tail, few);
         are_referrals = session.are_referrals;
-        is_service = session.is_service;
+        is_service = no_referral seeker.asker.rules seeker.wanted.target has.facts session.last set session.is_service;
         suite = session.suite;
         facts = has.facts;
         chain =

@@ -1,4 +1,4 @@
--- What is known of an initiation behind its replies: how far they led it, by no more than nine referrals, and to which key at its end.
+-- What is known of an initiation after its replies: how far they led it, by no more than nine referrals, and to which key at its end.
 use Rattle.std.proofs.Common.{◌≡◌, inl, inr, ℕ, ◌+◌, ◌<◌, ◌≤◌, suc, Bool, true, false, List, [], ◌∷◌, ◌++◌, length, Option, Some, None, Result, Ok, Err, refl, sym, ap, subst, arith, lit≤, length-append}
 use Rattle.std.specs.Prelude.{◌⊎◌, nat_lt}
 use Rattle.std.proofs.lemmas.Bool.{ltb-true}
@@ -25,8 +25,8 @@ use Rattle.krb_initiator.specs.declared.seeker.InitPhase.TheVariants.{New, InAsE
 use Rattle.krb_initiator.specs.declared.seeker.Initiation.TheVariants.{Seeks}
 use Rattle.krb_initiator.specs.declared.seeker.Seeker.{Seeker}
 use Rattle.krb_initiator.specs.declared.seeker.TgsLeg.{TgsLeg}
-use Rattle.krb_replies.specs.Realms.{referral_realm}
 use Rattle.krb_as.specs.Replies.{brought, Unwraps, Replies}
+use Rattle.krb_tgs.specs.Fresh.{referral_of}
 use Rattle.krb_tgs.specs.Taken.{TakesTgsRep}
 use Rattle.krb_tgs.specs.TgsAsked.{Follows}
 use Rattle.krb_as.specs.declared.key.Grant.{Grant}
@@ -108,7 +108,9 @@ module _ (seeker : Seeker) (reply : Result (List ℕ) NetFault) (draw : Draw) (r
 
   next_few : (leg : TgsLeg) → TakesNext seeker leg reply draw (Ok (Asks request next)) → IsFew next
   unfolding TakesNext
-  next_few leg h = let shown = passed _ _ _ h in goes_few (referral_realm shown.found.rep.ticket.sname) leg shown.found shown.rest_held
+  next_few leg h =
+      let shown = passed _ _ _ h in
+      goes_few (referral_of seeker.asker.rules seeker.wanted.target shown.found.facts shown.found.rep) leg shown.found shown.rest_held
 
   few_on : (phase : InitPhase) → Continues seeker phase reply draw (Ok (Asks request next)) → IsFew next
   few_on New h = absurd h

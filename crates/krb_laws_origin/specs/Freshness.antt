@@ -10,9 +10,9 @@ use Rattle.sspi_core.specs.declared.draw.Draw.{Draw}
 use Rattle.sspi_generator.specs.declared.network.NetFault.{NetFault}
 use Rattle.krb_replies.specs.Answered.{OpensApRep}
 use Rattle.krb_replies.specs.Fresh.{same_components}
-use Rattle.krb_replies.specs.Realms.{referral_realm}
 use Rattle.krb_as.specs.Clients.{NamesClient}
 use Rattle.krb_as.specs.declared.key.Grant.{Grant}
+use Rattle.krb_tgs.specs.Fresh.{referral_of}
 use Rattle.krb_tgs.specs.TgsAsked.{service_of}
 use Rattle.krb_ap.specs.Answered.{IsApRep, is_time_of}
 use Rattle.krb_ap.specs.Initiators.{is_bare}
@@ -37,7 +37,7 @@ abbrev pub arrivals_in : ℕ → List Event → List Arrival
 arrivals_in id [] = []
 arrivals_in id (event ∷ events) = arrivals_by id event ++ arrivals_in id events
 
--- one of these events, which is for the connection, begins an exchange; and in a stretch right behind it the network brings the connection
+-- one of these events, which is for the connection, begins an exchange; and in a stretch right after it the network brings the connection
 -- these replies, in their order, and nothing else
 pub record IsExchange (id : ℕ) (start : Event) (arrivals : List Arrival) (events : List Event) : Type 0 where
   pub earlier : List Event
@@ -56,7 +56,7 @@ pub record SeeksFor (connection : Connection) (start : Event) (seeker : Seeker) 
   pub target : connection.target ≡ Some seeker.wanted.target
   pub flags : seeker.errand.initiator.flags ≡ start.flags
 
--- a session key comes from an exchange that one of these events began: from replies that events brought in a stretch right behind it, each of
+-- a session key comes from an exchange that one of these events began: from replies that events brought in a stretch right after it, each of
 -- which answers the request that the exchange made at the reply before it. The AS-REP has the nonce that the first event drew (RFC 4120,
 -- section 3.1.5), each TGS-REP that of the event that brought the reply before it (section 3.3.4); the last ticket is for the target, by
 -- what is sealed in it. With that ticket the initiator shows an authenticator of the moment of the last event
@@ -69,7 +69,7 @@ pub record IsFreshLogIn (first : Connection) (id : ℕ) (events : List Event) (k
   pub last : Grant
   pub at : Draw
   pub chain : IsFreshChain seeker (draw_of start) arrivals last at
-  pub is_service : referral_realm last.rep.ticket.sname ≡ None
+  pub is_service : referral_of seeker.asker.rules seeker.wanted.target last.facts last.rep ≡ None
   pub for_target : same_components last.facts.sname.name_string (service_of seeker.wanted.target) ≡ true
   pub key_is : last.key ≡ key
   pub shown_is : at.moment ≡ shown_at
@@ -82,7 +82,7 @@ pub record HasFreshKey (first : Connection) (id : ℕ) (events : List Event) (ke
   pub was_shown : shown_at ≡ Some moment
   pub log_in : IsFreshLogIn first id events octets moment
 
--- behind that exchange, of this start and these replies, one of the events brings the connection a token: an AP-REP that is sealed under this
+-- after that exchange, of this start and these replies, one of the events brings the connection a token: an AP-REP that is sealed under this
 -- key, and has the time of an authenticator of this moment, by the values of both its fields (RFC 4120, section 3.2.5)
 pub record IsAnswered (id : ℕ) (start : Event) (arrivals : List Arrival) (events : List Event) (key : List ℕ) (moment : ℕ) : Type 0 where
   pub earlier : List Event

@@ -49,7 +49,7 @@ pub fn log_ins_are_fresh<G: ReplayGate>()
         → (last : Connection) × (at_id id after.connections ≡ Some last) × IsSameInitiator first last }
 {}
 
-/// Over every input: each initiator that its lines declare begins without a session key and awaits no KDC; and behind the events that
+/// Over every input: each initiator that its lines declare begins without a session key and awaits no KDC; and after the events that
 /// are answered it has a session key only where a chain of replies that these events brought leads to it from its credentials.
 pub fn declared_initiators_have_keys_by_their_replies()
     ensures keyless { (setup : Setup) (id : ℕ) (first : Connection) → at_id id (connections_of setup) ≡ Some first

@@ -2,4 +2,3 @@ pub mod Frames
 pub mod Retold
 pub mod Once
 pub mod HalvesLemmas
-mod ErrorLengths

@@ -1,3 +1,2 @@
 pub mod TgtReqs
 pub mod Whole
-pub mod ErrorTokens

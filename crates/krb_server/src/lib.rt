@@ -23,13 +23,11 @@
 #![tactic(auto)]
 
 mod accept;
-mod error_tokens;
 mod halves;
 pub mod laws;
 mod tgt_req;
 
 pub use accept::{Accepted, accept_security_context};
-pub use error_tokens::error_token;
 pub use halves::{admit, judge};
 pub use krb_admission::{Answer, Judged, TicketTimes, client_upn, generate_ap_rep};
 pub use krb_user_to_user::{

@@ -10,7 +10,6 @@ mod halves;
 mod long;
 mod recorded;
 mod records;
-mod refusals;
 mod rules;
 mod states;
 mod third_leg;
