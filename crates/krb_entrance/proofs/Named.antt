@@ -1,12 +1,11 @@
 -- A client that is admitted is known.
-use Rattle.std.proofs.Common.{◌≡◌, ℕ, ◌==◌, ◌&&◌, ◌||◌, Bool, true, false, List, [], ◌∷◌, Option, Some, None, Result, Ok, Err, refl, sym, ap, ◌∙◌, subst}
+use Rattle.std.proofs.Common.{◌≡◌, ℕ, ◌==◌, ◌&&◌, ◌||◌, if◌then◌else◌, Bool, true, false, List, [], ◌∷◌, Option, Some, None, Result, Ok, Err, refl, sym, ap, ◌∙◌, subst}
 use Rattle.std.specs.Cmp.Lexicographic.{pointwise}
 use Rattle.sspi_core.specs.Checks.{Holds}
 use Rattle.sspi_core.proofs.Chain.{passed, gave}
 use Rattle.sspi_core.specs.Usernames.{UserName}
 use Rattle.sspi_core.specs.declared.cause.Cause.{Cause}
 use Rattle.sspi_core.specs.declared.draw.Draw.{Draw}
-use Rattle.krb_crypto.specs.declared.suite.CipherSuite.{CipherSuite}
 use Rattle.krb_messages.specs.declared.authenticator.Authenticator.{Authenticator}
 use Rattle.krb_messages.specs.declared.enc_ticket_part.EncTicketPart.{EncTicketPart}
 use Rattle.krb_conf.specs.declared.config.KerberosConfig.{KerberosConfig}
@@ -52,6 +51,9 @@ same_components [] (y ∷ ys) h = absurd cc
 same_components (x ∷ xs) [] h = absurd cc
 same_components (x ∷ xs) (y ∷ ys) h = refl
 
+second_of : {A B : Type 0} (P : B → Type 0) (x y : A × B) → x ≡ y → P y.1 → P x.1
+second_of {A} {B} P x y e h = subst (λ (z : A × B). P z.1) (sym e) h
+
 same_client : (rules : Rules) (properties : ServerProperties) (token : List ℕ) (request : Request) → Requests rules properties false token (Ok request)
     → is_same_client rules request.part request.authenticator ≡ true
 unfolding Requests OpensAuthenticator
@@ -64,8 +66,8 @@ same_client rules properties token request h =
     let e : request ≡ record { message = m.found; part = t.found; suite = s.found.0; authenticator = s.found.1 } = gave _ _ s.rest_held in
     let same : s.found ≡ u.found = gave _ _ v.rest_held in
     let here : is_same_client rules t.found u.found.1 ≡ true = held_true _ _ _ v.first_held in
-    let S : CipherSuite × Authenticator → Type 0 = λ x. is_same_client rules t.found x.1 ≡ true in
-    subst (λ (r : Request). is_same_client rules r.part r.authenticator ≡ true) (sym e) (subst S (sym same) here)
+    let S : Authenticator → Type 0 = λ a. is_same_client rules t.found a ≡ true in
+    subst (λ (r : Request). is_same_client rules r.part r.authenticator ≡ true) (sym e) (second_of S s.found u.found same here)
 
 begun_same : (server : Kerberos) (token : List ℕ) (request : Request) → BeginsAdmission server false token (Ok request)
     → is_same_client server.rules request.part request.authenticator ≡ true
