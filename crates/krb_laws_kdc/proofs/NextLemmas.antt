@@ -63,13 +63,13 @@ module _ (suite : CipherSuite) (realm : List ℕ) (draw : Draw) (d : IsDraw draw
       (short-append _ _ _ [] (short-tlv (2 ^ 25) 0xaa (spelling principal_name_layout grant.sname) (lit< tt) (lit< tt) (record { octets = g.sname_octets; short = g.sname_short })) short-nothing)))))))))) in
       short-more _ (2 ^ 27) _ (lit≤ tt) (short-field _ 0x7a 0x30 _ (lit< tt) (lit< tt) (lit< tt) body)
 
-  part_sound : IsSound enc_tgs_rep_part_layout.kind (enc_tgs_rep_part_layout.view (record { 0 = reply_part suite realm draw nonce grant }))
+  pub part_sound : IsSound enc_tgs_rep_part_layout.kind (enc_tgs_rep_part_layout.view (record { 0 = reply_part suite realm draw nonce grant }))
   unfolding enc_tgs_rep_part enc_tgs_rep_part_row enc_kdc_rep_part enc_kdc_rep_part_row encryption_key_kind encryption_key_row last_req_entry last_req_entry_row reply_part
   part_sound =
       let now = now_is_time suite realm draw d in
       ((lit< tt, (tt, tt)), (((lit< tt, (now, tt)), tt), (g.nonce_some, (tt, (lit≤ tt, (g.authtime, (now, (g.endtime, (tt, (g.realm_ascii, (g.sname, (tt, (tt, tt)))))))))))))
 
-  rep_sound : (key : List ℕ) → IsSound tgs_rep_layout.kind (tgs_rep_layout.view (tgs_rep suite realm draw nonce key grant))
+  pub rep_sound : (key : List ℕ) → IsSound tgs_rep_layout.kind (tgs_rep_layout.view (tgs_rep suite realm draw nonce key grant))
   unfolding tgs_rep_kind tgs_rep_row kdc_rep_kind kdc_rep_row tgs_rep
   rep_sound key = (lit< tt, (lit< tt, (tt, (g.crealm, (g.cname, (ticket_sound suite realm draw d nonce grant g, (data_sound suite _, tt)))))))
 
