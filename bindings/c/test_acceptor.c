@@ -1,4 +1,4 @@
-/* test_acceptor EXCHANGE [ROUNDS]: what an acceptor of the library holds its clients to, and what it is told of them: channel bindings, names,
+/* test_acceptor EXCHANGE [ROUNDS]: what an acceptor of the library holds its clients to, and what it learns of them: channel bindings, names,
  * flags, the length of tokens, and a new book. Its clients are initiators of the library. Prints 'N passed, M failed'. */
 #include "meeting.h"
 

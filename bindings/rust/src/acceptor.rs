@@ -172,7 +172,7 @@ impl Acceptor {
         Ok(())
     }
 
-    /// Begins a new replay book, in which nobody is, for clocks that are wrong by so many seconds at most: where a token was judged by a
+    /// Begins a new replay book, in which nobody is, for clocks that are wrong by at most this number of seconds: where a token was judged by a
     /// clock that was far ahead, and nobody is admitted since.
     ///
     /// # Security

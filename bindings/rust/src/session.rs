@@ -51,7 +51,7 @@ impl Session {
         Ok(())
     }
 
-    /// Learns what the token of an admitted client said. The answer to it has so many octets.
+    /// Learns what the token of an admitted client said. The answer to it has this number of octets.
     pub(crate) fn learn(&mut self, answer: usize) -> Result<(), Error> {
         self.answer = self.octets(answer, sys::mk_session_answer)?;
         let client = self.text(sys::mk_session_client)?;

@@ -1,4 +1,4 @@
-//! Whom an acceptor admits, what it holds its clients to, and what it is told of them. The clients make their tokens apart from the library.
+//! Whom an acceptor admits, what it holds its clients to, and what it learns of them. The clients make their tokens apart from the library.
 
 mod client;
 
