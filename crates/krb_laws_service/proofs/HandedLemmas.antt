@@ -181,6 +181,7 @@ module _ {G : Type 0} (admits : G → Ask → Verdict → G → Type 0) (initiat
           }
 
       only : AdmitsOnly admits state.gate (ask_of acceptor.context.rules (request_of end.offer) event.moment) after.gate
+      unfolding brings
       only = let_in (request_of end.offer) brings
 
       ends_well : (more : InitOptions) (own : Draw) → is_bare more.flags ≡ is_bare flags → IsDraw own
