@@ -1,6 +1,7 @@
 -- What RFC 4120 and RFC 4121 ask of a ticket and its authenticator besides, each where a rule asks for it.
-use Rattle.std.specs.Prelude.{ℕ, ◌==◌, bit_and, pos, nat_le, Bool, true, false, not, ◌&&◌, ◌||◌, List, [], ◌∷◌, length, take, drop, Option, Some, None, Result, bytes_eq, if◌then◌else◌}
-use Rattle.std.specs.Int.{w32, from_le_bytes}
+use Rattle.std.specs.Prelude.{ℕ, ◌==◌, ◌%◌, ◌^◌, bit_and, pos, nat_le, Bool, true, false, not, ◌&&◌, ◌||◌, List, [], ◌∷◌, length, take, drop, Option, Some, None, Result, bytes_eq, if◌then◌else◌}
+use Rattle.std.specs.Int.{w16, w32, from_le_bytes}
+use Rattle.krb_der.specs.Reading.{number_of}
 use Rattle.krb_context.specs.Rules.{has_rule, valid_tickets, checked_transit, bound_to_its_channel}
 use Rattle.krb_context.specs.declared.context.Kerberos.{Kerberos}
 use Rattle.krb_context.specs.declared.rules.Rules.{Rules}
@@ -81,3 +82,25 @@ low_word _ = None
 abbrev pub gss_flags : Option Checksum → Option ℕ
 gss_flags None = None
 gss_flags (Some checksum) = if is_gss checksum then low_word (drop 20 checksum.checksum) else None
+
+-- a KRB-CRED, from octet 24 of a checksum on: the option 1 and its length, in two octets each, the lowest first, and the KRB-CRED (RFC 4121,
+-- section 4.1.1)
+abbrev pub cred_in : List ℕ → List ℕ
+cred_in (a ∷ b ∷ c ∷ d ∷ rest) =
+    if a == 1 && (b == 0 && nat_le (from_le_bytes w16 (c ∷ d ∷ [])) (length rest)) then take (from_le_bytes w16 (c ∷ d ∷ [])) rest else []
+cred_in _ = []
+
+-- the first flag of RFC 2744, GSS_C_DELEG_FLAG
+abbrev pub asks_to_delegate : Option ℕ → Bool
+asks_to_delegate None = false
+asks_to_delegate (Some flags) = not (bit_and flags 1 == 0)
+
+-- the KRB-CRED of a client that asks for delegation, and no octets where it does not
+abbrev pub delegation_told : Option Checksum → List ℕ
+delegation_told None = []
+delegation_told (Some checksum) = if asks_to_delegate (gss_flags (Some checksum)) then cred_in (drop 24 checksum.checksum) else []
+
+-- the number of a client's first message: its authenticator's, modulo 2^32, and 0 where it has none (RFC 4120, section 5.5.1)
+abbrev pub first_number : Option (List ℕ) → ℕ
+first_number None = 0
+first_number (Some octets) = number_of octets % 2 ^ 32

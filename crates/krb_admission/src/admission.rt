@@ -207,7 +207,7 @@ fn subkey_octets(
 }
 
 /// The low four octets, as a number.
-fn low_word(octets: &[u8]) -> u32
+pub(crate) fn number_low(octets: &[u8]) -> u32
     ensures { result ≡ number_of octets.now % 2 ^ 32 }
 {
     let mut word: u32 = 0;
@@ -222,7 +222,7 @@ fn number_before(number: u32, octets: &Option<IntegerAsn1>) -> u32
     ensures { result ≡ number_before number octets.now }
 {
     match octets {
-        Some(octets) => low_word(octets.as_slice()).wrapping_sub(1),
+        Some(octets) => number_low(octets.as_slice()).wrapping_sub(1),
         None => number,
     }
 }

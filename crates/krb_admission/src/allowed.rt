@@ -18,11 +18,16 @@ ghost use Rattle.krb_admission.specs.Allowed.{
   low_word,
   Allows,
   gss_flags,
+  cred_in,
+  asks_to_delegate,
+  delegation_told,
+  first_number,
 };
 
+use crate::admission::number_low;
 use crate::request::Request;
 use krb_context::{Kerberos, Rules};
-use krb_der::{Bits, is_equal};
+use krb_der::{Bits, IntegerAsn1, is_equal};
 use krb_messages::{Checksum, EncTicketPart};
 use krb_replies::is_number;
 use sspi_core::{Cause, hold};
@@ -122,6 +127,55 @@ pub(crate) fn gss_flags(checksum: &Option<Checksum>) -> Option<u32>
     match checksum {
         Some(checksum) if is_gss(checksum) => low_word(&checksum.checksum.as_slice()[20..]),
         _ => None,
+    }
+}
+
+/// The KRB-CRED from octet 24 of a checksum on.
+fn cred_in(octets: &[u8]) -> &[u8]
+    ensures { result.now ≡ cred_in octets.now }
+{
+    match octets {
+        [1, 0, low, high, rest @ ..] => {
+            let length = u16::from_le_bytes([*low, *high]) as usize;
+            if length <= rest.len() {
+                &rest[..length]
+            } else {
+                &[]
+            }
+        }
+        _ => &[],
+    }
+}
+
+fn asks_to_delegate(flags: Option<u32>) -> bool
+    ensures { result ≡ asks_to_delegate flags }
+{
+    match flags {
+        Some(flags) => flags & 1 != 0,
+        None => false,
+    }
+}
+
+/// The KRB-CRED of a client that asks for delegation.
+pub(crate) fn delegation_told(checksum: &Option<Checksum>) -> &[u8]
+    ensures { result.now ≡ delegation_told checksum.now }
+{
+    if !asks_to_delegate(gss_flags(checksum)) {
+        return &[];
+    }
+    match checksum {
+        Some(checksum) => cred_in(&checksum.checksum.as_slice()[24..]),
+        None => &[],
+    }
+}
+
+/// The number of a client's first message.
+pub(crate) fn first_number(octets: &Option<IntegerAsn1>) -> u32
+    ensures { result ≡ first_number octets.now }
+{
+    match octets {
+        Some(octets) => number_low(octets.as_slice()),
+        None => 0,
     }
 }
 

@@ -1,7 +1,7 @@
 //! An AP-REQ between the two halves of an admission.
 
 use crate::admission::Admission;
-use crate::allowed::{gss_flags, hash_told};
+use crate::allowed::{delegation_told, first_number, gss_flags, hash_told};
 use crate::request::{Request, copy_ask, tag};
 use krb_context::Rules;
 use krb_der::{Bits, Name, OutOfMemory, Time};
@@ -55,7 +55,7 @@ impl Judged {
     ghost use Rattle.std.specs.Prelude.{◌≡◌, ◌-ℤ◌, pos, IfOk};
     ghost use Rattle.std.specs.Option.{option_copied};
     ghost use Rattle.krb_replay.specs.Clock.{in_microseconds};
-    ghost use Rattle.krb_admission.specs.Allowed.{gss_flags, hash_told};
+    ghost use Rattle.krb_admission.specs.Allowed.{gss_flags, hash_told, delegation_told, first_number};
     ghost use Rattle.krb_admission.specs.Requests.{tag_of};
     ghost use Rattle.krb_admission.specs.Halves.{question, ticket_times};
 
@@ -127,6 +127,22 @@ impl Judged {
         ensures { result.now ≡ hash_told self.now.request.authenticator.cksum }
     {
         hash_told(&self.request.authenticator.cksum)
+    }
+
+    /// The KRB-CRED by which the client hands on a ticket of its own (RFC 4121, section 4.1.1; RFC 4120, section 5.8.1): no octets where
+    /// it asked for no delegation, or its checksum has no whole one. It is not opened here.
+    pub fn delegation(&self) -> &[u8]
+        ensures { result.now ≡ delegation_told self.now.request.authenticator.cksum }
+    {
+        delegation_told(&self.request.authenticator.cksum)
+    }
+
+    /// The number that the client's first message has (RFC 4120, section 5.5.1): the low 32 bits of its authenticator's, and 0 where
+    /// that has none.
+    pub fn first_number(&self) -> u32
+        ensures { result ≡ first_number self.now.request.authenticator.seq_number }
+    {
+        first_number(&self.request.authenticator.seq_number)
     }
 
     /// The last twelve octets of the sealed authenticator. Two log-ins never share them but by chance, one in 2^96, and a replay has those

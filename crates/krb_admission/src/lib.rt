@@ -27,4 +27,5 @@ pub use ap_rep::generate_ap_rep;
 pub use client::client_upn;
 pub use halves::{admit, judge, judge_with};
 pub use judged::{Judged, TicketTimes};
+pub use token::read_token;
 pub use whole::judge_token;

@@ -32,6 +32,15 @@ fn ap_req_in(alloc: Global, dce: bool, token: &[u8]) -> Result<ApReq, Cause>
     }
 }
 
+/// The AP-REQ in a token of the handshake, as [`judge`](crate::judge) reads it first, for a caller who looks for the service's key by the
+/// name, the realm, the version and the type that the ticket names in the clear. **Nothing of it is opened**: whoever sent it says it.
+/// A token that is none, or of more than 2^24 octets, is refused as Shape.
+pub fn read_token(alloc: Global, token: &[u8]) -> Result<ApReq, Cause>
+    ensures { Answers (ReceivesApReq false token.now) result }
+{
+    receive(alloc, false, token)
+}
+
 /// The AP-REQ in a token.
 pub(crate) fn receive(alloc: Global, dce: bool, token: &[u8]) -> Result<ApReq, Cause>
     ensures { Answers (ReceivesApReq dce token.now) result }

@@ -1,6 +1,6 @@
 use Rattle.std.proofs.Common.{◌+◌, ◌*◌, ◌%◌, ◌^◌, ◌<◌, arith}
 use Rattle.krb_admission.proofs.Words.{low_more, room}
-use Rattle.krb_admission.proofs.admission.low_word.Goals as goal
+use Rattle.krb_admission.proofs.admission.number_low.Goals as goal
 
 pub overflow_add-word : goal.overflow_add-word
 overflow_add-word c =
