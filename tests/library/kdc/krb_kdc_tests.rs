@@ -2,6 +2,7 @@
 
 mod as_rows;
 mod chains;
+mod faults;
 mod journeys;
 mod parties;
 mod registers;
@@ -10,6 +11,7 @@ mod talk;
 mod tgs_rows;
 
 use as_rows::AS_ROWS;
+use faults::failures_are_told;
 use journeys::{JOURNEYS, Journey, ends_so};
 use krb_context::Rules;
 use krb_kdc::Kdc;
@@ -112,6 +114,13 @@ fn long_requests_are_read(rt: HostRuntime) -> Result<(), Fail> {
 fn what_is_there_is_not_taken_again(rt: HostRuntime) -> Result<(), Fail> {
     assert_eq!(rt; are_taken(rt.alloc(), &REGISTERS)?, REGISTERS.len());
     assert!(rt; sizes_are_told(rt.alloc())?);
+    Ok(())
+}
+
+/// A network of KDCs tells which requests nobody can answer, and counts them.
+#[test]
+fn failures_of_the_network_are_told(rt: HostRuntime) -> Result<(), Fail> {
+    assert!(rt; failures_are_told(rt.alloc())?);
     Ok(())
 }
 
