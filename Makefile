@@ -7,11 +7,11 @@
 # make realm     proves and builds `krb_run` and `krb_realm`, and goes from a password to an encrypted message with them
 # make library   proves and builds the library for C and Rust, static and shared
 # make bindings  does the same, and tests it in C and Rust, and as it is installed: in ROUNDS=10000 rounds in C
-# make install   copies what make library built to PREFIX=/usr/local: library, header, pkg-config file, pages (docs/EMBEDDING.md)
+# make install   copies what make library built to PREFIX=/usr/local: library, header, pkg-config file, pages (docs/USING-C.md)
 # make uninstall removes what make install copied, and nothing else
 # make fuzz      runs the harnesses of libFuzzer over that library, each for SECONDS=60 (bindings/fuzz); it wants clang
-# make live      lets real clients, KDCs and services speak to that library's examples, in throw-away realms (docs/LIVE.md)
-# make bench     measures, and reads the machine code (docs/BENCHMARKS.md)
+# make live      lets real clients, KDCs and services speak to that library's examples, in throw-away realms (docs/INTEROP.md)
+# make bench     measures, and reads the machine code (docs/PERFORMANCE.md)
 EXAMPLE ?= examples/one-client
 PROGRAM = crates/krb_run/out/krb_run
 
