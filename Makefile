@@ -14,7 +14,7 @@
 # make deb       makes Debian packages of what was built, in out/deb (debian/rules)
 # make fuzz      runs the harnesses of libFuzzer over that library, each for SECONDS=60 (bindings/fuzz); it needs clang
 # make live      lets real clients, KDCs and services speak to that library's examples, in throw-away realms (docs/INTEROP.md)
-# make bench     measures, and reads the machine code (docs/PERFORMANCE.md)
+# make bench     measures, draws two plots in out/bench, and reads the machine code (docs/PERFORMANCE.md)
 EXAMPLE ?= examples/one-client
 PROGRAM = crates/krb_run/out/krb_run
 PREFIX ?= /usr/local
@@ -96,5 +96,7 @@ try-live: library
 
 bench: library
 	bench/run
-	tests/live/measure
+	@mkdir -p out/bench
+	tests/live/measure > out/bench/measured || { cat out/bench/measured; exit 1; }
+	@bench/plot out/bench < out/bench/measured
 	tests/machine-code/run
