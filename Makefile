@@ -7,7 +7,8 @@
 # make realm     proves and builds `krb_run` and `krb_realm`, and goes from a password to an encrypted message with them
 # make library   proves and builds the library for C and Rust, static and shared
 # make bindings  does the same, and tests it in C and Rust, and as it is installed: in ROUNDS=10000 rounds in C
-# make install   copies what make library built to PREFIX=/usr/local: library, header, pkg-config file, pages (docs/USING-C.md)
+# make gss       builds the interposer for GSS-API servers over that library, and tests it; it needs libkrb5-dev (docs/GSSAPI.md)
+# make install   copies what make library and make gss built to PREFIX=/usr/local: library, header, pkg-config file, pages (docs/USING-C.md)
 # make install-tools copies the programs that were built, and their manual pages
 # make uninstall removes what make install and make install-tools copied, and nothing else
 # make dist      writes menolavuri-VERSION.tar.gz from the last commit: the same bytes wherever it is made
@@ -26,9 +27,10 @@ PAGES = README.md CHANGELOG.md LICENSE-APACHE LICENSE-MIT $(wildcard docs/*.md)
 CALLS = $(notdir $(wildcard man/*.3))
 TOOLS = krb_run krb_keys krb_realm
 BUILT = $(foreach it,$(TOOLS),$(if $(wildcard crates/$(it)/out/$(it)),$(it)))
-COPY = $(MAKE) --no-print-directory -C bindings/c DESTDIR=$(abspath $(DESTDIR)) PAGES="$(PAGES)" PREFIX=$(PREFIX)
+COPY = $(MAKE) --no-print-directory -C bindings/c $@ DESTDIR=$(abspath $(DESTDIR)) PAGES="$(PAGES)" PREFIX=$(PREFIX)
+COPY_GSS = $(if $(wildcard bindings/gss/Makefile),$(MAKE) --no-print-directory -C bindings/gss $@ DESTDIR=$(abspath $(DESTDIR)) PREFIX=$(PREFIX))
 
-.PHONY: run help test prove build realm library bindings install install-tools uninstall dist deb fuzz live try-live bench
+.PHONY: run help test prove build realm library bindings gss install install-tools uninstall dist deb fuzz live try-live bench
 run:
 	@cd crates/krb_run && rt try -- serve < $(abspath $(EXAMPLE))
 	@echo "This was not proved: it ran with every check at run time. make build proves."
@@ -62,8 +64,12 @@ bindings: library
 	cd bindings/rust && cargo test --offline --quiet
 	bindings/check-docs
 
+gss: library
+	@$(MAKE) --no-print-directory -C bindings/gss all test
+
 install:
-	@$(COPY) install
+	@$(COPY)
+	@$(COPY_GSS)
 	install -d $(DESTDIR)$(MANDIR)/man3
 	install -m 644 $(CALLS:%=man/%) $(DESTDIR)$(MANDIR)/man3
 
@@ -73,7 +79,8 @@ install-tools:
 	for it in $(BUILT); do install crates/$$it/out/$$it $(DESTDIR)$(BINDIR) && install -m 644 man/$$it.1 $(DESTDIR)$(MANDIR)/man1 || exit 1; done
 
 uninstall:
-	@$(COPY) uninstall
+	@$(COPY)
+	@$(COPY_GSS)
 	rm -f $(CALLS:%=$(DESTDIR)$(MANDIR)/man3/%) $(TOOLS:%=$(DESTDIR)$(BINDIR)/%) $(TOOLS:%=$(DESTDIR)$(MANDIR)/man1/%.1)
 
 # No time, no owner and no name of this machine is in it: git takes the time of the commit, and gzip none.
@@ -93,6 +100,7 @@ live:
 try-live: library
 	@test -x tests/live/out/cyrus/usr/lib/cyrus/bin/imtest || tests/live/unpack > /dev/null 2>&1 || echo "live: Heimdal could not be fetched"
 	tests/live/run
+	$(if $(wildcard bindings/gss/Makefile),tests/live/run gss)
 
 bench: library
 	bench/run
