@@ -1,0 +1,30 @@
+//! The name of a service.
+
+ghost use Rattle.std.specs.Prelude.{◌≡◌, map, IfOk};
+ghost use Rattle.std.specs.List.{slice_split};
+ghost use Rattle.sspi_core.specs.declared.cause.Cause.TheVariants as causes;
+ghost use Rattle.sspi_core.specs.Checks.{Answers, Takes};
+ghost use Rattle.krb_requests.specs.Bodies.{user_components};
+ghost use Rattle.krb_requests.specs.Pieces.{principal_of};
+
+use krb_der::OutOfMemory;
+use krb_messages::PrincipalName;
+use krb_messages::constants::NT_SRV_INST;
+use krb_requests::principal_of;
+use sspi_core::Cause;
+use std::alloc::Global;
+
+/// The components of a service's name, between two of which a `/` is.
+fn components<'a>(alloc: Global, service: &'a str) -> Result<Vec<&'a str>, OutOfMemory>
+    ensures { IfOk result (λ parts. map (λ part. part.now) parts.items ≡ user_components service.now) }
+{
+    Ok(service.split('/').collect(alloc)?)
+}
+
+/// The name of a service. Refused as `NotAscii` exactly if it is past ASCII.
+pub(crate) fn service_name(alloc: Global, service: &str) -> Result<PrincipalName, Cause>
+    ensures { Answers (Takes causes.NotAscii (principal_of 2 (user_components service.now))) result }
+{
+    let parts = components(alloc, service)?;
+    principal_of(alloc, NT_SRV_INST, &parts)
+}
