@@ -18,7 +18,8 @@ type State = (u64, u64, i64, i64, u64);
 /// The acceptors of a keytab, the newest keys first.
 pub struct Keys(Vec<Acceptor>);
 
-static KEPT: Mutex<Option<HashMap<String, (State, Arc<Keys>)>>> = Mutex::new(None);
+type Kept = HashMap<String, (State, Arc<Keys>)>;
+static KEPT: Mutex<Option<Kept>> = Mutex::new(None);
 
 fn refused(words: String) -> Refused {
     Refused::of(NO_CRED, NO_KEYS, words)
@@ -70,13 +71,13 @@ impl Keys {
     }
 
     /// The checks of a token before the store's. The newest keys are tried first. Where none opens the ticket the refusal is that of the
-    /// first, else that of the one that opens it.
+    /// first that has the service, else that of the one that opens it.
     pub fn judge(
         &self,
         token: &[u8],
         bindings: Option<&[u8]>,
     ) -> Result<(&Acceptor, Judged), Error> {
-        let mut first = None;
+        let mut first: Option<Error> = None;
         for acceptor in &self.0 {
             let judged = match bindings {
                 None => acceptor.judge(token),
@@ -84,12 +85,18 @@ impl Keys {
             };
             match judged {
                 Ok(judged) => return Ok((acceptor, judged)),
-                Err(error) if is_of_key(&error) => first = first.or(Some(error)),
+                Err(error) if is_of_key(&error) => {
+                    first = Some(first.filter(has_service).unwrap_or(error))
+                }
                 Err(error) => return Err(error),
             }
         }
         Err(first.unwrap_or(Error::Argument))
     }
+}
+
+fn has_service(error: &Error) -> bool {
+    error.cause() != Some(Cause::NO_SERVICE_KEY)
 }
 
 /// Whether another key may open the ticket, as menolavuri.h has it.

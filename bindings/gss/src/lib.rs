@@ -1,7 +1,9 @@
 //! An interposer for the mechglue of MIT krb5 (`libgssapi_krb5.so.2`): the proved acceptor of Menolavuri admits the clients of servers
 //! that call GSS-API (RFC 2744). Nothing is compiled anew: a line of the mechglue's configuration loads this library.
 //!
-//!     menolavuri  1.3.6.1.4.1.32473.4120.1  /usr/local/lib/x86_64-linux-gnu/libmenolavuri_gss.so  <interposer>
+//! ```text
+//! menolavuri  1.3.6.1.4.1.32473.4120.1  /usr/local/lib/x86_64-linux-gnu/libmenolavuri_gss.so  <interposer>
+//! ```
 //!
 //! An acceptor's context is the library's. Names, initiators and their contexts are those of the mechanism behind: the mechglue is called
 //! in turn, with an OID that it makes of this interposer's and of Kerberos'. docs/GSSAPI.md has what is proved, and what is thin.
