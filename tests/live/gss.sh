@@ -68,8 +68,8 @@ turns_away() { decides 1 "menolavuri.*: refused .*us: $1" "${@:2}"; }
 # The client's first token is kept, and comes again in the place of the next client's.
 comes_again() {
     rm -f "$gss/token"
-    admits "$1" env LD_PRELOAD="$gss_built/again.so" KEEP="$gss/token" "${@:2}" || return 1
-    turns_away 'Replayed: ' env LD_PRELOAD="$gss_built/again.so" AGAIN="$gss/token" "${@:2}"
+    admits "$1" env LD_PRELOAD="$room/again.so" KEEP="$gss/token" "${@:2}" || return 1
+    turns_away 'Replayed: ' env LD_PRELOAD="$room/again.so" AGAIN="$gss/token" "${@:2}"
 }
 
 has_wrong_clock() { turns_away 'Skew: ' env KRB5CCNAME="FILE:$gss/skewed" "$@"; }
@@ -105,9 +105,9 @@ finds_itself() {
 }
 
 build_gss() {
-    (cd bindings/gss && cargo build --offline --quiet --release) || return 1
-    gss_built=$(realpath "${CARGO_TARGET_DIR:-bindings/gss/target}/release")
-    ${CC:-cc} -shared -fPIC -O1 -o "$gss_built/again.so" "$live/gss/again.c" -Wl,--no-as-needed -lgssapi_krb5 -ldl
+    make -s -C bindings/gss all || return 1
+    gss_built=$PWD/bindings/gss/out
+    ${CC:-cc} -shared -fPIC -O1 -o "$room/again.so" "$live/gss/again.c" -Wl,--no-as-needed -lgssapi_krb5 -ldl
 }
 
 try_gss() {

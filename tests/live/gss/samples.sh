@@ -12,7 +12,7 @@ start_sample() {
 
 # A token that the process at one port admitted comes to the one at the other.
 comes_to_another() {
-    local preload=(env LD_PRELOAD="$gss_built/again.so")
+    local preload=(env LD_PRELOAD="$room/again.so")
     rm -f "$gss/token"
     admits host/localhost "${preload[@]}" KEEP="$gss/token" bash -c "sample_client $1" || return 1
     turns_away 'Replayed: ' "${preload[@]}" AGAIN="$gss/token" bash -c "sample_client $2"
