@@ -5,8 +5,9 @@
 # shellcheck disable=SC1091
 for server in samples sshd postgres apache sasl dovecot python java redis; do . "$live/gss/$server.sh"; done
 
-# Runs a server with the interposer: served COMMAND.. Its settings are those of gss_conf, or of the folder's gss.conf.
-served() { env GSS_MECH_CONFIG="$gss/mech.conf" MENOLAVURI_GSS_CONF="${gss_conf:-$gss/gss.conf}" KRB5_KTNAME=FILE:/nonexistent "$@"; }
+# Runs a server with the interposer: served COMMAND.. Its settings are those of gss_conf, or of the folder's gss.conf, and the line that
+# loads it that of gss_mech, or of the folder's mech.conf.
+served() { env GSS_MECH_CONFIG="${gss_mech:-$gss/mech.conf}" MENOLAVURI_GSS_CONF="${gss_conf:-$gss/gss.conf}" KRB5_KTNAME=FILE:/nonexistent "$@"; }
 
 # The settings of a server: gss_settings STORE [LOG]. A server's keytab is known to the interposer alone, so that MIT's mechanism has none.
 gss_settings() {
@@ -104,6 +105,20 @@ finds_itself() {
     ! env GSS_MECH_CONFIG=/dev/null "$gss_built/menolavuri-status" --loaded
 }
 
+# Whether a setuid program does not read the environment: it does not find the interposer that GSS_MECH_CONFIG names.
+is_deaf_as_setuid() {
+    install -o nobody -m 4755 "$gss_built/menolavuri-status" "$gss/setuid-status"
+    ! served "$gss/setuid-status" --loaded
+}
+
+# Whether settings that cannot be read are a refusal, and are told.
+tells_bad_settings() {
+    local gss_conf=$gss/bad.conf
+    echo 'stores = file:/tmp' > "$gss_conf"
+    served "$gss_built/menolavuri-status" --loaded && return 1
+    served "$gss_built/menolavuri-status" --loaded 2>&1 | grep 'line 1: stores: there is no such word'
+}
+
 build_gss() {
     make -s -C bindings/gss all || return 1
     gss_built=$PWD/bindings/gss/out
@@ -116,6 +131,8 @@ try_gss() {
     gss_room > "$room/gss-room.log" 2>&1 || { cat "$room/gss-room.log"; check "the room of the servers" false; return; }
     export KRB5_CONFIG=$gss/krb5.conf
     check "the interposer is loaded" finds_itself
+    check "settings that cannot be read are told" tells_bad_settings
+    [ "$(id -u)" -ne 0 ] || check "a setuid program reads no environment" is_deaf_as_setuid
     local server
     for server in ${GSS_SERVERS:-samples sshd postgres apache sasl dovecot python java redis}; do "try_gss_$server"; done
     check "the counters" counts

@@ -2,7 +2,7 @@
 
 # Whether a client gets no answer, and the log says that nobody is let in.
 store_is_away() {
-    turns_away 'the store of admitted clients does not answer: nobody is admitted' bash -c "sample_client $1"
+    turns_away 'the store of admitted clients does not answer: nobody is admitted' bash -c "sample_client $1 1"
 }
 
 try_gss_redis() {
@@ -19,7 +19,7 @@ try_gss_redis() {
     check "the Redis was started anew: nobody is admitted" store_is_away "$first"
     sleep 12
     check "a token that one machine admitted is refused at the other" comes_to_another "$first" "$second"
-    check "other tokens are admitted at both" admits host/localhost bash -c "sample_client $second && sample_client $first"
+    check "other tokens are admitted at both" admits host/localhost bash -c "sample_client $second 1 && sample_client $first 1"
     kill "$redis" && wait "$redis"
     check "the Redis is gone: nobody is admitted" store_is_away "$second"
 }

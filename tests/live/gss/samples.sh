@@ -1,7 +1,9 @@
 # MIT's sample programs: gss-server, and gss-client, which verifies a MIC over what it sent.
 
-# Whether gss-client says that the signature of what it sent is good: sample_client PORT OPTION..
-sample_client() { timeout 20 gss-client -port "$1" "${@:2}" 127.0.0.1 host@localhost 'hello there' | grep -x 'Signature verified.'; }
+# Whether gss-client says so many times that the signature of what it sent is good: sample_client PORT COUNT OPTION..
+sample_client() {
+    [ "$(timeout 20 gss-client -port "$1" "${@:3}" 127.0.0.1 host@localhost 'hello there' | grep -cx 'Signature verified.')" -eq "$2" ]
+}
 
 # Starts MIT's gss-server with the interposer: start_sample NAME WRAPPER.., and leaves its port in sample_port.
 start_sample() {
@@ -14,8 +16,16 @@ start_sample() {
 comes_to_another() {
     local preload=(env LD_PRELOAD="$room/again.so")
     rm -f "$gss/token"
-    admits host/localhost "${preload[@]}" KEEP="$gss/token" bash -c "sample_client $1" || return 1
-    turns_away 'Replayed: ' "${preload[@]}" AGAIN="$gss/token" bash -c "sample_client $2"
+    admits host/localhost "${preload[@]}" KEEP="$gss/token" bash -c "sample_client $1 1" || return 1
+    turns_away 'Replayed: ' "${preload[@]}" AGAIN="$gss/token" bash -c "sample_client $2 1"
+}
+
+# Whether four processes of alice that log in at once are each admitted, 100 times: many of their authenticators have one microsecond.
+has_a_crowd() {
+    local said
+    said=$(timeout 60 "$python" "$live/gss.py" crowd libgssapi_krb5.so.2 "$1" host@localhost 62 4 100)
+    echo "$said"
+    [ "$said" = 'of 400 log-ins 0 were refused' ]
 }
 
 try_gss_samples() {
@@ -23,10 +33,11 @@ try_gss_samples() {
     start_sample gss-1 && first=$sample_port
     start_sample gss-2
     export -f sample_client
-    try_admissions gss-server host/localhost bash -c "sample_client $first"
+    try_admissions gss-server host/localhost bash -c "sample_client $first 1"
     check "gss-server: a token comes again at another process" comes_to_another "$first" "$sample_port"
-    check "gss-server: messages in the clear" admits host/localhost bash -c "sample_client $first -nx"
-    check "gss-server: SPNEGO" admits host/localhost bash -c "sample_client $first -spnego"
-    check "gss-server: a client that delegates" admits host/localhost bash -c "sample_client $first -d"
-    check "gss-server: 20 log-ins, 20 messages each" admits host/localhost bash -c "sample_client $first -ccount 20 -mcount 20"
+    check "gss-server: messages in the clear" admits host/localhost bash -c "sample_client $first 1 -nx"
+    check "gss-server: SPNEGO" admits host/localhost bash -c "sample_client $first 1 -spnego"
+    check "gss-server: a client that delegates" admits host/localhost bash -c "sample_client $first 1 -d"
+    check "gss-server: five log-ins, ten messages each" admits host/localhost bash -c "sample_client $first 50 -ccount 5 -mcount 10"
+    check "gss-server: four processes of one client at once" has_a_crowd "$first"
 }

@@ -19,6 +19,14 @@ ssh_client() {
     timeout 20 ssh "${options[@]}" "${@:3}" localhost 'echo in' | grep -x in
 }
 
+# Whether sshd lets nobody in where the interposer cannot be loaded: MIT's mechanism has no key.
+is_closed_without() {
+    local gss_mech=$gss/nothing.conf ssh_port
+    echo "menolavuri 1.3.6.1.4.1.32473.4120.1 $gss/nothing.so <interposer>" > "$gss_mech"
+    start_sshd without
+    ! ssh_client "$ssh_port" gssapi-with-mic
+}
+
 try_gss_sshd() {
     local ssh_port
     [ -x /usr/sbin/sshd ] || { echo "not tried: sshd, of Debian's package openssh-server"; return; }
@@ -28,4 +36,5 @@ try_gss_sshd() {
     try_admissions 'sshd, gssapi-with-mic' host/localhost bash -c "ssh_client $ssh_port gssapi-with-mic"
     try_admissions 'sshd, gssapi-keyex' host/localhost bash -c "ssh_client $ssh_port gssapi-keyex"
     check "sshd: a client that delegates" admits host/localhost bash -c "ssh_client $ssh_port gssapi-with-mic -o GSSAPIDelegateCredentials=yes"
+    check "sshd: without the interposer nobody is let in" is_closed_without
 }

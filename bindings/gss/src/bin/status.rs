@@ -45,10 +45,8 @@ fn show_loaded() -> ExitCode {
             println!("{words}");
             ExitCode::SUCCESS
         }
-        Err(status) => {
-            eprintln!(
-                "menolavuri-status: the interposer is not loaded here ({status:#x}): MIT's mechanism would decide"
-            );
+        Err(words) => {
+            eprintln!("menolavuri-status: {words}");
             ExitCode::FAILURE
         }
     }
