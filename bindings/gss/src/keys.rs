@@ -5,7 +5,6 @@ use crate::keytab;
 use crate::say;
 use crate::status::{NO_KEYS, Refused};
 use menolavuri::{Acceptor, Cause, Error, Judged};
-use std::collections::HashMap;
 use std::fs::File;
 use std::io::Read;
 use std::os::unix::fs::MetadataExt;
@@ -18,8 +17,8 @@ type State = (u64, u64, i64, i64, u64);
 /// The acceptors of a keytab, the newest keys first.
 pub struct Keys(Vec<Acceptor>);
 
-type Kept = HashMap<String, (State, Arc<Keys>)>;
-static KEPT: Mutex<Option<Kept>> = Mutex::new(None);
+/// The keys of each path, and the file's state when they were read.
+static KEPT: Mutex<Vec<(String, State, Arc<Keys>)>> = Mutex::new(Vec::new());
 
 fn refused(words: String) -> Refused {
     Refused::of(NO_CRED, NO_KEYS, words)
@@ -34,18 +33,22 @@ fn state_of(file: &File) -> std::io::Result<State> {
 pub fn of_file(path: &str, skew: Duration) -> Result<Arc<Keys>, Refused> {
     let told = |error: std::io::Error| refused(format!("keytab {path}: {error}"));
     let mut kept = KEPT.lock().unwrap_or_else(PoisonError::into_inner);
-    let kept = kept.get_or_insert_default();
     let mut file = File::open(path).map_err(told)?;
     let state = state_of(&file).map_err(told)?;
-    if let Some((seen, keys)) = kept.get(path)
-        && *seen == state
+    let known = kept.iter().position(|it| it.0 == path);
+    if let Some(at) = known
+        && kept[at].1 == state
     {
-        return Ok(keys.clone());
+        return Ok(kept[at].2.clone());
     }
     let mut octets = Vec::new();
     file.read_to_end(&mut octets).map_err(told)?;
     let keys = Arc::new(Keys::of(path, &octets, skew)?);
-    kept.insert(path.to_owned(), (state, keys.clone()));
+    let entry = (path.to_owned(), state, keys.clone());
+    match known {
+        Some(at) => kept[at] = entry,
+        None => kept.push(entry),
+    }
     Ok(keys)
 }
 

@@ -28,6 +28,19 @@ has_a_crowd() {
     [ "$said" = 'of 400 log-ins 0 were refused' ]
 }
 
+# Whether valgrind finds no error in gss-server and the interposer, and nothing lost but what the mechglue loses by itself.
+is_clean() {
+    local sample_port process
+    sample_port=$(free_port)
+    start valgrind served valgrind --quiet --leak-check=full --error-exitcode=9 --suppressions="$live/gss/mechglue.supp" \
+        gss-server -port "$sample_port" -once host@localhost
+    process=$last
+    # (it serves one connection, so that a look whether it listens must not be one)
+    for _ in $(seq 100); do grep -q ":$(printf %04X "$sample_port") 00000000:0000 0A" /proc/net/tcp && break; sleep 0.2; done
+    sample_client "$sample_port" 3 -mcount 3 || return 1
+    wait "$process" || { grep -v '^[^=]' "$room/valgrind.log"; return 1; }
+}
+
 try_gss_samples() {
     local sample_port first
     start_sample gss-1 && first=$sample_port
@@ -40,4 +53,6 @@ try_gss_samples() {
     check "gss-server: a client that delegates" admits host/localhost bash -c "sample_client $first 1 -d"
     check "gss-server: five log-ins, ten messages each" admits host/localhost bash -c "sample_client $first 50 -ccount 5 -mcount 10"
     check "gss-server: four processes of one client at once" has_a_crowd "$first"
+    command -v valgrind > /dev/null || { echo "not tried: gss-server under Debian's valgrind"; return; }
+    check "gss-server under valgrind" is_clean
 }
