@@ -58,9 +58,6 @@ decides() {
     [ "$ended" -eq "$wanted" ] && grep -q -- "$pattern" "$gss/log"
 }
 
-# A client's command runs in a function of this shell, so `timeout` is given a program: in_realm COMMAND..
-in_realm() { env KRB5_CONFIG="$gss/krb5.conf" "$@"; }
-
 admits() { decides 0 "menolavuri.*: admitted client=alice@EXAMPLE.COM service=$1@EXAMPLE.COM " "${@:2}"; }
 
 # Whether a client ends without success, and the acceptor refused it with these words: turns_away WORDS CLIENT..
@@ -125,8 +122,12 @@ build_gss() {
     ${CC:-cc} -shared -fPIC -O1 -o "$room/again.so" "$live/gss/again.c" -Wl,--no-as-needed -lgssapi_krb5 -ldl
 }
 
+# Whether MIT krb5's libraries can be linked.
+has_krb5() { echo 'int main(void) { return 0; }' | ${CC:-cc} -x c -o "$room/linked" - -lgssapi_krb5 -lkrb5; }
+
 try_gss() {
     local gss gss_built gss_conf='' KRB5_CONFIG=$KRB5_CONFIG
+    has_krb5 2> /dev/null || { echo "not tried: servers over the interposer, which wants Debian's package libkrb5-dev"; return; }
     build_gss > "$room/built" 2>&1 || { cat "$room/built"; check "bindings/gss is built" false; return; }
     gss_room > "$room/gss-room.log" 2>&1 || { cat "$room/gss-room.log"; check "the room of the servers" false; return; }
     export KRB5_CONFIG=$gss/krb5.conf
