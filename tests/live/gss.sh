@@ -2,7 +2,7 @@
 # MIT's. For each server, as far as its package is there: it admits and its messages go both ways; a token that comes again at another
 # process or connection is refused, and so are a clock that is wrong and a key that is another one, each with its words. The last of these
 # is undone, and a client is admitted again.
-# shellcheck disable=SC1091
+# shellcheck disable=SC1090
 for server in samples sshd postgres apache sasl dovecot python java redis; do . "$live/gss/$server.sh"; done
 
 # Runs a server with the interposer: served COMMAND.. Its settings are those of gss_conf, or of the folder's gss.conf, and the line that
