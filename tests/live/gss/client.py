@@ -1,4 +1,5 @@
-# A client over python3-gssapi of server.py:  client.py PORT SERVICE [spnego] [nomutual] [twice] [altered] [bind=DATA] [fuzz=COUNT]
+# A client over python3-gssapi of server.py:
+#   client.py PORT SERVICE [mech=spnego|iakerb|old|wrong] [nomutual] [dce] [twice] [altered] [bind=DATA] [fuzz=COUNT]
 # It logs in, and sends a sealed message, one in the clear and a MIC. Its last line is `done` where all was answered.
 import random, socket, sys
 
@@ -10,7 +11,7 @@ from framing import receive, send
 
 port, service = int(sys.argv[1]), sys.argv[2]
 words = dict((word.split("=", 1) + [""])[:2] for word in sys.argv[3:])
-SPNEGO = gssapi.OID.from_int_seq("1.3.6.1.5.5.2")
+MECHS = {"krb5": "1.2.840.113554.1.2.2", "spnego": "1.3.6.1.5.5.2", "iakerb": "1.3.6.1.5.2.5", "old": "1.3.5.1.5.2", "wrong": "1.2.840.48018.1.2.2"}
 
 
 def connection():
@@ -21,7 +22,9 @@ def context():
     flags = [Flag.integrity, Flag.confidentiality, Flag.replay_detection, Flag.out_of_sequence_detection]
     if "nomutual" not in words:
         flags.append(Flag.mutual_authentication)
-    mech = SPNEGO if "spnego" in words else gssapi.MechType.kerberos
+    if "dce" in words:
+        flags.append(Flag.dce_style)
+    mech = gssapi.OID.from_int_seq(MECHS[words.get("mech", "krb5")])
     bindings = ChannelBindings(application_data=words["bind"].encode()) if "bind" in words else None
     if words.get("bind") == "address":
         bindings = ChannelBindings(initiator_address_type=2, initiator_address=b"\x7f\0\0\1")

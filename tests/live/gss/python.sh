@@ -17,17 +17,21 @@ start_python() {
 }
 
 try_gss_python() {
-    local python_port free bound
+    local python_port free bound mech
     "$python" -c 'import gssapi' 2> /dev/null || { echo "not tried: Python, of Debian's package python3-gssapi"; return; }
     export -f python_client && export python live
     start_python python && free=$python_port
     try_admissions Python host/localhost bash -c "python_client $free host@localhost"
-    check "Python: SPNEGO" admits host/localhost bash -c "python_client $free host@localhost spnego"
+    check "Python: SPNEGO" admits host/localhost bash -c "python_client $free host@localhost mech=spnego"
     check "Python: the name, its flags, the ticket's time" python_tells 'alice@EXAMPLE.COM .* mutual replay conf integ ready, life [0-9]'
     check "Python: a client that asks for no mutual authentication" python_tells ': replay conf integ ready, ' nomutual
     check "Python: a message that comes twice is refused with its words" python_tells 'Repeated: the message was opened before' twice
     check "Python: a message that is altered is refused with its words" python_tells 'Altered: the key does not open it' altered
     check "Python: the session's key" python_tells 'key of 32 octets, type 18'
+    for mech in iakerb old wrong; do
+        check "Python: another OID of Kerberos, $mech" stays_out bash -c "python_client $free host@localhost mech=$mech"
+    done
+    check "Python: DCE style" turns_away 'Shape: ' bash -c "python_client $free host@localhost dce"
     check "Python: a client that binds, where the server does not" admits host/localhost bash -c "python_client $free host@localhost bind=x"
     start_python bound tls-server-end-point:x && bound=$python_port
     check "Python: the same channel bindings" admits host/localhost bash -c "python_client $bound host@localhost bind=tls-server-end-point:x"

@@ -24,7 +24,7 @@ is_closed_without() {
     local gss_mech=$gss/nothing.conf ssh_port
     echo "menolavuri 1.3.6.1.4.1.32473.4120.1 $gss/nothing.so <interposer>" > "$gss_mech"
     start_sshd without
-    ! ssh_client "$ssh_port" gssapi-with-mic
+    stays_out bash -c "ssh_client $ssh_port gssapi-with-mic"
 }
 
 try_gss_sshd() {
