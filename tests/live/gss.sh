@@ -25,9 +25,9 @@ gss_room() {
     gss_settings "file:$gss/store" > "$gss/gss.conf"
     sed -e "s/^    EXAMPLE.COM = {/&\n        auth_to_local_names = {\n            alice = $(id -un)\n        }/" \
         -e 's/^\[domain_realm\]/&\n    localhost = EXAMPLE.COM/' "$mit/krb5.conf" > "$gss/krb5.conf"
-    for service in host HTTP postgres imap pop; do
-        kadmin.local addprinc -randkey "$service/localhost"
-        kadmin.local ktadd -k "$gss/keytab" "$service/localhost"
+    for service in {host,HTTP,postgres,imap,pop}/localhost "pop/$(hostname)"; do
+        kadmin.local addprinc -randkey "$service"
+        kadmin.local ktadd -k "$gss/keytab" "$service"
     done
     kadmin.local ktadd -k "$gss/keytab" -norandkey host/server.example.com pop/server.example.com
     cp "$gss/keytab" "$gss/good.keytab" && chmod 644 "$gss/keytab"
