@@ -102,7 +102,8 @@ mod tests {
         // SAFETY: null pointers alone.
         unsafe {
             assert_eq!(octets(null_mut()), b"");
-            assert_eq!(octets(&mut BufferDesc::EMPTY), b"");
+            let mut none = BufferDesc::EMPTY;
+            assert_eq!(octets(&mut none), b"");
             let mut odd = BufferDesc {
                 length: 7,
                 value: null_mut(),

@@ -24,6 +24,7 @@ pub mod counters;
 mod credentials;
 mod decide;
 mod guard;
+mod held;
 pub mod journal;
 mod keys;
 mod keytab;
