@@ -1,8 +1,9 @@
 # Apache with mod_auth_gssapi, one process a connection and one thread a connection, and curl --negotiate.
 
-# Starts Apache: start_apache PREFORK|EVENT, and leaves its port in web_port.
+# Starts Apache: start_apache PREFORK|EVENT, and leaves its port in web_port. Its keytab is that of its credential store.
 start_apache() {
-    local folder=$gss/apache-$1 modules=/usr/lib/apache2/modules name
+    local gss_conf=$gss/apache.conf folder=$gss/apache-$1 modules=/usr/lib/apache2/modules name
+    gss_settings "file:$gss/store" | sed '/^keytab/d' > "$gss_conf"
     web_port=$(free_port)
     mkdir -p "$folder/pages" && echo 'hello from apache' > "$folder/pages/index.html" && chmod -R a+rX "$folder"
     {
@@ -10,7 +11,7 @@ start_apache() {
             "ErrorLog $folder/error.log" 'User www-data' 'Group www-data' "LoadModule mpm_$1_module $modules/mod_mpm_$1.so"
         for name in authn_core authz_core authz_user auth_gssapi headers; do echo "LoadModule ${name}_module $modules/mod_$name.so"; done
         printf '%s\n' "DocumentRoot $folder/pages" '<Location />' 'AuthType GSSAPI' 'AuthName "Menolavuri"' 'Require valid-user' \
-            'Header set X-User expr=%{REMOTE_USER}' '</Location>'
+            "GssapiCredStore keytab:$gss/keytab" 'Header set X-User expr=%{REMOTE_USER}' '</Location>'
     } > "$folder/conf"
     start "apache-$1" served /usr/sbin/apache2 -D FOREGROUND -f "$folder/conf"
     await_port "$web_port"

@@ -41,6 +41,22 @@ is_clean() {
     wait "$process" || { grep -v '^[^=]' "$room/valgrind.log"; return 1; }
 }
 
+# Whether nobody is admitted where the store cannot be written.
+is_closed_without_store() {
+    local gss_conf=$gss/away.conf
+    gss_settings file:/nonexistent > "$gss_conf"
+    start_sample gss-away
+    turns_away 'the store of admitted clients does not answer: nobody is admitted (/nonexistent/' bash -c "sample_client $sample_port 1"
+}
+
+# Whether a keytab is found by KRB5_KTNAME, and each call is told on standard error, where the settings name none of these.
+has_environment() {
+    local gss_conf=$gss/plain.conf
+    gss_settings "file:$gss/store" | sed '/^keytab/d' > "$gss_conf"
+    start_sample gss-plain env "KRB5_KTNAME=FILE:$gss/keytab" MENOLAVURI_TRACE=stderr
+    sample_client "$sample_port" 1 && logged gss-plain ': unwrap 11 octets, sealed=true' && logged gss-plain ': admitted client=alice@'
+}
+
 try_gss_samples() {
     local sample_port first
     start_sample gss-1 && first=$sample_port
@@ -52,6 +68,8 @@ try_gss_samples() {
     check "gss-server: SPNEGO" admits host/localhost bash -c "sample_client $first 1 -spnego"
     check "gss-server: a client that delegates" admits host/localhost bash -c "sample_client $first 1 -d"
     check "gss-server: five log-ins, ten messages each" admits host/localhost bash -c "sample_client $first 50 -ccount 5 -mcount 10"
+    check "gss-server: the store is away: nobody is admitted" is_closed_without_store
+    check "gss-server: KRB5_KTNAME and MENOLAVURI_TRACE" has_environment
     check "gss-server: four processes of one client at once" has_a_crowd "$first"
     command -v valgrind > /dev/null || { echo "not tried: gss-server under Debian's valgrind"; return; }
     check "gss-server under valgrind" is_clean
