@@ -4,9 +4,9 @@
 
 use crate::behind::{geteuid, getpid};
 use std::ffi::c_int;
-use std::fs::{DirBuilder, File};
+use std::fs::{DirBuilder, File, Metadata};
 use std::io::ErrorKind::AlreadyExists;
-use std::os::fd::AsRawFd;
+use std::os::fd::{AsRawFd, IntoRawFd};
 use std::os::unix::fs::{DirBuilderExt, FileExt, MetadataExt, OpenOptionsExt};
 use std::sync::{Mutex, PoisonError};
 use std::time::{Duration, Instant};
@@ -32,9 +32,13 @@ unsafe extern "C" {
     fn fcntl(file: c_int, command: c_int, lock: *mut Flock) -> c_int;
 }
 
+/// A file's device and number.
+type Key = (u64, u64);
+
 /// A file, and where it was opened.
 struct Open {
     pid: c_int,
+    key: Key,
     folder: String,
     path: String,
     file: File,
@@ -75,22 +79,39 @@ fn open(folder: &str, name: &str) -> Result<Open, String> {
         .mode(0o600)
         .custom_flags(NOFOLLOW);
     let file = how.open(&path).map_err(told(&path))?;
+    let key = key_of(file.metadata()).ok_or("it has no state")?;
     // SAFETY: it takes nothing.
     let pid = unsafe { getpid() };
     Ok(Open {
         pid,
+        key,
         folder: folder.to_owned(),
         path,
         file,
     })
 }
 
-/// Whether the path still has this file: where it was removed, another process makes a new one, and both have to use that.
-fn is_there(at: &Open) -> bool {
-    let key = |it: std::fs::Metadata| (it.dev(), it.ino());
-    let here = at.file.metadata().map(key);
-    let there = std::fs::symlink_metadata(&at.path).map(key);
-    matches!((here, there), (Ok(one), Ok(other)) if one == other)
+fn key_of(state: std::io::Result<Metadata>) -> Option<Key> {
+    state.ok().map(|it| (it.dev(), it.ino()))
+}
+
+impl Open {
+    /// Whether the descriptor still is this file's. A program may close what it did not open (closefrom), and open something else.
+    fn is_own(&self) -> bool {
+        key_of(self.file.metadata()) == Some(self.key)
+    }
+
+    /// Whether the path still has this file: where it was removed, another process makes a new one, and both have to use that.
+    fn is_there(&self) -> bool {
+        key_of(std::fs::symlink_metadata(&self.path)) == Some(self.key)
+    }
+
+    /// Closes the file, and no descriptor of somebody else.
+    fn close(self) {
+        if !self.is_own() {
+            let _ = self.file.into_raw_fd();
+        }
+    }
 }
 
 /// Whether the lock was taken, or given back.
@@ -139,8 +160,12 @@ impl Shared {
         let mut here = self.0.lock().unwrap_or_else(PoisonError::into_inner);
         // SAFETY: it takes nothing.
         let pid = unsafe { getpid() };
-        let is_good = |it: &Open| it.pid == pid && it.folder == folder && is_there(it);
+        let is_good =
+            |it: &Open| it.pid == pid && it.folder == folder && it.is_own() && it.is_there();
         if !here.as_ref().is_some_and(is_good) {
+            if let Some(old) = here.take() {
+                old.close();
+            }
             *here = Some(open(folder, name)?);
         }
         let Some(at) = here.as_ref() else {
@@ -151,7 +176,10 @@ impl Shared {
 
     /// Closes the file, for a measurement.
     pub fn close(&self) {
-        *self.0.lock().unwrap_or_else(PoisonError::into_inner) = None;
+        let mut here = self.0.lock().unwrap_or_else(PoisonError::into_inner);
+        if let Some(old) = here.take() {
+            old.close();
+        }
     }
 }
 
@@ -182,7 +210,12 @@ pub fn write_at(file: &File, octets: &[u8], at: u64) -> Result<(), String> {
 #[cfg(test)]
 mod tests {
     use super::*;
+    use std::os::fd::FromRawFd;
     use std::os::unix::fs::PermissionsExt;
+
+    unsafe extern "C" {
+        fn dup2(from: c_int, to: c_int) -> c_int;
+    }
 
     #[test]
     fn a_folder_of_others_is_refused() {
@@ -211,5 +244,24 @@ mod tests {
         assert_eq!(shared.with(&room, "one", count), Ok(1));
         std::fs::remove_file(format!("{}/one", own_folder(&room).unwrap())).unwrap();
         assert_eq!(shared.with(&room, "one", count), Ok(0));
+    }
+
+    #[test]
+    fn a_descriptor_of_somebody_else_is_left_alone() {
+        let room = crate::store::tests::room("stolen");
+        let shared = Shared::new();
+        shared.with(&room, "one", |_| Ok(())).unwrap();
+        let number = shared.0.lock().unwrap().as_ref().unwrap().file.as_raw_fd();
+        let other = File::open("/dev/null").unwrap();
+        // SAFETY: both are open; the other end of the program takes the number.
+        assert_eq!(unsafe { dup2(other.as_raw_fd(), number) }, number);
+        shared.with(&room, "one", |_| Ok(())).unwrap();
+        // SAFETY: it is open, and nobody else has it.
+        let kept = unsafe { File::from_raw_fd(number) };
+        assert_eq!(key_of(kept.metadata()), key_of(other.metadata()));
+        assert_ne!(
+            shared.0.lock().unwrap().as_ref().unwrap().file.as_raw_fd(),
+            number
+        );
     }
 }
