@@ -5,9 +5,15 @@
 # shellcheck disable=SC1090
 for server in samples sshd postgres apache sasl dovecot python java redis kadmin; do . "$live/gss/$server.sh"; done
 
-# Runs a server with the interposer: served COMMAND.. Its settings are those of gss_conf, or of the folder's gss.conf, and the line that
+# Runs a program with the interposer: served COMMAND.. Its settings are those of gss_conf, or of the folder's gss.conf, and the line that
 # loads it that of gss_mech, or of the folder's mech.conf.
-served() { env GSS_MECH_CONFIG="${gss_mech:-$gss/mech.conf}" MENOLAVURI_GSS_CONF="${gss_conf:-$gss/gss.conf}" KRB5_KTNAME=FILE:/nonexistent "$@"; }
+served() { env "GSS_MECH_CONFIG=${gss_mech:-$gss/mech.conf}" "MENOLAVURI_GSS_CONF=${gss_conf:-$gss/gss.conf}" KRB5_KTNAME=FILE:/nonexistent "$@"; }
+
+# Starts a server with the interposer, as start does. `env` becomes the server, so that its end is the server's: serve NAME COMMAND..
+serve() {
+    start "$1" env "GSS_MECH_CONFIG=${gss_mech:-$gss/mech.conf}" "MENOLAVURI_GSS_CONF=${gss_conf:-$gss/gss.conf}" KRB5_KTNAME=FILE:/nonexistent \
+        "${@:2}"
+}
 
 # The settings of a server: gss_settings STORE [LOG]. A server's keytab is known to the interposer alone, so that MIT's mechanism has none.
 gss_settings() {

@@ -13,7 +13,7 @@ start_apache() {
         printf '%s\n' "DocumentRoot $folder/pages" '<Location />' 'AuthType GSSAPI' 'AuthName "Menolavuri"' 'Require valid-user' \
             "GssapiCredStore keytab:$gss/keytab" 'Header set X-User expr=%{REMOTE_USER}' '</Location>'
     } > "$folder/conf"
-    start "apache-$1" served /usr/sbin/apache2 -D FOREGROUND -f "$folder/conf"
+    serve "apache-$1" /usr/sbin/apache2 -D FOREGROUND -f "$folder/conf"
     await_port "$web_port"
 }
 

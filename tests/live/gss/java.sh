@@ -11,7 +11,7 @@ try_gss_java() {
     library=$(printf '%s\n' /usr/lib/*/libgssapi_krb5.so.2 | tail -n 1)
     javac -d "$gss" "$live/Service.java" || return
     port=$(free_port)
-    start java served java -cp "$gss" -Dsun.security.jgss.native=true -Dsun.security.jgss.lib="$library" \
+    serve java java -cp "$gss" -Dsun.security.jgss.native=true -Dsun.security.jgss.lib="$library" \
         -Djavax.security.auth.useSubjectCredsOnly=false -XX:TieredStopAtLevel=1 Service "$port"
     await_port "$port"
     export -f java_client

@@ -1,8 +1,8 @@
 # kadmind, whose keys are in no file: with the interposer it refuses everybody, and without it does not.
 
-# Starts kadmind: start_kadmind NAME WRAPPER.., over the realm's database.
+# Starts kadmind over the realm's database: start_kadmind NAME serve|start
 start_kadmind() {
-    start "$1" "${@:2}" env KRB5_CONFIG="$gss/kadmin.conf" KRB5_KDC_PROFILE="$gss/kadmin-kdc.conf" kadmind -nofork -P "$gss/$1.pid"
+    "$2" "$1" env KRB5_CONFIG="$gss/kadmin.conf" KRB5_KDC_PROFILE="$gss/kadmin-kdc.conf" kadmind -nofork -P "$gss/$1.pid"
     kadmind=$last
     await_port "$kadmin_port"
 }
@@ -19,9 +19,9 @@ try_gss_kadmin() {
     sed "s#^        database_name.*#&\n        kadmind_listen = 127.0.0.1:$kadmin_port\n        kpasswd_listen = 127.0.0.1:$(free_port)\n        acl_file = $gss/acl#" \
         "$mit/kdc.conf" > "$gss/kadmin-kdc.conf"
     export gss && export -f kadmin_client
-    start_kadmind kadmind-1 served
+    start_kadmind kadmind-1 serve
     check "kadmind: refuses everybody" stays_out bash -c kadmin_client
     kill "$kadmind" && wait "$kadmind" 2> /dev/null
-    start_kadmind kadmind-2 env
+    start_kadmind kadmind-2 start
     check "kadmind without the interposer: lets alice/admin in" bash -c kadmin_client
 }

@@ -1,17 +1,15 @@
 # PostgreSQL, with `gss` alone and with gssencmode=require, and psql.
 
-as_postgres() { if [ "$(id -u)" -eq 0 ]; then runuser -u postgres -- "$@"; else "$@"; fi; }
-
 # Makes a database and starts it, and leaves its port in pg_port.
 start_postgres() {
     pg_port=$(free_port)
     mkdir "$gss/pg" && { [ "$(id -u)" -ne 0 ] || chown postgres "$gss/pg"; }
-    as_postgres "$pg_bin/initdb" -D "$gss/pg/data" -A trust -U postgres > "$gss/initdb.log" 2>&1 || { cat "$gss/initdb.log"; return 1; }
+    "${as_postgres[@]}" "$pg_bin/initdb" -D "$gss/pg/data" -A trust -U postgres > "$gss/initdb.log" 2>&1 || { cat "$gss/initdb.log"; return 1; }
     printf '%s\n' "listen_addresses = '127.0.0.1'" "port = $pg_port" "unix_socket_directories = '$gss/pg'" 'log_connections = on' \
         "krb_server_keyfile = 'FILE:/nonexistent'" 'fsync = off' > "$gss/pg.conf"
     printf '%s\n' 'local all all trust' 'hostgssenc all all 127.0.0.1/32 gss include_realm=0' \
         'hostnogssenc all all 127.0.0.1/32 gss include_realm=0' > "$gss/hba.conf"
-    start postgres as_postgres env GSS_MECH_CONFIG="$gss/mech.conf" MENOLAVURI_GSS_CONF="$gss/gss.conf" KRB5_CONFIG="$gss/krb5.conf" \
+    start postgres "${as_postgres[@]}" env GSS_MECH_CONFIG="$gss/mech.conf" MENOLAVURI_GSS_CONF="$gss/gss.conf" KRB5_CONFIG="$gss/krb5.conf" \
         "$pg_bin/postgres" -D "$gss/pg/data" -c config_file="$gss/pg.conf" -c hba_file="$gss/hba.conf" -c ident_file=/dev/null
     postgres=$last
     await_port "$pg_port" && sleep 1
@@ -29,7 +27,8 @@ pg_client() {
 }
 
 try_gss_postgres() {
-    local pg_bin pg_port postgres
+    local pg_bin pg_port postgres as_postgres=(env)
+    [ "$(id -u)" -ne 0 ] || as_postgres=(setpriv --reuid postgres --regid postgres --init-groups)
     pg_bin=$(printf '%s\n' /usr/lib/postgresql/*/bin | tail -n 1)
     [ -x "$pg_bin/initdb" ] || { echo "not tried: PostgreSQL, of Debian's package postgresql"; return; }
     check "PostgreSQL starts" start_postgres

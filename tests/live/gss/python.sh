@@ -12,7 +12,7 @@ python_tells() {
 # Starts the server, which holds its clients to such bindings, or to none: start_python NAME [DATA]
 start_python() {
     python_port=$(free_port)
-    start "$1" served "$python" "$live/gss/server.py" "$python_port" "${@:2}"
+    serve "$1" "$python" "$live/gss/server.py" "$python_port" "${@:2}"
     await_port "$python_port"
 }
 

@@ -8,7 +8,7 @@ sample_client() {
 # Starts MIT's gss-server with the interposer: start_sample NAME WRAPPER.., and leaves its port in sample_port.
 start_sample() {
     sample_port=$(free_port)
-    start "$1" served "${@:2}" gss-server -port "$sample_port" host@localhost
+    serve "$1" "${@:2}" gss-server -port "$sample_port" host@localhost
     await_port "$sample_port"
 }
 
@@ -32,7 +32,7 @@ has_a_crowd() {
 is_clean() {
     local sample_port process
     sample_port=$(free_port)
-    start valgrind served valgrind --quiet --leak-check=full --error-exitcode=9 --suppressions="$live/gss/mechglue.supp" \
+    serve valgrind valgrind --quiet --leak-check=full --error-exitcode=9 --suppressions="$live/gss/mechglue.supp" \
         gss-server -port "$sample_port" -once host@localhost
     process=$last
     # (it serves one connection, so that a look whether it listens must not be one)

@@ -24,7 +24,7 @@ try_gss_sasl() {
     local port plugins=(/usr/lib/*/sasl2/libgssapiv2.so)
     [ -e "${plugins[0]}" ] || { echo "not tried: Cyrus' SASL, of Debian's package libsasl2-modules-gssapi-mit"; return; }
     port=$(free_port)
-    start sasl-server served "$python" "$live/pop_server.py" "$port" 0 256 65536
+    serve sasl-server "$python" "$live/pop_server.py" "$port" 0 256 65536
     await_port "$port"
     export -f sasl_client && export python live
     try_admissions "Cyrus' SASL" pop/server.example.com bash -c "sasl_client $port 256 256"

@@ -7,7 +7,7 @@ start_sshd() {
     printf '%s\n' "Port $ssh_port" 'ListenAddress 127.0.0.1' "HostKey $gss/$1.key" "PidFile $gss/$1.pid" 'GSSAPIAuthentication yes' \
         'GSSAPIKeyExchange yes' 'GSSAPIStrictAcceptorCheck no' 'PasswordAuthentication no' 'PubkeyAuthentication no' \
         'KbdInteractiveAuthentication no' 'PermitRootLogin yes' 'UsePAM no' 'StrictModes no' 'LogLevel VERBOSE' > "$gss/$1.conf"
-    start "$1" served /usr/sbin/sshd -D -e -f "$gss/$1.conf"
+    serve "$1" /usr/sbin/sshd -D -e -f "$gss/$1.conf"
     await_port "$ssh_port"
 }
 
