@@ -81,7 +81,7 @@ def changed(token):
 
 def fuzz(count):
     """Altered tokens: each ends its connection, and the server stays. One that is the same in all that is protected was admitted before."""
-    random.seed(61)
+    random.seed(1)
     token = context().step()
     with connection() as server, server.makefile("rb") as stream:
         send(server, token)
