@@ -129,9 +129,9 @@ fn tell(
             );
         }
     }
-    if let Ok(settings) = settings
-        && let Err(error) = counters::count(&settings.status, refused.map(|it| it.minor), took)
-    {
+    let Ok(settings) = settings else { return };
+    let counted = counters::count(&settings.status, refused.map(|it| it.minor), took);
+    if let Err(error) = counted {
         trace!("the counters are not kept: {error}");
     }
 }

@@ -145,10 +145,9 @@ pub fn parse(text: &str) -> Result<Settings, String> {
             .map_err(|it| wrong(format!("{word}: {it}")))?;
         words.push(word);
     }
-    if !words.contains(&"status")
-        && let Place::Folder(folder) = &settings.store
-    {
-        settings.status = folder.clone();
+    match &settings.store {
+        Place::Folder(folder) if !words.contains(&"status") => settings.status = folder.clone(),
+        _ => {}
     }
     Ok(settings)
 }

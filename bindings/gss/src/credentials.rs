@@ -142,9 +142,11 @@ unsafe fn acquire(
             (*mechs).elements.cast_const()
         };
         let keytab = stored(store, b"keytab");
-        if usage != INITIATE
-            && let Err(it) = acceptor_there(mech, keytab.as_deref())
-        {
+        let is_there = match usage {
+            INITIATE => Ok(()),
+            _ => acceptor_there(mech, keytab.as_deref()),
+        };
+        if let Err(it) = is_there {
             return (refuse(minor, &it), null_mut());
         }
         let (status, behind) = if usage == ACCEPT {

@@ -36,10 +36,9 @@ pub fn of_file(path: &str, skew: Duration) -> Result<Arc<Keys>, Refused> {
     let mut file = File::open(path).map_err(told)?;
     let state = state_of(&file).map_err(told)?;
     let known = kept.iter().position(|it| it.0 == path);
-    if let Some(at) = known
-        && kept[at].1 == state
-    {
-        return Ok(kept[at].2.clone());
+    match known {
+        Some(at) if kept[at].1 == state => return Ok(kept[at].2.clone()),
+        _ => {}
     }
     let mut octets = Vec::new();
     file.read_to_end(&mut octets).map_err(told)?;

@@ -114,9 +114,10 @@ pub fn parts(file: &[u8]) -> Vec<(String, Vec<u8>)> {
             break;
         };
         // A negative size is that of an entry that was taken out.
-        if size as i32 > 0
-            && let Some(group) = group(entry)
-        {
+        if size as i32 <= 0 {
+            continue;
+        }
+        if let Some(group) = group(entry) {
             let file = groups.entry(group).or_insert_with(|| b"\x05\x02".to_vec());
             file.extend_from_slice(&size.to_be_bytes());
             file.extend_from_slice(entry);
