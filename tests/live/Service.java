@@ -1,4 +1,5 @@
 // A service of the protocol of MIT's sample programs, by Java's own GSS-API:  java Service PORT KEYTAB PRINCIPAL
+// With the port alone it is by the system's GSS-API (-Dsun.security.jgss.native=true), whose default credential it takes.
 // It answers each message by a MIC over its text. A message that Java tells to be repeated, old or out of its order, or before which it
 // tells that one is missing, ends the connection.
 import java.io.*;
@@ -73,6 +74,7 @@ public class Service {
     }
 
     public static void main(String[] words) throws Exception {
+        if (words.length == 1) serveAll(Integer.parseInt(words[0]));
         Map<String, String> options = Map.of("useKeyTab", "true", "keyTab", words[1], "principal", words[2], "storeKey", "true",
             "isInitiator", "false", "doNotPrompt", "true");
         LoginContext login = new LoginContext("service", new Subject(), null, new Configuration() {

@@ -61,8 +61,8 @@ class Connection:
         self.say("+ " + base64.b64encode(token).decode())
         return base64.b64decode(self.line(), validate=True)
 
-    def log_in(self):
-        token = self.ask(b"")
+    def log_in(self, first):
+        token = base64.b64decode(first, validate=True) if first else self.ask(b"")
         status, challenge = self.octets("sasl_server_start", b"GSSAPI", token, len(token))
         while status:
             token = self.ask(challenge)
@@ -75,8 +75,8 @@ class Connection:
     def serve(self):
         self.say("+OK a server of Cyrus' SASL")
         while (command := self.line()) != "QUIT":
-            if command == "AUTH GSSAPI":
-                self.log_in()
+            if command == "AUTH GSSAPI" or command.startswith("AUTH GSSAPI "):
+                self.log_in(command[12:])
             else:
                 self.say("+OK 0 0" if command == "STAT" else "-ERR")
         self.say("+OK")

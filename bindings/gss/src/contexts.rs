@@ -1,0 +1,295 @@
+//! Contexts: an acceptor's is the library's session, and an initiator's that of the mechanism behind.
+
+use crate::abi::*;
+use crate::behind::*;
+use crate::buffers::{put, set};
+use crate::credentials::behind;
+use crate::guard::guard;
+use crate::names;
+use crate::oids::{self, KEY_TYPE, KRB5, SASL_SSF, SESSION_KEY, TICKET_FLAGS, special};
+use crate::trace;
+use menolavuri::Session;
+use std::ffi::{c_int, c_void};
+use std::ptr::null_mut;
+use std::sync::{Mutex, MutexGuard, PoisonError};
+use std::time::SystemTime;
+
+pub enum Context {
+    /// An initiator's.
+    Behind(Ctx),
+    Proved(Box<Mutex<Proved>>),
+}
+
+pub struct Proved {
+    pub session: Session,
+    pub client: String,
+    pub service: String,
+    pub flags: u32,
+}
+
+pub unsafe fn context<'a>(ctx: *mut c_void) -> Option<&'a mut Context> {
+    // SAFETY: a context of the mechglue's is one that we made.
+    unsafe { ctx.cast::<Context>().as_mut() }
+}
+
+pub fn made(context: Context) -> *mut c_void {
+    Box::into_raw(Box::new(context)).cast()
+}
+
+pub fn lock(it: &Mutex<Proved>) -> MutexGuard<'_, Proved> {
+    it.lock().unwrap_or_else(PoisonError::into_inner)
+}
+
+/// A call on a context: `$behind` where it is an initiator's, and `$ours` where it is an acceptor's.
+#[macro_export]
+macro_rules! on {
+    ($ctx:expr, $inner:ident => $behind:expr, $it:ident => $ours:expr) => {
+        match $crate::contexts::context($ctx) {
+            None => $crate::abi::NO_CONTEXT,
+            Some($crate::contexts::Context::Behind($inner)) => $behind,
+            Some($crate::contexts::Context::Proved(it)) => {
+                #[allow(unused_mut)]
+                let mut $it = $crate::contexts::lock(it);
+                $ours
+            }
+        }
+    };
+    ($ctx:expr, $inner:ident => $behind:expr) => {
+        match $crate::contexts::context($ctx) {
+            None => $crate::abi::NO_CONTEXT,
+            Some($crate::contexts::Context::Behind($inner)) => $behind,
+            Some($crate::contexts::Context::Proved(_)) => $crate::abi::UNAVAILABLE,
+        }
+    };
+}
+
+/// For how many seconds the client's ticket is still valid.
+pub fn left(session: &Session) -> u32 {
+    let left = session
+        .ends()
+        .and_then(|it| it.duration_since(SystemTime::now()).ok());
+    left.map_or(0, |it| u32::try_from(it.as_secs()).unwrap_or(INDEFINITE))
+}
+
+#[unsafe(no_mangle)]
+pub unsafe extern "C" fn gssi_init_sec_context(
+    minor: *mut u32,
+    cred: *mut c_void,
+    ctx: *mut *mut c_void,
+    target: Name,
+    mech: Oid,
+    flags: u32,
+    time: u32,
+    bindings: Bindings,
+    input: Buffer,
+    actual: *mut Oid,
+    output: Buffer,
+    ret_flags: *mut u32,
+    life: *mut u32,
+) -> u32 {
+    guard(minor, || unsafe {
+        let mut inner = match context(*ctx) {
+            Some(Context::Behind(it)) => *it,
+            None => null_mut(),
+            Some(Context::Proved(_)) => return NO_CONTEXT,
+        };
+        let status = gss_init_sec_context(
+            minor,
+            behind(cred),
+            &mut inner,
+            target,
+            &special(mech),
+            flags,
+            time,
+            bindings,
+            input,
+            actual,
+            output,
+            ret_flags,
+            life,
+        );
+        trace!("init_sec_context flags={flags:#x} -> {status:#x}");
+        match context(*ctx) {
+            Some(it) => *it = Context::Behind(inner),
+            None if !inner.is_null() => *ctx = made(Context::Behind(inner)),
+            None => {}
+        }
+        status
+    })
+}
+
+#[unsafe(no_mangle)]
+pub unsafe extern "C" fn gssi_delete_sec_context(
+    minor: *mut u32,
+    ctx: *mut *mut c_void,
+    token: Buffer,
+) -> u32 {
+    guard(minor, || unsafe {
+        set(minor, 0);
+        put(token, &[]);
+        if ctx.is_null() || (*ctx).is_null() {
+            return COMPLETE;
+        }
+        let it = Box::from_raw((*ctx).cast::<Context>());
+        *ctx = null_mut();
+        match *it {
+            Context::Behind(mut inner) if !inner.is_null() => {
+                gss_delete_sec_context(minor, &mut inner, token)
+            }
+            _ => COMPLETE,
+        }
+    })
+}
+
+#[unsafe(no_mangle)]
+pub unsafe extern "C" fn gssi_process_context_token(
+    minor: *mut u32,
+    ctx: *mut c_void,
+    token: Buffer,
+) -> u32 {
+    guard(minor, || unsafe {
+        on!(ctx, inner => gss_process_context_token(minor, *inner, token))
+    })
+}
+
+#[unsafe(no_mangle)]
+pub unsafe extern "C" fn gssi_context_time(
+    minor: *mut u32,
+    ctx: *mut c_void,
+    life: *mut u32,
+) -> u32 {
+    guard(minor, || unsafe {
+        on!(ctx, inner => gss_context_time(minor, *inner, life), it => {
+            let left = left(&it.session);
+            set(minor, 0);
+            set(life, left);
+            if left == 0 { CONTEXT_EXPIRED } else { COMPLETE }
+        })
+    })
+}
+
+unsafe fn inquire(
+    it: &Proved,
+    source: *mut Name,
+    target: *mut Name,
+    life: *mut u32,
+    mech: *mut Oid,
+    flags: *mut u32,
+    local: *mut c_int,
+    open: *mut c_int,
+) -> u32 {
+    // SAFETY: of the caller.
+    unsafe {
+        if !source.is_null() {
+            *source = names::of(&it.client).unwrap_or(null_mut());
+        }
+        if !target.is_null() {
+            *target = names::of(&it.service).unwrap_or(null_mut());
+        }
+        set(life, left(&it.session));
+        set(mech, &raw const KRB5);
+        set(flags, it.flags);
+        set(local, 0);
+        set(open, 1);
+    }
+    COMPLETE
+}
+
+#[unsafe(no_mangle)]
+pub unsafe extern "C" fn gssi_inquire_context(
+    minor: *mut u32,
+    ctx: *mut c_void,
+    source: *mut Name,
+    target: *mut Name,
+    life: *mut u32,
+    mech: *mut Oid,
+    flags: *mut u32,
+    local: *mut c_int,
+    open: *mut c_int,
+) -> u32 {
+    guard(minor, || unsafe {
+        on!(ctx, inner => gss_inquire_context(minor, *inner, source, target, life, mech, flags, local, open), it => {
+            set(minor, 0);
+            inquire(&it, source, target, life, mech, flags, local, open)
+        })
+    })
+}
+
+/// What is told of a session by an OID: the octets, one or two of them.
+fn told(it: &mut Proved, what: &[u8]) -> Option<Vec<Vec<u8>>> {
+    match what {
+        TICKET_FLAGS => Some(vec![it.session.ticket_flags()?.to_ne_bytes().to_vec()]),
+        SASL_SSF => Some(vec![
+            (it.session.key().ok()?.len() as u32 * 8)
+                .to_be_bytes()
+                .to_vec(),
+        ]),
+        SESSION_KEY => {
+            let key = it.session.key().ok()?;
+            let etype = if key.len() == 32 { 18 } else { 17 };
+            Some(vec![key, [KEY_TYPE, &[etype]].concat()])
+        }
+        _ => None,
+    }
+}
+
+#[unsafe(no_mangle)]
+pub unsafe extern "C" fn gssi_inquire_sec_context_by_oid(
+    minor: *mut u32,
+    ctx: *mut c_void,
+    what: Oid,
+    out: *mut BufferSet,
+) -> u32 {
+    guard(minor, || unsafe {
+        trace!("inquire_sec_context_by_oid {}", oids::shown(what));
+        on!(ctx, inner => gss_inquire_sec_context_by_oid(minor, *inner, what, out), it => {
+            let Some(all) = told(&mut it, oids::octets(what)) else { return UNAVAILABLE };
+            set(minor, 0);
+            let add = |octets: &Vec<u8>| gss_add_buffer_set_member(minor, &mut BufferDesc::lent(octets), out);
+            all.iter().map(add).find(|it| *it != COMPLETE).unwrap_or(COMPLETE)
+        })
+    })
+}
+
+#[unsafe(no_mangle)]
+pub unsafe extern "C" fn gssi_set_sec_context_option(
+    minor: *mut u32,
+    ctx: *mut *mut c_void,
+    what: Oid,
+    value: Buffer,
+) -> u32 {
+    guard(minor, || unsafe {
+        trace!("set_sec_context_option {}", oids::shown(what));
+        if ctx.is_null() || (*ctx).is_null() {
+            return UNAVAILABLE;
+        }
+        on!(*ctx, inner => gss_set_sec_context_option(minor, inner, what, value))
+    })
+}
+
+/// No server of docs/GSSAPI.md exports an acceptor's context.
+#[unsafe(no_mangle)]
+pub unsafe extern "C" fn gssi_export_sec_context(
+    minor: *mut u32,
+    ctx: *mut *mut c_void,
+    token: Buffer,
+) -> u32 {
+    guard(minor, || unsafe {
+        let status = on!(*ctx, inner => gss_export_sec_context(minor, inner, token));
+        if status == COMPLETE {
+            drop(Box::from_raw((*ctx).cast::<Context>()));
+            *ctx = null_mut();
+        }
+        status
+    })
+}
+
+#[unsafe(no_mangle)]
+pub unsafe extern "C" fn gssi_import_sec_context_by_mech(
+    minor: *mut u32,
+    _mech: Oid,
+    _token: Buffer,
+    _ctx: *mut *mut c_void,
+) -> u32 {
+    guard(minor, || UNAVAILABLE)
+}

@@ -1,0 +1,193 @@
+//! Refusals: the status of RFC 2744, a minor status that tells the exact cause, and its words.
+
+use crate::abi::*;
+use menolavuri::{Cause, Error};
+
+/// What the minor statuses of this interposer begin with; after it comes the number of a cause, or one of those below.
+pub const MINOR: u32 = 0x4d4b_0000;
+/// From this number on they are this interposer's own.
+pub const OWN: u32 = 0xff00;
+
+pub const NOT_DONE: u32 = MINOR | OWN;
+pub const NO_KEYS: u32 = MINOR | 0xff01;
+pub const OTHER_SERVICE: u32 = MINOR | 0xff02;
+pub const STORE_AWAY: u32 = MINOR | 0xff03;
+pub const SECOND_TOKEN: u32 = MINOR | 0xff04;
+pub const ADDRESSES: u32 = MINOR | 0xff05;
+pub const INITIATOR: u32 = MINOR | 0xff06;
+pub const NAME: u32 = MINOR | 0xff07;
+pub const SETTINGS: u32 = MINOR | 0xff08;
+pub const FAULT: u32 = MINOR | 0xff09;
+pub const NO_MEMORY: u32 = MINOR | 0xff0a;
+pub const NOT_OFFERED: u32 = MINOR | 0xff0b;
+/// How many own ones there are.
+pub const OWN_COUNT: usize = 12;
+
+/// The words of this interposer's own.
+const OWN_WORDS: [&str; OWN_COUNT] = [
+    "the library did not do the call: its argument, memory or random octets failed",
+    "the keytab is not there or has no key of the types 17 and 18",
+    "the ticket is for another service than the credential",
+    "the store of admitted clients does not answer: nobody is admitted",
+    "a second token came where the first one ends the exchange",
+    "channel bindings with addresses are not compared",
+    "the credential is an initiator's",
+    "the client's name has a control character or is not UTF-8",
+    "the settings cannot be read: nobody is admitted",
+    "a fault in the interposer",
+    "memory ran out",
+    "the call is not offered",
+];
+
+/// What clients and administrators meet, in words (the numbers are mk_cause's in menolavuri.h).
+const CAUSE_WORDS: [(u32, &str); 32] = [
+    (1, "memory ran out"),
+    (2, "the clock of this machine is out of range"),
+    (6, "the token is not in the grammar of an AP-REQ"),
+    (7, "there is no key for the service that the ticket names"),
+    (8, "the encryption type is not 17 or 18"),
+    (9, "the key does not have the length of its encryption type"),
+    (10, "an encrypted text is too short"),
+    (
+        11,
+        "the key does not open it: it was altered, or the key is another one",
+    ),
+    (12, "what was encrypted is not in the grammar of its record"),
+    (13, "the ticket and the authenticator name two clients"),
+    (14, "the client's clock is too far from this machine's"),
+    (15, "the ticket is not valid yet"),
+    (16, "the ticket has expired"),
+    (
+        17,
+        "this authenticator was admitted before: the token is a replay",
+    ),
+    (18, "the client's name has no component"),
+    (19, "the options of the AP-REQ are not known"),
+    (20, "the subkey does not fit its encryption type"),
+    (26, "a message lacks its sequence number"),
+    (27, "the message is not the next one in order"),
+    (28, "there is no subkey"),
+    (47, "the header of the message is not that of its form"),
+    (48, "the message was sent by this side"),
+    (49, "the extra count of the message does not fit"),
+    (50, "the message is longer than the room for it"),
+    (51, "the message is too old to tell whether it was seen"),
+    (52, "the message was opened before"),
+    (53, "the MIC has the flag of an encrypted message"),
+    (54, "the context has no key"),
+    (55, "the authenticator has no channel bindings and no flags"),
+    (
+        56,
+        "the channel bindings are not those of this channel, or the client gave none",
+    ),
+    (58, "the call is not served"),
+    (
+        63,
+        "the ticket came through further realms, and no KDC checked them",
+    ),
+];
+
+/// Why a call is not done.
+#[derive(Debug)]
+pub struct Refused {
+    pub major: u32,
+    pub minor: u32,
+    /// What is not in the words of the minor status, as the path of a file. For the log alone.
+    pub further: String,
+    /// A KRB-ERROR for the client, or no octets.
+    pub token: Vec<u8>,
+}
+
+impl Refused {
+    pub fn of(major: u32, minor: u32, further: impl Into<String>) -> Refused {
+        Refused {
+            major,
+            minor,
+            further: further.into(),
+            token: Vec::new(),
+        }
+    }
+
+    /// The refusal of a client by the library.
+    pub fn by(error: &Error) -> Refused {
+        let minor = minor_of(error);
+        Refused::of(major_of(minor), minor, further(error))
+    }
+}
+
+fn minor_of(error: &Error) -> u32 {
+    error.cause().map_or(NOT_DONE, |it| MINOR | it.0)
+}
+
+/// What the library says beside the cause.
+fn further(error: &Error) -> String {
+    match error {
+        Error::Refused(_) => String::new(),
+        other => other.to_string(),
+    }
+}
+
+/// The status of RFC 2744 for a client that is refused.
+fn major_of(minor: u32) -> u32 {
+    match Cause(minor & 0xffff) {
+        Cause(6 | 12 | 47) => DEFECTIVE_TOKEN,
+        Cause::NO_SERVICE_KEY => NO_CRED,
+        Cause::EXPIRED => CREDENTIALS_EXPIRED,
+        Cause::BINDINGS | Cause::CHECKSUM => BAD_BINDINGS,
+        _ => FAILURE,
+    }
+}
+
+/// The status for a message that is refused. Each is an error: one that comes again is not handed out, so it is no supplementary bit.
+pub fn of_message(error: &Error, altered: u32) -> (u32, u32) {
+    let minor = minor_of(error);
+    let major = match Cause(minor & 0xffff) {
+        Cause(6 | 10 | 47 | 48) => DEFECTIVE_TOKEN,
+        Cause::ALTERED => altered,
+        _ => FAILURE,
+    };
+    (major, minor)
+}
+
+/// Whether a minor status is one of this interposer's.
+pub fn is_ours(minor: u32) -> bool {
+    minor & 0xffff_0000 == MINOR
+}
+
+/// The words of a minor status of this interposer's.
+pub fn words(minor: u32) -> String {
+    let number = minor & 0xffff;
+    if let Some(words) = number
+        .checked_sub(OWN)
+        .and_then(|it| OWN_WORDS.get(it as usize))
+    {
+        return (*words).to_owned();
+    }
+    let known = CAUSE_WORDS.iter().find(|it| it.0 == number);
+    let name = Cause(number);
+    match known {
+        Some((_, words)) => format!("{name}: {words}"),
+        None => name.to_string(),
+    }
+}
+
+#[cfg(test)]
+mod tests {
+    use super::*;
+
+    #[test]
+    fn no_words_have_a_line_end() {
+        let own = (0..OWN_COUNT as u32).map(|it| MINOR | (OWN + it));
+        for minor in own.chain(CAUSE_WORDS.iter().map(|it| MINOR | it.0)) {
+            assert!(is_ours(minor) && !words(minor).contains('\n'), "{minor:#x}");
+        }
+        assert_eq!(words(STORE_AWAY), OWN_WORDS[3]);
+    }
+
+    #[test]
+    fn each_refusal_is_a_routine_error() {
+        for number in 0..=0xffff {
+            assert_ne!(major_of(MINOR | number) & 0x00ff_0000, 0);
+        }
+    }
+}
