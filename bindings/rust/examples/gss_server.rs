@@ -7,7 +7,7 @@
 //! by 300 seconds. The server waits for 600 seconds before it admits anybody, twice as long: a token that an earlier process admitted
 //! may be ahead by 300, and is then valid for 300 after its own time. That wait may be 0 if no earlier process had this key. After the
 //! wait may come `channel:` and the data of a channel's bindings, to which each client is then held. Who needs other rules for messages
-//! than those of the RFCs names them at the end (docs/EMBEDDING.md), or `NONE`.
+//! than those of the RFCs names them at the end (docs/DIFFERENCES.md), or `NONE`.
 
 #[path = "parts/causes.rs"]
 mod causes;

@@ -7,7 +7,7 @@
 //! Behind the user stands a file with its key, a keytab or the key in hex, or `-` where its password is to be read from the standard
 //! input. `usual` asks the server to show who it is, `one-way` does not, and with `dce-style` the client has the last word. The KDCs are
 //! asked in turn, with commas between them, until one answers. The client goes by the RFCs. Who needs other rules names them after the
-//! KDCs (docs/EMBEDDING.md), or `NONE`: then a recorded log-in can be played back to it.
+//! KDCs (docs/DIFFERENCES.md), or `NONE`: then a recorded log-in can be played back to it.
 
 #[path = "parts/carrying.rs"]
 mod carrying;
