@@ -1,9 +1,8 @@
 //! What a server does with the library: it admits a client by its token, and opens its messages.
 
 ghost use Rattle.std.specs.Prelude.{None, Ok, IfOk};
-ghost use Rattle.krb_context.specs.Unwraps.{Unwraps};
 ghost use Rattle.krb_entrance.specs.Admits.{Admits};
-ghost use Rattle.krb_sessions.specs.Gives.{whole_message};
+ghost use Rattle.krb_sessions.specs.Orders.{UnwrapsInOrder};
 
 use krb_entrance::{Draw, Error, Fault, OutOfMemory, Service, Session};
 use std::alloc::Global;
@@ -30,7 +29,7 @@ fn room(alloc: Global, length: usize) -> Result<Vec<u8>, OutOfMemory> {
 
 /// The text of a message of the client. Each message is opened once.
 pub fn open(alloc: Global, session: &mut Session, sealed: &[u8]) -> Result<Vec<u8>, Fault>
-    ensures opened { IfOk result (λ text. Unwraps session.old.connection (whole_message sealed.now) (Ok text.items)) }
+    ensures opened { IfOk result (λ text. UnwrapsInOrder session.old.order session.old.connection sealed.now (Ok text.items)) }
 {
     let mut text = room(alloc, sealed.len())?; // no text is longer than its message
     let length = session.unwrap(alloc, sealed, &mut text)?;

@@ -4,7 +4,6 @@ use Rattle.krb_c.specs.declared.reply.Failure.{Failure}
 use Rattle.krb_c.specs.declared.reply.Failure.TheVariants.{Refused, Room, Argument, Handle}
 use Rattle.krb_c.specs.Codes.{kind_code, cause_code}
 use Rattle.krb_c.specs.declared.accept.Moment.{Moment}
-use Rattle.krb_context.specs.Mics.{ChecksMic}
 use Rattle.krb_context.specs.Refusals.{Refuses}
 use Rattle.krb_context.specs.ServiceKeys.{new_properties, service_named, IsNotAscii}
 use Rattle.krb_replay.specs.Book.{StandsFor, IsUnchanged}
@@ -13,7 +12,8 @@ use Rattle.krb_entrance.specs.declared.service.Service.{Service}
 use Rattle.krb_sessions.specs.declared.session.Session.{Session}
 use Rattle.krb_entrance.specs.Admits.{Admits, Rejects}
 use Rattle.krb_entrance.specs.Connections.{IsKeyless}
-use Rattle.krb_sessions.specs.Gives.{Delivers, IsShort, RefusesMic, after_making, after_opening}
+use Rattle.krb_sessions.specs.Gives.{Delivers, IsShort, after_making}
+use Rattle.krb_sessions.specs.Orders.{VerifiesInOrder, RefusesMic, taken, verified}
 use Rattle.krb_entrance.specs.Services.{components, token_limit}
 use Rattle.sspi_core.specs.declared.cause.Cause.{Cause}
 use Rattle.sspi_core.specs.declared.cause.Cause.TheVariants.{Memory}
@@ -169,20 +169,21 @@ abbrev pub made : Session → Session
 made session = record session { connection = after_making session.connection }
 
 abbrev pub opened : List ℕ → Session → Session
-opened token session = record session { connection = after_opening token session.connection }
+opened token session = taken token session
 
--- the token is the client's, over this payload
-pub record Verifies (token payload : List ℕ) (old : Option Session) (count : ℕ) : Type 0 where
+-- the token is the client's, over this payload, and the next one
+pub record Verifies (token payload : List ℕ) (old : Option Session) (count : ℕ) (new : Option Session) : Type 0 where
   pub session : Session
   pub was : old ≡ Some session
-  pub checks : ChecksMic session.connection token payload (Ok tt)
+  pub now : new ≡ Some (verified token session)
+  pub checks : VerifiesInOrder session.order session.connection token payload (Ok tt)
   pub none_written : count ≡ 0
 
 -- the token is none, by the first check that fails
 pub record MicIsRefused (token payload : List ℕ) (old : Option Session) (error : Error) : Type 0 where
   pub session : Session
   pub was : old ≡ Some session
-  pub refuses : RefusesMic session.connection token payload error
+  pub refuses : RefusesMic session.order session.connection token payload error
 
 abbrev pub VerifiesNot : List ℕ → List ℕ → Option Session → Failure → Type 0
 VerifiesNot token payload old (Refused error) = MicIsRefused token payload old error

@@ -19,7 +19,7 @@ use crate::texts::draw_of;
 use krb_conf::KerberosConfig;
 use krb_context::Kerberos;
 use krb_der::{Text, boxed};
-use krb_entrance::{Candidate, Draw, Error, Octets, Service, Session};
+use krb_entrance::{Candidate, Draw, Error, Octets, Order, Service, Session};
 use std::alloc::Global;
 
 /// A candidate in a box.
@@ -108,6 +108,7 @@ pub(crate) fn blank(alloc: Global) -> Session {
         answer: Octets::new(Vec::new(alloc)),
         connection: Kerberos::new_client_from_config(config, [0; 4]),
         client: None,
+        order: Order::Any,
     }
 }
 

@@ -3,11 +3,11 @@
 ghost use Rattle.std.specs.Prelude.{◌≡◌, ℕ, length, None, Result, Ok, IfOk, IfErr, OnOk, OnErr};
 ghost use Rattle.sspi_core.specs.declared.error.Place.TheVariants as places;
 ghost use Rattle.krb_context.specs.ClearWraps.{WrapsClear};
-ghost use Rattle.krb_context.specs.Mics.{MakesMic, ChecksMic};
+ghost use Rattle.krb_context.specs.Mics.{MakesMic};
 ghost use Rattle.krb_context.specs.Queries.{name_of};
-ghost use Rattle.krb_context.specs.Unwraps.{Unwraps};
 ghost use Rattle.krb_context.specs.Wraps.{Wraps};
-ghost use Rattle.krb_sessions.specs.Gives.{IsNamed, IsWrapped, text_message, whole_message};
+ghost use Rattle.krb_sessions.specs.Gives.{IsNamed, IsWrapped, text_message};
+ghost use Rattle.krb_sessions.specs.Orders.{UnwrapsInOrder};
 ghost use Rattle.krb_c.specs.declared.reply.Failure.{Failure};
 ghost use Rattle.krb_c.specs.Replies.{reply_of};
 ghost use Rattle.krb_c.specs.Calls.{Serves, ServesNot, Verifies, VerifiesNot, same, made, opened};
@@ -181,10 +181,10 @@ fn unwrap(
     token: &[u8],
     out: &mut [u8],
 ) -> Result<usize, Failure>
-    ensures serves { IfOk result (λ count. Serves (λ s text. Unwraps s.connection (whole_message token.now) (Ok text)) (opened token.now)
+    ensures serves { IfOk result (λ count. Serves (λ s text. UnwrapsInOrder s.order s.connection token.now (Ok text)) (opened token.now)
         session.old.place.value out.old count session.new.place.value out.new) }
-    ensures fails { IfErr result (ServesNot places.Elsewhere (λ s. Unwraps s.connection (whole_message token.now))
-        (λ s text. Unwraps s.connection (whole_message token.now) (Ok text)) session.old.place.value (length out.old)) }
+    ensures fails { IfErr result (ServesNot places.Elsewhere (λ s. UnwrapsInOrder s.order s.connection token.now)
+        (λ s text. UnwrapsInOrder s.order s.connection token.now (Ok text)) session.old.place.value (length out.old)) }
     ensures stays { OnErr result (session.new.place.value ≡ session.old.place.value) }
     ensures room { OnErr result (out.new ≡ out.old) }
 {
@@ -206,10 +206,10 @@ pub extern "C" fn mk_unwrap(
     out: &mut [u8],
 ) -> Reply
     ensures { (answer : Result ℕ Failure) × (result ≡ reply_of answer)
-        × IfOk answer (λ count. Serves (λ s text. Unwraps s.connection (whole_message token.now) (Ok text)) (opened token.now)
+        × IfOk answer (λ count. Serves (λ s text. UnwrapsInOrder s.order s.connection token.now (Ok text)) (opened token.now)
         session.old.place.value out.old count session.new.place.value out.new)
-        × IfErr answer (ServesNot places.Elsewhere (λ s. Unwraps s.connection (whole_message token.now))
-        (λ s text. Unwraps s.connection (whole_message token.now) (Ok text)) session.old.place.value (length out.old))
+        × IfErr answer (ServesNot places.Elsewhere (λ s. UnwrapsInOrder s.order s.connection token.now)
+        (λ s text. UnwrapsInOrder s.order s.connection token.now (Ok text)) session.old.place.value (length out.old))
         × OnErr answer (session.new.place.value ≡ session.old.place.value)
         × OnErr answer (out.new ≡ out.old) }
 {
@@ -262,11 +262,11 @@ fn verify(
     token: &[u8],
     payload: &[u8],
 ) -> Result<usize, Failure>
-    ensures verified { IfOk result (Verifies token.now payload.now session.old.place.value) }
+    ensures verified { IfOk result (λ count. Verifies token.now payload.now session.old.place.value count session.new.place.value) }
     ensures fails { IfErr result (VerifiesNot token.now payload.now session.old.place.value) }
-    ensures stays { session.new.place.value ≡ session.old.place.value }
+    ensures stays { OnErr result (session.new.place.value ≡ session.old.place.value) }
 {
-    let Some(guest) = session.take(alloc) else {
+    let Some(mut guest) = session.take(alloc) else {
         return Err(Failure::Handle);
     };
     let verified = guest.verify(token, payload);
@@ -277,8 +277,8 @@ fn verify(
     }
 }
 
-/// OK exactly where the token is a MIC token over this payload that the client's `gss_get_mic` made. Its number is not looked at:
-/// the same one verifies again.
+/// OK exactly where the token is a MIC token over this payload that the client's `gss_get_mic` made and, in a session that takes messages
+/// in order, the next token. Else its number is not looked at: the same one verifies again.
 #[unsafe(no_mangle)]
 pub extern "C" fn mk_verify(
     alloc: Global,
@@ -287,9 +287,9 @@ pub extern "C" fn mk_verify(
     payload: &[u8],
 ) -> Reply
     ensures told { (answer : Result ℕ Failure) × (result ≡ reply_of answer)
-        × IfOk answer (Verifies token.now payload.now session.old.place.value)
-        × IfErr answer (VerifiesNot token.now payload.now session.old.place.value) }
-    ensures stays { session.new.place.value ≡ session.old.place.value }
+        × IfOk answer (λ count. Verifies token.now payload.now session.old.place.value count session.new.place.value)
+        × IfErr answer (VerifiesNot token.now payload.now session.old.place.value)
+        × OnErr answer (session.new.place.value ≡ session.old.place.value) }
 {
     reply_of(verify(alloc, session, token, payload))
 }

@@ -19,6 +19,7 @@ use Rattle.sspi_core.specs.Checks.{Holds, Takes, ◌>>◌}
 use Rattle.sspi_core.specs.Usernames.{UserName, parsed}
 use Rattle.krb_dialogue.specs.declared.dialogue.Dialogue.{Dialogue}
 use Rattle.krb_dialogue.specs.declared.dialogue.Turn.TheVariants.{Rests}
+use Rattle.krb_sessions.specs.declared.order.Order.TheVariants.{Any}
 
 -- an initiator at this machine, with no KDC of its own, before its exchange, that goes by the RFCs
 abbrev pub first_context : List ℕ → ℕ → Kerberos
@@ -41,6 +42,7 @@ pub record IsNew (target machine : List ℕ) (flags : ClientRequestFlags) (numbe
   pub options : dialogue.options ≡ first_options target flags
   pub context : dialogue.session.connection ≡ first_context machine number
   pub token : dialogue.session.answer ≡ []
+  pub order : dialogue.session.order ≡ Any
   pub turn : dialogue.turn ≡ Rests
 
 -- with other options

@@ -9,6 +9,7 @@ ghost use Rattle.sspi_core.specs.declared.cause.Cause.TheVariants as causes;
 ghost use Rattle.sspi_core.specs.declared.error.Place.TheVariants as places;
 ghost use Rattle.krb_context.specs.Refusals.{Refuses};
 ghost use Rattle.krb_requests.specs.Pieces.{name_of};
+ghost use Rattle.krb_sessions.specs.declared.order.Order.TheVariants as orders;
 ghost use Rattle.krb_dialogue.specs.Settings.{
   IsNew,
   first_context,
@@ -33,7 +34,7 @@ use krb_context::{Kerberos, Rules};
 use krb_der::{Items, Name, Octets, OutOfMemory, Text, boxed};
 use krb_initiator::InitOptions;
 use krb_requests::name_of;
-use krb_sessions::Session;
+use krb_sessions::{Order, Session};
 use sspi_core::{
     AuthIdentityBuffers, Cause, ChannelBindings, ClientRequestFlags, CredentialsBuffers, Error,
     KeytabIdentity, Secret, Username, UsernameError,
@@ -59,6 +60,7 @@ fn first_options(alloc: Global, target: Name, flags: ClientRequestFlags) -> Init
 fn first_session(alloc: Global, machine: &str, number: [u8; 4]) -> Result<HeldSession, OutOfMemory>
     ensures context { IfOk result (λ session. session.connection ≡ first_context machine.now (from_be_bytes w32 number)) }
     ensures token { IfOk result (λ session. session.answer ≡ []) }
+    ensures order { IfOk result (λ session. session.order ≡ orders.Any) }
 {
     let config = KerberosConfig {
         kdc_url: None,
@@ -74,6 +76,7 @@ fn first_session(alloc: Global, machine: &str, number: [u8; 4]) -> Result<HeldSe
             answer,
             connection,
             client,
+            order: Order::Any,
         },
     )
 }

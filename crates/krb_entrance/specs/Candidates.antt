@@ -1,6 +1,6 @@
 -- The halves of an admission at a connection that waited for its client's token.
 use Rattle.std.specs.Prelude.{◌≡◌, ℕ, ◌≤◌, nat_le, List, Option, Some, false, length, Result, Ok}
-use Rattle.krb_admission.specs.Allowed.{gss_flags, hash_told}
+use Rattle.krb_admission.specs.Allowed.{gss_flags, hash_told, delegation_told, first_number}
 use Rattle.krb_admission.specs.Halves.{Prepared, Prepares, JudgesApReq, AdmitsPrepared, with_keys}
 use Rattle.krb_admission.specs.Requests.{tag_of}
 use Rattle.krb_admission.specs.declared.admission.Answer.{Answer}
@@ -11,6 +11,7 @@ use Rattle.krb_entrance.specs.declared.keys.Keys.{Keys}
 use Rattle.krb_entrance.specs.Connections.{Waits, keyless}
 use Rattle.krb_replay.specs.Book.{Book, Follows, StandsFor}
 use Rattle.krb_sessions.specs.declared.client.Client.{Client}
+use Rattle.krb_sessions.specs.declared.order.Order.TheVariants.{Any}
 use Rattle.krb_sessions.specs.declared.session.Session.{Session}
 use Rattle.sspi_core.specs.Checks.{Holds, ◌>>◌}
 use Rattle.sspi_core.specs.declared.cause.Cause.{Cause}
@@ -49,6 +50,8 @@ client_told request = record {
   gss_flags = gss_flags request.authenticator.cksum;
   channel_hash = hash_told request.authenticator.cksum;
   tag = tag_of request;
+  first_number = first_number request.authenticator.seq_number;
+  delegation = delegation_told request.authenticator.cksum;
 }
 
 -- the book admits the candidate, and no check after it refuses
@@ -57,6 +60,7 @@ pub record IsLetIn (candidate : Candidate) (old : Book) (session : Session) (new
   pub admits : AdmitsPrepared (Follows StandsFor) candidate.judged candidate.connection old (Ok answer) session.connection new
   pub answered : session.answer ≡ answer.token
   pub client : session.client ≡ Some candidate.client
+  pub order : session.order ≡ Any
 
 -- how the candidate is turned away, and the book afterwards
 pub record TurnsAway (candidate : Candidate) (old new : Book) (answer : Result Answer Cause) : Type 0 where

@@ -9,6 +9,7 @@ use Rattle.krb_replay.specs.declared.record.Record.{Record}
 use Rattle.krb_replay.specs.declared.telling.TellingGate.{TellingGate}
 use Rattle.krb_replay.specs.Telling.{AdmitsAsTold}
 use Rattle.krb_sessions.specs.Principals.{principal_text}
+use Rattle.krb_sessions.specs.declared.order.Order.TheVariants.{Any}
 use Rattle.krb_sessions.specs.declared.session.Session.{Session}
 use Rattle.sspi_core.specs.declared.cause.Cause.{Cause}
 
@@ -27,6 +28,7 @@ pub record IsToldIn (candidate : Candidate) (gate : TellingGate) (session : Sess
   pub admits : AdmitsPrepared AdmitsAsTold candidate.judged candidate.connection gate (Ok answer) session.connection behind
   pub answered : session.answer ≡ answer.token
   pub client : session.client ≡ Some candidate.client
+  pub order : session.order ≡ Any
 
 -- how the candidate is turned away
 pub record IsToldAway (candidate : Candidate) (gate : TellingGate) (answer : Result Answer Cause) : Type 0 where

@@ -20,7 +20,7 @@ use krb_server::{
     Answer, AuthorizationData, Cause, Draw, Error, Judged, Kerberos, Octets, OutOfMemory,
     ReplayBook,
 };
-use krb_sessions::{Client, Session};
+use krb_sessions::{Client, Order, Session};
 use sspi_core::hold;
 use std::alloc::Global;
 
@@ -55,6 +55,7 @@ fn client_told(alloc: Global, judged: &Judged) -> Result<Client, OutOfMemory>
     let times = judged.ticket_times();
     let channel_hash = Octets::from_slice(alloc, judged.channel_hash())?;
     let tag = Octets::from_slice(alloc, judged.tag())?;
+    let delegation = Octets::from_slice(alloc, judged.delegation())?;
     let mut copier = Copier::new(alloc);
     let client = Client {
         name: copier.copy(judged.client_name()),
@@ -68,6 +69,8 @@ fn client_told(alloc: Global, judged: &Judged) -> Result<Client, OutOfMemory>
         gss_flags: judged.gss_flags(),
         channel_hash,
         tag,
+        first_number: judged.first_number(),
+        delegation,
     };
     copier.finish(client)
 }
@@ -184,6 +187,7 @@ pub fn admit(alloc: Global, candidate: Candidate, book: &mut ReplayBook) -> Resu
             answer: answer.token,
             connection,
             client: Some(client),
+            order: Order::Any,
         }),
         Err(error) => {
             drop(connection);

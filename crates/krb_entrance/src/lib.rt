@@ -28,5 +28,5 @@ pub use told::{admit_told, stored_record};
 
 // What a caller names beside.
 pub use krb_server::{Cause, Draw, Error, ErrorKind, Judged, MAX_MOMENT, Octets, OutOfMemory};
-pub use krb_sessions::{Client, Fault, Session, principal, put};
+pub use krb_sessions::{Client, Fault, Order, Session, principal, put};
 pub use sspi_core::ChannelBindings;

@@ -11,7 +11,7 @@ use crate::candidate::Candidate;
 use krb_der::boxed;
 use krb_replay::Record;
 use krb_server::{Answer, Error, Judged, Kerberos, Octets, OutOfMemory, TellingGate};
-use krb_sessions::{Session, principal};
+use krb_sessions::{Order, Session, principal};
 use std::alloc::Global;
 
 fn record_octets(alloc: Global, entry: &Record) -> Result<Octets, OutOfMemory>
@@ -83,6 +83,7 @@ fn admit_at(alloc: Global, candidate: Candidate, gate: &mut TellingGate) -> Resu
             answer: answer.token,
             connection,
             client: Some(client),
+            order: Order::Any,
         }),
         Err(error) => {
             drop(connection);

@@ -19,7 +19,7 @@ use Rattle.krb_sasl.specs.declared.error.SaslError.{SaslError}
 use Rattle.krb_sasl.specs.declared.error.SaslError.TheVariants.{State, TooLarge, Frame}
 use Rattle.krb_sasl.specs.declared.layer.Layer.{Layer}
 use Rattle.krb_sasl.specs.declared.layer.Layer.TheVariants.{None as NoLayer, Integrity, Confidentiality}
-use Rattle.krb_sasl.specs.Channels.{MakesInLayer, Readies, Unframes, has_flags, sealed_by, context_after_making, context_after_sealing, unsealed_by, context_after_opening, context_after_unsealing}
+use Rattle.krb_sasl.specs.Channels.{MakesInLayer, Readies, Unframes, has_flags, sealed_by, context_after_making, context_after_sealing, unsealed_by, channel_after_opening, channel_after_unsealing}
 use Rattle.krb_context.specs.ClearWraps.{WrapsClear}
 use Rattle.krb_sasl.specs.Frames.{unframed}
 use Rattle.krb_sasl.specs.InContext.{InContext, told}
@@ -134,9 +134,9 @@ sealed_as channel new agreement there is =
     is ∙ ap (λ (a : Option Agreement). record channel { context = context_after_sealing a channel.context }) (sym there)
 
 pub unsealed_as : (channel new : Channel) (frame message : List ℕ) (layer : Layer) → IsUnframed channel frame layer message
-    → new ≡ record channel { context = context_after_opening layer channel.context message } → new ≡ unsealed_by channel frame
+    → new ≡ channel_after_opening layer channel message → new ≡ unsealed_by channel frame
 unsealed_as channel new frame message layer u is =
     is
-    ∙ ap (λ (l : Layer). record channel { context = context_after_opening l channel.context message }) u.layer_is
-    ∙ ap (λ (m : Option (List ℕ)). record channel { context = context_after_unsealing (Some u.agreement) m channel.context }) (sym u.message_is)
-    ∙ ap (λ (a : Option Agreement). record channel { context = context_after_unsealing a (unframed frame) channel.context }) (sym u.there)
+    ∙ ap (λ (l : Layer). channel_after_opening l channel message) u.layer_is
+    ∙ ap (λ (m : Option (List ℕ)). channel_after_unsealing (Some u.agreement) m channel) (sym u.message_is)
+    ∙ ap (λ (a : Option Agreement). channel_after_unsealing a (unframed frame) channel) (sym u.there)

@@ -21,8 +21,8 @@ use Rattle.krb_context.specs.Unwraps.{Unwraps}
 use Rattle.krb_context.specs.Window.{number_verdict}
 use Rattle.krb_context.specs.Wrapped.{wrapped_by, written_body}
 use Rattle.krb_context.specs.Wraps.{wrapped}
-use Rattle.krb_context.proofs.ClearLemmas.{IsClear, is_clear, clear_opens_there}
-use Rattle.krb_context.proofs.PeerLemmas.{text_made, opens_there}
+use Rattle.krb_context.proofs.ClearLemmas.{IsClear, is_clear, number-clear, clear_opens_there}
+use Rattle.krb_context.proofs.PeerLemmas.{text_made, number_made, opens_there}
 use Rattle.krb_context.proofs.ReadyLemmas.{IsReady as IsReadyThere, is_wrapped}
 use Rattle.krb_context.proofs.WrapLemmas.{stream-after-token, stream-after-plain}
 use Rattle.krb_context.proofs.WrappedLemmas.{covered-wrapped}
@@ -37,7 +37,11 @@ use Rattle.krb_context.specs.ClearWraps.{WrapsClear}
 use Rattle.krb_sasl.specs.Ends.{AreEnds, IsTakenFrame}
 use Rattle.krb_sasl.specs.Frames.{length_in, unframed}
 use Rattle.krb_sasl.specs.Layers.{message_size, takes_message}
-use Rattle.krb_sasl.specs.Streams.{as_stream, as_data, WrapsSealed}
+use Rattle.krb_sasl.specs.Streams.{as_data, WrapsSealed}
+use Rattle.krb_sessions.specs.Gives.{whole_message}
+use Rattle.krb_sessions.specs.Orders.{awaits, token_number, UnwrapsInOrder}
+use Rattle.krb_sessions.specs.declared.order.Order.{Order}
+use Rattle.krb_sessions.proofs.OrderLemmas.{unwraps_next}
 use Rattle.krb_sasl.proofs.AgreedLemmas.{spelled-stream}
 use Rattle.sspi_core.proofs.Chain.{passed, gave, follows, gives}
 use Rattle.krb_sasl.proofs.MessageLemmas.{context_found, is_sealed as was_sealed, length-made, taken_size, is_ready}
@@ -96,9 +100,9 @@ takes_more Confidentiality size more n le e = let small : n ≤ size = leb-true 
 
 -- what one end wraps in the clear the other opens
 clear_opened : (sender receiver : Kerberos) (p message : List ℕ) → ArePeers sender receiver → WrapsClear sender p (Ok message)
-    → number_verdict receiver.window (next_number sender.seq_number) ≡ Fresh → Unwraps receiver (as_stream message) (Ok p)
+    → number_verdict receiver.window (next_number sender.seq_number) ≡ Fresh → Unwraps receiver (whole_message message) (Ok p)
 clear_opened sender receiver p message peers h fresh =
-    clear_opens_there sender receiver p message (as_stream message) (record { kind = Data; flags = no_flags; octets = []; limit = 0 }) peers h
+    clear_opens_there sender receiver p message (whole_message message) (record { kind = Data; flags = no_flags; octets = []; limit = 0 }) peers h
     (spelled-stream message) refl refl fresh
 
 -- ---- sealed
@@ -154,10 +158,10 @@ sealed_flags sender confounder p message s =
 -- what one end seals the other opens
 sealed_opens_there : (sender receiver : Kerberos) (confounder p message : List ℕ) → ArePeers sender receiver → length confounder ≡ 16 → IsOctets confounder
     → IsOctets p
-    → IsSpelled sender confounder p message → number_verdict receiver.window (next_number sender.seq_number) ≡ Fresh → Unwraps receiver (as_stream message) (Ok p)
+    → IsSpelled sender confounder p message → number_verdict receiver.window (next_number sender.seq_number) ≡ Fresh → Unwraps receiver (whole_message message) (Ok p)
 sealed_opens_there sender receiver confounder p message peers size octets_c octets_p s fresh =
     let sent : List Buffer = as_data sender.encryption_params.ec p in
-    opens_there sender receiver s.key confounder sent (as_stream message) peers size octets_c octets_p s.ready
+    opens_there sender receiver s.key confounder sent (whole_message message) peers size octets_c octets_p s.ready
     (record {
       text = spelled-stream message ∙ s.is;
       beside = sym (beside_sealed sender s.key confounder p sent);
@@ -191,22 +195,36 @@ made_flags Confidentiality sender confounder p message h =
     let sealed : is_sealed message ≡ true = sealed_flags sender confounder p message (is_spelled sender confounder p message (context_found (WrapsSealed sender confounder p) message h)) in
     rw sealed (or_true (nat_lt (length message) 3))
 
-made_opens : (layer : Layer) (sender receiver : Kerberos) (confounder p message : List ℕ) → ArePeers sender receiver → length confounder ≡ 16
+-- the number of a message that was sealed
+number_sealed : (sender : Kerberos) (confounder p message : List ℕ) → IsSpelled sender confounder p message → token_number message ≡ next_number sender.seq_number
+number_sealed sender confounder p message s =
+    ap token_number s.is ∙ number_made sender s.key confounder (as_data sender.encryption_params.ec p) s.ready
+
+-- a message of this number is awaited
+awaited : (order : Order) (number next : ℕ) → number ≡ next → awaits order next ≡ true → awaits order number ≡ true
+awaited order number next same h = ap (awaits order) same ∙ h
+
+made_opens : (layer : Layer) (sender : Kerberos) (receiver : Channel) (confounder p message : List ℕ) → ArePeers sender receiver.context → length confounder ≡ 16
     → IsOctets confounder → IsOctets p
-    → number_verdict receiver.window (next_number sender.seq_number) ≡ Fresh → MakesInLayer layer sender confounder p (Ok message) → OpensInLayer layer receiver message (Ok p)
-made_opens NoLayer sender receiver confounder p message peers size octets_c octets_p fresh h = record { is = ap Ok (sym (gave _ _ h)) }
-made_opens Integrity sender receiver confounder p message peers size octets_c octets_p fresh h =
-    record {
-      outcome = Ok p;
-      checked = clear_opened sender receiver p message peers (context_found (WrapsClear sender p) message h) fresh;
-      is = refl;
-    }
-made_opens Confidentiality sender receiver confounder p message peers size octets_c octets_p fresh h =
+    → number_verdict receiver.context.window (next_number sender.seq_number) ≡ Fresh → awaits receiver.order (next_number sender.seq_number) ≡ true
+    → MakesInLayer layer sender confounder p (Ok message) → OpensInLayer layer receiver message (Ok p)
+made_opens NoLayer sender receiver confounder p message peers size octets_c octets_p fresh next h = record { is = ap Ok (sym (gave _ _ h)) }
+made_opens Integrity sender receiver confounder p message peers size octets_c octets_p fresh next h =
+    let made = context_found (WrapsClear sender p) message h in
     record {
       outcome = Ok p;
       checked =
-          sealed_opens_there sender receiver confounder p message peers size octets_c octets_p
-          (is_spelled sender confounder p message (context_found (WrapsSealed sender confounder p) message h)) fresh;
+          unwraps_next receiver.order receiver.context message p (clear_opened sender receiver.context p message peers made fresh)
+          (awaited receiver.order (token_number message) (next_number sender.seq_number) (number-clear sender p message made) next);
+      is = refl;
+    }
+made_opens Confidentiality sender receiver confounder p message peers size octets_c octets_p fresh next h =
+    let made = is_spelled sender confounder p message (context_found (WrapsSealed sender confounder p) message h) in
+    record {
+      outcome = Ok p;
+      checked =
+          unwraps_next receiver.order receiver.context message p (sealed_opens_there sender receiver.context confounder p message peers size octets_c octets_p made fresh)
+          (awaited receiver.order (token_number message) (next_number sender.seq_number) (number_sealed sender confounder p message made) next);
       is = refl;
     }
 
@@ -222,9 +240,10 @@ holds_there refusal false e = absurd cc
 
 pub unseals_there : (sender receiver : Channel) (confounder p frame : List ℕ) → AreEnds sender receiver → length confounder ≡ 16 → IsOctets confounder
     → IsOctets p
-    → number_verdict receiver.context.window (next_number sender.context.seq_number) ≡ Fresh → Seals sender confounder p (Ok frame) → Unseals receiver frame (Ok p)
+    → number_verdict receiver.context.window (next_number sender.context.seq_number) ≡ Fresh
+    → awaits receiver.order (next_number sender.context.seq_number) ≡ true → Seals sender confounder p (Ok frame) → Unseals receiver frame (Ok p)
 unfolding Unseals Unframes
-unseals_there sender receiver confounder p frame ends size octets_c octets_p fresh h =
+unseals_there sender receiver confounder p frame ends size octets_c octets_p fresh next h =
     let s = is_sealed_frame sender confounder p frame h in
     let layer : Layer = ends.layer in
     let mine : Agreement = record { layer = layer; peer_size = ends.peer_size } in
@@ -243,4 +262,4 @@ unseals_there sender receiver confounder p frame ends size octets_c octets_p fre
     (follows _ _ message _ (takes_there Frame (unframed frame) message framed)
     (follows _ _ tt _ (holds_there TooLarge (takes_message layer receiver.size (length message)) (takes_more layer ends.peer_size receiver.size (length message) ends.size room))
     (follows _ _ tt _ (holds_there Frame (has_flags layer message) (made_flags layer sender.context confounder p message makes)) (gives (layer, message))))))
-    (made_opens layer sender.context receiver.context confounder p message ends.contexts size octets_c octets_p fresh makes)
+    (made_opens layer sender.context receiver confounder p message ends.contexts size octets_c octets_p fresh next makes)

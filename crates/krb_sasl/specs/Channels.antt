@@ -3,7 +3,6 @@ use Rattle.std.specs.Prelude.{ℕ, List, length, Bool, true, not, ◌||◌, nat_
 use Rattle.krb_messages.specs.Frame.{with_length}
 use Rattle.krb_context.specs.declared.context.Kerberos.{Kerberos}
 use Rattle.krb_context.specs.Header.{is_sealed}
-use Rattle.krb_context.specs.Unwraps.{Unwraps}
 use Rattle.krb_sasl.specs.declared.channel.Agreement.{Agreement}
 use Rattle.krb_sasl.specs.declared.channel.Channel.{Channel}
 use Rattle.krb_sasl.specs.declared.error.SaslError.{SaslError}
@@ -15,7 +14,8 @@ use Rattle.krb_context.specs.ClearWraps.{WrapsClear}
 use Rattle.krb_sasl.specs.Frames.{unframed}
 use Rattle.krb_sasl.specs.InContext.{InContext}
 use Rattle.krb_sasl.specs.Layers.{message_size, takes_message}
-use Rattle.krb_sasl.specs.Streams.{sent_from, as_stream, received, WrapsSealed}
+use Rattle.krb_sasl.specs.Streams.{sent_from, after_token, WrapsSealed}
+use Rattle.krb_sessions.specs.Orders.{UnwrapsInOrder}
 
 -- the message of a layer: the data themselves, in the clear with a checksum, or sealed
 abbrev pub MakesInLayer : Layer → Kerberos → List ℕ → List ℕ → Result (List ℕ) SaslError → Type 0
@@ -43,11 +43,11 @@ has_flags NoLayer message = true
 has_flags Integrity message = nat_lt (length message) 3 || not (is_sealed message)
 has_flags Confidentiality message = nat_lt (length message) 3 || is_sealed message
 
--- the data of a message
-abbrev pub OpensInLayer : Layer → Kerberos → List ℕ → Result (List ℕ) SaslError → Type 0
-OpensInLayer NoLayer context message = Gives message
-OpensInLayer Integrity context message = InContext (Unwraps context (as_stream message))
-OpensInLayer Confidentiality context message = InContext (Unwraps context (as_stream message))
+-- the data of a message, which is the next one of its layer
+abbrev pub OpensInLayer : Layer → Channel → List ℕ → Result (List ℕ) SaslError → Type 0
+OpensInLayer NoLayer channel message = Gives message
+OpensInLayer Integrity channel message = InContext (UnwrapsInOrder channel.order channel.context message)
+OpensInLayer Confidentiality channel message = InContext (UnwrapsInOrder channel.order channel.context message)
 
 -- the checks of a frame, and its layer and message
 unfoldable pub Unframes : Channel → List ℕ → Result (Layer × List ℕ) SaslError → Type 0
@@ -62,18 +62,19 @@ Unframes channel frame = do
 unfoldable pub Unseals : Channel → List ℕ → Result (List ℕ) SaslError → Type 0
 Unseals channel frame = do
   framed ← Unframes channel frame
-  OpensInLayer framed.0 channel.context framed.1
+  OpensInLayer framed.0 channel framed.1
 
--- the context behind a message of a layer that it made, and behind one that it opened
+-- the context behind a message of a layer that it made
 abbrev pub context_after_making : Layer → Kerberos → Kerberos
 context_after_making NoLayer context = context
 context_after_making Integrity context = sent_from context
 context_after_making Confidentiality context = sent_from context
 
-abbrev pub context_after_opening : Layer → Kerberos → List ℕ → Kerberos
-context_after_opening NoLayer context message = context
-context_after_opening Integrity context message = received context message
-context_after_opening Confidentiality context message = received context message
+-- the channel behind a message of a layer that it opened
+abbrev pub channel_after_opening : Layer → Channel → List ℕ → Channel
+channel_after_opening NoLayer channel message = channel
+channel_after_opening Integrity channel message = after_token channel message
+channel_after_opening Confidentiality channel message = after_token channel message
 
 abbrev pub context_after_sealing : Option Agreement → Kerberos → Kerberos
 context_after_sealing None context = context
@@ -83,11 +84,11 @@ context_after_sealing (Some agreement) context = context_after_making agreement.
 abbrev pub sealed_by : Channel → Channel
 sealed_by channel = record channel { context = context_after_sealing channel.agreement channel.context }
 
-abbrev pub context_after_unsealing : Option Agreement → Option (List ℕ) → Kerberos → Kerberos
-context_after_unsealing None message context = context
-context_after_unsealing (Some agreement) None context = context
-context_after_unsealing (Some agreement) (Some message) context = context_after_opening agreement.layer context message
+abbrev pub channel_after_unsealing : Option Agreement → Option (List ℕ) → Channel → Channel
+channel_after_unsealing None message channel = channel
+channel_after_unsealing (Some agreement) None channel = channel
+channel_after_unsealing (Some agreement) (Some message) channel = channel_after_opening agreement.layer channel message
 
 -- the channel behind a frame that it unsealed
 abbrev pub unsealed_by : Channel → List ℕ → Channel
-unsealed_by channel frame = record channel { context = context_after_unsealing channel.agreement (unframed frame) channel.context }
+unsealed_by channel frame = channel_after_unsealing channel.agreement (unframed frame) channel

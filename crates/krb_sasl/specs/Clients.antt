@@ -2,7 +2,6 @@
 use Rattle.std.specs.Prelude.{ℕ, List, Result, is_none}
 use Rattle.krb_context.specs.declared.context.Kerberos.{Kerberos}
 use Rattle.krb_context.specs.States.{is_final}
-use Rattle.krb_context.specs.Unwraps.{Unwraps}
 use Rattle.krb_sasl.specs.declared.channel.Channel.{Channel}
 use Rattle.krb_sasl.specs.declared.client.SaslClient.{SaslClient}
 use Rattle.krb_sasl.specs.declared.error.SaslError.{SaslError}
@@ -13,7 +12,8 @@ use Rattle.krb_context.specs.ClearWraps.{WrapsClear}
 use Rattle.krb_sasl.specs.InContext.{InContext}
 use Rattle.krb_sasl.specs.Layers.{is_wish}
 use Rattle.krb_sasl.specs.Servers.{new_channel, agreed, agreed_channel}
-use Rattle.krb_sasl.specs.Streams.{sent_from, as_stream, received}
+use Rattle.krb_sasl.specs.Streams.{sent_from, received}
+use Rattle.krb_sessions.specs.Orders.{UnwrapsInOrder}
 use Rattle.krb_sasl.specs.Texts.{answer_text, is_offer_text, offers_layer}
 
 -- the end of a client, and the client with another
@@ -46,7 +46,7 @@ Suits wanted text = do
 unfoldable pub Reads : SaslClient → List ℕ → Result (List ℕ) SaslError → Type 0
 Reads client offer = do
   Holds State (is_none client.channel.agreement)
-  text ← InContext (Unwraps client.channel.context (as_stream offer))
+  text ← InContext (UnwrapsInOrder client.channel.order client.channel.context offer)
   Suits client.wanted text
   Gives text
 

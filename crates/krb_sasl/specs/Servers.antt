@@ -2,7 +2,6 @@
 use Rattle.std.specs.Prelude.{ℕ, List, Bool, true, false, not, ◌&&◌, Some, None, is_none, Result, if◌then◌else◌}
 use Rattle.krb_context.specs.declared.context.Kerberos.{Kerberos}
 use Rattle.krb_context.specs.States.{is_final}
-use Rattle.krb_context.specs.Unwraps.{Unwraps}
 use Rattle.krb_sasl.specs.declared.channel.Agreement.{Agreement}
 use Rattle.krb_sasl.specs.declared.channel.Channel.{Channel}
 use Rattle.krb_sasl.specs.declared.error.SaslError.{SaslError}
@@ -13,7 +12,10 @@ use Rattle.sspi_core.specs.Checks.{Takes, Holds, Gives, ◌>>=◌, ◌>>◌}
 use Rattle.krb_context.specs.ClearWraps.{WrapsClear}
 use Rattle.krb_sasl.specs.InContext.{InContext}
 use Rattle.krb_sasl.specs.Layers.{is_offer}
-use Rattle.krb_sasl.specs.Streams.{sent_from, as_stream, received}
+use Rattle.krb_sasl.specs.Streams.{sent_from, received, after_token}
+use Rattle.krb_sessions.specs.declared.order.Order.{Order}
+use Rattle.krb_sessions.specs.declared.order.Order.TheVariants.{FromFirst}
+use Rattle.krb_sessions.specs.Orders.{UnwrapsInOrder, order_after, token_number}
 use Rattle.krb_sasl.specs.Texts.{offer_text, size_in, is_answer_text, chosen_layer}
 
 -- the end of a server, and the server with another
@@ -23,9 +25,14 @@ channel_of server = server.channel
 abbrev pub with_channel : SaslServer → Channel → SaslServer
 with_channel server channel = record server { channel = channel }
 
--- an end before the negotiation
+-- an end before the negotiation, which takes tokens in their order from the first that it opens (RFC 4752, section 3.1: a stream of
+-- frames)
 abbrev pub new_channel : Kerberos → ℕ → Channel
-new_channel context size = record { context = context; size = size; agreement = None }
+new_channel context size = record { context = context; size = size; agreement = None; order = FromFirst }
+
+-- an end that goes by this order
+abbrev pub ordered : Order → Channel → Channel
+ordered order channel = record channel { order = order }
 
 -- the checks of a new server
 unfoldable pub MayServe : Kerberos → ℕ → ℕ → Result (Unit {0}) SaslError → Type 0
@@ -63,7 +70,7 @@ Chooses layers text = do
 unfoldable pub Accepts : SaslServer → List ℕ → Result (List ℕ × Layer) SaslError → Type 0
 Accepts server token = do
   Holds State (awaits_answer server)
-  text ← InContext (Unwraps server.channel.context (as_stream token))
+  text ← InContext (UnwrapsInOrder server.channel.order server.channel.context token)
   layer ← Chooses server.layers text
   Gives (text, layer)
 
@@ -73,7 +80,8 @@ agreed text layer = record { layer = layer; peer_size = size_in text }
 
 -- an end that opened a token, and agreed on what its text says
 abbrev pub agreed_channel : Channel → List ℕ → Kerberos → Agreement → Channel
-agreed_channel channel token context agreement = record channel { context = context; agreement = Some agreement }
+agreed_channel channel token context agreement =
+    record channel { context = context; order = order_after (token_number token) channel.order; agreement = Some agreement }
 
 -- the server behind an answer that it accepted
 abbrev pub accepted_by : SaslServer → List ℕ → List ℕ → Layer → SaslServer
@@ -88,4 +96,4 @@ is_of_text _ = false
 
 -- what a refused token leaves of an end: where it was opened, the place of its number is kept
 abbrev pub left_by : SaslError → Channel → List ℕ → Channel
-left_by refusal channel token = if is_of_text refusal then record channel { context = received channel.context token } else channel
+left_by refusal channel token = if is_of_text refusal then after_token channel token else channel

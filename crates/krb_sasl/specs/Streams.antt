@@ -1,6 +1,6 @@
--- Messages as the context takes them: octets to be opened as a stream, and data to be sealed behind a token.
+-- Messages as the context takes them: octets to be opened whole, and data to be sealed behind a token.
 use Rattle.std.specs.Prelude.{ℕ, ◌+◌, List, [], ◌∷◌, ◌++◌, length, Result}
-use Rattle.sspi_core.specs.declared.buffer.BufferType.TheVariants.{Token as TokenType, Data, Stream}
+use Rattle.sspi_core.specs.declared.buffer.BufferType.TheVariants.{Token as TokenType, Data}
 use Rattle.sspi_core.specs.declared.buffer.Part.TheVariants.{Token, Plain}
 use Rattle.sspi_core.specs.declared.cause.Cause.{Cause}
 use Rattle.sspi_core.specs.Buffer.{Buffer, no_flags}
@@ -8,15 +8,10 @@ use Rattle.sspi_core.specs.Checks.{Gives, ◌>>=◌}
 use Rattle.krb_context.specs.declared.context.Kerberos.{Kerberos}
 use Rattle.krb_context.specs.Contexts.{next_number}
 use Rattle.krb_context.specs.Spelled.{part_octets}
-use Rattle.krb_context.specs.Unwraps.{message_number}
-use Rattle.krb_context.specs.Window.{noted}
 use Rattle.krb_context.specs.Wraps.{Wraps}
-
--- a stream, and data that take its text
-abbrev pub as_stream : List ℕ → List Buffer
-as_stream octets =
-    record { kind = Stream; flags = no_flags; octets = octets; limit = length octets } ∷
-    record { kind = Data; flags = no_flags; octets = []; limit = 0 } ∷ []
+use Rattle.krb_sasl.specs.declared.channel.Channel.{Channel}
+use Rattle.krb_sessions.specs.Gives.{after_opening}
+use Rattle.krb_sessions.specs.Orders.{order_after, token_number}
 
 -- a token with room for all that is sealed beside the data, and the data
 abbrev pub as_data : ℕ → List ℕ → List Buffer
@@ -30,7 +25,11 @@ sent_from context = record context { seq_number = next_number context.seq_number
 
 -- the context behind octets that it opened
 abbrev pub received : Kerberos → List ℕ → Kerberos
-received context octets = record context { window = noted context.window (message_number (as_stream octets)) }
+received context octets = after_opening octets context
+
+-- the end behind a token that it opened
+abbrev pub after_token : Channel → List ℕ → Channel
+after_token channel token = record channel { context = received channel.context token; order = order_after (token_number token) channel.order }
 
 -- the checks of a message that is sealed, and its token and data
 unfoldable pub WrapsSealed : Kerberos → List ℕ → List ℕ → Result (List ℕ) Cause → Type 0

@@ -11,7 +11,7 @@ ghost use Rattle.krb_sasl.specs.Channels.{
   Unseals,
   has_flags,
   context_after_making,
-  context_after_opening,
+  channel_after_opening,
   sealed_by,
   unsealed_by,
 };
@@ -20,10 +20,13 @@ ghost use Rattle.krb_context.specs.Header.{is_sealed};
 ghost use Rattle.krb_sasl.specs.declared.error.SaslError.TheVariants as refusals;
 ghost use Rattle.sspi_core.specs.Checks.{Holds, Takes};
 ghost use Rattle.krb_sasl.specs.Frames.{unframed};
+ghost use Rattle.krb_sasl.specs.InContext.{InContext};
 ghost use Rattle.krb_sasl.specs.Layers.{message_size, takes_message};
 ghost use Rattle.krb_sasl.specs.Rooms.{Faults};
 ghost use Rattle.krb_sasl.specs.Servers.{new_channel};
+ghost use Rattle.krb_sasl.specs.Streams.{after_token};
 ghost use Rattle.krb_sessions.specs.Gives.{Delivers};
+ghost use Rattle.krb_sessions.specs.Orders.{UnwrapsInOrder};
 
 use crate::checks::{hold, take};
 use crate::clear::wrap_plain;
@@ -36,6 +39,7 @@ use crate::stream::{unwrap, wrap_sealed};
 use krb_context::Kerberos;
 use krb_der::Octets;
 use krb_messages::serialize_message;
+use krb_sessions::Order;
 use std::alloc::Global;
 
 /// What both ends agreed on: the layer, and how many octets of a message the other end receives at most.
@@ -45,12 +49,14 @@ pub(crate) struct Agreement {
     pub(crate) peer_size: u32,
 }
 
-/// One end: its context, how many octets of a message it receives at most, and what is agreed.
+/// One end: its context, how many octets of a message it receives at most, what is agreed, and the order of what it receives.
 #[derive(Drop)]
 pub(crate) struct Channel {
     pub(crate) context: Kerberos,
     pub(crate) size: u32,
     pub(crate) agreement: Option<Agreement>,
+    /// Which of the other end's tokens is taken next.
+    pub(crate) order: Order,
 }
 
 impl Channel {
@@ -62,6 +68,7 @@ impl Channel {
             context,
             size,
             agreement: None,
+            order: Order::FromFirst,
         }
     }
 
@@ -85,15 +92,24 @@ impl Channel {
         }
     }
 
+    /// Opens a token, where it is the next one, and gives its text. A refusal leaves the channel.
+    pub(crate) fn take_token(&mut self, alloc: Global, token: &[u8]) -> Result<Octets, SaslError>
+        ensures unwrapped { Answers (InContext (UnwrapsInOrder self.old.order self.old.context token.now)) result }
+        ensures after { OnOk result (self.new ≡ after_token self.old token.now) }
+        ensures stays { OnErr result (self.new ≡ self.old) }
+    {
+        unwrap(alloc, &mut self.context, &mut self.order, token)
+    }
+
     /// The data of a message. A refusal leaves the channel.
     fn open(&mut self, alloc: Global, layer: Layer, message: &[u8]) -> Result<Octets, SaslError>
-        ensures opened { Answers (OpensInLayer layer self.old.context message.now) result }
-        ensures after { OnOk result (self.new ≡ record self.old { context = context_after_opening layer self.old.context message.now }) }
+        ensures opened { Answers (OpensInLayer layer self.old message.now) result }
+        ensures after { OnOk result (self.new ≡ channel_after_opening layer self.old message.now) }
         ensures stays { OnErr result (self.new ≡ self.old) }
     {
         match layer {
             Layer::None => Ok(Octets::from_slice(alloc, message)?),
-            _ => unwrap(alloc, &mut self.context, message),
+            _ => self.take_token(alloc, message),
         }
     }
 
@@ -215,11 +231,13 @@ impl Channel {
         ensures room { OnErr result (out.new ≡ out.old) }
     {
         let window = self.context.window;
+        let order = self.order;
         let plain = self.unseal(alloc, frame)?;
         match put(out, plain.as_slice()) {
             Ok(count) => Ok(count),
             Err(fault) => {
                 self.context.window = window;
+                self.order = order;
                 Err(fault)
             }
         }

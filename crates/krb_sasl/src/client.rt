@@ -9,8 +9,8 @@ ghost use Rattle.krb_sasl.specs.Clients.{MayWish, Wishes, Suits, Reads, AnswersO
 ghost use Rattle.krb_context.specs.ClearWraps.{WrapsClear};
 ghost use Rattle.krb_sasl.specs.InContext.{InContext};
 ghost use Rattle.krb_sasl.specs.Rooms.{Faults, AnswersWith, IsAnswerTo, kept_by};
-ghost use Rattle.krb_sasl.specs.Servers.{is_of_text, left_by};
-ghost use Rattle.krb_sasl.specs.Streams.{sent_from, received};
+ghost use Rattle.krb_sasl.specs.Servers.{is_of_text, left_by, ordered};
+ghost use Rattle.krb_sasl.specs.Streams.{sent_from, after_token};
 ghost use Rattle.krb_sasl.specs.Texts.{answer_text};
 ghost use Rattle.krb_sessions.specs.Gives.{Delivers};
 
@@ -21,10 +21,10 @@ use crate::error::SaslError;
 use crate::fault::SaslFault;
 use crate::layer::{Layer, is_wish};
 use crate::room::put;
-use crate::stream::unwrap;
 use crate::texts::{answer_text, is_offer_text, offers_layer, size_in};
 use krb_context::Kerberos;
 use krb_der::{Octets, Text};
+use krb_sessions::Order;
 use std::alloc::Global;
 
 /// The client of a connection: it answers an offer with the layer that it wants and its user's name.
@@ -88,6 +88,14 @@ impl SaslClient {
         }
     }
 
+    /// Takes the other end's tokens by this order from now on: a session's [`in_order`](krb_sessions::Session::in_order) has the number
+    /// that its client begins with. A new end takes them in order from the first that it opens.
+    pub fn set_order(&mut self, order: Order)
+        ensures { self.new ≡ with_channel self.old (ordered order (channel_of self.old)) }
+    {
+        self.channel.order = order;
+    }
+
     fn check_unanswered(&self) -> Result<(), SaslError>
         ensures { Holds refusals.State (is_none self.now.channel.agreement) result }
     {
@@ -99,11 +107,11 @@ impl SaslClient {
         ensures read { Answers (Reads self.old offer.now) result }
         ensures long { IfOk result (λ text. 4 ≤ length text) }
         ensures after { OnOk result (
-            self.new ≡ record self.old { channel = record self.old.channel { context = received self.old.channel.context offer.now } }) }
+            self.new ≡ with_channel self.old (after_token (channel_of self.old) offer.now)) }
         ensures left { IfErr result (λ refusal. self.new ≡ with_channel self.old (left_by refusal (channel_of self.old) offer.now)) }
     {
         self.check_unanswered()?;
-        let text = unwrap(alloc, &mut self.channel.context, offer)?;
+        let text = self.channel.take_token(alloc, offer)?;
         suits(self.wanted, text.as_slice())?;
         Ok(text)
     }
@@ -120,6 +128,7 @@ impl SaslClient {
         ensures left { IfErr result (λ refusal. self.new ≡ with_channel self.old (left_by refusal (channel_of self.old) offer.now)) }
     {
         let window = self.channel.context.window;
+        let order = self.channel.order;
         let text = self.read_offer(alloc, offer)?;
         match self.write_answer(alloc) {
             Ok(token) => {
@@ -131,6 +140,7 @@ impl SaslClient {
             }
             Err(refusal) => {
                 self.channel.context.window = window;
+                self.channel.order = order;
                 Err(refusal)
             }
         }
@@ -151,6 +161,7 @@ impl SaslClient {
     {
         let number = self.channel.context.seq_number;
         let window = self.channel.context.window;
+        let order = self.channel.order;
         let agreement = self.channel.agreement;
         let token = self.answer(alloc, offer)?;
         match put(out, token.as_slice()) {
@@ -158,6 +169,7 @@ impl SaslClient {
             Err(fault) => {
                 self.channel.context.seq_number = number;
                 self.channel.context.window = window;
+                self.channel.order = order;
                 self.channel.agreement = agreement;
                 Err(fault)
             }

@@ -32,3 +32,6 @@ pub use error::SaslError;
 pub use fault::SaslFault;
 pub use layer::Layer;
 pub use server::SaslServer;
+
+// What a caller names beside.
+pub use krb_sessions::Order;

@@ -7,8 +7,8 @@ ghost use Rattle.krb_sasl.specs.Answers.{Answers, Refuses};
 ghost use Rattle.sspi_core.specs.Checks.{Holds};
 ghost use Rattle.krb_sasl.specs.Channels.{Seals, Unseals, sealed_by, unsealed_by};
 ghost use Rattle.krb_sasl.specs.Rooms.{Faults, Names, IsNameIn, kept_by};
-ghost use Rattle.krb_sasl.specs.Servers.{MayServe, Serves, Offers, offered_by, awaits_answer, channel_of, with_channel, Chooses, Accepts, accepted_by, is_of_text, left_by};
-ghost use Rattle.krb_sasl.specs.Streams.{received};
+ghost use Rattle.krb_sasl.specs.Servers.{MayServe, Serves, Offers, offered_by, awaits_answer, channel_of, with_channel, Chooses, Accepts, accepted_by, is_of_text, left_by, ordered};
+ghost use Rattle.krb_sasl.specs.Streams.{after_token};
 ghost use Rattle.krb_sasl.specs.Texts.{name_in};
 ghost use Rattle.krb_sessions.specs.Gives.{Delivers};
 
@@ -19,10 +19,10 @@ use crate::error::SaslError;
 use crate::fault::SaslFault;
 use crate::layer::{Layer, is_offer};
 use crate::room::put;
-use crate::stream::unwrap;
 use crate::texts::{chosen_layer, is_answer_text, name_of, offer_text, size_in};
 use krb_context::Kerberos;
 use krb_der::Octets;
+use krb_sessions::Order;
 use std::alloc::Global;
 
 /// The server of a connection: it offers layers, and accepts the answer of a client.
@@ -110,6 +110,14 @@ impl SaslServer {
         }
     }
 
+    /// Takes the other end's tokens by this order from now on: a session's [`in_order`](krb_sessions::Session::in_order) has the number
+    /// that its client begins with. A new end takes them in order from the first that it opens.
+    pub fn set_order(&mut self, order: Order)
+        ensures { self.new ≡ with_channel self.old (ordered order (channel_of self.old)) }
+    {
+        self.channel.order = order;
+    }
+
     fn check_awaiting(&self) -> Result<(), SaslError>
         ensures { Holds refusals.State (awaits_answer self.now) result }
     {
@@ -124,11 +132,11 @@ impl SaslServer {
         ensures read { Answers (Accepts self.old token.now) result }
         ensures long { IfOk result (λ x. 4 ≤ length x.0) }
         ensures after { IfOk result (λ x.
-            self.new ≡ record self.old { channel = record self.old.channel { context = received self.old.channel.context token.now } }) }
+            self.new ≡ with_channel self.old (after_token (channel_of self.old) token.now)) }
         ensures left { IfErr result (λ refusal. self.new ≡ with_channel self.old (left_by refusal (channel_of self.old) token.now)) }
     {
         self.check_awaiting()?;
-        let text = unwrap(alloc, &mut self.channel.context, token)?;
+        let text = self.channel.take_token(alloc, token)?;
         let layer = choose(self.layers, text.as_slice())?;
         Ok((text, layer))
     }
@@ -166,12 +174,14 @@ impl SaslServer {
         ensures room { OnErr result (out.new ≡ out.old) }
     {
         let window = self.channel.context.window;
+        let order = self.channel.order;
         let agreement = self.channel.agreement;
         let name = self.accept(alloc, token)?;
         match put(out, name.as_slice()) {
             Ok(count) => Ok(count),
             Err(fault) => {
                 self.channel.context.window = window;
+                self.channel.order = order;
                 self.channel.agreement = agreement;
                 Err(fault)
             }

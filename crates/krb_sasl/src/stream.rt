@@ -2,29 +2,17 @@
 
 ghost use Rattle.std.specs.Prelude.{◌≡◌, ◌+◌, ◌<◌, ◌^◌, length, IfOk, OnOk, OnErr, ◌++◌, Err};
 ghost use Rattle.krb_context.specs.Spelled.{part_octets};
-ghost use Rattle.krb_context.specs.Unwraps.{Unwraps};
 ghost use Rattle.krb_sasl.specs.Answers.{Answers};
 ghost use Rattle.krb_sasl.specs.InContext.{InContext};
-ghost use Rattle.krb_sasl.specs.Streams.{sent_from, as_stream, as_data, received, WrapsSealed};
+ghost use Rattle.krb_sasl.specs.Streams.{sent_from, as_data, received, WrapsSealed};
+ghost use Rattle.krb_sessions.specs.Orders.{UnwrapsInOrder, order_after, token_number};
 
 use crate::error::SaslError;
 use krb_context::Kerberos;
 use krb_der::{Items, Octets};
+use krb_sessions::{Order, opened_in_order};
 use sspi_core::{Message, Part, SecurityBufferRef};
 use std::alloc::{AllocError, Global};
-
-/// The octets as a stream, and data that take its text.
-fn as_stream(alloc: Global, octets: &[u8]) -> Result<Message, SaslError>
-    ensures stream { IfOk result (λ message. message ≡ as_stream octets.now) }
-    ensures memory { OnErr result (result ≡ Err SaslError.OutOfMemory) }
-{
-    let stream = Octets::from_slice(alloc, octets)?;
-    let buffers = vec![in alloc;
-        SecurityBufferRef::stream_buf(stream, octets.len()),
-        SecurityBufferRef::data_buf(Octets::new(Vec::new(alloc)), 0),
-    ]?;
-    Ok(Message::new(Items::new(buffers))?)
-}
 
 /// A token with room, and the data.
 fn as_data(alloc: Global, ec: u16, plain: &[u8]) -> Result<Message, SaslError>
@@ -49,23 +37,26 @@ fn part_octets(message: &Message, part: Part) -> &[u8]
     }
 }
 
-/// Opens a token, and gives its text. A refusal leaves the context.
+/// Opens a token, where it is the next one, and gives its text. A refusal leaves the context and the order.
 pub(crate) fn unwrap(
     alloc: Global,
     context: &mut Kerberos,
+    order: &mut Order,
     octets: &[u8],
 ) -> Result<Octets, SaslError>
-    ensures unwrapped { Answers (InContext (Unwraps context.old (as_stream octets.now))) result }
+    ensures unwrapped { Answers (InContext (UnwrapsInOrder order.old context.old octets.now)) result }
     ensures received { OnOk result (context.new ≡ received context.old octets.now) }
-    ensures stays { OnErr result (context.new ≡ context.old) }
+    ensures order { OnOk result (order.new ≡ order_after (token_number octets.now) order.old) }
+    ensures stays { OnErr result ((context.new ≡ context.old) × (order.new ≡ order.old)) }
 {
-    let mut message = as_stream(alloc, octets)?;
     let window = context.window;
-    context.decrypt_message(alloc, &mut message)?;
+    let before = *order;
+    let message = opened_in_order(alloc, context, order, octets)?;
     match Octets::from_slice(alloc, part_octets(&message, Part::Plain)) {
         Ok(text) => Ok(text),
         Err(error) => {
             context.window = window;
+            *order = before;
             Err(SaslError::from(error))
         }
     }

@@ -1,8 +1,7 @@
 -- What a session hands out, and how it goes into a caller's room.
-use Rattle.std.specs.Prelude.{◌≡◌, ℕ, ◌+◌, ◌<◌, List, [], ◌∷◌, ◌++◌, length, drop, Some, None, Result, Ok, Err}
+use Rattle.std.specs.Prelude.{◌≡◌, ℕ, ◌+◌, ◌<◌, List, [], ◌∷◌, ◌++◌, length, drop, Some, None, Result, Ok}
 use Rattle.krb_context.specs.declared.context.Kerberos.{Kerberos}
 use Rattle.krb_context.specs.Contexts.{next_number}
-use Rattle.krb_context.specs.Mics.{ChecksMic}
 use Rattle.krb_context.specs.Params.{key_of}
 use Rattle.krb_context.specs.Queries.{name_of}
 use Rattle.krb_context.specs.Refusals.{Refuses}
@@ -15,9 +14,7 @@ use Rattle.krb_sessions.specs.declared.fault.Fault.TheVariants.{Refused, Room}
 use Rattle.sspi_core.specs.declared.buffer.BufferType.TheVariants.{Token as TokenType, Data, Stream}
 use Rattle.sspi_core.specs.declared.buffer.Part.TheVariants.{Token, Plain}
 use Rattle.sspi_core.specs.declared.cause.Cause.{Cause}
-use Rattle.sspi_core.specs.declared.error.Error.{Error}
 use Rattle.sspi_core.specs.declared.error.Place.{Place}
-use Rattle.sspi_core.specs.Kinds.{error_of}
 use Rattle.sspi_core.specs.Buffer.{Buffer, no_flags}
 use Rattle.sspi_core.specs.Usernames.{UserName, UserPrincipal, DownLevel, backslash, upn_text}
 
@@ -81,7 +78,3 @@ after_making context = record context { seq_number = next_number context.seq_num
 -- the context behind a message that it opened
 abbrev pub after_opening : List ℕ → Kerberos → Kerberos
 after_opening sealed context = record context { window = noted context.window (message_number (whole_message sealed)) }
-
--- the token is no MIC of the client's over this payload, by the first check that fails
-abbrev pub RefusesMic : Kerberos → List ℕ → List ℕ → Error → Type 0
-RefusesMic context mic payload error = (cause : Cause) × (error ≡ error_of cause) × ChecksMic context mic payload (Err cause)

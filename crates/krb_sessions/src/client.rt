@@ -33,6 +33,11 @@ pub struct Client {
     pub channel_hash: Octets,
     /// The last twelve octets of the sealed authenticator. Two log-ins never share them but by chance, one in 2^96.
     pub tag: Octets,
+    /// The number of its first message: the low 32 bits of its authenticator's, and 0 where that has none (RFC 4120, section 5.5.1).
+    pub first_number: u32,
+    /// The KRB-CRED by which it hands on a ticket of its own (RFC 4121, section 4.1.1): no octets where it asked for no delegation, or its
+    /// checksum has no whole one. It is not opened here.
+    pub delegation: Octets,
 }
 
 /// What stands behind the `\` for an octet that is quoted.

@@ -13,10 +13,13 @@ mod client;
 mod fault;
 mod message;
 mod name;
+mod order;
 mod room;
 mod session;
 
 pub use client::{Client, principal};
 pub use fault::Fault;
+pub use message::opened_in_order;
+pub use order::Order;
 pub use room::put;
 pub use session::Session;

@@ -1,16 +1,20 @@
 //! A message as its context takes it, and what is made of one.
 
-ghost use Rattle.std.specs.Prelude.{◌≡◌, IfOk, IfErr, OnOk, OnErr, Ok};
+ghost use Rattle.std.specs.Prelude.{◌≡◌, ◌≤◌, length, IfOk, IfErr, OnOk, OnErr, Ok, Err};
 ghost use Rattle.sspi_core.specs.declared.error.Place.TheVariants as places;
 ghost use Rattle.sspi_core.specs.declared.buffer.Part.TheVariants as parts;
 ghost use Rattle.sspi_core.specs.Kinds.{error_of};
+ghost use Rattle.sspi_core.specs.declared.cause.Cause.{Cause};
 ghost use Rattle.sspi_core.specs.declared.cause.Cause.TheVariants as causes;
 ghost use Rattle.krb_context.specs.Spelled.{part_octets};
 ghost use Rattle.krb_context.specs.Refusals.{Refuses};
+ghost use Rattle.krb_context.specs.Mics.{ChecksMic};
 ghost use Rattle.krb_context.specs.Wraps.{Wraps};
 ghost use Rattle.krb_context.specs.Unwraps.{Unwraps};
 ghost use Rattle.krb_sessions.specs.Gives.{whole_message, text_message, after_making, after_opening};
+ghost use Rattle.krb_sessions.specs.Orders.{UnwrapsInOrder, order_after, token_number};
 
+use crate::order::{Order, token_number};
 use krb_context::Kerberos;
 use krb_der::{Items, Octets};
 use sspi_core::{Error, Message, Part, SecurityBufferRef};
@@ -69,12 +73,9 @@ pub(crate) fn sealed_message(
 }
 
 /// Opens a message that came whole. A refusal leaves the context.
-pub(crate) fn opened_message(
-    alloc: Global,
-    context: &mut Kerberos,
-    sealed: &[u8],
-) -> Result<Message, Error>
+fn opened_message(alloc: Global, context: &mut Kerberos, sealed: &[u8]) -> Result<Message, Error>
     ensures opened { IfOk result (λ message. Unwraps context.old (whole_message sealed.now) (Ok (part_octets parts.Plain message))) }
+    ensures long { OnOk result (16 ≤ length sealed.now) }
     ensures after { OnOk result (context.new ≡ after_opening sealed.now context.old) }
     ensures refused { IfErr result (Refuses places.Elsewhere (Unwraps context.old (whole_message sealed.now))) }
     ensures stays { OnErr result (context.new ≡ context.old) }
@@ -82,4 +83,37 @@ pub(crate) fn opened_message(
     let mut message = whole_message(alloc, sealed)?;
     context.decrypt_message(alloc, &mut message)?;
     Ok(message)
+}
+
+/// Opens a message that came whole, where it is the next one. A refusal leaves the context and the order.
+pub fn opened_in_order(
+    alloc: Global,
+    context: &mut Kerberos,
+    order: &mut Order,
+    sealed: &[u8],
+) -> Result<Message, Error>
+    ensures opened { IfOk result (λ message. UnwrapsInOrder order.old context.old sealed.now (Ok (part_octets parts.Plain message))) }
+    ensures after { OnOk result (context.new ≡ after_opening sealed.now context.old) }
+    ensures order { OnOk result (order.new ≡ order_after (token_number sealed.now) order.old) }
+    ensures refused { IfErr result (Refuses places.Elsewhere (UnwrapsInOrder order.old context.old sealed.now)) }
+    ensures stays { OnErr result ((context.new ≡ context.old) × (order.new ≡ order.old)) }
+{
+    let window = context.window;
+    let message = opened_message(alloc, context, sealed)?;
+    match order.take(token_number(sealed)) {
+        Ok(()) => Ok(message),
+        Err(cause) => {
+            context.window = window;
+            Err(Error::from(cause))
+        }
+    }
+}
+
+/// Checks a MIC token over a payload, whatever its number is.
+pub(crate) fn check_mic(context: &Kerberos, mic: &[u8], payload: &[u8]) -> Result<(), Error>
+    ensures checked { OnOk result (ChecksMic context.now mic.now payload.now (Ok tt)) }
+    ensures long { OnOk result (16 ≤ length mic.now) }
+    ensures refused { IfErr result (λ error. (cause : Cause) × (error ≡ error_of cause) × ChecksMic context.now mic.now payload.now (Err cause)) }
+{
+    context.verify_mic_token(mic, payload)
 }

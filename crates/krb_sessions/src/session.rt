@@ -6,17 +6,19 @@ ghost use Rattle.sspi_core.specs.declared.cause.Cause.TheVariants as causes;
 ghost use Rattle.sspi_core.specs.declared.error.Place.TheVariants as places;
 ghost use Rattle.krb_crypto.specs.Suite.{suite_number};
 ghost use Rattle.krb_context.specs.ClearWraps.{WrapsClear};
-ghost use Rattle.krb_context.specs.Mics.{MakesMic, ChecksMic};
+ghost use Rattle.krb_context.specs.Mics.{MakesMic};
 ghost use Rattle.krb_context.specs.Params.{key_of, suite_of};
 ghost use Rattle.krb_context.specs.Queries.{name_of};
 ghost use Rattle.krb_context.specs.Wraps.{Wraps};
-ghost use Rattle.krb_context.specs.Unwraps.{Unwraps};
-ghost use Rattle.krb_sessions.specs.Gives.{Delivers, Faults, RefusesMic, IsKey, IsNamed, IsWrapped, text_message, whole_message, after_making, after_opening};
+ghost use Rattle.krb_sessions.specs.Gives.{Delivers, Faults, IsKey, IsNamed, IsWrapped, text_message, after_making};
+ghost use Rattle.krb_sessions.specs.Orders.{UnwrapsInOrder, VerifiesInOrder, RefusesMic, order_asked, order_from, taken, verified};
+ghost use Rattle.krb_sessions.specs.declared.order.Order.TheVariants as orders;
 
 use crate::client::Client;
 use crate::fault::Fault;
-use crate::message::{opened_message, part_octets, sealed_message};
+use crate::message::{check_mic, opened_in_order, part_octets, sealed_message};
 use crate::name::name_text;
+use crate::order::{Order, token_number};
 use crate::room::{put, put_both};
 use krb_context::{Kerberos, Rules};
 use krb_der::Octets;
@@ -31,6 +33,8 @@ pub struct Session {
     pub connection: Kerberos,
     /// Who the client is. An acceptor's session has it; an initiator has no client.
     pub client: Option<Box<Client>>,
+    /// Which of the peer's messages is taken next. A new session takes them in any order.
+    pub order: Order,
 }
 
 impl Session {
@@ -151,21 +155,51 @@ impl Session {
         }
     }
 
-    /// Opens a message of the client. Each message is opened once.
+    /// The order that `set_in_order` sets: a SASL end that is made of this session's connection goes by it.
+    pub fn in_order(&self) -> Order
+        ensures { result ≡ order_asked self.now }
+    {
+        match (self.order, &self.client) {
+            (Order::Next(next), _) => Order::Next(next),
+            (_, Some(client)) => Order::Next(client.first_number),
+            (_, None) => Order::FromFirst,
+        }
+    }
+
+    /// Takes the peer's messages from now on only in the order in which they were sent (RFC 2743, section 1.2.3): none that was dropped,
+    /// exchanged or repeated is passed over. An acceptor's session begins with the first number of the client's authenticator, so
+    /// call it before the first message. An initiator's begins with the first message that opens. A count that has begun goes on.
+    pub fn set_in_order(&mut self)
+        ensures { self.new ≡ record self.old { order = order_asked self.old } }
+    {
+        self.order = self.in_order();
+    }
+
+    /// Takes the peer's messages in any order from now on, each sealed or clear one once.
+    pub fn set_any_order(&mut self)
+        ensures { self.new ≡ record self.old { order = orders.Any } }
+    {
+        self.order = Order::Any;
+    }
+
+    /// Opens a message of the client, where it is the next one. Each message is opened once. Where messages are taken in order, any
+    /// other is refused as InvalidToken Number, after all other checks.
     pub fn unwrap(&mut self, alloc: Global, sealed: &[u8], out: &mut [u8]) -> Result<usize, Fault>
-        ensures gives { IfOk result (λ count. Delivers (λ text. Unwraps self.old.connection (whole_message sealed.now) (Ok text)) out.old count out.new) }
-        ensures after { OnOk result (self.new ≡ record self.old { connection = after_opening sealed.now self.old.connection }) }
-        ensures refused { IfErr result (Faults places.Elsewhere (Unwraps self.old.connection (whole_message sealed.now))
-            (λ text. Unwraps self.old.connection (whole_message sealed.now) (Ok text)) (length out.old)) }
+        ensures gives { IfOk result (λ count. Delivers (λ text. UnwrapsInOrder self.old.order self.old.connection sealed.now (Ok text)) out.old count out.new) }
+        ensures after { OnOk result (self.new ≡ taken sealed.now self.old) }
+        ensures refused { IfErr result (Faults places.Elsewhere (UnwrapsInOrder self.old.order self.old.connection sealed.now)
+            (λ text. UnwrapsInOrder self.old.order self.old.connection sealed.now (Ok text)) (length out.old)) }
         ensures stays { OnErr result (self.new ≡ self.old) }
         ensures room { OnErr result (out.new ≡ out.old) }
     {
         let window = self.connection.window;
-        let message = opened_message(alloc, &mut self.connection, sealed)?;
+        let order = self.order;
+        let message = opened_in_order(alloc, &mut self.connection, &mut self.order, sealed)?;
         match put(out, part_octets(&message, Part::Plain)) {
             Ok(count) => Ok(count),
             Err(fault) => {
                 self.connection.window = window;
+                self.order = order;
                 Err(fault)
             }
         }
@@ -191,11 +225,18 @@ impl Session {
         }
     }
 
-    /// Ok exactly where the token is a MIC token of the client over this payload.
-    pub fn verify(&self, mic: &[u8], payload: &[u8]) -> Result<(), Error>
-        ensures verified { OnOk result (ChecksMic self.now.connection mic.now payload.now (Ok tt)) }
-        ensures refused { IfErr result (RefusesMic self.now.connection mic.now payload.now) }
+    /// Ok exactly where the token is a MIC token of the client over this payload and, where messages are taken in order, the next token.
+    /// In any order its number is not looked at: the same token verifies again.
+    pub fn verify(&mut self, mic: &[u8], payload: &[u8]) -> Result<(), Error>
+        ensures verified { OnOk result (VerifiesInOrder self.old.order self.old.connection mic.now payload.now (Ok tt)) }
+        ensures after { OnOk result (self.new ≡ verified mic.now self.old) }
+        ensures refused { IfErr result (RefusesMic self.old.order self.old.connection mic.now payload.now) }
+        ensures stays { OnErr result (self.new ≡ self.old) }
     {
-        self.connection.verify_mic_token(mic, payload)
+        check_mic(&self.connection, mic, payload)?;
+        match self.order.take(token_number(mic)) {
+            Ok(()) => Ok(()),
+            Err(cause) => Err(Error::from(cause)),
+        }
     }
 }

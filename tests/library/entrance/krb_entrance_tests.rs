@@ -5,6 +5,7 @@ mod halves;
 mod keys;
 mod messages;
 mod one_call;
+mod order;
 
 use krb_der::{Octets, boxed};
 use krb_entrance::{Draw, Fault, Service};

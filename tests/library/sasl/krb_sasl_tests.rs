@@ -13,7 +13,7 @@ mod spelled;
 
 use client_refusals::ClientRow;
 use ends::{End, Wanted, is_refused, new_client, new_server};
-use krb_sasl::{Layer, SaslClient, SaslServer};
+use krb_sasl::{Layer, Order, SaslClient, SaslServer};
 use server_refusals::ServerRow;
 use spelled::Row;
 use std::alloc::Global;
@@ -28,7 +28,11 @@ enum ServerCase {
     Offer(Wanted),
     Call(&'static ServerRow),
     Spelled(&'static Row),
-    Frames(&'static str, &'static [(&'static str, Option<Wanted>)]),
+    Frames(
+        Option<Order>,
+        &'static str,
+        &'static [(&'static str, Option<Wanted>)],
+    ),
     Texts(&'static str, &'static [(&'static str, &'static str)]),
     Rooms(&'static Row),
     Refuses,
@@ -39,7 +43,9 @@ fn server_passes(alloc: Global, server: &mut SaslServer, case: ServerCase) -> Re
         ServerCase::Offer(wanted) => Ok(is_refused(&server.offer(alloc).err(), Some(wanted))),
         ServerCase::Call(row) => server_refusals::server_answers(alloc, server, row),
         ServerCase::Spelled(row) => spelled::server_speaks(alloc, server, row),
-        ServerCase::Frames(answer, frames) => sequences::takes_all(alloc, server, answer, frames),
+        ServerCase::Frames(order, answer, frames) => {
+            sequences::takes_all(alloc, server, order, answer, frames)
+        }
         ServerCase::Texts(answer, frames) => others::takes_all(alloc, server, answer, frames),
         ServerCase::Rooms(row) => rooms::server_fills_rooms(alloc, server, row),
         ServerCase::Refuses => rooms::server_refuses_first(alloc, server),

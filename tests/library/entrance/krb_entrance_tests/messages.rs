@@ -5,7 +5,7 @@ use krb_conf::KerberosConfig;
 use krb_context::{Kerberos, KerberosState, ServerProperties};
 use krb_crypto::CipherSuite;
 use krb_der::{Octets, Text, boxed};
-use krb_entrance::{Fault, Session};
+use krb_entrance::{Fault, Order, Session};
 use sspi_core::Secret;
 use std::alloc::Global;
 use std::test::Fail;
@@ -31,6 +31,7 @@ fn established(alloc: Global, connection: Kerberos) -> Result<Box<Session>, Fail
         answer: Octets::new(Vec::new(alloc)),
         connection,
         client: None,
+        order: Order::Any,
     };
     let mut session = boxed(alloc, session)?;
     establish(alloc, &mut session.connection)?;
@@ -72,7 +73,7 @@ fn goes_in_clear(alloc: Global, from: &mut Session, to: &mut Session) -> bool {
     }
 }
 
-fn is_signed(alloc: Global, from: &mut Session, to: &Session) -> bool {
+fn is_signed(alloc: Global, from: &mut Session, to: &mut Session) -> bool {
     let mut room = [0; 28];
     match from.mic(alloc, TEXT, &mut room) {
         Ok(28) => to.verify(&room, TEXT).is_ok() && to.verify(&room, b"another").is_err(),
@@ -95,6 +96,39 @@ fn goes(alloc: Global, from: &mut Session, to: &mut Session) -> [bool; 4] {
         goes_in_clear(alloc, from, to),
         is_signed(alloc, from, to),
     ]
+}
+
+/// Ends that take messages in order, a first one of each kind lost.
+fn goes_in_order(alloc: Global, from: &mut Session, to: &mut Session) -> [bool; 4] {
+    to.set_in_order();
+    let began = goes_sealed(alloc, from, to) && goes_in_clear(alloc, from, to);
+    let mut lost = [0; 128];
+    let is_lost = from.wrap(alloc, TEXT, [0; 16], &mut lost).is_ok();
+    let mut mic = [0; 28];
+    let is_made = from.mic(alloc, TEXT, &mut mic) == Ok(28);
+    let order = to.order;
+    let is_refused = to.verify(&mic, TEXT).is_err() && to.order == order;
+    [
+        began,
+        is_lost && is_made,
+        is_refused,
+        opens(alloc, to, &lost[..78]) && to.verify(&mic, TEXT).is_ok(),
+    ]
+}
+
+#[test]
+fn messages_go_both_ways_in_order(rt: HostRuntime) -> Result<(), Fail> {
+    let mut client = initiator(rt.alloc())?;
+    let mut server = acceptor(rt.alloc())?;
+    assert_eq!(rt;
+        goes_in_order(rt.alloc(), &mut client, &mut server),
+        [true; 4]
+    );
+    assert_eq!(rt;
+        goes_in_order(rt.alloc(), &mut server, &mut client),
+        [true; 4]
+    );
+    Ok(())
 }
 
 #[test]

@@ -2,7 +2,7 @@
 
 use super::ends::{ACCEPTOR, End, fail, octets};
 use super::{ServerCase, new_server_passes};
-use krb_sasl::SaslServer;
+use krb_sasl::{Order, SaslServer};
 use std::alloc::Global;
 use std::test::Fail;
 
@@ -87,6 +87,7 @@ pub fn takes_all(
     answer: &str,
     frames: &[(&'static str, &'static str)],
 ) -> Result<bool, Fail> {
+    server.set_order(Order::Any); // the tokens between them are left out
     let answer = octets(alloc, answer)?;
     let offered = server.offer(alloc).is_ok();
     let mut so_far = offered && server.accept(alloc, answer.as_slice()).is_ok();
