@@ -78,7 +78,7 @@ stays_out() {
 }
 
 # The client's first token is kept, and comes again in the place of the next client's.
-comes_again() {
+is_known_again() {
     rm -f "$gss/token"
     admits "$1" env LD_PRELOAD="$room/again.so" KEEP="$gss/token" "${@:2}" || return 1
     turns_away 'Replayed: ' env LD_PRELOAD="$room/again.so" AGAIN="$gss/token" "${@:2}"
@@ -98,7 +98,7 @@ has_wrong_key() {
 # All that is tried of each server: try_admissions NAME SERVICE CLIENT..
 try_admissions() {
     check "$1: a client is admitted" admits "$2" "${@:3}"
-    check "$1: its token is refused when it comes again" comes_again "$2" "${@:3}"
+    check "$1: its token is refused when it comes again" is_known_again "$2" "${@:3}"
     check "$1: a clock that is wrong is refused" has_wrong_clock "${@:3}"
     check "$1: a ticket under another key is refused" has_wrong_key "${@:3}"
     check "$1: a client is admitted after that" admits "$2" "${@:3}"
