@@ -1,4 +1,4 @@
-/* Both ends of a session, over the replies of a KDC that were recorded, and memory that is refused. */
+/* Both ends of a session, over the replies of a KDC that were recorded; memory that is refused, and blocks that are counted. */
 #include "meeting.h"
 
 #include <stdio.h>
@@ -73,19 +73,40 @@ void meet(const exchange *x, mk_session *client, mk_session *server) {
     mk_acceptor_free(&acceptor);
 }
 
-/* How many growths of memory are granted before one is refused; where it is negative all are. */
+/* How many growths of memory are granted before one is refused; if it is negative, all are. */
 static long granted = -1;
 
 void refuse_growth(long number) { granted = number; }
 
 static int is_granted(void) { return granted < 0 || granted-- > 0; }
 
-/* The linker puts these two in the place of malloc and realloc. */
-void *__real_malloc(size_t size);
-void *__real_realloc(void *at, size_t size);
-void *__wrap_malloc(size_t size);
-void *__wrap_realloc(void *at, size_t size);
+/* How many blocks were given and have not come back. */
+static long held;
 
-void *__wrap_malloc(size_t size) { return is_granted() ? __real_malloc(size) : NULL; }
+long blocks_held(void) { return held; }
+
+static void *counted(void *at) {
+    held += at != NULL;
+    return at;
+}
+
+/* The linker puts these four in the place of malloc, calloc, realloc and free. */
+void *__real_malloc(size_t size);
+void *__real_calloc(size_t count, size_t size);
+void *__real_realloc(void *at, size_t size);
+void __real_free(void *at);
+void *__wrap_malloc(size_t size);
+void *__wrap_calloc(size_t count, size_t size);
+void *__wrap_realloc(void *at, size_t size);
+void __wrap_free(void *at);
+
+void *__wrap_malloc(size_t size) { return is_granted() ? counted(__real_malloc(size)) : NULL; }
+
+void *__wrap_calloc(size_t count, size_t size) { return counted(__real_calloc(count, size)); }
+
+void __wrap_free(void *at) {
+    held -= at != NULL;
+    __real_free(at);
+}
 
 void *__wrap_realloc(void *at, size_t size) { return is_granted() ? __real_realloc(at, size) : NULL; }

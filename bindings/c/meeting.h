@@ -23,7 +23,10 @@ octets token_for(const exchange *, const char *channel);
 /* Both ends of a session, in empty handles: the initiator's, and the acceptor's. */
 void meet(const exchange *, mk_session *client, mk_session *server);
 
-/* From now on memory is refused once, behind so many growths; with -1 it is not. */
+/* From now on memory is refused once, after this many growths; with -1 it is not. */
 void refuse_growth(long number);
+
+/* How many blocks of memory were given and have not come back. */
+long blocks_held(void);
 
 #endif

@@ -65,6 +65,37 @@ static void know_clients(const exchange *x) {
     mk_session_free(&server);
 }
 
+/* A text is sealed at one end into a room that has all of it. */
+static octets sealed(mk_session *from, const exchange *x, const char *words) {
+    octets token = {{0}, 0};
+    token.length = mk_wrap(from, text(words), strlen(words), x->moment.random, 16, token.at, sizeof token.at).length;
+    return token;
+}
+
+/* Messages in order: a gap, an exchange of two and a repetition are refused, and what is refused counts for nothing. */
+static void go_in_order(const exchange *x) {
+    mk_session client = MK_EMPTY, server = MK_EMPTY, none = MK_EMPTY;
+    uint8_t out[64], mic[28];
+    CHECK(mk_session_set_order(&none, 1).status == MK_HANDLE);
+    meet(x, &client, &server);
+    CHECK(mk_session_set_order(&server, 1).status == MK_OK);
+    octets first = sealed(&client, x, "1"), second = sealed(&client, x, "2"), third = sealed(&client, x, "3");
+    CHECK(is_refused(mk_unwrap(&server, second.at, second.length, out, sizeof out), MK_CAUSE_NUMBER));
+    CHECK(mk_unwrap(&server, first.at, first.length, out, sizeof out).status == MK_OK && out[0] == '1');
+    CHECK(is_refused(mk_unwrap(&server, third.at, third.length, out, sizeof out), MK_CAUSE_NUMBER));
+    CHECK(is_refused(mk_unwrap(&server, first.at, first.length, out, sizeof out), MK_CAUSE_REPEATED));
+    CHECK(mk_unwrap(&server, second.at, second.length, out, sizeof out).status == MK_OK && out[0] == '2');
+    CHECK(mk_mic(&client, text("4"), 1, mic, sizeof mic).status == MK_OK);
+    CHECK(is_refused(mk_verify(&server, mic, sizeof mic, text("4"), 1), MK_CAUSE_NUMBER));
+    CHECK(mk_unwrap(&server, third.at, third.length, out, sizeof out).status == MK_OK);
+    CHECK(mk_verify(&server, mic, sizeof mic, text("4"), 1).status == MK_OK);
+    CHECK(is_refused(mk_verify(&server, mic, sizeof mic, text("4"), 1), MK_CAUSE_NUMBER));
+    CHECK(mk_session_set_order(&server, 0).status == MK_OK);
+    CHECK(mk_verify(&server, mic, sizeof mic, text("4"), 1).status == MK_OK);
+    mk_session_free(&client);
+    mk_session_free(&server);
+}
+
 /* A token past the limit is refused unread, by a copy too. */
 static void limit(const exchange *x, const octets *token) {
     mk_acceptor acceptor = MK_EMPTY, copy = MK_EMPTY;
@@ -117,6 +148,33 @@ static void bind_too_much(const exchange *x, const octets *token) {
     mk_acceptor_free(&acceptor);
 }
 
+/* Each free gives all blocks of its handle back. */
+static void give_back(const exchange *x, const octets *token) {
+    mk_acceptor acceptor = MK_EMPTY;
+    mk_judged judged = MK_EMPTY;
+    mk_session client = MK_EMPTY, server = MK_EMPTY;
+    mk_initiator initiator = MK_EMPTY;
+    const uint8_t number[4] = {1, 2, 3, 4};
+    const long none = blocks_held();
+    make(x, &acceptor);
+    const long made = blocks_held();
+    CHECK(mk_judge(&acceptor, &judged, token->at, token->length, &x->moment).status == MK_OK && blocks_held() > made);
+    mk_judged_free(&judged);
+    CHECK(blocks_held() == made && made > none);
+    mk_acceptor_free(&acceptor);
+    CHECK(blocks_held() == none);
+    meet(x, &client, &server);
+    const long met = blocks_held();
+    mk_session_free(&client);
+    CHECK(blocks_held() < met && blocks_held() > none);
+    mk_session_free(&server);
+    CHECK(blocks_held() == none);
+    CHECK(mk_initiator_new(&initiator, text(x->target), strlen(x->target), text(x->machine), strlen(x->machine), 0, number, 4).status == MK_OK);
+    CHECK(blocks_held() > none);
+    mk_initiator_free(&initiator);
+    CHECK(blocks_held() == none);
+}
+
 int main(int count, char **words) {
     static exchange x;
     int rounds = count > 2 ? atoi(words[2]) : 1;
@@ -133,6 +191,8 @@ int main(int count, char **words) {
         know_clients(&x);
         limit(&x, &unbound);
         begin_again(&x, &bound, &unbound);
+        give_back(&x, &bound);
+        go_in_order(&x);
     }
     return tell_checks();
 }

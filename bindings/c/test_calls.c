@@ -152,6 +152,7 @@ static void told(const conversation *c) {
     const uint64_t moment = c->moment.moment;
     CHECK(mk_judged_record(&judged, out, sizeof out).status == MK_HANDLE);
     CHECK(mk_judged_flags(&judged).status == MK_HANDLE && mk_judged_tag(&judged, out, 12).status == MK_HANDLE);
+    CHECK(mk_judged_get_delegation(&judged, out, sizeof out).status == MK_HANDLE);
     CHECK(mk_admit_told(&judged, &session, 300, moment, 0).status == MK_HANDLE);
     CHECK(make(c, &keys).status == MK_OK);
     CHECK(mk_judge(&keys, &judged, c->token.at, c->token.length, &c->moment).status == MK_OK);
@@ -169,6 +170,8 @@ static void told(const conversation *c) {
     CHECK(mk_judged_tag(&judged, out, 11).status == MK_ROOM);
     reply = mk_judged_tag(&judged, out, 12);
     CHECK(reply.status == MK_OK && reply.length == 12 && memcmp(out, tag, 12) == 0);
+    reply = mk_judged_get_delegation(&judged, out, 0);
+    CHECK(reply.status == MK_OK && reply.length == 0); /* it asked for none */
     CHECK(is_refused(bound(c, &keys, &unbound, "tls-unique:1"), MK_CAUSE_BINDINGS) && unbound.count == 0);
     CHECK(is_refused(mk_admit_told(&again, &session, 300, moment, 1), MK_CAUSE_REPLAYED) && again.count == 0);
     CHECK(mk_judge(&keys, &again, c->token.at, c->token.length, &c->moment).status == MK_OK);
@@ -177,13 +180,26 @@ static void told(const conversation *c) {
     CHECK(reply.status == MK_OK && reply.length == 0 && judged.count == 0 && session.count == 1);
     reply = mk_session_client(&session, out, sizeof out);
     CHECK(reply.status == MK_OK && reply.length == 17 && memcmp(out, "alice@EXAMPLE.COM", 17) == 0);
+    reply = mk_session_get_delegation(&session, out, 0);
+    CHECK(reply.status == MK_OK && reply.length == 0);
     CHECK(mk_session_key(&session, key, 31).status == MK_ROOM);
     reply = mk_session_key(&session, key, sizeof key);
     CHECK(reply.status == MK_OK && reply.length == 32);
     CHECK(mk_acceptor_kept(&keys) == 0);
     mk_session_free(&session);
     CHECK(mk_session_key(&session, key, sizeof key).status == MK_HANDLE);
+    CHECK(mk_session_get_delegation(&session, out, sizeof out).status == MK_HANDLE);
     mk_acceptor_free(&keys);
+}
+
+/* Whether these octets are among those. */
+static int has(const uint8_t *at, size_t length, const uint8_t *part, size_t part_length) {
+    for (size_t i = 0; i + part_length <= length; i++) {
+        if (memcmp(at + i, part, part_length) == 0) {
+            return 1;
+        }
+    }
+    return 0;
 }
 
 static void put(octets *o, const void *from, size_t length) {
@@ -238,6 +254,26 @@ static void keytabs(const conversation *c) {
     CHECK(reply.status == MK_OK && reply.length == 1);
     CHECK(is_refused(mk_accept(&acceptor, &session, c->token.at, c->token.length, &c->moment), MK_CAUSE_ALTERED));
     mk_acceptor_free(&acceptor);
+}
+
+/* The token of a refusal: the mechanism's name, 03 00 (RFC 4121, 4.1), and a KRB-ERROR (RFC 4120, 5.9.1). */
+static void tell_refusals(void) {
+    static const uint8_t head[] = {0x06, 0x09, 0x2a, 0x86, 0x48, 0x86, 0xf7, 0x12, 0x01, 0x02, 0x02, 0x03, 0x00, 0x7e};
+    static const uint8_t skew[] = {0xa6, 0x03, 0x02, 0x01, 0x25}, generic[] = {0xa6, 0x03, 0x02, 0x01, 0x3c};
+    static const char name[] = "host/server.example.com", realm[] = "EXAMPLE.COM";
+    const uint64_t moment = 1700000000123456u; /* 2023-11-14 22:13:20 */
+    uint8_t out[256];
+    mk_reply reply = mk_error_token(MK_CAUSE_SKEW, text(name), strlen(name), text(realm), 11, moment, out, sizeof out);
+    CHECK(reply.status == MK_OK && out[0] == 0x60 && memcmp(out + 3 - (out[1] < 0x80), head, sizeof head) == 0);
+    CHECK(has(out, reply.length, skew, sizeof skew) && has(out, reply.length, text("20231114221320Z"), 15));
+    CHECK(has(out, reply.length, text("server.example.com"), 18) && has(out, reply.length, text(realm), 11));
+    CHECK(mk_error_token(MK_CAUSE_SKEW, text(name), strlen(name), text(realm), 11, moment, out, reply.length - 1).status == MK_ROOM);
+    reply = mk_error_token(MK_CAUSE_ALTERED, text(name), strlen(name), text(realm), 11, moment, out, sizeof out);
+    CHECK(reply.status == MK_OK && has(out, reply.length, generic, sizeof generic));
+    CHECK(mk_error_token(0, text(name), strlen(name), text(realm), 11, moment, out, sizeof out).status == MK_ARGUMENT);
+    CHECK(mk_error_token(14, text("\xff"), 1, text(realm), 11, moment, out, sizeof out).status == MK_ARGUMENT);
+    CHECK(is_refused(mk_error_token(14, text("\xc3\xa4"), 2, text(realm), 11, moment, out, sizeof out), MK_CAUSE_NOT_ASCII));
+    CHECK(is_refused(mk_error_token(14, text(name), strlen(name), text(realm), 11, UINT64_MAX, out, sizeof out), MK_CAUSE_MOMENT));
 }
 
 /* Whatever is not done leaves all as it was. */
@@ -353,6 +389,7 @@ int main(int count, char **words) {
         halves(&c);
         told(&c);
         keytabs(&c);
+        tell_refusals();
         bad(&c);
     }
     printf("%d rounds; %.2f microseconds for a wrap of 64 octets\n", rounds, seconds_of(&c, 10000) * 100);

@@ -294,10 +294,10 @@ static void refuse_offers(const exchange *x) {
     uint8_t out[64];
     meet(x, &initiator, &acceptor);
     CHECK(is_done(wish(&initiator, &client, MK_LAYER_NONE, 0, ""), 0));
-    for (size_t i = 0; i <= 5; i++) {
+    for (size_t i = 0; i <= 5; i += i == 3 ? 2 : 1) {
         octets token = said(&acceptor, words, i);
-        CHECK(i == 4 || breaks(answer(&client, &token, out, sizeof out), MK_SASL_OFFER));
-        CHECK(i == 4 || is_refused(answer(&client, &token, out, sizeof out), MK_CAUSE_REPEATED));
+        CHECK(breaks(answer(&client, &token, out, sizeof out), MK_SASL_OFFER));
+        CHECK(is_refused(answer(&client, &token, out, sizeof out), MK_CAUSE_REPEATED));
     }
     for (size_t i = 0; i < 3; i++) {
         static const uint32_t offers[][2] = {{6, 9}, {0, 0}, {1, 1}}; /* the last has a size, and no layer */
@@ -329,12 +329,13 @@ static void refuse_frames(const exchange *x, uint32_t layer) {
     const size_t over = layer == MK_LAYER_INTEGRITY ? 28 : 60;
     mk_session client = MK_EMPTY;
     mk_sasl server = MK_EMPTY;
-    octets sealed = {{0}, 0}, clear, frame;
+    octets sealed = {{0}, 0}, clear = {{0}, 0}, frame;
     uint8_t data[200] = {'d'}, out[400];
     begin_alone(x, &server, &client, layer, 100);
     CHECK(is_short(seal(&server, data, 200 - over, out, 0), 204) && breaks(seal(&server, data, 201 - over, out, sizeof out), MK_SASL_TOO_LARGE));
+    if (layer == MK_LAYER_INTEGRITY) clear = said(&client, data, 72); /* the one that is opened has the next number */
     sealed.length = mk_wrap(&client, data, 40, CONFOUNDER, 16, sealed.at, sizeof sealed.at).length;
-    clear = said(&client, data, 72);
+    if (layer != MK_LAYER_INTEGRITY) clear = said(&client, data, 72);
     CHECK(sealed.length == 100 && clear.length == 100);
     const octets *wanted = layer == MK_LAYER_INTEGRITY ? &clear : &sealed, *other = layer == MK_LAYER_INTEGRITY ? &sealed : &clear;
     frame = framed(other->at, other->length);
@@ -378,13 +379,14 @@ static void refuse_rooms(const exchange *x) {
     CHECK(is_short(seal(&client, "next", 5, out, 0), 69) && is_short(seal(&client, "next", 5, out, 64), 69));
     CHECK(is_done(seal(&client, "next", 5, next.at, 69), 69));
     CHECK(next.at[4 + 15] == (uint8_t)(first.at[4 + 15] + 1)); /* a call that had no room took no number */
-    CHECK(is_short(unseal(&server, &next, out, 0), 5) && is_short(unseal(&server, &next, out, 4), 5));
+    CHECK(is_refused(unseal(&server, &next, out, 5), MK_CAUSE_NUMBER));
+    CHECK(is_short(unseal(&server, &first, out, 0), 5) && is_short(unseal(&server, &first, out, 4), 5));
     CHECK(out[0] == 0xaa && out[1] == 0);
-    CHECK(gives(unseal(&server, &next, out, 5), out, "next", 5) && gives(unseal(&server, &first, out, 5), out, "first", 5));
+    CHECK(gives(unseal(&server, &first, out, 5), out, "first", 5) && gives(unseal(&server, &next, out, 5), out, "next", 5));
     end_both(&server, &client);
 }
 
-/* Frames come late, and one that is 64 or more behind the newest is too late. */
+/* Frames come in their order, each once: one that comes early is refused and can come again, and one that comes late is refused. */
 static void refuse_late(const exchange *x) {
     static const terms usual = {4, 100, 4, 100, ""};
     static octets frames[65];
@@ -394,9 +396,11 @@ static void refuse_late(const exchange *x) {
     for (uint8_t i = 0; i < 65; i++) {
         frames[i].length = seal(&server, &i, 1, frames[i].at, sizeof frames[i].at).length;
     }
-    CHECK(gives(unseal(&client, &frames[64], out, 1), out, "\x40", 1));
+    CHECK(is_refused(unseal(&client, &frames[64], out, 1), MK_CAUSE_NUMBER));
+    for (uint8_t i = 0; i < 65; i++) {
+        CHECK(gives(unseal(&client, &frames[i], out, 1), out, &i, 1));
+    }
     CHECK(is_refused(unseal(&client, &frames[0], out, 1), MK_CAUSE_OLD));
-    CHECK(gives(unseal(&client, &frames[1], out, 1), out, "\x01", 1));
     CHECK(is_refused(unseal(&client, &frames[1], out, 1), MK_CAUSE_REPEATED));
     end_both(&server, &client);
 }
@@ -482,5 +486,6 @@ int main(int count, char **words) {
         }
     }
     printf("%d rounds\n", rounds);
+    CHECK(blocks_held() == 0);
     return tell_checks();
 }

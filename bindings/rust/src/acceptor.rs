@@ -186,7 +186,7 @@ impl Acceptor {
         Ok(())
     }
 
-    /// Makes room for so many records of admitted clients beside those that are kept.
+    /// Reserves space for this many more records of admitted clients: that many admissions then need no memory for records.
     pub fn reserve(&self, records: usize) -> Result<(), Error> {
         // SAFETY: the handle is the lock's.
         done(unsafe { sys::mk_acceptor_reserve(&mut *lock(&self.book), records) })?;
@@ -368,6 +368,16 @@ impl Judged {
         // SAFETY: the handle is ours, and the pointer and the length are those of one array.
         done(unsafe { sys::mk_judged_tag(&mut self.0, tag.as_mut_ptr(), tag.len()) })?;
         Ok(tag)
+    }
+
+    /// Returns the KRB-CRED by which the client hands on a ticket of its own (RFC 4121, section 4.1.1): no bytes if it asked for no
+    /// delegation. It is not decrypted.
+    pub fn delegation(&mut self) -> Result<Vec<u8>, Error> {
+        let handle = &mut self.0;
+        // SAFETY: as above.
+        filled(0, |out, room| unsafe {
+            sys::mk_judged_get_delegation(handle, out, room)
+        })
     }
 
     /// What a store that machines share keeps of it, for [`Acceptor::admit_told`]: two uses of one authenticator have the same octets.

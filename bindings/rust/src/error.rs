@@ -2,6 +2,8 @@
 
 use crate::options::GssFlags;
 use crate::sys;
+use crate::{filled, microseconds};
+use std::time::SystemTime;
 use std::{fmt, io};
 
 /// Why a call was not done.
@@ -85,6 +87,8 @@ impl Cause {
     pub const EXPIRED: Cause = Cause(16);
     /// This authenticator was admitted before.
     pub const REPLAYED: Cause = Cause(17);
+    /// The number of a message is not the next one: messages were lost or exchanged.
+    pub const NUMBER: Cause = Cause(27);
     /// A message was opened before.
     pub const REPEATED: Cause = Cause(52);
     /// A message is too old to tell whether it was opened before.
@@ -109,6 +113,41 @@ impl Cause {
     pub const TRANSITED: Cause = Cause(63);
     /// There is no identity: a client without a short name.
     pub const NO_IDENTITY: Cause = Cause(31);
+}
+
+impl Refusal {
+    /// Returns the token that tells a client why it is refused, a KRB-ERROR (RFC 4120, section 5.9.1), by the system's clock. A client prints
+    /// it, as 'Clock skew too great'. The service is named as `host/server.example.com`, with its realm. Four causes have their own codes:
+    /// [`Cause::SKEW`], [`Cause::NOT_YET`], [`Cause::EXPIRED`] and [`Cause::REPLAYED`]. Every other cause is the general one.
+    ///
+    /// # Errors
+    /// `InvalidToken Room`: a text has over 65,536 bytes. `InternalError NotAscii`: a text is not ASCII.
+    pub fn error_token(&self, service: &str, realm: &str) -> Result<Vec<u8>, Error> {
+        self.error_token_at(service, realm, SystemTime::now())
+    }
+
+    /// Returns the token as [`error_token`](Refusal::error_token) does, at this moment of the acceptor's.
+    pub fn error_token_at(
+        &self,
+        service: &str,
+        realm: &str,
+        now: SystemTime,
+    ) -> Result<Vec<u8>, Error> {
+        let moment = microseconds(now)?;
+        // SAFETY: each pointer and length are those of one slice or vector.
+        filled(192, |out, room| unsafe {
+            sys::mk_error_token(
+                self.cause.0,
+                service.as_ptr(),
+                service.len(),
+                realm.as_ptr(),
+                realm.len(),
+                moment,
+                out,
+                room,
+            )
+        })
+    }
 }
 
 type NameCall = unsafe extern "C" fn(u32, *mut u8, usize) -> sys::Reply;

@@ -152,6 +152,24 @@ impl Session {
         Ok(())
     }
 
+    /// Sets the order of the other end's messages and MICs: in order, each must have the number after the one before it, the first that of
+    /// the client's token at an acceptor's session, and any at an initiator's. Otherwise they come in any order, as at first. A message with
+    /// another number is refused as [`Cause::NUMBER`].
+    pub fn set_in_order(&mut self, in_order: bool) -> Result<(), Error> {
+        // SAFETY: the handle is ours.
+        done(unsafe { sys::mk_session_set_order(&mut self.handle, u32::from(in_order)) })?;
+        Ok(())
+    }
+
+    /// Returns the KRB-CRED by which the client handed on a ticket of its own (RFC 4121, section 4.1.1): no bytes if it asked for no
+    /// delegation, and for an initiator's session. It is not decrypted.
+    pub fn delegation(&mut self) -> Result<Vec<u8>, Error> {
+        if self.client.is_none() {
+            return Ok(Vec::new());
+        }
+        self.octets(0, sys::mk_session_get_delegation)
+    }
+
     /// The key of its messages, for what a program seals by itself: 32 octets where its encryption type is 18, and 16 where it is 17
     /// (RFC 3962). **Whoever has it reads all messages of the session.**
     pub fn key(&mut self) -> Result<Vec<u8>, Error> {

@@ -110,6 +110,17 @@ unsafe extern "C" {
     pub fn mk_judged_service(judged: *mut Handle, out: *mut u8, room: usize) -> Reply;
     pub fn mk_judged_flags(judged: *mut Handle) -> Reply;
     pub fn mk_judged_tag(judged: *mut Handle, out: *mut u8, room: usize) -> Reply;
+    pub fn mk_judged_get_delegation(judged: *mut Handle, out: *mut u8, room: usize) -> Reply;
+    pub fn mk_error_token(
+        cause: u32,
+        service: *const u8,
+        service_length: usize,
+        realm: *const u8,
+        realm_length: usize,
+        moment: u64,
+        out: *mut u8,
+        room: usize,
+    ) -> Reply;
     pub fn mk_judged_record(judged: *mut Handle, out: *mut u8, room: usize) -> Reply;
     pub fn mk_admit_told(
         judged: *mut Handle,
@@ -125,8 +136,10 @@ unsafe extern "C" {
     pub fn mk_session_times(session: *mut Handle, out: *mut Times) -> Reply;
     pub fn mk_session_flags(session: *mut Handle) -> Reply;
     pub fn mk_session_ticket_flags(session: *mut Handle) -> Reply;
+    pub fn mk_session_get_delegation(session: *mut Handle, out: *mut u8, room: usize) -> Reply;
     pub fn mk_session_key(session: *mut Handle, out: *mut u8, room: usize) -> Reply;
     pub fn mk_session_set_rules(session: *mut Handle, rules: u32) -> Reply;
+    pub fn mk_session_set_order(session: *mut Handle, in_order: u32) -> Reply;
     pub fn mk_session_free(session: *mut Handle);
     pub fn mk_wrap(
         session: *mut Handle,

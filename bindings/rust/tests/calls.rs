@@ -83,12 +83,38 @@ fn a_store_is_asked_in_the_place_of_a_book() {
         judged.tag().unwrap()[..],
         octets("aca40ddcbe932faaba16f9dc")
     );
+    assert!(judged.delegation().unwrap().is_empty());
     let mut session = acceptor.admit_told(judged, now(), false).unwrap();
     assert_eq!(session.client(), Some("alice@EXAMPLE.COM"));
     assert_eq!(session.key().unwrap().len(), 32);
+    assert!(session.delegation().unwrap().is_empty());
     let error = acceptor.admit_told(again, now(), true).err().unwrap();
     assert_eq!(error.cause(), Some(Cause::REPLAYED));
     assert_eq!(acceptor.kept(), 0);
+}
+
+/// RFC 4121, section 4.1: the mechanism's name and 03 00 before the message. RFC 4120, section 5.9.1: `error-code [6]`, `stime [4]`.
+#[test]
+fn a_refusal_has_a_token() {
+    let acceptor = acceptor();
+    accept(&acceptor).unwrap();
+    let Error::Refused(refusal) = accept(&acceptor).err().unwrap() else {
+        panic!("no refusal");
+    };
+    let moment = UNIX_EPOCH + Duration::from_micros(1_700_000_000_123_456); // 2023-11-14 22:13:20
+    let token = refusal
+        .error_token_at("host/server.example.com", "EXAMPLE.COM", moment)
+        .unwrap();
+    let has = |part: &[u8]| token.windows(part.len()).any(|it| it == part);
+    assert!(has(&octets("06092a864886f71201020203007e")));
+    assert!(has(&octets("a603020122"))); // KRB_AP_ERR_REPEAT, 34
+    assert!(has(b"20231114221320Z"));
+    assert!(has(b"EXAMPLE.COM"));
+    let error = refusal.error_token("host/\u{e4}", "EXAMPLE.COM");
+    assert_eq!(
+        error.unwrap_err().to_string(),
+        "refused: InternalError NotAscii"
+    );
 }
 
 /// A keytab with one entry of host/server.example.com.
@@ -159,6 +185,20 @@ fn messages_are_opened_once() {
         Some(Cause::ALTERED)
     );
     assert_eq!(session.unwrap(&messages[2]).unwrap().text.len(), 15);
+}
+
+/// The client's messages have the numbers 0fcc9195, 0fcc9197 and 0fcc9199: its MICs are between them.
+#[test]
+fn messages_are_taken_in_order() {
+    let mut session = accept(&acceptor()).unwrap();
+    let second = octets(lines("message")[1][1]);
+    session.set_in_order(true).unwrap();
+    assert_eq!(
+        session.unwrap(&second).unwrap_err().cause(),
+        Some(Cause::NUMBER)
+    );
+    session.set_in_order(false).unwrap();
+    assert_eq!(session.unwrap(&second).unwrap().text, [0x22]);
 }
 
 #[test]

@@ -1,4 +1,5 @@
 mod AcceptorBox
+mod CodeLemmas
 mod DialogueBox
 mod Given
 mod JudgementBox

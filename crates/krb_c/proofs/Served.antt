@@ -11,8 +11,8 @@ use Rattle.sspi_core.specs.declared.cause.Cause.{Cause}
 use Rattle.sspi_core.specs.declared.error.Place.{Place}
 
 -- a fault of the session's is why the octets are not handed out
-pub serves_not : {A : Type 0} (place : Place) (checks : Session → Result A Cause → Type 0) (gives : Session → List ℕ → Type 0) (old : Option Session)
+pub serves_not : {A : Type 0} (unfit : Type 0) (place : Place) (checks : Session → Result A Cause → Type 0) (gives : Session → List ℕ → Type 0) (old : Option Session)
     (room : ℕ) (session : Session) (fault : Fault) → old ≡ Some session → Faults place (checks session) (gives session) room fault
-    → ServesNot place checks gives old room (failure_of fault)
-serves_not place checks gives old room session (Refused error) was refuses = record { session = session; was = was; refuses = refuses }
-serves_not place checks gives old room session (Room count) was short = record { session = session; was = was; is_short = short }
+    → ServesNot unfit place checks gives old room (failure_of fault)
+serves_not unfit place checks gives old room session (Refused error) was refuses = record { session = session; was = was; refuses = refuses }
+serves_not unfit place checks gives old room session (Room count) was short = record { session = session; was = was; is_short = short }

@@ -1,7 +1,7 @@
 -- What a client asked for, and the flags of its ticket, by what the calls answer.
 use Rattle.std.specs.Prelude.{◌≡◌, ℕ, List, [], ◌∷◌, ◌++◌, take, Option, Some, None}
 use Rattle.std.specs.Int.{w32, from_be_bytes}
-use Rattle.krb_admission.specs.Allowed.{gss_flags}
+use Rattle.krb_admission.specs.Allowed.{gss_flags, delegation_told}
 use Rattle.krb_admission.specs.Requests.{tag_of}
 use Rattle.krb_c.specs.declared.reply.Failure.{Failure}
 use Rattle.krb_c.specs.declared.reply.Failure.TheVariants.{Refused, Room, Argument, Handle}
@@ -55,9 +55,13 @@ pub record TellsTicketFlags (session : Option Session) (flags : ℕ) : Type 0 wh
 abbrev pub IsTag : Candidate → List ℕ → Type 0
 IsTag candidate octets = octets ≡ tag_of candidate.judged.request
 
--- why it is not handed out
-abbrev pub TagNot : Option Candidate → ℕ → Failure → Type 0
-TagNot judged room (Refused error) = ⊥
-TagNot judged room (Room count) = ShowsShort IsTag judged room count
-TagNot judged room Argument = ⊥
-TagNot judged room Handle = judged ≡ None
+-- the KRB-CRED by which the candidate hands on a ticket of its own (RFC 4121, section 4.1.1)
+abbrev pub IsDelegation : Candidate → List ℕ → Type 0
+IsDelegation candidate octets = octets ≡ delegation_told candidate.judged.request.authenticator.cksum
+
+-- why octets of the candidate's, which are there, are not handed out
+abbrev pub LendsNot : (Candidate → List ℕ → Type 0) → Option Candidate → ℕ → Failure → Type 0
+LendsNot gives judged room (Refused error) = ⊥
+LendsNot gives judged room (Room count) = ShowsShort gives judged room count
+LendsNot gives judged room Argument = ⊥
+LendsNot gives judged room Handle = judged ≡ None

@@ -1,8 +1,9 @@
 -- What the calls do to the handles that they take, by what they answer.
-use Rattle.std.specs.Prelude.{◌≡◌, ℕ, ◌≤◌, List, [], ◌∷◌, ◌++◌, length, Option, Some, None, Result, Ok, IfOk, IfErr, OnOk, OnErr}
+use Rattle.std.specs.Prelude.{◌≡◌, true, ℕ, ◌≤◌, List, [], ◌∷◌, ◌++◌, length, Option, Some, None, Result, Ok, IfOk, IfErr, OnOk, OnErr}
 use Rattle.krb_c.specs.declared.reply.Failure.{Failure}
 use Rattle.krb_c.specs.declared.reply.Failure.TheVariants.{Refused, Room, Argument, Handle}
 use Rattle.krb_c.specs.Codes.{kind_code, cause_code}
+use Rattle.krb_c.specs.Failures.{has_key_length, IsMisplaced}
 use Rattle.krb_c.specs.declared.accept.Moment.{Moment}
 use Rattle.krb_context.specs.Refusals.{Refuses}
 use Rattle.krb_context.specs.ServiceKeys.{new_properties, service_named, IsNotAscii}
@@ -25,11 +26,6 @@ use Rattle.sspi_core.specs.declared.error.Place.{Place}
 use Rattle.sspi_core.specs.declared.error.Place.TheVariants.{Elsewhere}
 use Rattle.sspi_core.specs.Kinds.{error_of}
 
--- a refusal of the library's is one of these
-abbrev pub RefusedAs : (Error → Type 0) → Failure → Type 0
-RefusedAs refuses (Refused error) = refuses error
-RefusedAs refuses _ = Unit {0}
-
 -- a service of this name and key, whose book was asked nothing
 pub record IsNew (name key : List ℕ) (skew : ℕ) (service : Service) : Type 0 where
   pub properties : service.keys.properties ≡ new_properties (components name) None skew (Some key)
@@ -42,6 +38,7 @@ pub record Makes (name key : List ℕ) (skew : ℕ) (old : Option Service) (coun
   pub service : Service
   pub was_empty : old ≡ None
   pub now : new ≡ Some service
+  pub fits : has_key_length key ≡ true
   pub is_new : IsNew name key skew service
   pub none_written : count ≡ 0
 
@@ -49,6 +46,7 @@ pub record Makes (name key : List ℕ) (skew : ℕ) (old : Option Service) (coun
 pub record Adds (name key : List ℕ) (old : Option Service) (count : ℕ) (new : Option Service) : Type 0 where
   pub before : Service
   pub was : old ≡ Some before
+  pub fits : has_key_length key ≡ true
   pub now : new ≡ Some (record before {
     keys = record before.keys {
       properties = record before.keys.properties {
@@ -57,6 +55,11 @@ pub record Adds (name key : List ℕ) (old : Option Service) (count : ℕ) (new 
     };
   })
   pub none_written : count ≡ 0
+
+-- the services and the records are as before; there may be more room for records
+abbrev pub KeepsBook : Option Service → Option Service → Type 0
+KeepsBook None new = new ≡ None
+KeepsBook (Some before) new = (after : Service) × (new ≡ Some after) × IsUnchanged before.book after.book × (after.keys ≡ before.keys)
 
 -- room for records of admitted clients
 pub record Reserves (records : ℕ) (old : Option Service) (count : ℕ) (new : Option Service) : Type 0 where
@@ -79,13 +82,6 @@ pub record BeginsBook (skew : ℕ) (old : Option Service) (count : ℕ) (new : O
   pub book : StandsFor after.book no_history
   pub keys : after.keys ≡ before.keys
   pub none_written : count ≡ 0
-
--- why there is no new book
-abbrev pub BeginsNot : Option Service → Failure → Type 0
-BeginsNot old (Refused error) = error ≡ error_of Memory
-BeginsNot old (Room count) = ⊥
-BeginsNot old Argument = ⊥
-BeginsNot old Handle = old ≡ None
 
 -- another limit of tokens
 pub record LimitsTokens (most : ℕ) (old : Option Service) (count : ℕ) (new : Option Service) : Type 0 where
@@ -111,19 +107,22 @@ pub record AdmitsTo (token : List ℕ) (draw : Draw) (old : Option Service) (to 
   pub counted : count ≡ length guest.answer
 
 -- it is refused by the first check that fails, and the book is as that check leaves it
-pub record RefusesToken (token : List ℕ) (draw : Draw) (old new : Option Service) (error : Error) : Type 0 where
+pub record RefusesToken (token : List ℕ) (draw : Draw) (old : Option Service) (to : Option Session) (new : Option Service) (error : Error) : Type 0 where
   pub before : Service
   pub after : Service
   pub was : old ≡ Some before
+  pub was_empty : to ≡ None
   pub now : new ≡ Some after
   pub refuses : Refuses Elsewhere (Rejects before.keys None token draw before.book after.book) error
   pub memory : error ≡ error_of Memory → IsUnchanged before.book after.book
   pub keys : after.keys ≡ before.keys
 
--- what an admission that is not done leaves of the acceptor
-abbrev pub Turns : List ℕ → Draw → Option Service → Option Service → Failure → Type 0
-Turns token draw old new (Refused error) = RefusesToken token draw old new error
-Turns token draw old new _ = new ≡ old
+-- why a client is not admitted, and what is left of the acceptor
+abbrev pub Turns : Type 0 → List ℕ → Draw → Option Service → Option Session → Option Service → Failure → Type 0
+Turns unfit token draw old to new (Refused error) = RefusesToken token draw old to new error
+Turns unfit token draw old to new (Room count) = ⊥
+Turns unfit token draw old to new Argument = unfit × (new ≡ old)
+Turns unfit token draw old to new Handle = IsMisplaced old to × (new ≡ old)
 
 -- octets of the session's go into the room
 pub record Serves (gives : Session → List ℕ → Type 0) (after : Session → Session) (old : Option Session) (room : List ℕ) (count : ℕ)
@@ -145,12 +144,13 @@ pub record SessionIsShort (gives : Session → List ℕ → Type 0) (old : Optio
   pub was : old ≡ Some session
   pub is_short : IsShort (gives session) room count
 
--- why the octets are not handed out
-abbrev pub ServesNot : {A : Type 0} → Place → (Session → Result A Cause → Type 0) → (Session → List ℕ → Type 0) → Option Session → ℕ → Failure → Type 0
-ServesNot place checks gives old room (Refused error) = SessionRefuses place checks old error
-ServesNot place checks gives old room (Room count) = SessionIsShort gives old room count
-ServesNot place checks gives old room Argument = Unit {0}
-ServesNot place checks gives old room Handle = old ≡ None
+-- why the octets are not handed out: an argument is unfit, the session refuses, the room is too short, or there is no session
+abbrev pub ServesNot : {A : Type 0} → Type 0 → Place → (Session → Result A Cause → Type 0) → (Session → List ℕ → Type 0) → Option Session → ℕ
+    → Failure → Type 0
+ServesNot unfit place checks gives old room (Refused error) = SessionRefuses place checks old error
+ServesNot unfit place checks gives old room (Room count) = SessionIsShort gives old room count
+ServesNot unfit place checks gives old room Argument = unfit
+ServesNot unfit place checks gives old room Handle = old ≡ None
 
 -- how many records an acceptor keeps
 abbrev pub kept_of : Option Service → ℕ
@@ -161,7 +161,7 @@ kept_of (Some service) = length service.book.kept
 abbrev pub draw_of : Moment → Draw
 draw_of moment = record { moment = moment.moment; random = moment.random }
 
--- the session behind a call that changes nothing of it, behind one that makes a token, and behind one that opens a token
+-- the session after a call that changes nothing of it, after one that makes a token, and after one that decrypts a token
 abbrev pub same : Session → Session
 same session = session
 
@@ -185,10 +185,12 @@ pub record MicIsRefused (token payload : List ℕ) (old : Option Session) (error
   pub was : old ≡ Some session
   pub refuses : RefusesMic session.order session.connection token payload error
 
+-- why the token is not verified: it is none, or there is no session
 abbrev pub VerifiesNot : List ℕ → List ℕ → Option Session → Failure → Type 0
 VerifiesNot token payload old (Refused error) = MicIsRefused token payload old error
+VerifiesNot token payload old (Room count) = ⊥
+VerifiesNot token payload old Argument = ⊥
 VerifiesNot token payload old Handle = old ≡ None
-VerifiesNot token payload old _ = Unit {0}
 
 -- the name of the kind, or of a cause, with this number
 abbrev pub IsKindName : ℕ → List ℕ → Type 0
@@ -197,8 +199,16 @@ IsKindName code text = (kind : ErrorKind) × (kind_code kind ≡ code) × (text 
 abbrev pub IsCauseName : ℕ → List ℕ → Type 0
 IsCauseName code text = (cause : Cause) × (cause_code cause ≡ code) × (text ≡ cause_name cause)
 
--- a text is not handed out only where the room is too short, or where there is none
-abbrev pub NamesNot : (List ℕ → Type 0) → ℕ → Failure → Type 0
-NamesNot gives room (Room count) = IsShort gives room count
-NamesNot gives room Argument = Unit {0}
-NamesNot gives room _ = ⊥
+-- no kind, and no cause, has this number
+abbrev pub HasNoKind : ℕ → Type 0
+HasNoKind code = (kind : ErrorKind) → kind_code kind ≡ code → ⊥
+
+abbrev pub HasNoCause : ℕ → Type 0
+HasNoCause code = (cause : Cause) → cause_code cause ≡ code → ⊥
+
+-- why a text is not handed out: an argument is unfit, or the room is too short
+abbrev pub NamesNot : Type 0 → (List ℕ → Type 0) → ℕ → Failure → Type 0
+NamesNot unfit gives room (Refused error) = ⊥
+NamesNot unfit gives room (Room count) = IsShort gives room count
+NamesNot unfit gives room Argument = unfit
+NamesNot unfit gives room Handle = ⊥

@@ -1,5 +1,8 @@
 -- Acceptors with the same services and keys, for threads.
 use Rattle.std.specs.Prelude.{◌≡◌, ℕ, Option, Some, None}
+use Rattle.krb_c.specs.declared.reply.Failure.{Failure}
+use Rattle.krb_c.specs.declared.reply.Failure.TheVariants.{Refused, Room, Argument, Handle}
+use Rattle.krb_c.specs.Failures.{IsWant, IsMisplaced}
 use Rattle.krb_entrance.specs.declared.service.Service.{Service}
 use Rattle.krb_replay.specs.Book.{StandsFor}
 use Rattle.krb_replay.specs.History.{no_history}
@@ -19,3 +22,10 @@ pub record Copies (acceptor to : Option Service) (count : ℕ) (made : Option Se
   pub made_is : made ≡ Some twin
   pub is_twin : IsTwin service twin
   pub none_written : count ≡ 0
+
+-- why no twin is made
+abbrev pub CopiesNot : Option Service → Option Service → Failure → Type 0
+CopiesNot acceptor to (Refused error) = IsWant error
+CopiesNot acceptor to (Room count) = ⊥
+CopiesNot acceptor to Argument = ⊥
+CopiesNot acceptor to Handle = IsMisplaced acceptor to

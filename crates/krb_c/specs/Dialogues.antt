@@ -1,9 +1,9 @@
 -- What the calls do to an initiator in its handle, by what they answer.
 use Rattle.std.specs.Prelude.{◌≡◌, ℕ, List, length, true, false, Option, Some, None, Result, Ok}
 use Rattle.std.specs.Int.{from_be_bytes, w32}
-use Rattle.std.specs.Str.{IsUtf8}
 use Rattle.krb_c.specs.declared.reply.Failure.{Failure}
 use Rattle.krb_c.specs.declared.reply.Failure.TheVariants.{Refused, Room, Argument, Handle}
+use Rattle.krb_c.specs.Failures.{IsMisplaced}
 use Rattle.krb_context.specs.Refusals.{Refuses}
 use Rattle.krb_dialogue.specs.declared.dialogue.Dialogue.{Dialogue}
 use Rattle.krb_dialogue.specs.Dialogues.{is_established}
@@ -11,7 +11,7 @@ use Rattle.krb_dialogue.specs.Settings.{IsNew}
 use Rattle.krb_sessions.specs.declared.session.Session.{Session}
 use Rattle.krb_sessions.specs.Gives.{Delivers, IsShort}
 use Rattle.sspi_core.specs.declared.cause.Cause.{Cause}
-use Rattle.sspi_core.specs.declared.cause.Cause.TheVariants.{Memory, Sequence}
+use Rattle.sspi_core.specs.declared.cause.Cause.TheVariants.{Sequence}
 use Rattle.sspi_core.specs.declared.error.Error.{Error}
 use Rattle.sspi_core.specs.declared.error.Place.TheVariants.{Elsewhere}
 use Rattle.sspi_core.specs.declared.flags.ClientRequestFlags.{ClientRequestFlags}
@@ -29,25 +29,6 @@ pub record MakesInitiator (target machine : List ℕ) (flags : ℕ) (number : Li
   pub is_new : IsNew target machine (flags_from flags) (from_be_bytes w32 number) dialogue
   pub none_written : count ≡ 0
 
--- why none is made: the library refuses it, an argument is unfit, or the handle holds something
-abbrev pub MakesNot : Type 0 → (Error → Type 0) → Option Dialogue → Failure → Type 0
-MakesNot unfit refuses old (Refused error) = refuses error
-MakesNot unfit refuses old (Room count) = ⊥
-MakesNot unfit refuses old Argument = unfit
-MakesNot unfit refuses old Handle = old ≡ None → ⊥
-
--- the octets are no text
-abbrev pub IsNoText : List ℕ → Type 0
-IsNoText octets = IsUtf8 octets → ⊥
-
--- memory ran out
-abbrev pub IsWant : Error → Type 0
-IsWant error = error ≡ error_of Memory
-
--- nothing is refused
-abbrev pub IsNever : Error → Type 0
-IsNever error = ⊥
-
 -- a setting is made
 pub record Sets (becomes : Dialogue → Dialogue → Type 0) (old : Option Dialogue) (count : ℕ) (new : Option Dialogue) : Type 0 where
   pub before : Dialogue
@@ -56,13 +37,6 @@ pub record Sets (becomes : Dialogue → Dialogue → Type 0) (old : Option Dialo
   pub now : new ≡ Some after
   pub is_set : becomes before after
   pub none_written : count ≡ 0
-
--- why a setting is not made: the library refuses it, an argument is unfit, or there is no initiator
-abbrev pub SetsNot : Type 0 → (Error → Type 0) → Option Dialogue → Failure → Type 0
-SetsNot unfit refuses old (Refused error) = refuses error
-SetsNot unfit refuses old (Room count) = ⊥
-SetsNot unfit refuses old Argument = unfit
-SetsNot unfit refuses old Handle = old ≡ None
 
 -- octets of the dialogue's go into the room
 pub record HandsOut (gives : Dialogue → Result (List ℕ) Cause) (initiator : Option Dialogue) (room : List ℕ) (count : ℕ) (out : List ℕ) : Type 0 where
@@ -106,9 +80,9 @@ pub record IsUnsettled (old : Option Dialogue) (error : Error) : Type 0 where
   pub unsettled : is_established dialogue ≡ false
   pub error_is : error ≡ error_of Sequence
 
--- why the session is not handed over; the handles are not as the call wants them where `to` holds something, or there is no initiator
+-- why the session is not handed over
 abbrev pub HandsNotOver : Option Dialogue → Option Session → Failure → Type 0
 HandsNotOver old to (Refused error) = IsUnsettled old error
 HandsNotOver old to (Room count) = ⊥
 HandsNotOver old to Argument = ⊥
-HandsNotOver old to Handle = to ≡ None → old ≡ None
+HandsNotOver old to Handle = IsMisplaced old to

@@ -1,13 +1,15 @@
 -- The halves of an admission, by what their calls answer: the checks before the book, and the book's question.
-use Rattle.std.specs.Prelude.{◌≡◌, ℕ, List, length, Option, Some, None, Result, Ok}
+use Rattle.std.specs.Prelude.{◌≡◌, ◌⊎◌, ℕ, false, List, length, Option, Some, None, Result, Ok}
 use Rattle.krb_c.specs.declared.reply.Failure.{Failure}
-use Rattle.krb_c.specs.declared.reply.Failure.TheVariants.{Refused, Room, Handle}
+use Rattle.krb_c.specs.declared.reply.Failure.TheVariants.{Refused, Room, Argument, Handle}
+use Rattle.krb_c.specs.Failures.{IsMisplaced}
 use Rattle.krb_context.specs.Refusals.{Refuses}
 use Rattle.krb_authenticators.specs.Bindings.{bindings_hash}
 use Rattle.krb_dialogue.specs.Settings.{data_bindings}
 use Rattle.krb_entrance.specs.declared.candidate.Candidate.{Candidate}
 use Rattle.krb_entrance.specs.declared.keys.Keys.{Keys}
 use Rattle.krb_entrance.specs.declared.service.Service.{Service}
+use Rattle.krb_entrance.specs.Channels.{are_short}
 use Rattle.krb_entrance.specs.Candidates.{Passes, Stops, IsLetIn, TurnsAway, client_told}
 use Rattle.krb_replay.specs.Book.{IsUnchanged}
 use Rattle.krb_sessions.specs.declared.session.Session.{Session}
@@ -39,15 +41,22 @@ pub record JudgesTo (channel : Option (List ℕ)) (token : List ℕ) (draw : Dra
   pub none_written : count ≡ 0
 
 -- a check before the book refuses the token, the first that fails
-pub record StopsToken (channel : Option (List ℕ)) (token : List ℕ) (draw : Draw) (acceptor : Option Service) (error : Error) : Type 0 where
+pub record StopsToken (channel : Option (List ℕ)) (token : List ℕ) (draw : Draw) (acceptor : Option Service) (to : Option Candidate) (error : Error) : Type 0 where
   pub service : Service
   pub was : acceptor ≡ Some service
+  pub was_empty : to ≡ None
   pub refuses : Refuses Elsewhere (Stops service.keys channel token draw) error
 
 -- why a token has no candidate
-abbrev pub JudgesNot : Option (List ℕ) → List ℕ → Draw → Option Service → Failure → Type 0
-JudgesNot channel token draw acceptor (Refused error) = StopsToken channel token draw acceptor error
-JudgesNot channel token draw acceptor _ = Unit {0}
+abbrev pub JudgesNot : Type 0 → Option (List ℕ) → List ℕ → Draw → Option Service → Option Candidate → Failure → Type 0
+JudgesNot unfit channel token draw acceptor to (Refused error) = StopsToken channel token draw acceptor to error
+JudgesNot unfit channel token draw acceptor to (Room count) = ⊥
+JudgesNot unfit channel token draw acceptor to Argument = unfit
+JudgesNot unfit channel token draw acceptor to Handle = IsMisplaced acceptor to
+
+-- the data of a channel have over 2^24 octets
+abbrev pub IsLong : List ℕ → Type 0
+IsLong octets = are_short (data_bindings octets) ≡ false
 
 -- the candidate is admitted: the book says so, and no check after it refuses
 pub record LetsInTo (old : Option Service) (judged : Option Candidate) (to : Option Session) (count : ℕ) (new : Option Service)
@@ -67,7 +76,8 @@ pub record LetsInTo (old : Option Service) (judged : Option Candidate) (to : Opt
   pub counted : count ≡ length guest.answer
 
 -- it is turned away, by the book or a check after it, and the book is as that check leaves it
-pub record TurnsCandidate (old : Option Service) (judged : Option Candidate) (new : Option Service) (spent : Option Candidate) (error : Error) : Type 0 where
+pub record TurnsCandidate (old : Option Service) (judged : Option Candidate) (to : Option Session) (new : Option Service) (spent : Option Candidate)
+    (error : Error) : Type 0 where
   pub before : Service
   pub after : Service
   pub candidate : Candidate
@@ -75,16 +85,20 @@ pub record TurnsCandidate (old : Option Service) (judged : Option Candidate) (ne
   pub now : new ≡ Some after
   pub was_judged : judged ≡ Some candidate
   pub is_spent : spent ≡ None
+  pub was_empty : to ≡ None
   pub refuses : Refuses Elsewhere (TurnsAway candidate before.book after.book) error
   pub memory : error ≡ error_of Memory → IsUnchanged before.book after.book
   pub keys : after.keys ≡ before.keys
 
--- nothing was asked
-pub record IsUnasked (old : Option Service) (judged : Option Candidate) (new : Option Service) (spent : Option Candidate) : Type 0 where
+-- the book is not asked: `to` is not empty, or there is no acceptor, or no candidate
+pub record IsUnasked (old : Option Service) (judged : Option Candidate) (to : Option Session) (new : Option Service) (spent : Option Candidate) : Type 0 where
+  pub handles : to ≡ None → (old ≡ None) ⊎ (judged ≡ None)
   pub acceptor : new ≡ old
   pub candidate : spent ≡ judged
 
 -- why a candidate is not admitted
-abbrev pub LetsInNot : Option Service → Option Candidate → Option Service → Option Candidate → Failure → Type 0
-LetsInNot old judged new spent (Refused error) = TurnsCandidate old judged new spent error
-LetsInNot old judged new spent _ = IsUnasked old judged new spent
+abbrev pub LetsInNot : Option Service → Option Candidate → Option Session → Option Service → Option Candidate → Failure → Type 0
+LetsInNot old judged to new spent (Refused error) = TurnsCandidate old judged to new spent error
+LetsInNot old judged to new spent (Room count) = ⊥
+LetsInNot old judged to new spent Argument = ⊥
+LetsInNot old judged to new spent Handle = IsUnasked old judged to new spent

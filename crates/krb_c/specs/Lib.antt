@@ -3,9 +3,12 @@ pub mod Calls
 pub mod Codes
 pub mod Copies
 pub mod Dialogues
+pub mod Failures
 pub mod Halves
 pub mod Keytabs
+pub mod Ordered
 pub mod Places
+pub mod Refused
 pub mod Replies
 pub mod Rules
 pub mod Sasl

@@ -4,6 +4,7 @@ use Rattle.krb_c.specs.declared.sasl_end.SaslEnd.{SaslEnd}
 use Rattle.krb_c.specs.declared.sasl_end.SaslEnd.TheVariants.{Server, Client}
 use Rattle.krb_c.specs.declared.sasl_reply.SaslFailure.{SaslFailure}
 use Rattle.krb_c.specs.declared.sasl_reply.SaslFailure.TheVariants.{Refused, Room, Argument, Handle}
+use Rattle.krb_c.specs.Failures.{IsMisplaced}
 use Rattle.krb_context.specs.declared.context.Kerberos.{Kerberos}
 use Rattle.krb_sasl.specs.declared.channel.Channel.{Channel}
 use Rattle.krb_sasl.specs.declared.client.SaslClient.{SaslClient}
@@ -60,14 +61,14 @@ pub record SessionRefuses (makes : Kerberos → Result SaslEnd SaslError → Typ
   pub was : from ≡ Some guest
   pub refuses : Refuses (makes guest.connection) refusal
 
--- why no end is made; the handles are not as the call wants them where `to` holds something, or there is no session
+-- why no end is made
 abbrev pub BecomesNot : Type 0 → (Kerberos → Result SaslEnd SaslError → Type 0) → Option Session → Option SaslEnd → SaslFailure → Type 0
 BecomesNot unfit makes from to (Refused refusal) = SessionRefuses makes from refusal
 BecomesNot unfit makes from to (Room count) = ⊥
 BecomesNot unfit makes from to Argument = unfit
-BecomesNot unfit makes from to Handle = to ≡ None → from ≡ None
+BecomesNot unfit makes from to Handle = IsMisplaced from to
 
--- what an end gives, and the end behind it: a server's offer
+-- what an end gives, and the end after it: a server's offer
 pub record GivesOffer (before : SaslEnd) (token : List ℕ) (after : SaslEnd) : Type 0 where
   pub server : SaslServer
   pub was : before ≡ Server server

@@ -6,6 +6,7 @@ use Rattle.krb_dialogue.specs.declared.dialogue.Dialogue.{Dialogue}
 use Rattle.krb_dialogue.specs.declared.dialogue.Next.{Next}
 use Rattle.krb_dialogue.specs.declared.dialogue.Next.TheVariants.{AskKdc}
 use Rattle.krb_dialogue.specs.Dialogues.{requests_left}
+use Rattle.krb_dialogue.specs.Outcomes.{IsNetwork}
 use Rattle.krb_dialogue.specs.Steps.{Steps}
 use Rattle.sspi_core.specs.declared.cause.Cause.TheVariants.{Memory}
 use Rattle.sspi_core.specs.declared.error.Error.{Error}
@@ -47,3 +48,8 @@ StepsNot steps old new (Refused error) = StepRefuses steps old new error
 StepsNot steps old new (Room count) = ⊥
 StepsNot steps old new Argument = ⊥
 StepsNot steps old new Handle = IsNobody old new
+
+-- no refusal is one of the network's
+abbrev pub IsNoNetwork : Failure → Type 0
+IsNoNetwork (Refused error) = IsNetwork error → ⊥
+IsNoNetwork _ = Unit {0}

@@ -46,11 +46,22 @@ TellsNot gives session room (Room count) = TellsShort gives session room count
 TellsNot gives session room Argument = ⊥
 TellsNot gives session room Handle = client_of session ≡ None
 
+-- the KRB-CRED by which the client handed on a ticket of its own (RFC 4121, section 4.1.1)
+abbrev pub IsHandedOn : Client → List ℕ → Type 0
+IsHandedOn client octets = octets ≡ client.delegation
+
+-- why it is not handed out
+abbrev pub HandsOnNot : Option Session → ℕ → Failure → Type 0
+HandsOnNot session room (Refused error) = ⊥
+HandsOnNot session room (Room count) = TellsShort IsHandedOn session room count
+HandsOnNot session room Argument = ⊥
+HandsOnNot session room Handle = client_of session ≡ None
+
 abbrev pub or_time : Option ℤ → ℤ → ℤ
 or_time None other = other
 or_time (Some time) other = time
 
--- the times of the ticket; it is valid from `authtime` on where it does not say otherwise, and 0 stands for no renewal
+-- the times of the ticket; without a start it is valid from `authtime` on; 0 is no renewal
 abbrev pub times_of : Client → Times
 times_of client = record {
   authtime = client.authtime;

@@ -3,6 +3,7 @@ use Rattle.std.specs.Prelude.{◌≡◌, ℕ, ◌==◌, Bool, not, List, length,
 use Rattle.krb_admission.specs.Halves.{question}
 use Rattle.krb_c.specs.declared.reply.Failure.{Failure}
 use Rattle.krb_c.specs.declared.reply.Failure.TheVariants.{Refused, Room, Argument, Handle}
+use Rattle.krb_c.specs.Failures.{IsMisplaced}
 use Rattle.krb_context.specs.Refusals.{Refuses}
 use Rattle.krb_entrance.specs.declared.candidate.Candidate.{Candidate}
 use Rattle.krb_entrance.specs.Told.{IsToldIn, IsToldAway, record_octets, told_gate}
@@ -44,11 +45,11 @@ ShowsNot gives judged room (Room count) = ShowsShort gives judged room count
 ShowsNot gives judged room Argument = ⊥
 ShowsNot gives judged room Handle = judged ≡ None
 
--- a number of C's that stands for yes or no
+-- a number of C's as yes or no: 0 is no
 abbrev pub is_set : ℕ → Bool
 is_set n = not (n == 0)
 
--- the candidate is admitted: the store did not have its record, the clock refuses nothing, and no check behind it refuses
+-- the candidate is admitted: the store did not have its record, the clock refuses nothing, and no check after it refuses
 pub record ToldInTo (judged : Option Candidate) (to : Option Session) (skew moment seen count : ℕ) (spent : Option Candidate)
     (session : Option Session) : Type 0 where
   pub candidate : Candidate
@@ -60,14 +61,17 @@ pub record ToldInTo (judged : Option Candidate) (to : Option Session) (skew mome
   pub is_told_in : IsToldIn candidate (told_gate candidate.judged skew moment (is_set seen)) guest
   pub counted : count ≡ length guest.answer
 
--- it is turned away, by the clock, by what the store told, or by a check behind them
-pub record TurnsTold (judged : Option Candidate) (skew moment seen : ℕ) (spent : Option Candidate) (error : Error) : Type 0 where
+-- it is turned away, by the clock, by what the store told, or by a check after them
+pub record TurnsTold (judged : Option Candidate) (to : Option Session) (skew moment seen : ℕ) (spent : Option Candidate) (error : Error) : Type 0 where
   pub candidate : Candidate
   pub was_judged : judged ≡ Some candidate
   pub is_spent : spent ≡ None
+  pub was_empty : to ≡ None
   pub refuses : Refuses Elsewhere (IsToldAway candidate (told_gate candidate.judged skew moment (is_set seen))) error
 
 -- why a candidate is not admitted
-abbrev pub ToldInNot : Option Candidate → ℕ → ℕ → ℕ → Option Candidate → Failure → Type 0
-ToldInNot judged skew moment seen spent (Refused error) = TurnsTold judged skew moment seen spent error
-ToldInNot judged skew moment seen spent _ = spent ≡ judged
+abbrev pub ToldInNot : Option Candidate → Option Session → ℕ → ℕ → ℕ → Option Candidate → Failure → Type 0
+ToldInNot judged to skew moment seen spent (Refused error) = TurnsTold judged to skew moment seen spent error
+ToldInNot judged to skew moment seen spent (Room count) = ⊥
+ToldInNot judged to skew moment seen spent Argument = ⊥
+ToldInNot judged to skew moment seen spent Handle = IsMisplaced judged to × (spent ≡ judged)

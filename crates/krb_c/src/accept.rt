@@ -11,6 +11,7 @@ ghost use Rattle.krb_entrance.specs.Connections.{IsKeyless};
 ghost use Rattle.krb_c.specs.declared.reply.Failure.{Failure};
 ghost use Rattle.krb_c.specs.Replies.{reply_of};
 ghost use Rattle.krb_c.specs.Calls.{AdmitsTo, Turns, draw_of};
+ghost use Rattle.krb_c.specs.Failures.{IsLate};
 
 use crate::handles::{Acceptor, Connection};
 use crate::judge::blank;
@@ -55,7 +56,7 @@ fn accept_at(
 ) -> Result<usize, Failure>
     ensures admits { IfOk result (λ count. AdmitsTo token.now draw.now acceptor.old.place.value to.old.place.value count
         acceptor.new.place.value to.new.place.value) }
-    ensures turns { IfErr result (Turns token.now draw.now acceptor.old.place.value acceptor.new.place.value) }
+    ensures turns { IfErr result (Turns (IsLate draw.now.moment) token.now draw.now acceptor.old.place.value to.old.place.value acceptor.new.place.value) }
     ensures stays { OnErr result (to.new.place.value ≡ to.old.place.value) }
 {
     if !to.is_empty() {
@@ -81,7 +82,8 @@ fn accept(
 ) -> Result<usize, Failure>
     ensures admits { IfOk result (λ count. AdmitsTo token.now (draw_of moment.now) acceptor.old.place.value to.old.place.value count
         acceptor.new.place.value to.new.place.value) }
-    ensures turns { IfErr result (Turns token.now (draw_of moment.now) acceptor.old.place.value acceptor.new.place.value) }
+    ensures turns { IfErr result (Turns (IsLate moment.now.moment) token.now (draw_of moment.now) acceptor.old.place.value to.old.place.value
+        acceptor.new.place.value) }
     ensures stays { OnErr result (to.new.place.value ≡ to.old.place.value) }
 {
     let draw = draw_of(moment)?;
@@ -105,7 +107,8 @@ pub extern "C" fn mk_accept(
     ensures { (answer : Result ℕ Failure) × (result ≡ reply_of answer)
         × IfOk answer (λ count. AdmitsTo token.now (draw_of moment.now) acceptor.old.place.value to.old.place.value count
         acceptor.new.place.value to.new.place.value)
-        × IfErr answer (Turns token.now (draw_of moment.now) acceptor.old.place.value acceptor.new.place.value)
+        × IfErr answer (Turns (IsLate moment.now.moment) token.now (draw_of moment.now) acceptor.old.place.value to.old.place.value
+        acceptor.new.place.value)
         × OnErr answer (to.new.place.value ≡ to.old.place.value) }
 {
     reply_of(accept(alloc, acceptor, to, token, moment))

@@ -1,13 +1,14 @@
 //! The acceptor: the services of a process, and the one replay book of all their clients.
 
-ghost use Rattle.std.specs.Prelude.{◌≡◌, ◌≤◌, ◌++◌, ◌∷◌, [], ℕ, length, None, Result, IfOk, IfErr, OnOk, OnErr};
+ghost use Rattle.std.specs.Prelude.{◌≡◌, ◌≤◌, ◌++◌, ◌∷◌, [], true, ℕ, length, None, Result, IfOk, IfErr, OnOk, OnErr};
 ghost use Rattle.krb_context.specs.ServiceKeys.{service_named, IsNotAscii};
 ghost use Rattle.krb_replay.specs.Book.{IsUnchanged};
 ghost use Rattle.krb_entrance.specs.Services.{components};
 ghost use Rattle.krb_c.specs.declared.reply.Failure.{Failure};
 ghost use Rattle.krb_c.specs.declared.reply.Failure.TheVariants as failures;
 ghost use Rattle.krb_c.specs.Replies.{reply_of};
-ghost use Rattle.krb_c.specs.Calls.{RefusedAs, IsNew, Makes, Adds, Reserves, BeginsBook, BeginsNot, LimitsTokens, kept_of};
+ghost use Rattle.krb_c.specs.Calls.{IsNew, Makes, Adds, Reserves, KeepsBook, BeginsBook, LimitsTokens, kept_of};
+ghost use Rattle.krb_c.specs.Failures.{IsUnfit, IsWant, MakesNot, RefusedAs, SetsNot, has_key_length};
 
 use crate::handles::Acceptor;
 use crate::reply::{Failure, Reply, reply_of};
@@ -26,7 +27,8 @@ fn new_service(alloc: Global, name: &str, key: Octets, skew: u32) -> Result<Box<
 
 fn service_of(alloc: Global, name: &[u8], key: &[u8], skew: u32) -> Result<Box<Service>, Failure>
     ensures made { IfOk result (λ service. IsNew name.now key.now skew service.value) }
-    ensures refused { IfErr result (RefusedAs (IsNotAscii (components name.now))) }
+    ensures fits { OnOk result (has_key_length key.now ≡ true) }
+    ensures fails { IfErr result (RefusedAs (IsUnfit name.now key.now) (IsNotAscii (components name.now))) }
 {
     let name = text_of(name)?;
     let key = key_of(alloc, key)?;
@@ -44,7 +46,7 @@ fn make(
     skew: u32,
 ) -> Result<usize, Failure>
     ensures made { IfOk result (λ count. Makes name.now key.now skew to.old.place.value count to.new.place.value) }
-    ensures refused { IfErr result (RefusedAs (IsNotAscii (components name.now))) }
+    ensures fails { IfErr result (MakesNot (IsUnfit name.now key.now) (IsNotAscii (components name.now)) to.old.place.value) }
     ensures stays { OnErr result (to.new.place.value ≡ to.old.place.value) }
 {
     if !to.is_empty() {
@@ -56,7 +58,7 @@ fn make(
 }
 
 /// Makes an acceptor in an empty handle: a service with this name in UTF-8, as `host/server.example.com`, and its key of 16
-/// or 32 octets, whose one replay book takes clocks that are wrong by so many seconds at most.
+/// or 32 octets, whose one replay book takes clocks that are wrong by up to this many seconds.
 ///
 /// ARGUMENT where the name is not UTF-8 or the key has another length; HANDLE where the handle is not empty; InternalError
 /// NotAscii where the name is past ASCII. The handle stays empty then.
@@ -70,7 +72,7 @@ pub extern "C" fn mk_acceptor_new(
 ) -> Reply
     ensures { (answer : Result ℕ Failure) × (result ≡ reply_of answer)
         × IfOk answer (λ count. Makes name.now key.now skew to.old.place.value count to.new.place.value)
-        × IfErr answer (RefusedAs (IsNotAscii (components name.now)))
+        × IfErr answer (MakesNot (IsUnfit name.now key.now) (IsNotAscii (components name.now)) to.old.place.value)
         × OnErr answer (to.new.place.value ≡ to.old.place.value) }
 {
     reply_of(make(alloc, to, name, key, skew))
@@ -85,7 +87,8 @@ fn add_to(alloc: Global, service: &mut Service, name: &[u8], key: &[u8]) -> Resu
       };
     }) }
     ensures none_written { IfOk result (λ count. count ≡ 0) }
-    ensures refused { IfErr result (RefusedAs (IsNotAscii (components name.now))) }
+    ensures fits { OnOk result (has_key_length key.now ≡ true) }
+    ensures fails { IfErr result (RefusedAs (IsUnfit name.now key.now) (IsNotAscii (components name.now))) }
     ensures stays { OnErr result (service.new ≡ service.old) }
 {
     let name = text_of(name)?;
@@ -98,7 +101,7 @@ fn add_to(alloc: Global, service: &mut Service, name: &[u8], key: &[u8]) -> Resu
 
 fn add(alloc: Global, acceptor: &mut Acceptor, name: &[u8], key: &[u8]) -> Result<usize, Failure>
     ensures added { IfOk result (λ count. Adds name.now key.now acceptor.old.place.value count acceptor.new.place.value) }
-    ensures refused { IfErr result (RefusedAs (IsNotAscii (components name.now))) }
+    ensures fails { IfErr result (SetsNot (IsUnfit name.now key.now) (IsNotAscii (components name.now)) acceptor.old.place.value) }
     ensures stays { OnErr result (acceptor.new.place.value ≡ acceptor.old.place.value) }
 {
     let Some(mut service) = acceptor.take(alloc) else {
@@ -125,7 +128,7 @@ pub extern "C" fn mk_acceptor_key(
 ) -> Reply
     ensures { (answer : Result ℕ Failure) × (result ≡ reply_of answer)
         × IfOk answer (λ count. Adds name.now key.now acceptor.old.place.value count acceptor.new.place.value)
-        × IfErr answer (RefusedAs (IsNotAscii (components name.now)))
+        × IfErr answer (SetsNot (IsUnfit name.now key.now) (IsNotAscii (components name.now)) acceptor.old.place.value)
         × OnErr answer (acceptor.new.place.value ≡ acceptor.old.place.value) }
 {
     reply_of(add(alloc, acceptor, name, key))
@@ -133,6 +136,8 @@ pub extern "C" fn mk_acceptor_key(
 
 fn reserve(alloc: Global, acceptor: &mut Acceptor, records: usize) -> Result<usize, Failure>
     ensures reserved { IfOk result (λ count. Reserves records acceptor.old.place.value count acceptor.new.place.value) }
+    ensures fails { IfErr result (SetsNot ⊥ IsWant acceptor.old.place.value) }
+    ensures keeps { OnErr result (KeepsBook acceptor.old.place.value acceptor.new.place.value) }
 {
     let Some(mut service) = acceptor.take(alloc) else {
         return Err(Failure::Handle);
@@ -145,8 +150,8 @@ fn reserve(alloc: Global, acceptor: &mut Acceptor, records: usize) -> Result<usi
     }
 }
 
-/// Makes room for this many records of admitted clients beside those that are kept: so many admissions then take no memory
-/// for records.
+/// Reserves space for this many more records of admitted clients: that many admissions then need no memory for records. A call that
+/// fails leaves the services and the records as they are.
 #[unsafe(no_mangle)]
 pub extern "C" fn mk_acceptor_reserve(
     alloc: Global,
@@ -154,7 +159,9 @@ pub extern "C" fn mk_acceptor_reserve(
     records: usize,
 ) -> Reply
     ensures { (answer : Result ℕ Failure) × (result ≡ reply_of answer)
-        × IfOk answer (λ count. Reserves records acceptor.old.place.value count acceptor.new.place.value) }
+        × IfOk answer (λ count. Reserves records acceptor.old.place.value count acceptor.new.place.value)
+        × IfErr answer (SetsNot ⊥ IsWant acceptor.old.place.value)
+        × OnErr answer (KeepsBook acceptor.old.place.value acceptor.new.place.value) }
 {
     reply_of(reserve(alloc, acceptor, records))
 }
@@ -177,7 +184,7 @@ pub extern "C" fn mk_acceptor_kept(alloc: Global, acceptor: &mut Acceptor) -> u6
 
 fn begin_book(alloc: Global, acceptor: &mut Acceptor, skew: u32) -> Result<usize, Failure>
     ensures begun { IfOk result (λ count. BeginsBook skew acceptor.old.place.value count acceptor.new.place.value) }
-    ensures fails { IfErr result (BeginsNot acceptor.old.place.value) }
+    ensures fails { IfErr result (SetsNot ⊥ IsWant acceptor.old.place.value) }
     ensures stays { OnErr result (acceptor.new.place.value ≡ acceptor.old.place.value) }
 {
     let Some(mut service) = acceptor.take(alloc) else {
@@ -199,7 +206,7 @@ fn begin_book(alloc: Global, acceptor: &mut Acceptor, skew: u32) -> Result<usize
 pub extern "C" fn mk_acceptor_new_book(alloc: Global, acceptor: &mut Acceptor, skew: u32) -> Reply
     ensures { (answer : Result ℕ Failure) × (result ≡ reply_of answer)
         × IfOk answer (λ count. BeginsBook skew acceptor.old.place.value count acceptor.new.place.value)
-        × IfErr answer (BeginsNot acceptor.old.place.value)
+        × IfErr answer (SetsNot ⊥ IsWant acceptor.old.place.value)
         × OnErr answer (acceptor.new.place.value ≡ acceptor.old.place.value) }
 {
     reply_of(begin_book(alloc, acceptor, skew))

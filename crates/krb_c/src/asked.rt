@@ -3,7 +3,7 @@
 ghost use Rattle.std.specs.Prelude.{◌≡◌, ℕ, length, Some, None, Result, IfOk, IfErr, OnErr};
 ghost use Rattle.krb_c.specs.declared.reply.Failure.{Failure};
 ghost use Rattle.krb_c.specs.declared.reply.Failure.TheVariants as failures;
-ghost use Rattle.krb_c.specs.Asked.{AsksFor, AsksNot, TellsTicketFlags, IsTag, TagNot, candidate_flags, client_flags, flags_number};
+ghost use Rattle.krb_c.specs.Asked.{AsksFor, AsksNot, TellsTicketFlags, IsTag, LendsNot, candidate_flags, client_flags, flags_number};
 ghost use Rattle.krb_c.specs.Replies.{reply_of, number_reply};
 ghost use Rattle.krb_c.specs.Tells.{client_of};
 ghost use Rattle.krb_c.specs.Told.{Shows};
@@ -137,7 +137,7 @@ pub extern "C" fn mk_session_ticket_flags(alloc: Global, session: &mut Connectio
 
 fn tag_of(candidate: &Candidate, out: &mut [u8]) -> Result<usize, Failure>
     ensures told { IfOk result (λ count. Shows IsTag (Some candidate.now) out.old count out.new) }
-    ensures fails { IfErr result (TagNot (Some candidate.now) (length out.old)) }
+    ensures fails { IfErr result (LendsNot IsTag (Some candidate.now) (length out.old)) }
     ensures room { OnErr result (out.new ≡ out.old) }
 {
     match put(out, candidate.judged.tag()) {
@@ -148,7 +148,7 @@ fn tag_of(candidate: &Candidate, out: &mut [u8]) -> Result<usize, Failure>
 
 fn judged_tag(alloc: Global, judged: &mut Judgement, out: &mut [u8]) -> Result<usize, Failure>
     ensures told { IfOk result (λ count. Shows IsTag judged.old.place.value out.old count out.new) }
-    ensures fails { IfErr result (TagNot judged.old.place.value (length out.old)) }
+    ensures fails { IfErr result (LendsNot IsTag judged.old.place.value (length out.old)) }
     ensures stays { judged.new.place.value ≡ judged.old.place.value }
     ensures room { OnErr result (out.new ≡ out.old) }
 {
@@ -166,7 +166,7 @@ fn judged_tag(alloc: Global, judged: &mut Judgement, out: &mut [u8]) -> Result<u
 pub extern "C" fn mk_judged_tag(alloc: Global, judged: &mut Judgement, out: &mut [u8]) -> Reply
     ensures told { (answer : Result ℕ Failure) × (result ≡ reply_of answer)
         × IfOk answer (λ count. Shows IsTag judged.old.place.value out.old count out.new)
-        × IfErr answer (TagNot judged.old.place.value (length out.old))
+        × IfErr answer (LendsNot IsTag judged.old.place.value (length out.old))
         × OnErr answer (out.new ≡ out.old) }
     ensures stays { judged.new.place.value ≡ judged.old.place.value }
 {

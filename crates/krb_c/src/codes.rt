@@ -1,6 +1,7 @@
-//! Numbers of kinds and causes, as C has them: 0 stands for none, and a number that was given is never given to another.
+//! Numbers of kinds and causes, as C has them: 0 is none, and a number that was given is never given to another.
 
-ghost use Rattle.std.specs.Prelude.{◌≡◌, IfSome};
+ghost use Rattle.std.specs.Prelude.{◌≡◌, IfSome, IfNone};
+ghost use Rattle.krb_c.specs.Calls.{HasNoKind, HasNoCause};
 ghost use Rattle.krb_c.specs.Codes.{kind_code, cause_code, number_of};
 
 use krb_entrance::{Cause, ErrorKind};
@@ -124,7 +125,8 @@ pub(crate) fn number_of(cause: Cause) -> u32
 
 /// The kind with this number.
 pub(crate) fn kind_at(code: u32) -> Option<ErrorKind>
-    ensures { IfSome result (λ kind. kind_code kind ≡ code) }
+    ensures has { IfSome result (λ kind. kind_code kind ≡ code) }
+    ensures none { IfNone result (HasNoKind code) }
 {
     match code {
         1 => Some(ErrorKind::InvalidToken),
@@ -160,7 +162,8 @@ pub(crate) fn kind_at(code: u32) -> Option<ErrorKind>
 
 /// A cause with this number.
 pub(crate) fn cause_at(code: u32) -> Option<Cause>
-    ensures { IfSome result (λ cause. cause_code cause ≡ code) }
+    ensures has { IfSome result (λ cause. cause_code cause ≡ code) }
+    ensures none { IfNone result (HasNoCause code) }
 {
     match code {
         1 => Some(Cause::Memory),

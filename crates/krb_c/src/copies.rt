@@ -1,12 +1,9 @@
 //! Copies of an acceptor, for threads that judge tokens.
 
 ghost use Rattle.std.specs.Prelude.{◌≡◌, ℕ, Result, IfOk, IfErr, OnErr};
-ghost use Rattle.sspi_core.specs.Kinds.{error_of};
-ghost use Rattle.sspi_core.specs.declared.cause.Cause.TheVariants as causes;
 ghost use Rattle.krb_c.specs.declared.reply.Failure.{Failure};
 ghost use Rattle.krb_c.specs.Replies.{reply_of};
-ghost use Rattle.krb_c.specs.Calls.{RefusedAs};
-ghost use Rattle.krb_c.specs.Copies.{IsTwin, Copies};
+ghost use Rattle.krb_c.specs.Copies.{IsTwin, Copies, CopiesNot};
 
 use crate::handles::Acceptor;
 use crate::reply::{Failure, Reply, reply_of};
@@ -25,7 +22,7 @@ fn twin_of(alloc: Global, service: &Service) -> Result<Box<Service>, OutOfMemory
 
 fn copy(alloc: Global, acceptor: &mut Acceptor, to: &mut Acceptor) -> Result<usize, Failure>
     ensures copied { IfOk result (λ count. Copies acceptor.old.place.value to.old.place.value count to.new.place.value) }
-    ensures memory { IfErr result (RefusedAs (λ error. error ≡ error_of causes.Memory)) }
+    ensures fails { IfErr result (CopiesNot acceptor.old.place.value to.old.place.value) }
     ensures stays { acceptor.new.place.value ≡ acceptor.old.place.value }
     ensures empty { OnErr result (to.new.place.value ≡ to.old.place.value) }
 {
@@ -57,7 +54,7 @@ pub extern "C" fn mk_acceptor_copy(
 ) -> Reply
     ensures told { (answer : Result ℕ Failure) × (result ≡ reply_of answer)
         × IfOk answer (λ count. Copies acceptor.old.place.value to.old.place.value count to.new.place.value)
-        × IfErr answer (RefusedAs (λ error. error ≡ error_of causes.Memory))
+        × IfErr answer (CopiesNot acceptor.old.place.value to.old.place.value)
         × OnErr answer (to.new.place.value ≡ to.old.place.value) }
     ensures stays { acceptor.new.place.value ≡ acceptor.old.place.value }
 {

@@ -10,7 +10,8 @@ ghost use Rattle.krb_requests.specs.Pieces.{name_of};
 ghost use Rattle.krb_dialogue.specs.Settings.{IsNew};
 ghost use Rattle.krb_c.specs.declared.reply.Failure.{Failure};
 ghost use Rattle.krb_c.specs.Replies.{reply_of};
-ghost use Rattle.krb_c.specs.Dialogues.{flags_from, MakesInitiator, MakesNot, IsNoText, HandsOver, HandsNotOver};
+ghost use Rattle.krb_c.specs.Dialogues.{flags_from, MakesInitiator, HandsOver, HandsNotOver};
+ghost use Rattle.krb_c.specs.Failures.{MakesNot, IsNoText};
 
 use crate::handles::{Connection, Initiator};
 use crate::reply::{Failure, Reply, reply_of};

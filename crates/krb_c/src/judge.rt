@@ -10,6 +10,7 @@ ghost use Rattle.krb_entrance.specs.Candidates.{IsLetIn, Stops, TurnsAway};
 ghost use Rattle.krb_c.specs.declared.reply.Failure.{Failure};
 ghost use Rattle.krb_c.specs.Replies.{reply_of};
 ghost use Rattle.krb_c.specs.Calls.{draw_of};
+ghost use Rattle.krb_c.specs.Failures.{IsLate};
 ghost use Rattle.krb_c.specs.Halves.{IsCandidate, JudgesTo, JudgesNot, LetsInTo, LetsInNot};
 
 use crate::accept::Moment;
@@ -44,7 +45,7 @@ fn judge_at(
     draw: &Draw,
 ) -> Result<usize, Failure>
     ensures judges { IfOk result (λ count. JudgesTo None token.now draw.now acceptor.old.place.value to.old.place.value count to.new.place.value) }
-    ensures fails { IfErr result (JudgesNot None token.now draw.now acceptor.old.place.value) }
+    ensures fails { IfErr result (JudgesNot (IsLate draw.now.moment) None token.now draw.now acceptor.old.place.value to.old.place.value) }
     ensures acceptor { acceptor.new.place.value ≡ acceptor.old.place.value }
     ensures stays { OnErr result (to.new.place.value ≡ to.old.place.value) }
 {
@@ -68,7 +69,7 @@ fn judge(
     moment: &Moment,
 ) -> Result<usize, Failure>
     ensures judges { IfOk result (λ count. JudgesTo None token.now (draw_of moment.now) acceptor.old.place.value to.old.place.value count to.new.place.value) }
-    ensures fails { IfErr result (JudgesNot None token.now (draw_of moment.now) acceptor.old.place.value) }
+    ensures fails { IfErr result (JudgesNot (IsLate moment.now.moment) None token.now (draw_of moment.now) acceptor.old.place.value to.old.place.value) }
     ensures acceptor { acceptor.new.place.value ≡ acceptor.old.place.value }
     ensures stays { OnErr result (to.new.place.value ≡ to.old.place.value) }
 {
@@ -91,7 +92,7 @@ pub extern "C" fn mk_judge(
 ) -> Reply
     ensures told { (answer : Result ℕ Failure) × (result ≡ reply_of answer)
         × IfOk answer (λ count. JudgesTo None token.now (draw_of moment.now) acceptor.old.place.value to.old.place.value count to.new.place.value)
-        × IfErr answer (JudgesNot None token.now (draw_of moment.now) acceptor.old.place.value)
+        × IfErr answer (JudgesNot (IsLate moment.now.moment) None token.now (draw_of moment.now) acceptor.old.place.value to.old.place.value)
         × OnErr answer (to.new.place.value ≡ to.old.place.value) }
     ensures acceptor { acceptor.new.place.value ≡ acceptor.old.place.value }
 {
@@ -136,10 +137,13 @@ fn admit_judged(
 ) -> Result<usize, Failure>
     ensures lets_in { IfOk result (λ count. LetsInTo acceptor.old.place.value judged.old.place.value to.old.place.value count
         acceptor.new.place.value judged.new.place.value to.new.place.value) }
-    ensures turns { IfErr result (LetsInNot acceptor.old.place.value judged.old.place.value acceptor.new.place.value judged.new.place.value) }
+    ensures turns { IfErr result (LetsInNot acceptor.old.place.value judged.old.place.value to.old.place.value acceptor.new.place.value judged.new.place.value) }
     ensures stays { OnErr result (to.new.place.value ≡ to.old.place.value) }
 {
-    if !to.is_empty() || judged.is_empty() {
+    if !to.is_empty() {
+        return Err(Failure::Handle);
+    }
+    if judged.is_empty() {
         return Err(Failure::Handle);
     }
     let Some(mut service) = acceptor.take(alloc) else {
@@ -157,7 +161,7 @@ fn admit_judged(
     Ok(count)
 }
 
-/// The second half: the book's question, which is short, and the checks behind it. The session is made in the empty handle `to`, as
+/// The second half: the book's question, which is short, and the checks after it. The session is made in the empty handle `to`, as
 /// `mk_accept` makes it. The candidate is spent, whether it is admitted or refused.
 ///
 /// HANDLE where a handle is not as the call wants it: then nothing is changed. Where memory runs out no record is made, so the
@@ -172,7 +176,7 @@ pub extern "C" fn mk_admit(
     ensures { (answer : Result ℕ Failure) × (result ≡ reply_of answer)
         × IfOk answer (λ count. LetsInTo acceptor.old.place.value judged.old.place.value to.old.place.value count
         acceptor.new.place.value judged.new.place.value to.new.place.value)
-        × IfErr answer (LetsInNot acceptor.old.place.value judged.old.place.value acceptor.new.place.value judged.new.place.value)
+        × IfErr answer (LetsInNot acceptor.old.place.value judged.old.place.value to.old.place.value acceptor.new.place.value judged.new.place.value)
         × OnErr answer (to.new.place.value ≡ to.old.place.value) }
 {
     reply_of(admit_judged(alloc, acceptor, judged, to))

@@ -1,16 +1,15 @@
 //! The first half of an admission of a client that is held to its channel.
 
-ghost use Rattle.std.specs.Prelude.{◌≡◌, ℕ, Some, Result, IfOk, IfErr, OnErr};
-ghost use Rattle.sspi_core.specs.Kinds.{error_of};
-ghost use Rattle.sspi_core.specs.declared.cause.Cause.TheVariants as causes;
+ghost use Rattle.std.specs.Prelude.{◌≡◌, ◌⊎◌, ℕ, Some, Result, IfOk, IfErr, OnErr};
 ghost use Rattle.sspi_core.specs.declared.error.Place.TheVariants as places;
 ghost use Rattle.krb_context.specs.Refusals.{Refuses};
 ghost use Rattle.krb_dialogue.specs.Settings.{data_bindings};
 ghost use Rattle.krb_entrance.specs.Candidates.{Stops};
 ghost use Rattle.krb_c.specs.declared.reply.Failure.{Failure};
 ghost use Rattle.krb_c.specs.Replies.{reply_of};
-ghost use Rattle.krb_c.specs.Calls.{RefusedAs, draw_of};
-ghost use Rattle.krb_c.specs.Halves.{IsCandidate, JudgesTo, JudgesNot, channel_of};
+ghost use Rattle.krb_c.specs.Calls.{draw_of};
+ghost use Rattle.krb_c.specs.Failures.{IsLate, IsWant, RefusedAs};
+ghost use Rattle.krb_c.specs.Halves.{IsCandidate, IsLong, JudgesTo, JudgesNot, channel_of};
 
 use crate::accept::Moment;
 use crate::handles::{Acceptor, Judgement};
@@ -38,7 +37,7 @@ fn data_bindings(alloc: Global, octets: &[u8]) -> Result<ChannelBindings, OutOfM
 /// The hash of a channel's bindings, where the data are not too long.
 fn channel_of(alloc: Global, octets: &[u8]) -> Result<[u8; 16], Failure>
     ensures hash { IfOk result (λ hash. hash ≡ channel_of octets.now) }
-    ensures fails { IfErr result (RefusedAs (λ error. error ≡ error_of causes.Memory)) }
+    ensures fails { IfErr result (RefusedAs (IsLong octets.now) IsWant) }
 {
     let bindings = match data_bindings(alloc, octets) {
         Ok(bindings) => bindings,
@@ -74,7 +73,8 @@ fn candidate_of(
     draw: &Draw,
 ) -> Result<Box<Candidate>, Failure>
     ensures passes { IfOk result (λ candidate. IsCandidate service.now.keys (Some (channel_of octets.now)) token.now draw.now candidate.value) }
-    ensures refused { IfErr result (RefusedAs (Refuses places.Elsewhere (Stops service.now.keys (Some (channel_of octets.now)) token.now draw.now))) }
+    ensures fails { IfErr result (RefusedAs (IsLong octets.now)
+        (Refuses places.Elsewhere (Stops service.now.keys (Some (channel_of octets.now)) token.now draw.now))) }
 {
     let channel = channel_of(alloc, octets)?;
     match boxed_candidate(alloc, service, channel, token, draw) {
@@ -93,7 +93,8 @@ fn judge_at(
 ) -> Result<usize, Failure>
     ensures judges { IfOk result (λ count. JudgesTo (Some (channel_of octets.now)) token.now draw.now
         acceptor.old.place.value to.old.place.value count to.new.place.value) }
-    ensures fails { IfErr result (JudgesNot (Some (channel_of octets.now)) token.now draw.now acceptor.old.place.value) }
+    ensures fails { IfErr result (JudgesNot (IsLate draw.now.moment ⊎ IsLong octets.now) (Some (channel_of octets.now)) token.now draw.now
+        acceptor.old.place.value to.old.place.value) }
     ensures acceptor { acceptor.new.place.value ≡ acceptor.old.place.value }
     ensures stays { OnErr result (to.new.place.value ≡ to.old.place.value) }
 {
@@ -119,7 +120,8 @@ fn judge_bound(
 ) -> Result<usize, Failure>
     ensures judges { IfOk result (λ count. JudgesTo (Some (channel_of octets.now)) token.now (draw_of moment.now)
         acceptor.old.place.value to.old.place.value count to.new.place.value) }
-    ensures fails { IfErr result (JudgesNot (Some (channel_of octets.now)) token.now (draw_of moment.now) acceptor.old.place.value) }
+    ensures fails { IfErr result (JudgesNot (IsLate moment.now.moment ⊎ IsLong octets.now) (Some (channel_of octets.now)) token.now
+        (draw_of moment.now) acceptor.old.place.value to.old.place.value) }
     ensures acceptor { acceptor.new.place.value ≡ acceptor.old.place.value }
     ensures stays { OnErr result (to.new.place.value ≡ to.old.place.value) }
 {
@@ -143,7 +145,8 @@ pub extern "C" fn mk_judge_bound(
     ensures told { (answer : Result ℕ Failure) × (result ≡ reply_of answer)
         × IfOk answer (λ count. JudgesTo (Some (channel_of octets.now)) token.now (draw_of moment.now)
         acceptor.old.place.value to.old.place.value count to.new.place.value)
-        × IfErr answer (JudgesNot (Some (channel_of octets.now)) token.now (draw_of moment.now) acceptor.old.place.value)
+        × IfErr answer (JudgesNot (IsLate moment.now.moment ⊎ IsLong octets.now) (Some (channel_of octets.now)) token.now
+        (draw_of moment.now) acceptor.old.place.value to.old.place.value)
         × OnErr answer (to.new.place.value ≡ to.old.place.value) }
     ensures acceptor { acceptor.new.place.value ≡ acceptor.old.place.value }
 {

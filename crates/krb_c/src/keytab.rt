@@ -1,9 +1,10 @@
 //! Acceptors of the services of a keytab.
 
-ghost use Rattle.std.specs.Prelude.{◌≡◌, ◌-◌, ◌^◌, ℕ, [], length, min, None, Result, IfOk, IfErr, OnErr};
+ghost use Rattle.std.specs.Prelude.{◌≡◌, ◌-◌, ◌^◌, ℕ, false, [], length, min, None, Result, IfOk, IfErr, OnErr};
 ghost use Rattle.sspi_core.specs.Kinds.{error_of};
 ghost use Rattle.sspi_core.specs.declared.cause.Cause.TheVariants as causes;
 ghost use Rattle.krb_context.specs.ServiceKeys.{new_properties};
+ghost use Rattle.krb_der.specs.Schema.{is_ascii};
 ghost use Rattle.krb_entrance.specs.Services.{token_limit};
 ghost use Rattle.krb_keytab.specs.Format.{Spells};
 ghost use Rattle.krb_keytab.specs.Installing.{keys_of, with_keys};
@@ -11,7 +12,7 @@ ghost use Rattle.krb_replay.specs.Book.{StandsFor};
 ghost use Rattle.krb_replay.specs.History.{no_history};
 ghost use Rattle.krb_c.specs.declared.reply.Failure.{Failure};
 ghost use Rattle.krb_c.specs.Replies.{reply_of};
-ghost use Rattle.krb_c.specs.Calls.{RefusedAs};
+ghost use Rattle.krb_c.specs.Failures.{IsWant, MakesNot, RefusedAs};
 ghost use Rattle.krb_c.specs.Keytabs.{IsOfKeytab, MakesOfKeytab, IsNoKeytab, RefusesKeytab, fault_error};
 
 use crate::handles::Acceptor;
@@ -29,7 +30,7 @@ const TOKEN_LIMIT: usize = 65_536;
 /// A realm's name, where it is ASCII.
 fn realm_of(alloc: Global, realm: &[u8]) -> Result<Name, Failure>
     ensures realm { IfOk result (λ name. name ≡ realm.now) }
-    ensures failure { IfErr result (RefusedAs (λ error. error ≡ error_of causes.Memory)) }
+    ensures fails { IfErr result (RefusedAs (is_ascii realm.now ≡ false) IsWant) }
 {
     match Vec::from_slice(alloc, realm) {
         Ok(octets) => match Name::new(octets) {
@@ -174,7 +175,7 @@ fn make(
     skew: u32,
 ) -> Result<usize, Failure>
     ensures made { IfOk result (λ count. MakesOfKeytab realm.now file.now skew to.old.place.value count to.new.place.value) }
-    ensures refused { IfErr result (RefusedAs (RefusesKeytab realm.now file.now)) }
+    ensures fails { IfErr result (MakesNot (is_ascii realm.now ≡ false) (RefusesKeytab realm.now file.now) to.old.place.value) }
     ensures stays { OnErr result (to.new.place.value ≡ to.old.place.value) }
 {
     if !to.is_empty() {
@@ -205,7 +206,7 @@ pub extern "C" fn mk_acceptor_keytab(
 ) -> Reply
     ensures { (answer : Result ℕ Failure) × (result ≡ reply_of answer)
         × IfOk answer (λ count. MakesOfKeytab realm.now file.now skew to.old.place.value count to.new.place.value)
-        × IfErr answer (RefusedAs (RefusesKeytab realm.now file.now))
+        × IfErr answer (MakesNot (is_ascii realm.now ≡ false) (RefusesKeytab realm.now file.now) to.old.place.value)
         × OnErr answer (to.new.place.value ≡ to.old.place.value) }
 {
     reply_of(make(alloc, to, file, realm, skew))

@@ -1,6 +1,6 @@
 //! A client that was admitted, and its messages.
 
-ghost use Rattle.std.specs.Prelude.{◌≡◌, ℕ, length, None, Result, Ok, IfOk, IfErr, OnOk, OnErr};
+ghost use Rattle.std.specs.Prelude.{◌≡◌, ◌≢◌, ℕ, length, None, Result, Ok, IfOk, IfErr, OnOk, OnErr};
 ghost use Rattle.sspi_core.specs.declared.error.Place.TheVariants as places;
 ghost use Rattle.krb_context.specs.ClearWraps.{WrapsClear};
 ghost use Rattle.krb_context.specs.Mics.{MakesMic};
@@ -20,7 +20,7 @@ use std::alloc::Global;
 fn answer(alloc: Global, session: &mut Connection, out: &mut [u8]) -> Result<usize, Failure>
     ensures serves { IfOk result (λ count. Serves (λ s octets. octets ≡ s.answer) same
         session.old.place.value out.old count session.new.place.value out.new) }
-    ensures fails { IfErr result (ServesNot places.Elsewhere (λ s answer. answer ≡ Ok s.answer) (λ s octets. octets ≡ s.answer)
+    ensures fails { IfErr result (ServesNot ⊥ places.Elsewhere (λ s answer. answer ≡ Ok s.answer) (λ s octets. octets ≡ s.answer)
         session.old.place.value (length out.old)) }
     ensures stays { OnErr result (session.new.place.value ≡ session.old.place.value) }
     ensures room { OnErr result (out.new ≡ out.old) }
@@ -47,7 +47,7 @@ pub extern "C" fn mk_session_answer(
     ensures { (answer : Result ℕ Failure) × (result ≡ reply_of answer)
         × IfOk answer (λ count. Serves (λ s octets. octets ≡ s.answer) same
         session.old.place.value out.old count session.new.place.value out.new)
-        × IfErr answer (ServesNot places.Elsewhere (λ s answer. answer ≡ Ok s.answer) (λ s octets. octets ≡ s.answer)
+        × IfErr answer (ServesNot ⊥ places.Elsewhere (λ s answer. answer ≡ Ok s.answer) (λ s octets. octets ≡ s.answer)
         session.old.place.value (length out.old))
         × OnErr answer (session.new.place.value ≡ session.old.place.value)
         × OnErr answer (out.new ≡ out.old) }
@@ -58,7 +58,7 @@ pub extern "C" fn mk_session_answer(
 fn peer(alloc: Global, session: &mut Connection, out: &mut [u8]) -> Result<usize, Failure>
     ensures serves { IfOk result (λ count. Serves (λ s. IsNamed s.connection) same
         session.old.place.value out.old count session.new.place.value out.new) }
-    ensures fails { IfErr result (ServesNot places.Query (λ s answer. answer ≡ name_of s.connection) (λ s. IsNamed s.connection)
+    ensures fails { IfErr result (ServesNot ⊥ places.Query (λ s answer. answer ≡ name_of s.connection) (λ s. IsNamed s.connection)
         session.old.place.value (length out.old)) }
     ensures stays { OnErr result (session.new.place.value ≡ session.old.place.value) }
     ensures room { OnErr result (out.new ≡ out.old) }
@@ -81,7 +81,7 @@ pub extern "C" fn mk_session_peer(alloc: Global, session: &mut Connection, out: 
     ensures { (answer : Result ℕ Failure) × (result ≡ reply_of answer)
         × IfOk answer (λ count. Serves (λ s. IsNamed s.connection) same
         session.old.place.value out.old count session.new.place.value out.new)
-        × IfErr answer (ServesNot places.Query (λ s answer. answer ≡ name_of s.connection) (λ s. IsNamed s.connection)
+        × IfErr answer (ServesNot ⊥ places.Query (λ s answer. answer ≡ name_of s.connection) (λ s. IsNamed s.connection)
         session.old.place.value (length out.old))
         × OnErr answer (session.new.place.value ≡ session.old.place.value)
         × OnErr answer (out.new ≡ out.old) }
@@ -98,7 +98,7 @@ fn wrap(
 ) -> Result<usize, Failure>
     ensures serves { IfOk result (λ count. Serves (λ s. IsWrapped s.connection confounder.now text.now) made
         session.old.place.value out.old count session.new.place.value out.new) }
-    ensures fails { IfErr result (ServesNot places.Elsewhere
+    ensures fails { IfErr result (ServesNot (length confounder.now ≢ 16) places.Elsewhere
         (λ s. Wraps s.connection confounder.now (text_message s.connection.encryption_params.ec text.now))
         (λ s. IsWrapped s.connection confounder.now text.now) session.old.place.value (length out.old)) }
     ensures stays { OnErr result (session.new.place.value ≡ session.old.place.value) }
@@ -126,7 +126,7 @@ pub extern "C" fn mk_wrap(
     ensures { (answer : Result ℕ Failure) × (result ≡ reply_of answer)
         × IfOk answer (λ count. Serves (λ s. IsWrapped s.connection confounder.now text.now) made
         session.old.place.value out.old count session.new.place.value out.new)
-        × IfErr answer (ServesNot places.Elsewhere
+        × IfErr answer (ServesNot (length confounder.now ≢ 16) places.Elsewhere
         (λ s. Wraps s.connection confounder.now (text_message s.connection.encryption_params.ec text.now))
         (λ s. IsWrapped s.connection confounder.now text.now) session.old.place.value (length out.old))
         × OnErr answer (session.new.place.value ≡ session.old.place.value)
@@ -143,7 +143,7 @@ fn wrap_in_clear(
 ) -> Result<usize, Failure>
     ensures serves { IfOk result (λ count. Serves (λ s token. WrapsClear s.connection text.now (Ok token)) made
         session.old.place.value out.old count session.new.place.value out.new) }
-    ensures fails { IfErr result (ServesNot places.Elsewhere (λ s. WrapsClear s.connection text.now)
+    ensures fails { IfErr result (ServesNot ⊥ places.Elsewhere (λ s. WrapsClear s.connection text.now)
         (λ s token. WrapsClear s.connection text.now (Ok token)) session.old.place.value (length out.old)) }
     ensures stays { OnErr result (session.new.place.value ≡ session.old.place.value) }
     ensures room { OnErr result (out.new ≡ out.old) }
@@ -167,7 +167,7 @@ pub extern "C" fn mk_wrap_in_clear(
     ensures { (answer : Result ℕ Failure) × (result ≡ reply_of answer)
         × IfOk answer (λ count. Serves (λ s token. WrapsClear s.connection text.now (Ok token)) made
         session.old.place.value out.old count session.new.place.value out.new)
-        × IfErr answer (ServesNot places.Elsewhere (λ s. WrapsClear s.connection text.now)
+        × IfErr answer (ServesNot ⊥ places.Elsewhere (λ s. WrapsClear s.connection text.now)
         (λ s token. WrapsClear s.connection text.now (Ok token)) session.old.place.value (length out.old))
         × OnErr answer (session.new.place.value ≡ session.old.place.value)
         × OnErr answer (out.new ≡ out.old) }
@@ -183,7 +183,7 @@ fn unwrap(
 ) -> Result<usize, Failure>
     ensures serves { IfOk result (λ count. Serves (λ s text. UnwrapsInOrder s.order s.connection token.now (Ok text)) (opened token.now)
         session.old.place.value out.old count session.new.place.value out.new) }
-    ensures fails { IfErr result (ServesNot places.Elsewhere (λ s. UnwrapsInOrder s.order s.connection token.now)
+    ensures fails { IfErr result (ServesNot ⊥ places.Elsewhere (λ s. UnwrapsInOrder s.order s.connection token.now)
         (λ s text. UnwrapsInOrder s.order s.connection token.now (Ok text)) session.old.place.value (length out.old)) }
     ensures stays { OnErr result (session.new.place.value ≡ session.old.place.value) }
     ensures room { OnErr result (out.new ≡ out.old) }
@@ -208,7 +208,7 @@ pub extern "C" fn mk_unwrap(
     ensures { (answer : Result ℕ Failure) × (result ≡ reply_of answer)
         × IfOk answer (λ count. Serves (λ s text. UnwrapsInOrder s.order s.connection token.now (Ok text)) (opened token.now)
         session.old.place.value out.old count session.new.place.value out.new)
-        × IfErr answer (ServesNot places.Elsewhere (λ s. UnwrapsInOrder s.order s.connection token.now)
+        × IfErr answer (ServesNot ⊥ places.Elsewhere (λ s. UnwrapsInOrder s.order s.connection token.now)
         (λ s text. UnwrapsInOrder s.order s.connection token.now (Ok text)) session.old.place.value (length out.old))
         × OnErr answer (session.new.place.value ≡ session.old.place.value)
         × OnErr answer (out.new ≡ out.old) }
@@ -224,7 +224,7 @@ fn mic(
 ) -> Result<usize, Failure>
     ensures serves { IfOk result (λ count. Serves (λ s token. MakesMic s.connection payload.now (Ok token)) made
         session.old.place.value out.old count session.new.place.value out.new) }
-    ensures fails { IfErr result (ServesNot places.MakeMic (λ s. MakesMic s.connection payload.now)
+    ensures fails { IfErr result (ServesNot ⊥ places.MakeMic (λ s. MakesMic s.connection payload.now)
         (λ s token. MakesMic s.connection payload.now (Ok token)) session.old.place.value (length out.old)) }
     ensures stays { OnErr result (session.new.place.value ≡ session.old.place.value) }
     ensures room { OnErr result (out.new ≡ out.old) }
@@ -248,7 +248,7 @@ pub extern "C" fn mk_mic(
     ensures { (answer : Result ℕ Failure) × (result ≡ reply_of answer)
         × IfOk answer (λ count. Serves (λ s token. MakesMic s.connection payload.now (Ok token)) made
         session.old.place.value out.old count session.new.place.value out.new)
-        × IfErr answer (ServesNot places.MakeMic (λ s. MakesMic s.connection payload.now)
+        × IfErr answer (ServesNot ⊥ places.MakeMic (λ s. MakesMic s.connection payload.now)
         (λ s token. MakesMic s.connection payload.now (Ok token)) session.old.place.value (length out.old))
         × OnErr answer (session.new.place.value ≡ session.old.place.value)
         × OnErr answer (out.new ≡ out.old) }

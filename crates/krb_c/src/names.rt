@@ -5,7 +5,7 @@ ghost use Rattle.sspi_core.specs.Printed.{kind_text, cause_name};
 ghost use Rattle.krb_sessions.specs.Gives.{Delivers, IsShort};
 ghost use Rattle.krb_c.specs.declared.reply.Failure.{Failure};
 ghost use Rattle.krb_c.specs.Replies.{reply_of};
-ghost use Rattle.krb_c.specs.Calls.{IsKindName, IsCauseName, NamesNot};
+ghost use Rattle.krb_c.specs.Calls.{HasNoKind, HasNoCause, IsKindName, IsCauseName, NamesNot};
 
 use crate::codes::{cause_at, kind_at};
 use crate::reply::{Failure, Reply, reply_of};
@@ -13,7 +13,7 @@ use krb_entrance::put;
 
 fn kind_name(kind: u32, out: &mut [u8]) -> Result<usize, Failure>
     ensures named { IfOk result (λ count. Delivers (IsKindName kind) out.old count out.new) }
-    ensures fails { IfErr result (NamesNot (IsKindName kind) (length out.old)) }
+    ensures fails { IfErr result (NamesNot (HasNoKind kind) (IsKindName kind) (length out.old)) }
     ensures room { OnErr result (out.new ≡ out.old) }
 {
     let Some(kind) = kind_at(kind) else {
@@ -27,7 +27,7 @@ fn kind_name(kind: u32, out: &mut [u8]) -> Result<usize, Failure>
 pub extern "C" fn mk_kind_name(kind: u32, out: &mut [u8]) -> Reply
     ensures { (answer : Result ℕ Failure) × (result ≡ reply_of answer)
         × IfOk answer (λ count. Delivers (IsKindName kind) out.old count out.new)
-        × IfErr answer (NamesNot (IsKindName kind) (length out.old))
+        × IfErr answer (NamesNot (HasNoKind kind) (IsKindName kind) (length out.old))
         × OnErr answer (out.new ≡ out.old) }
 {
     reply_of(kind_name(kind, out))
@@ -35,7 +35,7 @@ pub extern "C" fn mk_kind_name(kind: u32, out: &mut [u8]) -> Reply
 
 fn cause_name(cause: u32, out: &mut [u8]) -> Result<usize, Failure>
     ensures named { IfOk result (λ count. Delivers (IsCauseName cause) out.old count out.new) }
-    ensures fails { IfErr result (NamesNot (IsCauseName cause) (length out.old)) }
+    ensures fails { IfErr result (NamesNot (HasNoCause cause) (IsCauseName cause) (length out.old)) }
     ensures room { OnErr result (out.new ≡ out.old) }
 {
     let Some(cause) = cause_at(cause) else {
@@ -49,7 +49,7 @@ fn cause_name(cause: u32, out: &mut [u8]) -> Result<usize, Failure>
 pub extern "C" fn mk_cause_name(cause: u32, out: &mut [u8]) -> Reply
     ensures { (answer : Result ℕ Failure) × (result ≡ reply_of answer)
         × IfOk answer (λ count. Delivers (IsCauseName cause) out.old count out.new)
-        × IfErr answer (NamesNot (IsCauseName cause) (length out.old))
+        × IfErr answer (NamesNot (HasNoCause cause) (IsCauseName cause) (length out.old))
         × OnErr answer (out.new ≡ out.old) }
 {
     reply_of(cause_name(cause, out))
@@ -57,7 +57,7 @@ pub extern "C" fn mk_cause_name(cause: u32, out: &mut [u8]) -> Reply
 
 fn version(out: &mut [u8]) -> Result<usize, Failure>
     ensures version { IfOk result (λ count. Delivers (λ text. text ≡ codes "0.1.0") out.old count out.new) }
-    ensures fails { IfErr result (NamesNot (λ text. text ≡ codes "0.1.0") (length out.old)) }
+    ensures fails { IfErr result (NamesNot ⊥ (λ text. text ≡ codes "0.1.0") (length out.old)) }
     ensures room { OnErr result (out.new ≡ out.old) }
 {
     Ok(put(out, "0.1.0".as_bytes())?)
@@ -68,7 +68,7 @@ fn version(out: &mut [u8]) -> Result<usize, Failure>
 pub extern "C" fn mk_version(out: &mut [u8]) -> Reply
     ensures { (answer : Result ℕ Failure) × (result ≡ reply_of answer)
         × IfOk answer (λ count. Delivers (λ text. text ≡ codes "0.1.0") out.old count out.new)
-        × IfErr answer (NamesNot (λ text. text ≡ codes "0.1.0") (length out.old))
+        × IfErr answer (NamesNot ⊥ (λ text. text ≡ codes "0.1.0") (length out.old))
         × OnErr answer (out.new ≡ out.old) }
 {
     reply_of(version(out))

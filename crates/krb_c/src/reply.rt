@@ -23,7 +23,7 @@ pub struct Reply {
 pub enum Failure {
     /// The library refuses it.
     Refused(Error),
-    /// The octets are so many, and the room is shorter.
+    /// The room is shorter than this many octets, which the call has to put into it.
     Room(usize),
     /// An argument has a value that it may not have.
     Argument,

@@ -5,7 +5,8 @@ ghost use Rattle.krb_c.specs.declared.reply.Failure.{Failure};
 ghost use Rattle.krb_c.specs.declared.reply.Failure.TheVariants as failures;
 ghost use Rattle.krb_c.specs.Replies.{reply_of};
 ghost use Rattle.krb_c.specs.Rules.{knows, rules_from, SetsSessionRules, SetsInitiatorRules, RefusesRules};
-ghost use Rattle.krb_c.specs.Dialogues.{Sets, SetsNot, IsNever};
+ghost use Rattle.krb_c.specs.Dialogues.{Sets};
+ghost use Rattle.krb_c.specs.Failures.{SetsNot, IsNever};
 
 use crate::handles::{Connection, Initiator};
 use crate::reply::{Failure, Reply, reply_of};

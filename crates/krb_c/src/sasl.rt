@@ -6,7 +6,7 @@ ghost use Rattle.krb_sasl.specs.Answers.{Answers};
 ghost use Rattle.krb_sasl.specs.declared.error.SaslError.TheVariants as refusals;
 ghost use Rattle.krb_sasl.specs.Layers.{layer_of};
 ghost use Rattle.krb_c.specs.declared.sasl_reply.SaslFailure.{SaslFailure};
-ghost use Rattle.krb_c.specs.Dialogues.{IsNoText};
+ghost use Rattle.krb_c.specs.Failures.{IsNoText};
 ghost use Rattle.krb_c.specs.Sasl.{ServesAs, WishesAs, Becomes, BecomesNot};
 ghost use Rattle.krb_c.specs.SaslReplies.{sasl_reply};
 

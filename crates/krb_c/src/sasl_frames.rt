@@ -35,7 +35,7 @@ fn seal(
     answer
 }
 
-/// Seals data into a frame, with 16 fresh random octets: it stands with its length of four octets in front, as it goes to the peer.
+/// Seals data into a frame, with 16 fresh random octets: four octets of length, and the message, as it goes to the peer.
 ///
 /// ARGUMENT where the confounder has not 16 octets; MK_SASL with 2 before a layer is agreed on, and with 5 where the message would be
 /// longer than the peer receives, or without a layer the data have 2^24 octets or more; what the session refuses is told as its own;

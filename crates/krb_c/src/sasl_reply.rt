@@ -12,7 +12,7 @@ use krb_sasl::{SaslError, SaslFault};
 pub enum SaslFailure {
     /// The end refuses it.
     Refused(SaslError),
-    /// The octets are so many, and the room is shorter.
+    /// The room is shorter than this many octets, which the call has to put into it.
     Room(usize),
     /// An argument has a value that it may not have.
     Argument,

@@ -17,7 +17,7 @@ use std::alloc::Global;
 fn session_key(alloc: Global, session: &mut Connection, out: &mut [u8]) -> Result<usize, Failure>
     ensures serves { IfOk result (λ count. Serves (λ s. IsKey s.connection) same
         session.old.place.value out.old count session.new.place.value out.new) }
-    ensures fails { IfErr result (ServesNot places.Elsewhere (λ s. Takes causes.Sequence (key_of s.connection.encryption_params))
+    ensures fails { IfErr result (ServesNot ⊥ places.Elsewhere (λ s. Takes causes.Sequence (key_of s.connection.encryption_params))
         (λ s. IsKey s.connection) session.old.place.value (length out.old)) }
     ensures stays { OnErr result (session.new.place.value ≡ session.old.place.value) }
     ensures room { OnErr result (out.new ≡ out.old) }
@@ -40,7 +40,7 @@ pub extern "C" fn mk_session_key(alloc: Global, session: &mut Connection, out: &
     ensures { (answer : Result ℕ Failure) × (result ≡ reply_of answer)
         × IfOk answer (λ count. Serves (λ s. IsKey s.connection) same
         session.old.place.value out.old count session.new.place.value out.new)
-        × IfErr answer (ServesNot places.Elsewhere (λ s. Takes causes.Sequence (key_of s.connection.encryption_params))
+        × IfErr answer (ServesNot ⊥ places.Elsewhere (λ s. Takes causes.Sequence (key_of s.connection.encryption_params))
         (λ s. IsKey s.connection) session.old.place.value (length out.old))
         × OnErr answer (session.new.place.value ≡ session.old.place.value)
         × OnErr answer (out.new ≡ out.old) }

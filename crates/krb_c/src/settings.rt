@@ -16,7 +16,8 @@ ghost use Rattle.krb_dialogue.specs.Settings.{
 };
 ghost use Rattle.krb_c.specs.declared.reply.Failure.{Failure};
 ghost use Rattle.krb_c.specs.Replies.{reply_of};
-ghost use Rattle.krb_c.specs.Dialogues.{Sets, SetsNot, IsNoText, IsWant};
+ghost use Rattle.krb_c.specs.Dialogues.{Sets};
+ghost use Rattle.krb_c.specs.Failures.{SetsNot, IsNoText, IsWant};
 
 use crate::handles::Initiator;
 use crate::reply::{Failure, Reply, reply_of};
@@ -173,7 +174,7 @@ fn add_variable(
     }
 }
 
-/// A variable of the environment, behind those that are there; the first of a name counts. ARGUMENT where a text is not UTF-8.
+/// Adds a variable of the environment after those that are there; the first of a name counts. ARGUMENT: a text is not UTF-8.
 #[unsafe(no_mangle)]
 pub extern "C" fn mk_initiator_variable(
     alloc: Global,
@@ -214,7 +215,7 @@ fn add_file(
     }
 }
 
-/// The text of a file, as that of `/etc/krb5.conf`, behind those that are there; the first of a path counts. ARGUMENT where a text is
+/// Adds the text of a file, as that of `/etc/krb5.conf`, after those that are there; the first of a path counts. ARGUMENT: a text is
 /// not UTF-8.
 #[unsafe(no_mangle)]
 pub extern "C" fn mk_initiator_file(

@@ -41,7 +41,7 @@ fn client(alloc: Global, judged: &mut Judgement, out: &mut [u8]) -> Result<usize
 }
 
 /// Who the client is, whole: all components of its name and the realm, as `alice/admin@EXAMPLE.COM`, with a backslash before
-/// those of these marks that stand in them (RFC 1964, section 2.1.1). **It is not admitted yet.**
+/// those of these marks that are in them (RFC 1964, section 2.1.1). **It is not admitted yet.**
 #[unsafe(no_mangle)]
 pub extern "C" fn mk_judged_client(alloc: Global, judged: &mut Judgement, out: &mut [u8]) -> Reply
     ensures told { (answer : Result ℕ Failure) × (result ≡ reply_of answer)
@@ -83,7 +83,7 @@ fn service(alloc: Global, judged: &mut Judgement, out: &mut [u8]) -> Result<usiz
 }
 
 /// The service that the ticket is for, as `host/server.example.com@EXAMPLE.COM`: its key opened the ticket. The realm is the one
-/// that stands in the ticket's clear part, which nothing seals.
+/// in the ticket's clear part, which nothing protects.
 #[unsafe(no_mangle)]
 pub extern "C" fn mk_judged_service(alloc: Global, judged: &mut Judgement, out: &mut [u8]) -> Reply
     ensures told { (answer : Result ℕ Failure) × (result ≡ reply_of answer)

@@ -3,12 +3,11 @@
 ghost use Rattle.std.specs.Prelude.{◌≡◌, ℕ, Result, Ok, Err, IfOk, IfErr};
 ghost use Rattle.sspi_generator.specs.declared.network.NetFault.TheVariants as net_faults;
 ghost use Rattle.krb_dialogue.specs.declared.dialogue.Next.{Next};
-ghost use Rattle.krb_dialogue.specs.Outcomes.{IsNetwork};
 ghost use Rattle.krb_dialogue.specs.Steps.{Starts, Hears, Takes};
 ghost use Rattle.krb_c.specs.declared.reply.Failure.{Failure};
-ghost use Rattle.krb_c.specs.Calls.{RefusedAs, draw_of};
+ghost use Rattle.krb_c.specs.Calls.{draw_of};
 ghost use Rattle.krb_c.specs.Replies.{step_reply};
-ghost use Rattle.krb_c.specs.Steps.{StepsTo, StepsNot, twelve, those_left};
+ghost use Rattle.krb_c.specs.Steps.{IsNoNetwork, StepsTo, StepsNot, twelve, those_left};
 
 use crate::accept::Moment;
 use crate::handles::Initiator;
@@ -22,7 +21,7 @@ fn start(alloc: Global, initiator: &mut Initiator, moment: &Moment) -> Result<Ne
         initiator.old.place.value initiator.new.place.value) }
     ensures fails { IfErr result (StepsNot (λ dialogue. Starts dialogue (draw_of moment.now))
         initiator.old.place.value initiator.new.place.value) }
-    ensures fault { IfErr result (RefusedAs (λ error. IsNetwork error → ⊥)) }
+    ensures fault { IfErr result IsNoNetwork }
 {
     let Some(mut dialogue) = initiator.take(alloc) else {
         return Err(Failure::Handle);
@@ -51,7 +50,7 @@ pub extern "C" fn mk_initiator_start(
         initiator.old.place.value initiator.new.place.value)
         × IfErr answer (StepsNot (λ dialogue. Starts dialogue (draw_of moment.now))
         initiator.old.place.value initiator.new.place.value)
-        × IfErr answer (RefusedAs (λ error. IsNetwork error → ⊥)) }
+        × IfErr answer IsNoNetwork }
 {
     step_reply(start(alloc, initiator, moment))
 }
@@ -66,7 +65,7 @@ fn hear(
         initiator.old.place.value initiator.new.place.value) }
     ensures fails { IfErr result (StepsNot (λ dialogue. Hears dialogue token.now (draw_of moment.now))
         initiator.old.place.value initiator.new.place.value) }
-    ensures fault { IfErr result (RefusedAs (λ error. IsNetwork error → ⊥)) }
+    ensures fault { IfErr result IsNoNetwork }
 {
     let Some(mut dialogue) = initiator.take(alloc) else {
         return Err(Failure::Handle);
@@ -92,7 +91,7 @@ pub extern "C" fn mk_initiator_hear(
         initiator.old.place.value initiator.new.place.value)
         × IfErr answer (StepsNot (λ dialogue. Hears dialogue token.now (draw_of moment.now))
         initiator.old.place.value initiator.new.place.value)
-        × IfErr answer (RefusedAs (λ error. IsNetwork error → ⊥)) }
+        × IfErr answer IsNoNetwork }
 {
     step_reply(hear(alloc, initiator, token, moment))
 }
@@ -107,7 +106,7 @@ fn answer(
         initiator.old.place.value initiator.new.place.value) }
     ensures fails { IfErr result (StepsNot (λ dialogue. Takes dialogue (Ok octets.now) (draw_of moment.now))
         initiator.old.place.value initiator.new.place.value) }
-    ensures fault { IfErr result (RefusedAs (λ error. IsNetwork error → ⊥)) }
+    ensures fault { IfErr result IsNoNetwork }
 {
     let Some(mut dialogue) = initiator.take(alloc) else {
         return Err(Failure::Handle);
@@ -134,7 +133,7 @@ pub extern "C" fn mk_initiator_answer(
         initiator.old.place.value initiator.new.place.value)
         × IfErr answer (StepsNot (λ dialogue. Takes dialogue (Ok octets.now) (draw_of moment.now))
         initiator.old.place.value initiator.new.place.value)
-        × IfErr answer (RefusedAs (λ error. IsNetwork error → ⊥)) }
+        × IfErr answer IsNoNetwork }
 {
     step_reply(answer(alloc, initiator, octets, moment))
 }

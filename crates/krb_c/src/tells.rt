@@ -63,7 +63,7 @@ fn client(alloc: Global, session: &mut Connection, out: &mut [u8]) -> Result<usi
 }
 
 /// Who the client is, whole: all components of its name and the realm, as `alice/admin@EXAMPLE.COM`, with a backslash before
-/// those of these marks that stand in them (RFC 1964, section 2.1.1). HANDLE for an initiator's session.
+/// those of these marks that are in them (RFC 1964, section 2.1.1). HANDLE for an initiator's session.
 #[unsafe(no_mangle)]
 pub extern "C" fn mk_session_client(
     alloc: Global,

@@ -1,11 +1,10 @@
 //! Arguments that have to be of a form.
 
-ghost use Rattle.std.specs.Prelude.{◌≡◌, ◌≢◌, ◌<◌, length, IfOk, IfErr, OnErr};
-ghost use Rattle.sspi_core.specs.Kinds.{error_of};
-ghost use Rattle.sspi_core.specs.declared.cause.Cause.TheVariants as causes;
+ghost use Rattle.std.specs.Prelude.{◌≡◌, ◌≢◌, ◌≤◌, ◌<◌, true, false, length, IfOk, IfErr, OnOk, OnErr};
+ghost use Rattle.sspi_core.specs.Moments.{last_moment};
 ghost use Rattle.krb_c.specs.declared.reply.Failure.TheVariants as failures;
-ghost use Rattle.krb_c.specs.Calls.{RefusedAs, draw_of};
-ghost use Rattle.krb_c.specs.Dialogues.{IsNoText};
+ghost use Rattle.krb_c.specs.Calls.{draw_of};
+ghost use Rattle.krb_c.specs.Failures.{IsLate, IsNoText, IsWant, RefusedAs, has_key_length};
 
 use crate::accept::Moment;
 use crate::reply::Failure;
@@ -27,7 +26,8 @@ pub(crate) fn text_of(octets: &[u8]) -> Result<&str, Failure>
 /// A key, where it has the length of one of the two suites.
 pub(crate) fn key_of(alloc: Global, key: &[u8]) -> Result<Octets, Failure>
     ensures key { IfOk result (λ copy. copy ≡ key.now) }
-    ensures failure { IfErr result (RefusedAs (λ error. error ≡ error_of causes.Memory)) }
+    ensures fits { OnOk result (has_key_length key.now ≡ true) }
+    ensures fails { IfErr result (RefusedAs (has_key_length key.now ≡ false) IsWant) }
 {
     if key.len() != 16 && key.len() != 32 {
         return Err(Failure::Argument);
@@ -81,7 +81,9 @@ pub(crate) fn etype_of(etype: u32) -> Result<u8, Failure>
 /// A moment as the library has it, where it is in range.
 pub(crate) fn draw_of(moment: &Moment) -> Result<Draw, Failure>
     ensures same { IfOk result (λ draw. draw ≡ draw_of moment.now) }
+    ensures in_range { OnOk result (moment.now.moment ≤ last_moment) }
     ensures failure { IfErr result (λ failure. failure ≡ failures.Argument) }
+    ensures unfit { OnErr result (IsLate moment.now.moment) }
 {
     if MAX_MOMENT < moment.moment {
         return Err(Failure::Argument);

@@ -41,7 +41,7 @@ fn admit_judged(
 ) -> Result<usize, Failure>
     ensures lets_in { IfOk result (λ count. ToldInTo judged.old.place.value to.old.place.value skew moment seen count
         judged.new.place.value to.new.place.value) }
-    ensures turns { IfErr result (ToldInNot judged.old.place.value skew moment seen judged.new.place.value) }
+    ensures turns { IfErr result (ToldInNot judged.old.place.value to.old.place.value skew moment seen judged.new.place.value) }
     ensures stays { OnErr result (to.new.place.value ≡ to.old.place.value) }
 {
     if !to.is_empty() {
@@ -74,7 +74,7 @@ pub extern "C" fn mk_admit_told(
     ensures { (answer : Result ℕ Failure) × (result ≡ reply_of answer)
         × IfOk answer (λ count. ToldInTo judged.old.place.value to.old.place.value skew moment seen count
         judged.new.place.value to.new.place.value)
-        × IfErr answer (ToldInNot judged.old.place.value skew moment seen judged.new.place.value)
+        × IfErr answer (ToldInNot judged.old.place.value to.old.place.value skew moment seen judged.new.place.value)
         × OnErr answer (to.new.place.value ≡ to.old.place.value) }
 {
     reply_of(admit_judged(alloc, judged, to, skew, moment, seen))

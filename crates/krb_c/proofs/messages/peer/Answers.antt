@@ -8,5 +8,5 @@ use Rattle.krb_c.proofs.messages.peer.Goals as goal
 
 pub returns-in-Err-clause-fails : goal.returns-in-Err-clause-fails
 returns-in-Err-clause-fails c =
-    rw c.from.ensures (serves_not places.Query (λ s answer. answer ≡ name_of s.connection) (λ s. IsNamed s.connection) _ _ c.deref.result.now c.in-Err.fault
+    rw c.from.ensures (serves_not ⊥ places.Query (λ s answer. answer ≡ name_of s.connection) (λ s. IsNamed s.connection) _ _ c.deref.result.now c.in-Err.fault
     (sym c.in-Some.ensures.taken ∙ ap Some (sym c.deref.ensures)) c.in-Err.ensures.refused)
