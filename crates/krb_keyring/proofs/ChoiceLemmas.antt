@@ -1,13 +1,13 @@
 -- The order of the entries that a ticket is opened with.
-use Rattle.std.proofs.Common.{◌≡◌, ℕ, ◌+◌, ◌<◌, ◌≤◌, ◌^◌, Bool, true, false, cond, List, [], ◌∷◌, ◌++◌, length, take, drop, get_or, refl, sym, ap, ◌∙◌, subst, arith}
-use Rattle.std.specs.Prelude.{ℤ, pos, not, map, insert, nat_lt, if◌then◌else◌, FitsSigned}
+use Rattle.std.proofs.Common.{◌≡◌, ℕ, ◌+◌, ◌<◌, ◌^◌, Bool, false, cond, List, [], ◌∷◌, ◌++◌, length, take, drop, get_or, refl, sym, ap, ◌∙◌, subst, arith}
+use Rattle.std.specs.Prelude.{ℤ, pos, not, map, insert, nat_lt, FitsSigned}
 use Rattle.std.specs.Borrow.{Bor}
 use Rattle.std.specs.Int.{w64}
 use Rattle.std.specs.List.{position_or_len}
 use Rattle.std.specs.Ordering.{int_eq}
 use Rattle.std.proofs.lemmas.Bool.{false_from_ne_true}
 use Rattle.std.proofs.lemmas.Bool.Decides.{Decides-int_eq}
-use Rattle.std.proofs.lemmas.List.{map-append, take-map, drop-map, drop_more, drop_all}
+use Rattle.std.proofs.lemmas.List.{map-append, take-map, drop-map}
 use Rattle.std.proofs.lemmas.List.Sums.{fold_more}
 use Rattle.krb_keyring.specs.Choice.{put, newest_with, newest_first}
 use Rattle.krb_keytab.specs.declared.entry.KeytabEntry.{KeytabEntry}
@@ -21,38 +21,6 @@ fits_w64 n low = record { sfits = omega arith }
 pub past_w64 : (integer : ℤ) (n : ℕ) → n < 2 ^ 32 → (FitsSigned w64 integer → ⊥) → int_eq integer (pos n) ≡ false
 past_w64 integer n low past =
     false_from_ne_true (int_eq integer (pos n)) (λ e. past (subst (FitsSigned w64) (sym ((Decides-int_eq integer (pos n)).0 e)) (fits_w64 n low)))
-
--- ---- the place of the first that passes, as a loop looks for it
-
-module _ {X : Type 0} (p : X → Bool) where
-  first_by : (b : Bool) (x : X) (xs : List X) → p x ≡ b → position_or_len p (x ∷ xs) ≡ cond b 0 (1 + position_or_len p xs)
-  first_by true x xs e = ap (λ (b : Bool). cond (not b) (1 + position_or_len p xs) 0) e
-  first_by false x xs e = ap (λ (b : Bool). cond (not b) (1 + position_or_len p xs) 0) e
-
-  next_at : (xs : List X) (i : ℕ) (x : X) → i < length xs → x ≡ get_or xs i x → drop i xs ≡ x ∷ drop (i + 1) xs
-  next_at xs i x low is = drop_more xs i x low ∙ ap (λ (y : X). y ∷ drop (i + 1) xs) (sym is)
-
-  -- it does not pass
-  pub goes_by : (xs : List X) (i : ℕ) (x : X) → i < length xs → x ≡ get_or xs i x → p x ≡ false
-      → position_or_len p xs ≡ i + position_or_len p (drop i xs) → position_or_len p xs ≡ (i + 1) + position_or_len p (drop (i + 1) xs)
-  goes_by xs i x low is e so_far =
-      let one : position_or_len p (drop i xs) ≡ 1 + position_or_len p (drop (i + 1) xs) =
-      ap (position_or_len p) (next_at xs i x low is) ∙ first_by false x (drop (i + 1) xs) e in
-      omega (arith, so_far, one)
-
-  -- it passes
-  pub stops_at : (xs : List X) (i : ℕ) (x : X) → i < length xs → x ≡ get_or xs i x → p x ≡ true
-      → position_or_len p xs ≡ i + position_or_len p (drop i xs) → i ≡ position_or_len p xs
-  stops_at xs i x low is e so_far =
-      let none : position_or_len p (drop i xs) ≡ 0 = ap (position_or_len p) (next_at xs i x low is) ∙ first_by true x (drop (i + 1) xs) e in
-      omega (arith, so_far, none)
-
-  -- none passes
-  pub ends_at : (xs : List X) (i n : ℕ) → length xs ≤ i → i ≤ length xs → n ≡ length xs
-      → position_or_len p xs ≡ i + position_or_len p (drop i xs) → n ≡ position_or_len p xs
-  ends_at xs i n past within is so_far =
-      let none : position_or_len p (drop i xs) ≡ 0 = ap (position_or_len p) (drop_all i xs past) in
-      omega (arith, so_far, none)
 
 -- ---- lent entries, and the entries
 

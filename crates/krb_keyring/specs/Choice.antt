@@ -1,6 +1,6 @@
 -- Which keys a ticket is opened with. A ticket names its service, its realm, the encryption type and the version of its key in the clear
 -- (RFC 4120, sections 5.2.9 and 5.3).
-use Rattle.std.specs.Prelude.{ℕ, Bool, true, false, ◌&&◌, List, [], fold, insert, Option, Some, None, nat_lt, pos, if◌then◌else◌}
+use Rattle.std.specs.Prelude.{ℕ, Bool, false, ◌&&◌, List, [], fold, insert, Option, Some, None, nat_lt, pos, if◌then◌else◌}
 use Rattle.std.specs.List.{list_any, position_or_len}
 use Rattle.std.specs.Ordering.{int_eq}
 use Rattle.krb_der.specs.Integer.{integer_value}

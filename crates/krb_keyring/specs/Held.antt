@@ -1,5 +1,5 @@
 -- What a keyring has under a name.
-use Rattle.std.specs.Prelude.{ℕ, List, [], ◌++◌, filter, Option, Some, None}
+use Rattle.std.specs.Prelude.{ℕ, List, [], filter, Option, Some, None}
 use Rattle.indexmap.specs.IndexMap.{IndexMap, get}
 use Rattle.krb_keyring.specs.declared.keyring.Keyring.{Keyring}
 use Rattle.krb_keyring.specs.declared.services.Entries.{Entries}

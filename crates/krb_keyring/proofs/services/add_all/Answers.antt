@@ -1,8 +1,7 @@
-use Rattle.std.proofs.Common.{◌≡◌, ℕ, ◌+◌, List, [], ◌∷◌, ◌++◌, take, sym, ap, ◌∙◌, take_all, arith}
+use Rattle.std.proofs.Common.{take, sym, ◌∙◌, arith}
 use Rattle.std.proofs.lemmas.List.{append-nil}
 use Rattle.krb_keyring.specs.Held.{held_in, named}
 use Rattle.krb_keyring.proofs.HeldLemmas.{more, one_named}
-use Rattle.krb_keytab.specs.declared.entry.KeytabEntry.{KeytabEntry}
 use Rattle.krb_keyring.proofs.services.add_all.Goals as goal
 
 pub loop-count-init : goal.loop-count-init
