@@ -62,7 +62,6 @@ start_mit() {
         kadmin.local ktadd -k "$mit/keytab" "$service"
     done
     krb5kdc -n > "$mit/kdc.out" 2>&1 &
-    started+=($!)
     await_port "$mit_port"
     echo secret | kinit alice
 }

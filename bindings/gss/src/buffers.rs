@@ -35,8 +35,8 @@ pub unsafe fn text(buffer: Buffer) -> String {
     String::from_utf8_lossy(unsafe { octets(buffer) }).into_owned()
 }
 
-/// Puts octets into a buffer for the caller, which frees them by `free`. Answers whether there was memory for them; else the buffer is
-/// empty.
+/// Puts octets into a buffer for the caller, which frees them by `free`. An octet 0 comes after them and is not counted, since programs
+/// print the words of a status as text of C, and MIT's mechanism has it. Answers whether there was memory for them; else the buffer is empty.
 ///
 /// # Safety
 /// The buffer is null or can be written.
@@ -50,14 +50,15 @@ pub unsafe fn put(buffer: Buffer, octets: &[u8]) -> bool {
         if octets.is_empty() {
             return true;
         }
-        let at = malloc(octets.len());
+        let at: *mut u8 = malloc(octets.len() + 1).cast();
         if at.is_null() {
             return false;
         }
-        std::ptr::copy_nonoverlapping(octets.as_ptr(), at.cast(), octets.len());
+        std::ptr::copy_nonoverlapping(octets.as_ptr(), at, octets.len());
+        at.add(octets.len()).write(0);
         buffer.write(BufferDesc {
             length: octets.len(),
-            value: at,
+            value: at.cast(),
         });
     }
     true
@@ -121,6 +122,7 @@ mod tests {
         unsafe {
             assert!(put(&mut buffer, b"abc"));
             assert_eq!(octets(&mut buffer), b"abc");
+            assert_eq!(slice(buffer.value.cast(), 4), b"abc\0");
             free(buffer.value);
             assert!(put(&mut buffer, b""));
             assert!(buffer.value.is_null() && buffer.length == 0);

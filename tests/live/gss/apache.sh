@@ -1,6 +1,7 @@
 # Apache with mod_auth_gssapi, one process a connection and one thread a connection, and curl --negotiate.
 
 # Starts Apache: start_apache PREFORK|EVENT, and leaves its port in web_port. Its keytab is that of its credential store.
+# NO_DETACH gives it a session of its own: with FOREGROUND alone its end is that of all in its group of processes, as of tests/live/run.
 start_apache() {
     local gss_conf=$gss/apache.conf folder=$gss/apache-$1 modules=/usr/lib/apache2/modules name
     gss_settings "file:$gss/store" | sed '/^keytab/d' > "$gss_conf"
@@ -13,7 +14,7 @@ start_apache() {
         printf '%s\n' "DocumentRoot $folder/pages" '<Location />' 'AuthType GSSAPI' 'AuthName "Menolavuri"' 'Require valid-user' \
             "GssapiCredStore keytab:$gss/keytab" 'Header set X-User expr=%{REMOTE_USER}' '</Location>'
     } > "$folder/conf"
-    serve "apache-$1" /usr/sbin/apache2 -D FOREGROUND -f "$folder/conf"
+    serve "apache-$1" /usr/sbin/apache2 -D NO_DETACH -f "$folder/conf"
     await_port "$web_port"
 }
 

@@ -28,7 +28,8 @@ has_a_crowd() {
     [ "$said" = 'of 400 log-ins 0 were refused' ]
 }
 
-# Whether valgrind finds no error in gss-server and the interposer, and nothing lost but what the mechglue loses by itself.
+# Whether valgrind finds no error in gss-server and the interposer, and nothing lost but what the mechglue loses by itself, with one client
+# that is judged so: is_clean admits SERVICE, is_clean has_wrong_clock
 is_clean() {
     local sample_port process
     sample_port=$(free_port)
@@ -37,7 +38,7 @@ is_clean() {
     process=$last
     # (it serves one connection, so that a look whether it listens must not be one)
     for _ in $(seq 100); do grep -q ":$(printf %04X "$sample_port") 00000000:0000 0A" /proc/net/tcp && break; sleep 0.2; done
-    sample_client "$sample_port" 3 -mcount 3 || return 1
+    "$@" bash -c "sample_client $sample_port 3 -mcount 3" || return 1
     wait "$process" || { grep -v '^[^=]' "$room/valgrind.log"; return 1; }
 }
 
@@ -72,5 +73,6 @@ try_gss_samples() {
     check "gss-server: KRB5_KTNAME and MENOLAVURI_TRACE" has_environment
     check "gss-server: four processes of one client at once" has_a_crowd "$first"
     command -v valgrind > /dev/null || { echo "not tried: gss-server under Debian's valgrind"; return; }
-    check "gss-server under valgrind" is_clean
+    check "gss-server under valgrind" is_clean admits host/localhost
+    check "gss-server under valgrind, a client that is refused" is_clean has_wrong_clock
 }
