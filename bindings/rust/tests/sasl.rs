@@ -187,26 +187,31 @@ fn offers_without_the_layer_are_not_answered() {
     assert_eq!(client.answer(&token).unwrap()[16..20], [2, 1, 0, 0]);
 }
 
-#[test]
-fn frames_are_whole_and_of_the_layer() {
+/// A client's session, and the server's end with the layer of confidentiality and frames of 100 octets.
+fn layered() -> (Session, SaslServer) {
     let (mut peer, acceptor) = meet();
     let mut server = SaslServer::new(acceptor, Layers::ALL, 100).unwrap();
     server.offer().unwrap();
     let token = peer.wrap_in_clear(&[4, 0, 0, 100]).unwrap();
     assert_eq!(server.accept(&token).unwrap(), "");
+    (peer, server)
+}
+
+fn frame(message: Vec<u8>) -> Vec<u8> {
+    [&(message.len() as u32).to_be_bytes()[..], &message].concat()
+}
+
+#[test]
+fn frames_are_whole_and_of_the_layer() {
+    let (mut peer, mut server) = layered();
     assert_eq!(server.seal(&[7; 40]).unwrap().len(), 104);
     assert!(is_refused(server.seal(&[7; 41]), LayerRefusal::TooLarge));
-    let mut frame = |text: &[u8], sealed: bool| {
-        let message = match sealed {
-            true => peer.wrap(text),
-            false => peer.wrap_in_clear(text),
-        };
-        let message = message.unwrap();
-        [&(message.len() as u32).to_be_bytes()[..], &message].concat()
-    };
-    let (clear, long, whole) = (frame(b"a", false), frame(&[7; 41], true), frame(b"a", true));
+    let clear = frame(peer.wrap_in_clear(b"a").unwrap());
     assert!(is_refused(server.unseal(&clear), LayerRefusal::Frame));
+    let long = frame(peer.wrap(&[7; 41]).unwrap());
     assert!(is_refused(server.unseal(&long), LayerRefusal::TooLarge));
+    let (mut peer, mut server) = layered();
+    let whole = frame(peer.wrap(b"a").unwrap());
     for length in 0..whole.len() {
         assert!(is_refused(
             server.unseal(&whole[..length]),
@@ -214,6 +219,19 @@ fn frames_are_whole_and_of_the_layer() {
         ));
     }
     assert_eq!(server.unseal(&whole).unwrap(), b"a");
+}
+
+/// RFC 4752, section 3.1: the messages of a layer are in sequence.
+#[test]
+fn frames_are_taken_in_order() {
+    let (mut peer, mut server) = layered();
+    let first = frame(peer.wrap(b"a").unwrap());
+    let second = frame(peer.wrap(b"b").unwrap());
+    let early = server.unseal(&second).unwrap_err();
+    assert_eq!(early.cause(), Some(Cause::NUMBER));
+    assert_eq!(server.unseal(&first).unwrap(), b"a");
+    assert_eq!(server.unseal(&second).unwrap(), b"b");
+    assert!(server.unseal(&first).is_err());
 }
 
 #[test]
