@@ -52,7 +52,7 @@ pub struct StoreDesc {
 pub type CredStore = *const StoreDesc;
 pub type Iov = *mut c_void;
 
-/// A name, a credential or a context of the mechglue, or of the mechanism behind.
+/// A name, a credential or a context of the mechglue, or of MIT's mechanism.
 pub type Name = *mut c_void;
 pub type Cred = *mut c_void;
 pub type Ctx = *mut c_void;

@@ -1,4 +1,4 @@
-//! The acceptor: a client's first token is judged by the library, and what came of it is told and counted.
+//! The acceptor: a client's first token is judged by the library, and the decision is logged and counted.
 
 use crate::abi::*;
 use crate::buffers::{octets, put, set};
@@ -44,7 +44,7 @@ fn flags_of(asked: Option<GssFlags>, is_answered: bool, is_bound: bool) -> u32 {
     asked | mutual | bound | PROT_READY_FLAG
 }
 
-/// A client that was let in, as the caller is told of it.
+/// A client that was admitted, as the caller learns of it.
 struct Accepted {
     name: Name,
     proved: Proved,
@@ -106,7 +106,7 @@ fn shown(known: &Known) -> String {
     )
 }
 
-/// Writes the decision to the log, and counts it. The decision stands where that fails.
+/// Writes the decision to the log, and counts it. If that fails the decision is the same.
 fn tell(
     settings: Result<&Settings, &str>,
     known: &Known,
@@ -136,7 +136,7 @@ fn tell(
     }
 }
 
-/// Where the caller wants to be told of a client.
+/// The places in which the caller takes what it learns of a client.
 struct Out {
     ctx: *mut *mut c_void,
     source: *mut Name,

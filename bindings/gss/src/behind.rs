@@ -1,4 +1,4 @@
-//! The calls of the mechglue, which this interposer makes in turn: the mechanism behind answers them.
+//! The calls of the mechglue, which this interposer makes in turn: MIT's mechanism answers them.
 
 use crate::abi::*;
 use std::ffi::{c_char, c_int};

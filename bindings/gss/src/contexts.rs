@@ -1,4 +1,4 @@
-//! Contexts: an acceptor's is the library's session, and an initiator's that of the mechanism behind.
+//! Contexts: an acceptor's is the library's session, and an initiator's that of MIT's mechanism.
 
 use crate::abi::*;
 use crate::behind::*;

@@ -116,7 +116,7 @@ pub fn read(file: &File) -> Result<Counters, String> {
     Ok(whole.unwrap_or_default())
 }
 
-/// Counts a client in this user's file. Where that fails nothing is counted: the decision stands.
+/// Counts a client in this user's file. Where that fails nothing is counted: the decision is the same.
 pub fn count(folder: &str, minor: Option<u32>, took: Duration) -> Result<(), String> {
     FILE.with(folder, NAME, |file| {
         let mut all = read(file)?;

@@ -1,4 +1,4 @@
-//! Credentials. An acceptor's has nothing behind it: the mechanism behind may have no key at all, so that it lets nobody in by itself.
+//! Credentials. An acceptor's has none of MIT's mechanism: MIT's mechanism may have no key at all, so that it admits nobody by itself.
 
 use crate::abi::*;
 use crate::behind::*;
@@ -10,7 +10,7 @@ use crate::{config, keys, keytab, names, say, trace};
 use std::ffi::{CStr, c_int, c_void};
 use std::ptr::{null, null_mut};
 
-/// A credential: that of the mechanism behind, and what the proved acceptor needs.
+/// A credential: that of MIT's mechanism, and what the proved acceptor needs.
 pub struct Credential {
     pub behind: Cred,
     pub accepts: bool,
@@ -87,7 +87,7 @@ unsafe fn acceptor_there(mech: Oid, keytab: Option<&str>) -> Result<(), Refused>
     keys::of_file(keytab::path(&name), settings.skew).map(|_| ())
 }
 
-/// The part of a credential that the mechanism behind has: to initiate alone, where it is to accept too.
+/// The part of a credential that MIT's mechanism has: to initiate alone, where it is to accept too.
 unsafe fn acquire_behind(
     minor: *mut u32,
     name: Name,

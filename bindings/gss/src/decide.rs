@@ -98,7 +98,7 @@ fn ask_store(
     Ok(session)
 }
 
-/// A name goes to the mechanism behind as text, where an octet 0 would end it: "root\\0x" must not be root. The library's crate puts
+/// A name goes to MIT's mechanism as text, where an octet 0 would end it: "root\\0x" must not be root. The library's crate puts
 /// U+FFFD where a name is not UTF-8.
 fn is_plain(name: &str) -> bool {
     !name.chars().any(|it| it.is_control() || it == '\u{fffd}')

@@ -55,7 +55,7 @@ pub fn name(stored: Option<&str>, settings: Option<&str>) -> String {
         .unwrap_or_else(|| DEFAULT.get_or_init(default_of_mit).clone())
 }
 
-/// The path of a keytab's name. Of a keytab that is no file nothing is there, and so nobody is let in.
+/// The path of a keytab's name. Of a keytab that is no file nothing is there, and so nobody is admitted.
 pub fn path(name: &str) -> &str {
     let bare = name
         .strip_prefix("FILE:")

@@ -5,12 +5,12 @@
 //! menolavuri  1.3.6.1.4.1.32473.4120.1  /usr/local/lib/x86_64-linux-gnu/libmenolavuri_gss.so  <interposer>
 //! ```
 //!
-//! An acceptor's context is the library's. Names, initiators and their contexts are those of the mechanism behind: the mechglue is called
+//! An acceptor's context is the library's. Names, initiators and their contexts are those of MIT's mechanism: the mechglue is called
 //! in turn, with an OID that it makes of this interposer's and of Kerberos'. docs/GSSAPI.md has what is proved, and what is thin.
 //!
 //! # Pointers
 //! Each exported call is called by the mechglue alone. Its pointers are null or those that RFC 2744 has for the call, a handle is one that
-//! a call of this library made, and no two calls write to one place at once. Every unsafe block here stands on that.
+//! a call of this library made, and no two calls write to one place at once. Every unsafe block here relies on that.
 
 #![allow(clippy::missing_safety_doc, clippy::too_many_arguments)]
 

@@ -136,7 +136,7 @@ pub unsafe extern "C" fn gssi_inquire_mech_for_saslname(
     })
 }
 
-/// A minor status of ours is told in words. Others are those of the mechanism behind.
+/// A minor status of ours is given in words. Others are those of MIT's mechanism.
 #[unsafe(no_mangle)]
 pub unsafe extern "C" fn gssi_display_status(
     minor: *mut u32,

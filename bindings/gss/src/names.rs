@@ -1,4 +1,4 @@
-//! Names: all are names of the mechanism behind.
+//! Names: all are names of MIT's mechanism.
 
 use crate::abi::*;
 use crate::behind::*;

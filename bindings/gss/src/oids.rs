@@ -1,4 +1,4 @@
-//! Object identifiers, and the names by which the mechanism behind is called.
+//! Object identifiers, and the names by which MIT's mechanism is called.
 
 use crate::abi::{Oid, OidDesc, OidSet, OidSetDesc};
 use crate::buffers::slice;
@@ -8,7 +8,7 @@ pub static KRB5: OidDesc = OidDesc::of(b"\x2a\x86\x48\x86\xf7\x12\x01\x02\x02");
 pub static KRB5_OLD: OidDesc = OidDesc::of(b"\x2b\x05\x01\x05\x02");
 pub static KRB5_WRONG: OidDesc = OidDesc::of(b"\x2a\x86\x48\x82\xf7\x12\x01\x02\x02");
 pub static IAKERB: OidDesc = OidDesc::of(b"\x2b\x06\x01\x05\x02\x05");
-/// All of Kerberos. Where one were not interposed, a client could name it, and the mechanism behind would let it in.
+/// All of Kerberos. Where one were not interposed, a client could name it, and MIT's mechanism would admit it.
 pub static FAMILY: [&OidDesc; 4] = [&KRB5, &KRB5_OLD, &KRB5_WRONG, &IAKERB];
 
 /// GSS_KRB5_NT_PRINCIPAL_NAME
@@ -70,7 +70,7 @@ pub fn is_own(oid: &[u8], further: &[u8]) -> bool {
     !own.is_empty() && oid.strip_prefix(own) == Some(further)
 }
 
-/// The OID by which the mechanism behind is named in turn: the mechglue makes it of this interposer's and of the mechanism's.
+/// The OID by which MIT's mechanism is named in turn: the mechglue makes it of this interposer's and of the mechanism's.
 ///
 /// # Safety
 /// The OID is null or one of the mechglue's.

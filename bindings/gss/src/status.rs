@@ -119,7 +119,7 @@ fn minor_of(error: &Error) -> u32 {
     error.cause().map_or(NOT_DONE, |it| MINOR | it.0)
 }
 
-/// What the library says beside the cause.
+/// What the library says in addition to the cause.
 fn further(error: &Error) -> String {
     match error {
         Error::Refused(_) => String::new(),
