@@ -38,7 +38,7 @@ use Rattle.krb_initiator.specs.InitRuns.{Starts, Next}
 use Rattle.krb_initiator.specs.Came.{IsGranted, AreGranted, is_referral, LeaveSalt, HasChain, CameWithSalt, CameWithKey, Came, IsSession}
 
 -- which turn was given
-asked : (request made : NetworkRequest) (next phase : InitPhase) → ◌≡◌ {A = Turn InitPhase InitDone} (Asks made next) (Asks request phase) → next ≡ phase
+pub asked : (request made : NetworkRequest) (next phase : InitPhase) → ◌≡◌ {A = Turn InitPhase InitDone} (Asks made next) (Asks request phase) → next ≡ phase
 asked request made next phase e = cc
 
 -- after the start there is no reply
@@ -116,13 +116,13 @@ module _ (seeker : Seeker) (reply : Result (List ℕ) NetFault) (draw : Draw) wh
       goes_on_asking sealed.kdc.protocol sealed.body sealed.salt done (as_rep_taken InAsExchange AsksTgs seeker.asker reply draw (Ends done) sealed h)
 
   -- one more TGS-REP
-  more_granted : (replies : List (Result (List ℕ) NetFault)) (reps : List TgsRep) (rep : TgsRep) → AreGranted replies reps → IsGranted reply rep → AreGranted (replies ++ (reply ∷ [])) (reps ++ (rep ∷ []))
+  pub more_granted : (replies : List (Result (List ℕ) NetFault)) (reps : List TgsRep) (rep : TgsRep) → AreGranted replies reps → IsGranted reply rep → AreGranted (replies ++ (reply ∷ [])) (reps ++ (rep ∷ []))
   more_granted [] [] rep h one = (one, tt)
   more_granted [] (x ∷ reps) rep h one = absurd h
   more_granted (x ∷ replies) [] rep h one = absurd h
   more_granted (x ∷ replies) (y ∷ reps) rep h one = (h.0, more_granted replies reps rep h.1 one)
 
-  more_referrals : (reps : List TgsRep) (rep : TgsRep) → list_all is_referral reps ≡ true → is_referral rep ≡ true → list_all is_referral (reps ++ (rep ∷ [])) ≡ true
+  pub more_referrals : (reps : List TgsRep) (rep : TgsRep) → list_all is_referral reps ≡ true → is_referral rep ≡ true → list_all is_referral (reps ++ (rep ∷ [])) ≡ true
   more_referrals [] rep h one = rw one refl
   more_referrals (x ∷ reps) rep h one = step (is_referral x) (list_all is_referral reps) (list_all is_referral (reps ++ (rep ∷ []))) h (λ all. more_referrals reps rep all one)
     where

@@ -52,10 +52,10 @@ use Rattle.krb_initiator.specs.declared.seeker.InitPhase.{InitPhase}
 use Rattle.krb_initiator.specs.declared.seeker.InitPhase.TheVariants.{New, InAsExchange, AwaitsTgsRep, Over}
 
 -- which turn was given
-same_turn : (request made : NetworkRequest) (next phase : InitPhase) → ◌≡◌ {A = Turn InitPhase InitDone} (Asks made next) (Asks request phase) → next ≡ phase
+pub same_turn : (request made : NetworkRequest) (next phase : InitPhase) → ◌≡◌ {A = Turn InitPhase InitDone} (Asks made next) (Asks request phase) → next ≡ phase
 same_turn request made next phase e = cc
 
-same_end : (x y : InitDone) → ◌≡◌ {A = Turn InitPhase InitDone} (Ends x) (Ends y) → x ≡ y
+pub same_end : (x y : InitDone) → ◌≡◌ {A = Turn InitPhase InitDone} (Ends x) (Ends y) → x ≡ y
 same_end x y e = cc
 
 -- ---- what the checks let through
@@ -68,7 +68,7 @@ first_answers seeker start moment ticket h =
     let both = and_parts (as_replies.names_client (body_of seeker start) ticket.rep) (as_replies.names_service (body_of seeker start) ticket.facts) (held ReplyNames _ names.found names.first_held) in
     record { nonce = held Nonce _ nonce.found nonce.first_held; client = both.0; service = both.1; valid = held ReplyTime _ tt names.rest_held }
 
-next_answers : (target realm : List ℕ) (shown : Grant) (asked : Draw) (moment : ℕ) (ticket : Grant)
+pub next_answers : (target realm : List ℕ) (shown : Grant) (asked : Draw) (moment : ℕ) (ticket : Grant)
     → AnswersTgsReq target realm (question_of shown.rep asked) moment ticket.rep ticket.facts (Ok tt) → AnswersShown target realm shown asked moment ticket
 unfolding AnswersRequest
 next_answers target realm shown asked moment ticket h =
@@ -84,12 +84,40 @@ not_referred true false None a e h = h
 not_referred true false (Some realm) a e h = absurd cc
 not_referred false false named a e h = absurd cc
 
-ends_at_target : (seeker : Seeker) (realm : List ℕ) (shown : Grant) (asked : Draw) (moment : ℕ) (ticket : Grant) → has_rule seeker.asker.rules fresh_replies ≡ true
+pub ends_at_target : (seeker : Seeker) (realm : List ℕ) (shown : Grant) (asked : Draw) (moment : ℕ) (ticket : Grant) → has_rule seeker.asker.rules fresh_replies ≡ true
     → AnswersShown seeker.wanted.target realm shown asked moment ticket → referral_of seeker.asker.rules seeker.wanted.target ticket.facts ticket.rep ≡ None
     → same_components ticket.facts.sname.name_string (service_of seeker.wanted.target) ≡ true
 ends_at_target seeker realm shown asked moment ticket rule h none =
     not_referred (has_rule seeker.asker.rules fresh_replies) (tgs_replies.is_for_target seeker.wanted.target ticket.facts) (referral_realm ticket.rep.ticket.sname) rule none
     (and_parts _ _ h.service).1
+
+-- ---- what a ticket-granting service answered, to a request that showed this ticket
+
+-- the request that a leg awaits the reply of showed this ticket to the KDC of this realm, drawn so
+pub record HasShown (leg : TgsLeg) (to : List ℕ) (last : Grant) (at : Draw) : Type 0 where
+  pub suite : leg.suite ≡ last.suite
+  pub key : leg.key ≡ last.key
+  pub question : leg.question ≡ question_of last.rep at
+  pub realm : leg.kdc.realm ≡ to
+
+module _ (seeker : Seeker) (rule : has_rule seeker.asker.rules fresh_replies ≡ true) (arrival : Arrival) (leg : TgsLeg) (to : List ℕ) (last : Grant) (at : Draw) (before : HasShown leg to last at)
+    (shown : Grant) (taken : TgsTaken seeker.asker.rules seeker.wanted.target leg.question arrival.draw.moment leg.kdc leg.suite leg.key arrival.reply shown) where
+  checked : AnswersTgsReq seeker.wanted.target leg.kdc.realm leg.question arrival.draw.moment shown.rep shown.facts (Ok tt)
+  checked = subst (λ (b : Bool). AskedFor b (AnswersTgsReq seeker.wanted.target leg.kdc.realm leg.question arrival.draw.moment shown.rep shown.facts) (Ok tt)) rule taken.fresh
+
+  pub answers : AnswersShown seeker.wanted.target to last at arrival.draw.moment shown
+  answers =
+      next_answers seeker.wanted.target to last at arrival.draw.moment shown
+      (subst (λ (r : List ℕ). AnswersTgsReq seeker.wanted.target r (question_of last.rep at) arrival.draw.moment shown.rep shown.facts (Ok tt)) before.realm
+      (subst (λ (q : TgsQuestion). AnswersTgsReq seeker.wanted.target leg.kdc.realm q arrival.draw.moment shown.rep shown.facts (Ok tt)) before.question checked))
+
+  opened : BringsNext seeker.asker.rules last.suite last.key taken.rep (Ok (key_of shown))
+  opened =
+      subst (λ (s : CipherSuite). BringsNext seeker.asker.rules s last.key taken.rep (Ok (key_of shown))) before.suite
+      (subst (λ (k : List ℕ). BringsNext seeker.asker.rules leg.suite k taken.rep (Ok (key_of shown))) before.key taken.opened)
+
+  pub brings : BringsFurtherTicket seeker to last at arrival shown
+  brings = record { tgs_rep = taken.rep; granted = record { protocol = leg.kdc.protocol; granted = taken.granted }; opened = opened; brought = taken.brought; answers = answers }
 
 -- ---- one TGS-REP more
 
@@ -99,7 +127,7 @@ module _ (seeker : Seeker) (to : List ℕ) (last : Grant) (at : Draw) (arrival :
       subst (λ (r : List ℕ). BringsFurtherTicket seeker r shown asked arrival ticket) (sym e)
       (subst (λ (t : Grant). BringsFurtherTicket seeker to t asked arrival ticket) (sym f) (subst (λ (d : Draw). BringsFurtherTicket seeker to last d arrival ticket) (sym g) brings))
 
-  leads_more : (realm : List ℕ) (shown : Grant) (asked : Draw) (arrivals : List Arrival) → LeadsOn seeker realm shown asked arrivals to last at
+  pub leads_more : (realm : List ℕ) (shown : Grant) (asked : Draw) (arrivals : List Arrival) → LeadsOn seeker realm shown asked arrivals to last at
       → LeadsOn seeker realm shown asked (arrivals ++ arrival ∷ []) (next_realm ticket) ticket arrival.draw
   leads_more realm shown asked [] h = (ticket, brings_so realm shown asked h.0 h.1 h.2, (refl, refl, refl))
   leads_more realm shown asked (x ∷ arrivals) h = (h.0, h.1, leads_more (next_realm h.0) h.0 x.draw arrivals h.2)
@@ -214,25 +242,11 @@ module _ (seeker : Seeker) (start : Draw) (rule : has_rule seeker.asker.rules fr
 
   module _ (leg : TgsLeg) (shown : Grant) (came : CameWithTicket seeker start arrivals leg)
       (taken : TgsTaken seeker.asker.rules seeker.wanted.target leg.question arrival.draw.moment leg.kdc leg.suite leg.key arrival.reply shown) where
-    checked : AnswersTgsReq seeker.wanted.target leg.kdc.realm leg.question arrival.draw.moment shown.rep shown.facts (Ok tt)
-    checked = subst (λ (b : Bool). AskedFor b (AnswersTgsReq seeker.wanted.target leg.kdc.realm leg.question arrival.draw.moment shown.rep shown.facts) (Ok tt)) rule taken.fresh
-
-    answers : AnswersShown seeker.wanted.target came.chain.to came.last came.at arrival.draw.moment shown
-    answers =
-        next_answers seeker.wanted.target came.chain.to came.last came.at arrival.draw.moment shown
-        (subst (λ (r : List ℕ). AnswersTgsReq seeker.wanted.target r (question_of came.last.rep came.at) arrival.draw.moment shown.rep shown.facts (Ok tt)) came.realm
-        (subst (λ (q : TgsQuestion). AnswersTgsReq seeker.wanted.target leg.kdc.realm q arrival.draw.moment shown.rep shown.facts (Ok tt)) came.question checked))
-
-    opened : BringsNext seeker.asker.rules came.last.suite came.last.key taken.rep (Ok (key_of shown))
-    opened =
-        subst (λ (s : CipherSuite). BringsNext seeker.asker.rules s came.last.key taken.rep (Ok (key_of shown))) came.suite
-        (subst (λ (k : List ℕ). BringsNext seeker.asker.rules leg.suite k taken.rep (Ok (key_of shown))) came.key taken.opened)
-
-    brings : BringsFurtherTicket seeker came.chain.to came.last came.at arrival shown
-    brings = record { tgs_rep = taken.rep; granted = record { protocol = leg.kdc.protocol; granted = taken.granted }; opened = opened; brought = taken.brought; answers = answers }
+    has_shown : HasShown leg came.chain.to came.last came.at
+    has_shown = record { suite = came.suite; key = came.key; question = came.question; realm = came.realm }
 
     one_more : IsFreshChain seeker start now shown arrival.draw
-    one_more = chain_more seeker came.last came.at arrival shown start arrivals came.chain brings
+    one_more = chain_more seeker came.last came.at arrival shown start arrivals came.chain (brings seeker rule arrival leg came.chain.to came.last came.at has_shown shown taken)
 
     abbrev referral : Option (List ℕ)
     referral = referral_of seeker.asker.rules seeker.wanted.target shown.facts shown.rep
@@ -270,7 +284,7 @@ module _ (seeker : Seeker) (start : Draw) (rule : has_rule seeker.asker.rules fr
           at = arrival.draw;
           chain = one_more;
           is_service = e;
-          for_target = ends_at_target seeker came.chain.to came.last came.at arrival.draw.moment shown rule answers e;
+          for_target = ends_at_target seeker came.chain.to came.last came.at arrival.draw.moment shown rule (answers seeker rule arrival leg came.chain.to came.last came.at has_shown shown taken) e;
           session_key = ap (λ (d : InitDone). d.change.encryption_params.session_key) (is ∙ end_is);
           asked_at = ap (λ (d : InitDone). d.change.asked_at) (is ∙ end_is);
           state = ap (λ (d : InitDone). d.change.state) (is ∙ end_is);

@@ -53,7 +53,7 @@ module _ (P : Type 0) where
   not_key z = let e = z.1 in absurd cc
 
   -- what is asked of ticket-granting services
-  asks_refuse : (asker : Asker) (wanted : Wanted) (shown : Grant) (home realm : List ℕ) (tickets : Option (List Ticket)) (draw : Draw) → Refuses P (AsksTgs asker wanted shown home realm tickets draw)
+  pub asks_refuse : (asker : Asker) (wanted : Wanted) (shown : Grant) (home realm : List ℕ) (tickets : Option (List Ticket)) (draw : Draw) → Refuses P (AsksTgs asker wanted shown home realm tickets draw)
   unfolding AsksTgs FindsKdc
   asks_refuse asker wanted shown home realm tickets draw =
       then_refuses P _ _ (holds_refuses P KeyLength _ not_length) (λ _. then_refuses P _ _
@@ -74,7 +74,7 @@ module _ (P : Type 0) where
       (λ plain. finds_refuses P Inner _ not_inner)) (λ part. takes_key_refuses P rules suite part.0)
 
   -- what the service is shown
-  shows_refuse : (seeker : Seeker) (leg : TgsLeg) (shown : Grant) (draw : Draw) → Refuses P (Arrives seeker leg shown draw)
+  pub shows_refuse : (seeker : Seeker) (leg : TgsLeg) (shown : Grant) (draw : Draw) → Refuses P (Arrives seeker leg shown draw)
   unfolding Arrives ShowsTicket
   shows_refuse seeker leg shown draw =
       then_refuses P _ _ (then_refuses P _ _ (holds_refuses P KeyLength _ not_length) (λ _. gives_refuses P _)) (λ done. gives_refuses P _)

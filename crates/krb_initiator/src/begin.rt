@@ -328,8 +328,9 @@ fn hear(alloc: Global, context: &Kerberos, options: &InitOptions) -> Result<Init
     Ok(Initiation::Hears(initiator, token))
 }
 
-/// What an initiator begins. Refused as `initialize_security_context` refuses.
-pub(crate) fn begin(
+/// Returns what an initiator begins next, by the state of its context, without running it. Refused as
+/// [`initialize_security_context`](crate::initialize_security_context) refuses.
+pub fn begin_initiation(
     alloc: Global,
     context: &Kerberos,
     options: &InitOptions,

@@ -1,6 +1,6 @@
 //! An initiation as a task.
 
-ghost use Rattle.std.specs.Prelude.{◌≡◌, ◌≤◌, true, IfOk, Err, Result};
+ghost use Rattle.std.specs.Prelude.{◌≡◌, ◌≤◌, ◌-◌, true, IfOk, Err, Result};
 ghost use Rattle.sspi_core.specs.declared.cause.Cause.{Cause};
 ghost use Rattle.sspi_core.specs.declared.cause.Cause.TheVariants as causes;
 ghost use Rattle.sspi_core.specs.Moments.{last_moment};
@@ -8,15 +8,16 @@ ghost use Rattle.sspi_core.specs.Kinds.{error_of};
 ghost use Rattle.sspi_core.specs.Checks.{Answers};
 ghost use Rattle.krb_as.specs.Turns.{is_want, GoesDown};
 ghost use Rattle.krb_initiator.specs.declared.seeker.Initiation.{Initiation};
+ghost use Rattle.krb_initiator.specs.declared.seeker.Initiation.TheVariants as initiations;
 ghost use Rattle.krb_initiator.specs.declared.seeker.InitPhase.TheVariants as phases;
-ghost use Rattle.krb_initiator.specs.Seekers.{CanBegin};
+ghost use Rattle.krb_initiator.specs.Seekers.{CanBegin, CanSeek};
 ghost use Rattle.krb_initiator.specs.Beginnings.{BeginsInitiation};
-ghost use Rattle.krb_initiator.specs.InitRuns.{StartsNew, Starts, Continues, Next, IsNewPhase, IsSeeking, Waits, IsNew, turns_left, StartsAt, ResumesAt, BeginsSo};
+ghost use Rattle.krb_initiator.specs.InitRuns.{StartsNew, Starts, Continues, Next, IsNewPhase, IsSeeking, Waits, IsNew, IsWaiting, turns_left, StartsAt, ResumesAt, BeginsSo};
 
 use crate::as_steps::{ask_first, take_as_reply};
-use crate::begin::begin;
+use crate::begin::begin_initiation;
 use crate::options::InitOptions;
-use crate::seeker::{InitPhase, Initiation, Seeker};
+use crate::seeker::{InitPhase, Initiation, Seeker, TgsLeg};
 use crate::service_steps::{hear_answer, request};
 use crate::tgs_steps::take_next;
 use krb_as::{InitDone, Turn, go_on, is_want};
@@ -53,6 +54,36 @@ impl InitRun {
             phase: InitPhase::New,
         }
     }
+
+    /// Returns the task of an initiator that sent a request to a ticket-granting service and awaits the reply, however it came by
+    /// the ticket that the request shows.
+    pub fn awaiting(alloc: Global, seeker: Seeker, leg: TgsLeg) -> InitRun
+        requires { CanSeek seeker }
+        ensures waiting { IsWaiting result }
+        ensures initiation { result.initiation ≡ initiations.Seeks seeker }
+        ensures phase { result.phase ≡ phases.AwaitsTgsRep leg }
+        ensures turns { turns_left result.phase ≡ 9 - leg.hops }
+    {
+        InitRun {
+            alloc,
+            initiation: Initiation::Seeks(seeker),
+            phase: InitPhase::AwaitsTgsRep(leg),
+        }
+    }
+
+    /// Returns what the initiator is to do. No step changes it.
+    pub fn initiation(&self) -> &Initiation
+        ensures { result.now ≡ self.now.initiation }
+    {
+        &self.initiation
+    }
+
+    /// Returns how far it has come: whose reply it awaits, and what its request asked.
+    pub fn phase(&self) -> &InitPhase
+        ensures { result.now ≡ self.now.phase }
+    {
+        &self.phase
+    }
 }
 
 /// Begins what an initiator does next, by its state: before the exchange it fetches a ticket for the target and shows it to the
@@ -72,7 +103,7 @@ pub fn initialize_security_context(
     ensures new { IfOk result (λ run. IsNew run) }
     ensures turns { IfOk result (λ run. turns_left run.phase ≡ 12) }
 {
-    match begin(alloc, client, &options) {
+    match begin_initiation(alloc, client, &options) {
         Ok(initiation) => Ok(InitRun::new(alloc, initiation)),
         Err(cause) => Err(Error::from(cause)),
     }

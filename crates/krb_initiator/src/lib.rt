@@ -17,8 +17,9 @@ mod tgs_steps;
 mod tgt;
 mod tgt_req;
 
-pub use begin::Identity;
+pub use begin::{Identity, begin_initiation};
 pub use init_run::{GeneratorInitSecurityContext, InitRun, initialize_security_context};
 pub use options::InitOptions;
 pub use seeker::{InitPhase, Initiation, Seeker, TgsLeg};
+pub use tgs_steps::{first_tickets, sent_first_tgs};
 pub use tgt::ServiceTgt;

@@ -28,8 +28,12 @@ use sspi_core::{Cause, Draw};
 use sspi_generator::NetFault;
 use std::alloc::Global;
 
-/// The service's own ticket, for the first request.
-fn first_tickets(alloc: Global, tgt: &Option<Ticket>) -> Result<Option<Items<Ticket>>, OutOfMemory>
+/// Returns the service's own ticket as the additional tickets of the first request to a ticket-granting service (RFC 4120, section
+/// 5.4.1); None if the service gave none.
+pub fn first_tickets(
+    alloc: Global,
+    tgt: &Option<Ticket>,
+) -> Result<Option<Items<Ticket>>, OutOfMemory>
     ensures { IfOk result (λ tickets. tickets ≡ first_tickets tgt.now) }
 {
     match tgt {
@@ -75,8 +79,8 @@ fn question_of(rep: KdcRep, draw: &Draw) -> TgsQuestion
     }
 }
 
-/// The phase after the first request to a ticket-granting service.
-fn sent_first_tgs(
+/// Returns the request, and the phase that awaits its reply, of an initiator that shows its first ticket to a ticket-granting service.
+pub fn sent_first_tgs(
     alloc: Global,
     begun: Begun,
     shown: Grant,
