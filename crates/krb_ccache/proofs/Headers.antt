@@ -1,4 +1,4 @@
--- The fields of a header, one behind another.
+-- The consecutive fields of a header.
 use Rattle.std.proofs.Common.{◌≡◌, ℕ, ◌+◌, ◌^◌, ◌<◌, Bool, true, false, cond, eqb, List, [], ◌∷◌, ◌++◌, length, Option, Some, None, refl, sym, ap, subst, ◌∙◌, append_assoc, arith, inl, inr, ◌⊎◌}
 use Rattle.std.specs.List.{flat_map, AllByRecursion}
 use Rattle.std.specs.Int.{w16, to_be_bytes}
@@ -21,9 +21,9 @@ field_codec =
     pair_codec (number_at w16) (to_be_bytes w16) (λ (n : ℕ). n < 2 ^ 16) short_counted_at (λ (octets : List ℕ). to_be_bytes w16 (length octets) ++ octets) (λ (octets : List ℕ). length octets < 2 ^ 16)
     codec16 short_counted_codec
 
--- ---- what a header that tells an offset begins with
+-- ---- the front of a header that has an offset
 
--- the offset's own field, or another one with such a header behind it
+-- the offset's own field, or another field and after it a header that has the offset
 abbrev IsFront : TimeOffset → Field × List ℕ → Type 0
 IsFront offset x = ((x.0.0 ≡ 1) × ((length x.0.1 ≡ 8) × (offset ≡ offset_of x.0.1))) ⊎ ((x.0.0 ≡ 1 → ⊥) × TellsOffset x.1 offset)
 
@@ -74,7 +74,7 @@ eight_or_not octets value behind tag false bytes e one is = λ offset tells. not
 
 -- ---- another field
 
--- what is left of a header tells what the header tells
+-- the rest of a header has the offset that the header has
 pub record IsLeft (header rest : List ℕ) : Type 0 where
   pub bytes : IsBytes rest
   pub on : (offset : TimeOffset) → TellsOffset rest offset → TellsOffset header offset

@@ -1,4 +1,4 @@
--- What is found as a ticket is no option.
+-- A ticket that is found is no option.
 use Rattle.std.proofs.Common.{◌≡◌, ℕ, Bool, true, false, List, Option, Some, None, refl, sym, subst}
 use Rattle.std.specs.Prelude.{not, ◌&&◌, ◌==◌}
 use Rattle.std.specs.Option.{option_or}

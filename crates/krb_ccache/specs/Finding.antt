@@ -40,14 +40,14 @@ is_valid times seconds = nat_le (start_of times) seconds && nat_lt seconds times
 abbrev pub is_invalid : ℕ → Bool
 is_invalid flags = flags / 2 ^ 24 % 2 == 1
 
--- What is asked for: a ticket of this client for a service of these components, in any realm, in this second.
+-- A query: a ticket of this client for a service of these components, in any realm, in this second.
 pub record Wanted : Type 0 where
   pub client : CcachePrincipal
   pub components : List (List ℕ)
   pub seconds : ℕ
 
--- a ticket that a client can show by itself: it is of that client and for that service, no option, not sealed under a session key, valid,
--- and its key is known here
+-- a ticket that a client can use by itself: it is of that client and for that service, no option, not encrypted under a session key,
+-- valid, and its key is a known one
 abbrev pub is_wanted : Wanted → Credential → Bool
 is_wanted wanted credential =
     same_names credential.server.components wanted.components && same_principal credential.client wanted.client && not (is_option credential)
@@ -81,7 +81,7 @@ found_tgt client credentials seconds = found client credentials (tgs_components 
 abbrev pub found_or_tgt : CcachePrincipal → List Credential → List (List ℕ) → ℕ → Option Credential
 found_or_tgt client credentials components seconds = option_or (found client credentials components seconds) (found_tgt client credentials seconds)
 
--- The longest, as it is meant: it passes, none before it that passes is valid for longer, and each behind it that passes ends earlier.
+-- The longest, as it is meant: it passes, none before it that passes is valid for longer, and each after it that passes ends earlier.
 pub record IsLongest (passes : Credential → Bool) (credentials : List Credential) (credential : Credential) : Type 0 where
   pub before : List Credential
   pub behind : List Credential

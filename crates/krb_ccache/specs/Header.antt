@@ -1,4 +1,4 @@
--- The header of the format 0504, as MIT krb5 describes it (doc/formats/ccache_file_format, "Header format"): fields one behind another.
+-- The header of the format 0504, as MIT krb5 describes it (doc/formats/ccache_file_format, "Header format"): consecutive fields.
 use Rattle.std.specs.Prelude.{◌≡◌, ℕ, ◌^◌, ◌<◌, List, ◌++◌, length, take, drop, Option, Some, None, ◌==◌, if◌then◌else◌}
 use Rattle.std.specs.List.{flat_map, AllByRecursion}
 use Rattle.std.specs.Int.{w16, w32, to_be_bytes, from_be_bytes, cast_signed}
@@ -6,7 +6,7 @@ use Rattle.krb_ccache.specs.declared.header.TimeOffset.{TimeOffset}
 use Rattle.krb_ccache.specs.declared.ccache.Version.{Version}
 use Rattle.krb_ccache.specs.declared.ccache.Version.TheVariants.{Three, Four}
 
--- a field: its tag, and its value behind its length
+-- a field: its tag, and its value after its length
 abbrev pub Field : Type 0
 Field = ℕ × List ℕ
 
@@ -24,7 +24,7 @@ IsOther field = FitsField field × (field.0 ≡ 1 → ⊥)
 abbrev pub offset_of : List ℕ → TimeOffset
 offset_of value = record { seconds = cast_signed w32 (from_be_bytes w32 (take 4 value)); microseconds = cast_signed w32 (from_be_bytes w32 (drop 4 value)) }
 
--- The first field of tag 1 has eight octets, and they are this time offset. What is behind it may be anything.
+-- The first field of tag 1 has eight octets, and they are this time offset. Anything may follow it.
 pub record TellsOffset (header : List ℕ) (offset : TimeOffset) : Type 0 where
   pub before : List Field
   pub value : List ℕ
@@ -44,7 +44,7 @@ HasOffset (Four header) offset = TellsOffset header offset
 abbrev pub offset_in : List ℕ → Option TimeOffset
 offset_in value = if length value == 8 then Some (offset_of value) else None
 
--- the time offset that is told, or that none is
+-- the time offset of a header, or the statement that it has none
 abbrev pub FindsOffset : List ℕ → Option TimeOffset → Type 0
 FindsOffset header None = (offset : TimeOffset) → TellsOffset header offset → ⊥
 FindsOffset header (Some offset) = TellsOffset header offset

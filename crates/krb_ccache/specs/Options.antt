@@ -1,5 +1,6 @@
--- The options of a cache, as MIT krb5 describes them (doc/formats/ccache_file_format, "Cache configuration entries"): a credential of the cache's own
--- client, for a server of the realm X-CACHECONF: whose components name the option. The value is in the place of the ticket.
+-- The options of a cache, as MIT krb5 describes them (doc/formats/ccache_file_format, "Cache configuration entries"): each is a
+-- credential of the cache's own client, for a server of the realm X-CACHECONF: whose components name the option. Its value is in the
+-- place of the ticket.
 use Rattle.std.specs.Prelude.{ℕ, Bool, ◌&&◌, List, [], ◌∷◌, Option, Some, None, option_map}
 use Rattle.std.specs.List.{find}
 use Rattle.krb_ccache.specs.declared.principal.CcachePrincipal.{CcachePrincipal}

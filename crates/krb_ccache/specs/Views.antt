@@ -1,4 +1,4 @@
--- What reading gives, without where it lies in memory.
+-- The results of reading, without their addresses in memory.
 use Rattle.std.specs.Prelude.{◌≡◌, ℕ, ◌+◌, Bool, List, [], ◌∷◌, ◌++◌, length, Some, None, Result, Ok, Err}
 use Rattle.std.specs.Borrow.{Bor}
 use Rattle.std.specs.List.{flat_map, AllByRecursion}
@@ -20,7 +20,7 @@ head_view head = (head.client, (head.server, (head.key, head.times)))
 abbrev pub tail_view : ReadTail → Tail
 tail_view tail = (tail.is_skey, (tail.flags, (tail.addresses, (tail.auth_data, (tail.ticket, tail.second_ticket)))))
 
--- What taking a credential from the front of octets, the last ones of a file of this size, answers, and the credentials before and afterwards.
+-- The result of taking a credential from the front of the last octets of a file of this size, and the credentials before and after.
 abbrev pub TakesCredential : Bool → List ℕ → ℕ → List Credential → Result (Bor (List ℕ)) CcacheError → List Credential → Type 0
 TakesCredential twice octets size old (Ok rest) new = (credential : Credential) × (credential_at twice octets ≡ Some (credential, rest.now))
     × (new ≡ old ++ credential ∷ [])
@@ -29,12 +29,12 @@ TakesCredential twice octets size old (Err errors.Head) new = ⊥
 TakesCredential twice octets size old (Err (errors.Credential at)) new = (at + length octets ≡ size) × (credential_at twice octets ≡ None)
 TakesCredential twice octets size old (Err errors.OutOfMemory) new = Unit {0}
 
--- the octets are these credentials, one behind another
+-- the octets are these consecutive credentials
 pub record AreCredentials (twice : Bool) (credentials : List Credential) (octets : List ℕ) : Type 0 where
   pub each : AllByRecursion FitsCredential credentials
   pub parts : octets ≡ flat_map (credential_octets twice) credentials
 
--- behind whole credentials comes something that is none, this far from the front of a file of this size
+-- after whole credentials, this far from the front of a file of this size, come octets that do not begin with a credential
 pub record AreBrokenAt (twice : Bool) (size place : ℕ) (octets : List ℕ) : Type 0 where
   pub credentials : List Credential
   pub rest : List ℕ

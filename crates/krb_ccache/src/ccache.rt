@@ -29,7 +29,7 @@ pub enum Version {
     Four(Octets),
 }
 
-/// What a credential cache has, in the order of the file.
+/// The contents of a credential cache, in the order of the file.
 #[derive(Drop)]
 pub struct Ccache {
     pub version: Version,
@@ -48,14 +48,14 @@ impl Ccache {
         read_file(alloc, octets)
     }
 
-    /// Whether it can be written: each length and each number of elements is below 2^32, and that of the header below 2^16.
+    /// Returns whether the cache can be written: each length and number of elements is below 2^32, and the header's length below 2^16.
     pub fn is_writable(&self) -> bool
         ensures { result ≡ can_be_written self.now }
     {
         can_be_written(self)
     }
 
-    /// The file with what it has.
+    /// Returns the cache as a file.
     pub fn write(&self, alloc: Global) -> Result<Octets, OutOfMemory>
         requires { can_be_written self.now ≡ true }
         ensures { IfOk result (λ octets. octets ≡ written self.now) }
@@ -63,7 +63,7 @@ impl Ccache {
         write_file(alloc, self)
     }
 
-    /// Adds an entry after the last one. If memory runs out the cache stays as it was.
+    /// Adds an entry after the last one. If memory runs out the cache is unchanged.
     pub fn push(&mut self, alloc: Global, credential: Credential) -> Result<(), OutOfMemory>
         ensures pushed { OnOk result (self.new ≡ record self.old { credentials = self.old.credentials ++ credential ∷ [] }) }
         ensures stays { OnErr result (self.new ≡ self.old) }

@@ -32,14 +32,14 @@ pub struct Wanted<'a> {
     pub seconds: u32,
 }
 
-/// Whether it is an option of the cache.
+/// Returns whether a credential is an option of the cache.
 pub fn is_option(credential: &Credential) -> bool
     ensures { result ≡ is_option credential.now }
 {
     credential.server.realm.as_slice() == OPTION_REALM.as_slice()
 }
 
-/// Whether a key is known here, and has its length.
+/// Returns whether a key is one of AES-256 or AES-128, of its length.
 fn is_known_key(key: &SessionKey) -> bool
     ensures { result ≡ is_known_key key.now }
 {
@@ -57,14 +57,14 @@ fn start_of(times: &Times) -> u32
     }
 }
 
-/// Whether a ticket is valid in this second.
+/// Returns whether a ticket is valid in this second.
 fn is_valid(times: &Times, seconds: u32) -> bool
     ensures { result ≡ is_valid times.now seconds }
 {
     start_of(times) <= seconds && seconds < times.end
 }
 
-/// Whether the flag INVALID is set.
+/// Returns whether the flag INVALID is set.
 fn is_invalid(flags: u32) -> bool
     ensures { result ≡ is_invalid flags }
 {
@@ -77,7 +77,7 @@ pub fn is_same_principal(a: &CcachePrincipal, b: &CcachePrincipal) -> bool
     a.realm == b.realm && a.components == b.components
 }
 
-/// Whether a name is that of the ticket-granting service of a realm.
+/// Returns whether a name is that of the ticket-granting service of a realm.
 fn is_granting(components: &[Octets], realm: &Octets) -> bool
     ensures { result ≡ same_names components.now (tgs_components realm.now) }
 {
@@ -87,7 +87,7 @@ fn is_granting(components: &[Octets], realm: &Octets) -> bool
     }
 }
 
-/// Whether a name is that of a service.
+/// Returns whether a name is that of a service.
 fn is_service(components: &Items<Octets>, service: &Service<'_>) -> bool
     ensures { result ≡ same_names components.now (service_components service.now) }
 {
@@ -97,7 +97,7 @@ fn is_service(components: &Items<Octets>, service: &Service<'_>) -> bool
     }
 }
 
-/// Whether the credential is one of those that are looked for.
+/// Returns whether a credential is a ticket that is looked for.
 fn is_wanted(wanted: &Wanted<'_>, credential: &Credential) -> bool
     ensures { result ≡ is_wanted (wanted_view wanted.now) credential.now }
 {

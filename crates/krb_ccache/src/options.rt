@@ -21,7 +21,7 @@ pub struct WantedOption<'a> {
     pub principal: Option<&'a [u8]>,
 }
 
-/// Whether components are those of an option.
+/// Returns whether components are those of an option.
 fn is_option_name(components: &[Octets], name: &[u8], principal: Option<&[u8]>) -> bool
     ensures { result ≡ same_names components.now (option_components name.now (option_copied principal.entry)) }
 {
@@ -38,7 +38,7 @@ fn is_option_name(components: &[Octets], name: &[u8], principal: Option<&[u8]>) 
     }
 }
 
-/// Whether the credential is the option that is looked for.
+/// Returns whether a credential is the option of this client, name and principal.
 fn is_option_of(wanted: &WantedOption<'_>, credential: &Credential) -> bool
     ensures { result ≡ is_option_of wanted.now.client.now wanted.now.name.now (option_copied wanted.now.principal) credential.now }
 {
