@@ -35,7 +35,7 @@ block_within xs a b n h =
     ∙ take-take 16 (16 * n - 16 * b) (drop (16 * b) (drop a xs)) (omega arith)
     ∙ ap (take 16) (drop-drop (16 * b) a xs)
 
--- the block behind the first
+-- the block after the first
 next_block_at : (previous blocks : List ℕ) (b : ℕ) → length previous ≡ 16 → block_at (suc b) (previous ++ blocks) ≡ block_at b blocks
 next_block_at previous blocks b e =
     let place : 16 * suc b ≡ 16 + 16 * b = omega arith in
@@ -45,7 +45,7 @@ next_block_at previous blocks b e =
 length-block_at : (b n : ℕ) (xs : List ℕ) → b < n → length xs ≡ 16 * n → length (block_at b xs) ≡ 16
 length-block_at b n xs h e = length-take-le 16 (drop (16 * b) xs) (omega (arith, length-drop (16 * b) xs))
 
--- the cipher takes the sum of a plain block and the cipher block in front of it to the cipher block
+-- the cipher maps the sum of a plain block and the cipher block before it to the cipher block
 abbrev pub AreOpened : (List ℕ → List ℕ) → List ℕ → List ℕ → List ℕ → ℕ → Type 0
 AreOpened E previous blocks plain n = (b : ℕ) → b < n → E (xor_octets (block_at b (previous ++ blocks)) (block_at b plain)) ≡ block_at b blocks
 
@@ -116,7 +116,7 @@ IsDecryptedTo_further E t text previous blocks plain new last i n k at m ea em h
 
 -- ---- four blocks
 
--- what a cipher block in front of each of four gives
+-- the inverse of the cipher at each of four blocks, added to the cipher block before it, is the plain text
 pub four_opened : (E : List ℕ → List ℕ) (previous blocks d plain : List ℕ) → length previous ≡ 16 → length blocks ≡ 64 → length d ≡ 64
     → plain ≡ xor_octets d (previous ++ take 48 blocks) → ((b : ℕ) → b < 4 → E (block_at b d) ≡ block_at b blocks) → AreOpened E previous blocks plain 4
 four_opened E previous blocks d plain width long size ep ed = λ b few.

@@ -1,11 +1,11 @@
--- Eight bits of the copies of an n-fold at a time (RFC 3961, section 5.1): they stand in two octets of the input, one behind the other.
+-- Eight bits of the copies of an n-fold at a time (RFC 3961, section 5.1): they are in two octets of the input, one after the other.
 use Rattle.std.proofs.Common.{◌≡◌, ℕ, zero, suc, ◌+◌, ◌-◌, ◌*◌, ◌/◌, ◌%◌, ◌^◌, ◌<◌, ◌≤◌, List, length, slice_index, refl, sym, ap, ap₂, ◌∙◌, arith, inl, inr}
 use Rattle.std.proofs.lemmas.Bool.{cases_lt}
 use Rattle.std.proofs.lemmas.Nat.{div-mul-add, mod-mul-add, div-add-mod', mod-pow-add, field_of, shr-shr, shr_high, pow-add, mod_below}
 use Rattle.std.proofs.Math.Nat.{mod-eq_of_lt, mod_self, mod-add-mod, add-mod_left, add-mul-mod_self_right, pow-suc, mul_assoc}
 use Rattle.krb_crypto.specs.Fold.{bit_of, copies_bit, number_from}
 
--- more bits behind the first
+-- more bits after the first
 pub number_from-more : (s : List ℕ) (a k m : ℕ) → number_from s a (k + m) ≡ 2 ^ m * number_from s a k + number_from s (a + k) m
 unfolding number_from
 number_from-more s a k zero =
@@ -16,7 +16,7 @@ number_from-more s a k (suc m) =
     let place : a + (k + m) ≡ a + k + m = omega arith in
     rw (next, number_from-more s a k m, place, pow-suc 2 m) (omega arith)
 
--- ---- where a bit of the copies stands
+-- ---- the place of a bit of the copies
 
 -- the first of the eight bits of octet j of the copies
 abbrev pub start_of : List ℕ → ℕ → ℕ
@@ -31,7 +31,7 @@ octet_place j k m some few =
       ap (λ (n : ℕ). n % (8 * m)) whole ∙ mod-mul-add (j / m) (8 * m) (8 * (j % m) + k) low,
     )
 
--- bit k of the octet is k bits behind its first
+-- bit k of the octet is k bits after its first
 copies_bit-octet : (s : List ℕ) (j k : ℕ) → 0 < length s → k < 8 → copies_bit s (8 * j + k) ≡ bit_of s ((start_of s j + k) % (8 * length s))
 unfolding copies_bit
 copies_bit-octet s j k some few =
@@ -61,7 +61,7 @@ pair_high x y e small =
     let high : (256 * x + y) / 2 ^ 8 ≡ x = ap (λ (k : ℕ). k / 2 ^ 8) (omega arith) ∙ shr_high x 8 y small in
     ap (λ (k : ℕ). k / 2 ^ e) (sym high) ∙ shr-shr (256 * x + y) 8 e
 
--- the pair in which the octet stands
+-- the pair of octets that contains the octet
 abbrev pub pair_at : List ℕ → ℕ → ℕ
 pair_at s p = 256 * slice_index s (p / 8) + slice_index s ((p / 8 + 1) % length s)
 
@@ -118,7 +118,7 @@ first_bits s j (suc k) some octets few =
     let high : w / 2 ^ e / 2 ^ 1 ≡ w / 2 ^ (e + 1) = shr-shr w e 1 in
     rw (here, bit, more, least, one, halves, high) (omega arith)
 
--- an octet of the copies, from the pair of octets in which it stands
+-- an octet of the copies, from the pair of octets that contains it
 pub octet_of_copies : (s : List ℕ) (j : ℕ) → 0 < length s → ((i : ℕ) → slice_index s i < 256)
     → pair_at s (start_of s j) / 2 ^ (8 - start_of s j % 8) % 256 ≡ number_from s (8 * j) 8
 octet_of_copies s j some octets =

@@ -33,7 +33,7 @@ pub sealed_of_parts : (keys : SealingPair) (text body code : List ℕ) → body 
 unfolding sealed_text
 sealed_of_parts keys text body code eb ec = ap₂ (λ (x y : List ℕ). x ++ y) eb ec
 
--- what was revealed, where the code behind it is its code
+-- the revealed plain text is sealed to the text, if the code after the revealed text is its code
 pub revealed_is_sealed : (keys : SealingPair) (old new : List ℕ) (end : ℕ) → 16 ≤ end → end ≤ length new
     → cts (aes keys.encryption) (take end new) ≡ take end old → hmac12 keys.integrity (take end new) ≡ drop end old
     → ((k : ℕ) → slice_index new k < 256) → IsSealedUnder keys old (drop 16 (take end new))
@@ -67,7 +67,7 @@ sealed_text_injective keys m n om on lm ln whole =
     ∙ take_at (cts (aes k) n) hn (length (cts (aes k) m)) (sym size) in
     aes_cts_injective k m n om on lm ln front
 
--- where the code behind what was revealed is another, no plain text is sealed to the text
+-- if the code after the revealed text is another than its code, no plain text is sealed to the text
 pub not_sealed : (keys : SealingPair) (old new : List ℕ) (end : ℕ) → 16 ≤ end → end + 12 ≡ length old → end ≤ length new
     → cts (aes keys.encryption) (take end new) ≡ take end old → (hmac12 keys.integrity (take end new) ≡ drop end old → ⊥)
     → ((k : ℕ) → slice_index new k < 256) → (plain : List ℕ) → IsSealedUnder keys old plain → ⊥

@@ -1,4 +1,4 @@
--- What a sealing key keeps.
+-- The contents of a sealing key.
 use Rattle.krb_aes.specs.Aes.{IsScheduleOf}
 use Rattle.krb_crypto.specs.Suite.{key_octets}
 use Rattle.krb_crypto.specs.Keyed.{IsHmacKeyOf}

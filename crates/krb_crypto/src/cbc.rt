@@ -34,7 +34,7 @@ fn four_at(text: &[u8], at: usize) -> [u8; 64]
     blocks
 }
 
-/// The cipher blocks that stand in front of each of four: the one before them, and the first three.
+/// Returns the cipher blocks before each of four: `previous`, and the first three of the four.
 fn chain_of(previous: &[u8; 16], blocks: &[u8; 64]) -> [u8; 64]
     ensures { result ≡ previous.now ++ take 48 blocks.now }
 {
@@ -52,7 +52,7 @@ fn unchained(opened: &[u8; 64], previous: &[u8; 16], blocks: &[u8; 64]) -> [u8; 
     (u8x64::from_array(*opened) ^ u8x64::from_array(chain)).to_array()
 }
 
-/// Decrypts block `i`, behind the cipher block `previous`, and gives it as it was.
+/// Decrypts block `i`, which follows the cipher block `previous`, and returns the cipher block that it was.
 fn open_one(key: &DecryptionSchedule, text: &mut [u8], i: usize, previous: [u8; 16]) -> [u8; 16]
     requires { 16 * i + 16 ≤ length text.old }
     ensures { (t : List ℕ) → AreOpened key.now t text.old previous i → AreOpened key.now t text.new result (i + 1) }

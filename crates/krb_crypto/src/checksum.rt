@@ -1,4 +1,4 @@
-//! Checksums of 96 bits (RFC 3962, section 6): those of sealed texts and those that stand alone.
+//! Checksums of 96 bits (RFC 3962, section 6): those of encrypted texts and those without an encrypted text.
 
 ghost use Rattle.std.specs.Prelude.{◌≡◌, ◌↔◌, [], ◌++◌, length, MatchResult, IfOk, IfErr, OnOk};
 ghost use Rattle.krb_crypto.specs.Hmac.{hmac12};
@@ -9,7 +9,7 @@ use crate::error::CryptoError;
 use crate::hmac::{HmacKey, HmacState};
 use crate::suite::{AesSize, CipherSuite, derived_checksum_key, derived_integrity_key};
 
-/// The key of the checksums of a usage that stand alone, ready for use: what a connection keeps to check many messages.
+/// Returns the key of a usage for checksums without an encrypted text, ready for use. A connection keeps it to check many messages.
 pub fn checksum_key(suite: CipherSuite, key: &[u8], usage: u32) -> HmacKey
     requires { length key.now ≡ key_size suite }
     ensures { IsHmacKeyOf (kc suite key.now usage) result }
@@ -18,7 +18,7 @@ pub fn checksum_key(suite: CipherSuite, key: &[u8], usage: u32) -> HmacKey
     HmacKey::new(derived.as_slice())
 }
 
-/// The code of nothing yet under the key of checksums that stand alone, for octets that come in pieces.
+/// Starts the checksum of a usage, without an encrypted text, over bytes that come in pieces. No byte is in it yet.
 pub fn start_checksum(suite: CipherSuite, key: &[u8], usage: u32) -> HmacState
     requires { length key.now ≡ key_size suite }
     ensures { IsHmacOf (kc suite key.now usage) [] result }
@@ -56,7 +56,7 @@ pub fn encryption_checksum(
     Ok(HmacKey::new(derived.as_slice()).short_code(octets, tail))
 }
 
-/// The checksum of a usage that stands alone, over `octets` and then `tail`.
+/// Returns the checksum of a usage, without an encrypted text, over `octets` and then `tail`.
 pub fn checksum_sha_aes(
     key: &[u8],
     usage: u32,

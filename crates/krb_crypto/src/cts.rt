@@ -35,7 +35,7 @@ pub fn cts_encrypt(key: &KeySchedule, text: &mut [u8])
     encrypt_under(key.forward(), text);
 }
 
-/// The same under a schedule for encryption alone.
+/// Encrypts a text of at least 16 bytes in place, under a schedule for encryption only.
 pub(crate) fn encrypt_under(key: &EncryptionSchedule, text: &mut [u8])
     requires { 16 ≤ length text.old }
     ensures { text.new ≡ cts (forward_cipher key.now) text.old }
@@ -72,7 +72,7 @@ pub fn cts_decrypt(key: &KeySchedule, text: &mut [u8])
     decrypt_under(key.back(), text);
 }
 
-/// The same under a schedule for decryption alone.
+/// Decrypts a text of at least 16 bytes in place, under a schedule for decryption only.
 pub(crate) fn decrypt_under(key: &DecryptionSchedule, text: &mut [u8])
     requires { 16 ≤ length text.old }
     ensures { (E : List ℕ → List ℕ) → Undoes E key.now → cts E text.new ≡ text.old }

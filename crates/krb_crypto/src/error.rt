@@ -5,7 +5,8 @@ ghost use Rattle.std.specs.Prelude.{◌≡◌};
 use std::alloc::AllocError;
 use thiserror::Error;
 
-/// A refusal. Where several causes stand together, the first in this order is answered.
+/// The reason for which a call of this crate fails. If several apply, the call fails with the first in this order,
+/// but `OutOfMemory` may come before `Altered`.
 #[derive(Clone, Copy, Debug, PartialEq, Eq, Error)]
 pub enum CryptoError {
     /// The number is that of no suite of this crate.

@@ -7,13 +7,13 @@ ghost use Rattle.krb_crypto.specs.Suite.{usage_constant, AreFolds};
 
 use crate::fold::n_fold;
 
-/// The octet behind a usage in the constant of the key of encryption.
+/// The byte after a usage in the constant of the encryption key.
 const ENCRYPTION: u8 = 0xaa;
 
-/// The octet behind a usage in the constant of the key of the checksum of a sealed text.
+/// The byte after a usage in the constant of the key for the checksum of an encrypted text.
 const INTEGRITY: u8 = 0x55;
 
-/// The octet behind a usage in the constant of the key of a checksum alone.
+/// The byte after a usage in the constant of the key for a checksum without an encrypted text.
 const CHECKSUM: u8 = 0x99;
 
 /// The folds for keys of encryption, of the usages 0 to 25.

@@ -1,4 +1,4 @@
-//! What holds of the suites for all keys and texts. A law makes no calls: its clause is the statement.
+//! Properties of the suites for all keys and texts. A law makes no calls: its clause is the statement.
 
 ghost use Rattle.std.specs.Prelude.{◌≡◌, ◌≤◌, ◌++◌, ℕ, List, length};
 ghost use Rattle.krb_aes.specs.Octets.{IsOctets};
@@ -14,7 +14,7 @@ pub fn sealing_is_injective()
         → sealed suite key usage c p ≡ sealed suite key usage d q → (c ≡ d) × (p ≡ q) }
 {}
 
-/// What was sealed opens to its plain text, of any length, and to no other.
+/// An encrypted text decrypts to its plain text, of any length, and to no other.
 pub fn what_was_sealed_is_opened()
     ensures { (suite : CipherSuite) (key : List ℕ) (usage : ℕ) (confounder plain : List ℕ)
         → length confounder ≡ 16 → IsOctets (confounder ++ plain)

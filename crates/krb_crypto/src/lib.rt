@@ -1,6 +1,6 @@
 //! The AES suites of Kerberos (RFC 3961, RFC 3962): sealed texts, checksums, derived keys and password keys.
 //!
-//! A text is sealed under a suite, a key and a usage, behind a confounder of 16 random octets that the caller draws:
+//! A text is encrypted under a suite, a key and a usage, after a confounder of 16 random bytes that the caller draws:
 //!
 //! ```text
 //! let suite = CipherSuite::try_from(18)?;

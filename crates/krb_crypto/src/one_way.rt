@@ -45,7 +45,7 @@ pub(crate) fn cut(mut text: Vec<u8>, start: usize, end: usize) -> Octets
     Octets::new(text)
 }
 
-/// Whether the octets are this code.
+/// Returns whether the bytes are this code.
 fn is_code(octets: &[u8], code: &[u8; 12]) -> bool
     ensures { IsTrue result ↔ (code.now ≡ octets.now) }
 {
@@ -79,7 +79,7 @@ pub(crate) fn sealed_under(
     Ok(Octets::new(text))
 }
 
-/// Decrypts what stands before the checksum, and says whether the checksum is of that.
+/// Decrypts the bytes before the checksum, and returns whether the checksum is that of the decrypted bytes.
 pub(crate) fn reveal_under(schedule: &DecryptionSchedule, hmac: &HmacKey, text: &mut [u8]) -> bool
     requires { 28 ≤ length text.old }
     ensures front { (E : List ℕ → List ℕ) → Undoes E schedule.now → cts E (take (length text.old - 12) text.new) ≡ take (length text.old - 12) text.old }

@@ -112,7 +112,7 @@ pub fn decrypt(
     opened_once(alloc, suite, key, usage, text)
 }
 
-/// The confounder and the plain text, encrypted, with no checksum behind them.
+/// Returns the confounder and the plain text, encrypted, with no checksum after them.
 pub fn encrypt_no_checksum(
     alloc: Global,
     suite: CipherSuite,
@@ -133,7 +133,7 @@ pub fn encrypt_no_checksum(
     Ok(text)
 }
 
-/// The confounder and the plain text whose encryption stands before the last 12 octets, and these. No checksum is compared.
+/// Decrypts the bytes before the last 12, and returns the confounder, the plain text and those 12 bytes. No checksum is compared.
 pub fn decrypt_no_checksum(
     alloc: Global,
     suite: CipherSuite,

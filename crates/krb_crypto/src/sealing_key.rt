@@ -50,7 +50,7 @@ impl Model for SealingKey {
     ghost invariant = { IsKept };
 }
 
-/// What a text without a proof of its checksum holds.
+/// The parts of a decrypted text whose checksum was not compared.
 #[derive(Drop)]
 pub struct Opened {
     pub confounder: [u8; 16],
@@ -124,7 +124,7 @@ impl SealingKey {
         seal_under(self.schedule.forward(), &self.hmac, text);
     }
 
-    /// Decrypts what stands before the checksum, and says whether the checksum is of that.
+    /// Decrypts the bytes before the checksum, and returns whether the checksum is that of the decrypted bytes.
     fn reveal(&self, text: &mut [u8]) -> bool
         requires { 28 ≤ length text.old }
         ensures front { cts (aes self.now.encryption) (take (length text.old - 12) text.new) ≡ take (length text.old - 12) text.old }
@@ -135,8 +135,8 @@ impl SealingKey {
         reveal_under(self.schedule.back(), &self.hmac, text)
     }
 
-    /// Opens in place: the plain text then stands between the 16 octets of the confounder and the 12 of the checksum.
-    /// A text that is refused stays as it was.
+    /// Decrypts in place: the plain text is then between the 16 bytes of the confounder and the 12 of the checksum.
+    /// After an error the text is unchanged.
     pub fn open_in_place(&self, text: &mut [u8]) -> Result<(), CryptoError>
         ensures opened { OnOk result (IsSealedUnder self.now text.old (drop 16 (take (length text.old - 12) text.new))) }
         ensures long { OnOk result (28 ≤ length text.old) }
@@ -187,7 +187,7 @@ impl SealingKey {
         opened_under(alloc, self.schedule.back(), &self.hmac, text)
     }
 
-    /// The confounder and the plain text, encrypted, with no checksum behind them.
+    /// Returns the confounder and the plain text, encrypted, with no checksum after them.
     pub fn encrypt_no_checksum(
         &self,
         alloc: Global,
@@ -202,7 +202,7 @@ impl SealingKey {
         Ok(Octets::new(text))
     }
 
-    /// The confounder and the plain text whose encryption stands before the last 12 octets, and these. No checksum is compared.
+    /// Decrypts the bytes before the last 12, and returns the confounder, the plain text and those 12 bytes. No checksum is compared.
     pub fn decrypt_no_checksum(&self, alloc: Global, text: &[u8]) -> Result<Opened, CryptoError>
         ensures opened { IfOk result (λ opened. cts (aes self.now.encryption) (opened.confounder ++ opened.plain) ≡ take (length text.now - 12) text.now) }
         ensures behind { IfOk result (λ opened. opened.checksum ≡ drop (length text.now - 12) text.now) }

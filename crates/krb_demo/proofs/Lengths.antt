@@ -1,4 +1,4 @@
--- What the client writes is complete and short.
+-- The messages that the client writes are complete and short.
 use Rattle.std.proofs.Common.{◌≡◌, ℕ, ◌+◌, ◌<◌, ◌≤◌, ◌^◌, ℤ, List, [], ◌++◌, length, replicate, ap, ◌∙◌, arith, lit≤, lit<}
 use Rattle.krb_der.specs.Der.{length_octets, tlv}
 use Rattle.krb_der.specs.Moment.{time_octets}
@@ -99,7 +99,7 @@ pub request_below : (ctime : ℤ) (cusec confounder : List ℕ) → length (seal
     → length (tlv (tag_of ap_req_kind) (contents ap_req_kind (ap_req_row (ap_req (sealed_authenticator ctime cusec confounder))))) < 2 ^ 31
 request_below ctime cusec confounder h k = let short = request_short ctime cusec confounder h k in omega (arith, short)
 
--- behind the mechanism's name
+-- the message after the mechanism's name
 pub framed_short : (message : List ℕ) → length message ≤ 2 ^ 20 → length (tlv 0x06 mechanism ++ (token_id ++ message)) < 2 ^ 31
 framed_short message h =
     omega (arith, append_le (tlv 0x06 mechanism) (token_id ++ message) 16 (2 + 2 ^ 20) (tlv_le 0x06 mechanism 10 (lit≤ tt)) (append_le token_id message 2 (2 ^ 20) (lit≤ tt) h))

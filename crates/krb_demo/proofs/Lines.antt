@@ -11,7 +11,7 @@ one_more n = sym (map-id (range_with_len 1 (n + 1))) ∙ map-range_with_len_more
 lines_more : (line : ℕ → List ℕ) (input : List ℕ) (n : ℕ) → (input ++ flat_map line (range_with_len 1 n)) ++ line (n + 1) ≡ input ++ flat_map line (range_with_len 1 (n + 1))
 lines_more line input n = flat_map_more line input (range_with_len 1 n) (n + 1) ∙ ap (λ (ks : List ℕ). input ++ flat_map line ks) (sym (one_more n))
 
--- the lines up to k, where those before k stand
+-- the lines up to k: the lines before k, then line k
 pub lines_up_to : (line : ℕ → List ℕ) (input : List ℕ) (k : ℕ) → 1 ≤ k → (input ++ flat_map line (range_with_len 1 (k - 1))) ++ line k ≡ input ++ flat_map line (range_with_len 1 (k + 1 - 1))
 lines_up_to line input k some =
     let here : k - 1 + 1 ≡ k = omega arith in

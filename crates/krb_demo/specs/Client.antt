@@ -94,7 +94,7 @@ ticket_keys = sealing_pair suite service_key 2
 unfoldable pub authenticator_keys : SealingPair
 authenticator_keys = sealing_pair suite session_key 11
 
--- the ticket, sealed behind a confounder of zeros
+-- the ticket, encrypted after a confounder of zeros
 unfoldable pub client_ticket : Ticket
 client_ticket = record {
   tkt_vno = version;
@@ -103,7 +103,7 @@ client_ticket = record {
   enc_part = encrypted ticket_keys (replicate 16 0) (spelling enc_ticket_part_layout ticket_part);
 }
 
--- what the client seals at this second and microsecond of its clock
+-- the authenticator that the client encrypts at this second and microsecond of its clock
 abbrev pub authenticator : ℤ → List ℕ → Authenticator
 authenticator ctime cusec = record {
   authenticator_vno = version;
@@ -127,7 +127,7 @@ ap_req authenticator = record {
   authenticator = authenticator;
 }
 
--- the authenticator, sealed behind this confounder
+-- the authenticator, encrypted after this confounder
 unfoldable pub sealed_authenticator : ℤ → List ℕ → List ℕ → EncryptedData
 sealed_authenticator ctime cusec confounder =
     encrypted authenticator_keys confounder (spelling authenticator_layout (authenticator ctime cusec))

@@ -27,7 +27,7 @@ const LIFETIME: u32 = 36_000;
 /// The number of the client's first message.
 const SEQ_NUMBER: u32 = 42;
 
-/// The moment so many seconds from the beginning of 1970.
+/// Returns the time `count` seconds after the beginning of 1970.
 pub(crate) fn seconds(count: u32) -> Time
     ensures { result ≡ pos count }
 {
@@ -44,7 +44,7 @@ fn no_realms(alloc: Global) -> Result<TransitedEncoding, OutOfMemory>
     })
 }
 
-/// What the ticket seals.
+/// Returns the part of the ticket that is encrypted.
 #[tactic(auto, unfolding(crate::specs::Client::ticket_part))]
 fn ticket_part(alloc: Global) -> Result<EncTicketPart, OutOfMemory>
     ensures { IfOk result (λ part. part ≡ ticket_part) }
@@ -64,7 +64,7 @@ fn ticket_part(alloc: Global) -> Result<EncTicketPart, OutOfMemory>
     })
 }
 
-/// The ticket's part, sealed under the service's key behind a confounder of zeros.
+/// Returns the ticket's part, encrypted under the service's key after a confounder of zeros.
 #[tactic(auto, unfolding(crate::specs::Client::ticket_keys, crate::specs::Client::client_ticket))]
 fn sealed_part(alloc: Global) -> Result<EncryptedData, OutOfMemory>
     ensures made { IfOk result (λ part. part ≡ client_ticket.enc_part) }
@@ -90,7 +90,7 @@ fn ticket(alloc: Global) -> Result<Ticket, OutOfMemory>
     })
 }
 
-/// What the client seals at this second and microsecond of its clock; `cusec` is big-endian.
+/// Returns the authenticator that the client encrypts at this second and microsecond of its clock; `cusec` is big-endian.
 fn authenticator(alloc: Global, ctime: Time, cusec: [u8; 4]) -> Result<Authenticator, OutOfMemory>
     ensures { IfOk result (λ made. made ≡ authenticator ctime cusec) }
 {

@@ -61,7 +61,7 @@ fn confounder(j: u32) -> [u8; 16]
     u128::from(j).to_be_bytes()
 }
 
-/// The token of so many seconds and microseconds after the start.
+/// Returns the token at `j` seconds and `j` microseconds after the start.
 fn token_at(alloc: Global, client: &DemoClient, j: u32) -> Result<Octets, OutOfMemory>
     requires { j ≤ 10000 }
     ensures { IfOk result (λ token. token ≡ token_at j) }

@@ -1,4 +1,4 @@
-//! What the records of the client are made of.
+//! Parts of the client's records.
 
 ghost use Rattle.std.specs.Prelude.{◌≡◌, ◌+◌, IfOk, IsTrue, replicate, length};
 ghost use Rattle.krb_der.specs.Schema.{is_ascii};

@@ -1,4 +1,4 @@
--- From what a function answers of a field to what stands there, and what has a spelling.
+-- From the result of reading a field to the value at the front of the octets, and the values that have a spelling.
 use Rattle.std.proofs.Common.{◌≡◌, ℕ, ◌+◌, ◌^◌, ◌<◌, ◌++◌, length, true, List, None, Some, Result, Ok, Err, refl, sym, ap, subst, ◌∙◌}
 use Rattle.std.specs.Prelude.{IfOk}
 use Rattle.std.proofs.lemmas.Option.{some_pair_parts, none-some}
@@ -24,14 +24,14 @@ spelling_there kind v sound short = (tlv (tag_of kind) (contents kind v), record
 
 -- ---- a value
 
--- one value of a tag stands at the front
+-- one value of a tag is at the front
 stands_once : (tag : ℕ) (a b octets rest after : List ℕ) → StandsNext tag a octets rest → StandsNext tag b octets after → a ≡ b
 stands_once tag a b octets rest after s t =
     let first : next_value tag octets ≡ Some (a, rest) = ap (next_value tag) (s.parts ∙ ap (λ (w : List ℕ). w ++ rest) s.is_value.is) ∙ value_again tag a rest s.is_value.short in
     let second : next_value tag octets ≡ Some (b, after) = ap (next_value tag) (t.parts ∙ ap (λ (w : List ℕ). w ++ after) t.is_value.is) ∙ value_again tag b after t.is_value.short in
     (some_pair_parts a b rest after (sym first ∙ second)).0
 
--- a value stands at the front with its contents
+-- a value at the front is there with its contents
 next_stands : (kind : Kind) (v : Of kind) (octets rest : List ℕ) → ValueNext kind v octets rest → StandsNext (tag_of kind) (contents kind v) octets rest
 next_stands kind v octets rest s = record { value = s.spelling; is_value = record { short = s.spells.short; is = s.spells.is }; parts = s.parts }
 

@@ -1,4 +1,4 @@
--- What stood before more octets were written.
+-- The octets that were written first, as the front of all octets.
 use Rattle.std.proofs.Common.{◌≡◌, ℕ, List, [], ◌∷◌, ◌++◌, length, take, refl, ap, ◌∙◌, append_assoc}
 use Rattle.std.proofs.lemmas.List.{take_at}
 

@@ -15,7 +15,7 @@ use borrow.Author.Differences.{up, down}
 day_count-zero : day_count (pos 0) 1 1 ≡ 3_652_425
 day_count-zero = day_count-early _ 9999 1 1 refl (omega arith) (omega arith) (omega arith)
 
--- the calendar has the day, and it lies so many days after 1 January of the year 0
+-- the calendar has the day d, which is n days after 1 January of the year 0
 record IsAfter (d : Day) (n : ℕ) : Type 0 where
   month_in : IsInRange 1 12 d.month
   day_in : IsInRange 1 (days_in_month (pos d.year) d.month) d.day

@@ -19,12 +19,12 @@ pub record IsValue (tag : ℕ) (contents octets : List ℕ) : Type 0 where
   pub short : length contents < 2 ^ 31
   pub is : octets ≡ tlv tag contents
 
--- The value of this tag with these contents stands at the front of the octets, and rest follows it.
+-- The value of this tag with these contents is at the front of the octets, and rest follows it.
 pub record StandsNext (tag : ℕ) (contents octets rest : List ℕ) : Type 0 where
   pub value : List ℕ
   pub is_value : IsValue tag contents value
   pub parts : octets ≡ value ++ rest
 
--- No value of this tag stands at the front.
+-- No value of this tag is at the front.
 abbrev pub NoneNext : ℕ → List ℕ → Type 0
 NoneNext tag octets = (contents rest : List ℕ) → StandsNext tag contents octets rest → ⊥

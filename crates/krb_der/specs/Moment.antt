@@ -15,7 +15,7 @@ abbrev pub spelled : ℕ → ℕ → ℕ → ℕ → ℕ → ℕ → List ℕ
 spelled year month day hour minute second =
     four_digits year ++ (two_digits month ++ (two_digits day ++ (two_digits hour ++ (two_digits minute ++ (two_digits second ++ 90 ∷ [])))))
 
--- The calendar and the clock have this moment, and it lies so many seconds from the beginning of 1970.
+-- The calendar and the clock have this moment, which is the given number of seconds from the beginning of 1970.
 pub record IsMoment (year month day hour minute second : ℕ) (seconds : ℤ) : Type 0 where
   pub date : IsCivilDate (pos year) month day
   pub hour_in : hour < 24
@@ -23,7 +23,7 @@ pub record IsMoment (year month day hour minute second : ℕ) (seconds : ℤ) : 
   pub second_in : second < 60
   pub is : seconds ≡ days_from_civil (pos year) month day *ℤ pos 86400 +ℤ pos (3600 * hour + 60 * minute + second)
 
--- The octets spell a moment of the calendar, which lies so many seconds from the beginning of 1970.
+-- The octets spell a moment of the calendar, which is the given number of seconds from the beginning of 1970.
 pub record SpellsMoment (seconds : ℤ) (octets : List ℕ) : Type 0 where
   pub year : ℕ
   pub month : ℕ
@@ -51,7 +51,7 @@ next_day d =
     if nat_lt d.month 12 then record { year = d.year; month = d.month + 1; day = 1 } else
     record { year = d.year + 1; month = 1; day = 1 }
 
--- the day so many days after 1 January of the year 0
+-- the day that is the given number of days after 1 January of the year 0
 unfoldable pub day_after : ℕ → Day
 day_after zero = record { year = 0; month = 1; day = 1 }
 day_after (suc n) = next_day (day_after n)
@@ -60,7 +60,7 @@ day_after (suc n) = next_day (day_after n)
 abbrev pub day_octets : Day → ℕ → List ℕ
 day_octets d second = spelled d.year d.month d.day (second / 3600) (second / 60 % 60) (second % 60)
 
--- the octets of the moment so many seconds from the beginning of 1970, which lies 62,167,219,200 seconds after that of the year 0
+-- the octets of the moment in seconds from the beginning of 1970, which is 62,167,219,200 seconds after that of the year 0
 unfoldable pub time_octets : ℤ → List ℕ
 time_octets seconds =
     day_octets (day_after (unsigned_abs (seconds +ℤ pos 62_167_219_200) / 86400)) (unsigned_abs (seconds +ℤ pos 62_167_219_200) % 86400)

@@ -25,12 +25,12 @@ row_left fields at = row_unless fields at.0 at.1
 abbrev pub OpensRecord : List ℕ → List ℕ × Option Fault → Type 0
 OpensRecord contents at = (fields : Fields) → value_in (sequence fields) contents ≡ row_left fields at
 
--- The contents of an application tag were opened, in which a SEQUENCE stands.
+-- The contents of an application tag were opened, in which there is a SEQUENCE.
 abbrev pub OpensIn : List ℕ → List ℕ × Option Fault → Type 0
 OpensIn contents at = (n : ℕ) (fields : Fields) → value_in (application n (sequence fields)) contents ≡ row_left fields at
 
--- A field was read, or it was refused, or reading had failed before: what stands there, and for proofs the same whatever
--- fields follow it.
+-- A field was read, or it was refused, or reading had failed before: the field at the front, and for proofs the equation of rows
+-- whatever fields follow it.
 pub record Next {A : Type 0} (layout : Layout A) (n : ℕ) (x : A) (old new : List ℕ × Option Fault) : Type 0 where
   pub known : IsKnown new.1 → IsKnown old.1
   pub row : IsKnown new.1 → (fields : Fields) → row_left (required n layout.kind fields) old ≡ option_map (λ row. (layout.view x, row)) (row_left fields new)

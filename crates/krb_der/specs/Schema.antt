@@ -109,13 +109,13 @@ pub record Spells (kind : Kind) (value : Of kind) (octets : List ℕ) : Type 0 w
   pub short : length (contents kind value) < 2 ^ 31
   pub is : octets ≡ tlv (tag_of kind) (contents kind value)
 
--- The value of this kind stands at the front of the octets, and rest follows it.
+-- The value of this kind is at the front of the octets, and rest follows it.
 pub record ValueNext (kind : Kind) (value : Of kind) (octets rest : List ℕ) : Type 0 where
   pub spelling : List ℕ
   pub spells : Spells kind value spelling
   pub parts : octets ≡ spelling ++ rest
 
--- No value of this kind stands at the front.
+-- No value of this kind is at the front.
 abbrev pub NoValueNext : Kind → List ℕ → Type 0
 NoValueNext kind octets = (value : Of kind) (rest : List ℕ) → ValueNext kind value octets rest → ⊥
 
@@ -138,7 +138,7 @@ abbrev mutual
   ascend (required n kind fields) low = nat_le low n && (is_table kind && ascend fields (n + 1))
   ascend (optional n kind fields) low = nat_le low n && (is_table kind && ascend fields (n + 1))
 
--- What T::write asks of a value besides its length: an octet in each integer and at most 7 unused bits. (That a text is ASCII, a
+-- The precondition of T::write besides the length: an octet in each integer and at most 7 unused bits. (That a text is ASCII, a
 -- moment in the calendar and an error code in its range are invariants of Name, Time and ErrorCode.)
 abbrev mutual
   pub IsComplete : (kind : Kind) → Of kind → Type 0
@@ -158,7 +158,7 @@ abbrev mutual
   IsCompleteRow (required n kind fields) row = IsComplete kind row.0 × IsCompleteRow fields row.1
   IsCompleteRow (optional n kind fields) row = IfSome row.0 (IsComplete kind) × IsCompleteRow fields row.1
 
--- What a writer asks of a value: an octet in each integer, at most 7 unused bits, and lengths under 2^31 all the way down.
+-- The precondition of a writer: an octet in each integer, at most 7 unused bits, and lengths under 2^31 all the way down.
 abbrev mutual
   pub IsWritable : (kind : Kind) → Of kind → Type 0
   IsWritable integer octets = 0 < length octets

@@ -9,7 +9,7 @@ use crate::text::Text;
 use crate::time::Time;
 use std::alloc::Global;
 
-/// A type with a value that takes no memory. It stands in the place of one that could not be read or copied, until
+/// A type with a value that needs no memory. That value replaces one that could not be read or copied, until
 /// `FieldReader::finish` or `Copier::finish` drops it; no contract says which value it is.
 pub trait Blank: Sized {
     fn blank(alloc: Global) -> Self;

@@ -7,7 +7,7 @@ use crate::copies::TryCopy;
 use crate::memory::OutOfMemory;
 use std::alloc::Global;
 
-/// Copies values one after another, and tells at the end whether there was memory for all of them:
+/// Copies values one after another, and returns at the end whether there was memory for all of them:
 ///
 /// ```text
 /// let mut copier = Copier::new(alloc);
@@ -17,7 +17,7 @@ use std::alloc::Global;
 #[derive(Drop)]
 pub struct Copier {
     alloc: Global,
-    /// Whether there was memory for each copy so far.
+    /// True if there was memory for each copy so far.
     pub has_all: bool,
 }
 
@@ -44,7 +44,7 @@ impl Copier {
         }
     }
 
-    /// What was made of the copies, if there was memory for each.
+    /// Returns `value`, which was made of the copies. Fails if memory ran out for one of them.
     pub fn finish<T: Drop>(self, value: T) -> Result<T, OutOfMemory>
         ensures { IfOk result (λ x. (x ≡ value) × (self.has_all ≡ true)) }
     {

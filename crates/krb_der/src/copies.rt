@@ -1,4 +1,4 @@
-//! Copies that may want for memory.
+//! Copies that fail if memory runs out.
 
 ghost use Rattle.std.specs.Prelude.{◌≡◌, IfOk};
 

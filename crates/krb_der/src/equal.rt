@@ -2,7 +2,7 @@
 
 ghost use Rattle.std.specs.Prelude.{◌≡◌, ◌↔◌, IsTrue};
 
-/// Whether two runs of octets are equal. All octets are read whatever they are: only the lengths decide how much is done.
+/// Returns whether two runs of octets are equal. Reads all octets whatever they are: the lengths alone decide how much is done.
 pub fn is_equal(octets: &[u8], others: &[u8]) -> bool
     ensures { IsTrue result ↔ (octets.now ≡ others.now) }
 {

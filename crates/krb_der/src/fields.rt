@@ -66,13 +66,13 @@ impl<'a> Reader<'a> {
         Ok(Reader::new(fields))
     }
 
-    /// The next field, which stands in context tag `n`.
+    /// Reads the next field, which is in context tag `n`.
     #[tactic(auto, unfolding(crate::specs::Records::value_in))]
     pub fn required_field<T: Asn1>(&mut self, alloc: Global, n: u8) -> Result<T, Fault>
         requires { n < 32 }
-        // What is read stands there.
+        // A value that is returned is in the field at the front.
         ensures found { IfOk result (λ x. FieldNext n T.layout.kind (T.layout.view x) self.old self.new) }
-        // Where it is refused no value stands there.
+        // After `Shape` no value of the type is there.
         ensures shape { result ≡ Err Fault.Shape → NoFieldNext n T.layout.kind self.old }
         // For proofs of records: the same whatever fields follow.
         ensures exact { ReadsRequired T.layout n result self.old self.new }
@@ -84,9 +84,9 @@ impl<'a> Reader<'a> {
     #[tactic(auto, unfolding(crate::specs::Records::value_in))]
     pub fn optional_field<T: Asn1>(&mut self, alloc: Global, n: u8) -> Result<Option<T>, Fault>
         requires { n < 32 }
-        // What is read stands there, or another tag or none is next.
+        // A value that is returned is in the field at the front; after None another tag or no octet is next.
         ensures found { IfOk result (λ x. OptionalNext n T.layout.kind (option_map T.layout.view x) self.old self.new) }
-        // Where it is refused the tag is next, and no value stands there.
+        // After `Shape` the tag is next, and no value of the type is in it.
         ensures shape { result ≡ Err Fault.Shape → NoOptionalNext n T.layout.kind self.old }
         // For proofs of records: the same whatever fields follow.
         ensures exact { ReadsOptional T.layout n result self.old self.new }

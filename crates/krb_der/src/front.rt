@@ -24,7 +24,7 @@ fn integer_contents(octets: &[u8]) -> Result<(&[u8], &[u8]), Shape>
     Ok((contents, rest))
 }
 
-/// The same, with what it means.
+/// Returns the contents of the INTEGER at the front, and the octets after it. Fails with `Shape` if there is none.
 pub fn integer_at(octets: &[u8]) -> Result<(&[u8], &[u8]), Shape>
     ensures found { IfOk result (λ x. ValueNext kinds.integer x.0.now octets.now x.1.now) }
     ensures none { OnErr result (NoValueNext kinds.integer octets.now) }
@@ -41,7 +41,7 @@ fn octets_contents(octets: &[u8]) -> Result<(&[u8], &[u8]), Shape>
     split_value(octets, 0x04)
 }
 
-/// The same, with what it means.
+/// Returns the contents of the OCTET STRING at the front, and the octets after it. Fails with `Shape` if there is none.
 pub fn octets_at(octets: &[u8]) -> Result<(&[u8], &[u8]), Shape>
     ensures found { IfOk result (λ x. ValueNext kinds.octet_string x.0.now octets.now x.1.now) }
     ensures none { OnErr result (NoValueNext kinds.octet_string octets.now) }
@@ -62,7 +62,7 @@ fn text_contents(octets: &[u8]) -> Result<(&[u8], &[u8]), Shape>
     Ok((contents, rest))
 }
 
-/// The same, with what it means.
+/// Returns the contents of the GeneralString at the front, and the octets after it. Fails with `Shape` if there is none.
 pub fn text_at(octets: &[u8]) -> Result<(&[u8], &[u8]), Shape>
     ensures found { IfOk result (λ x. ValueNext kinds.text x.0.now octets.now x.1.now) }
     ensures none { OnErr result (NoValueNext kinds.text octets.now) }
@@ -83,7 +83,7 @@ fn bits_contents(octets: &[u8]) -> Result<((u8, &[u8]), &[u8]), Shape>
     }
 }
 
-/// The same, with what it means.
+/// Returns the unused bits and octets of the BIT STRING at the front, and the octets after it. Fails with `Shape` if there is none.
 pub fn bits_at(octets: &[u8]) -> Result<((u8, &[u8]), &[u8]), Shape>
     ensures found { IfOk result (λ x. ValueNext kinds.bits (x.0.0, x.0.1.now) octets.now x.1.now) }
     ensures none { OnErr result (NoValueNext kinds.bits octets.now) }
@@ -104,7 +104,7 @@ fn time_contents(octets: &[u8]) -> Result<(i64, &[u8]), Shape>
     Ok((time.seconds(), rest))
 }
 
-/// The same, with what it means.
+/// Returns the seconds of the GeneralizedTime at the front, and the octets after it. Fails with `Shape` if there is none.
 pub fn time_at(octets: &[u8]) -> Result<(i64, &[u8]), Shape>
     ensures found { IfOk result (λ x. ValueNext kinds.time x.0 octets.now x.1.now) }
     ensures none { OnErr result (NoValueNext kinds.time octets.now) }
@@ -125,7 +125,7 @@ fn boolean_contents(octets: &[u8]) -> Result<(bool, &[u8]), Shape>
     Ok((value, rest))
 }
 
-/// The same, with what it means.
+/// Returns the value of the BOOLEAN at the front, and the octets after it. Fails with `Shape` if there is none.
 pub fn boolean_at(octets: &[u8]) -> Result<(bool, &[u8]), Shape>
     ensures found { IfOk result (λ x. ValueNext kinds.boolean x.0 octets.now x.1.now) }
     ensures none { OnErr result (NoValueNext kinds.boolean octets.now) }

@@ -28,7 +28,7 @@ impl Model for IntegerAsn1 {
     ghost inverse = { λ octets. record { octets = octets } };
 }
 
-/// Where octets begin: at -1 if their highest bit is set, and else at 0.
+/// Returns the number that octets begin with: -1 if their highest bit is set, otherwise 0.
 fn sign(octets: &[u8]) -> i64
     ensures { result ≡ sign_of octets.now }
 {
@@ -38,7 +38,7 @@ fn sign(octets: &[u8]) -> i64
     }
 }
 
-/// The number with one more octet behind it, where that fits.
+/// Returns the number with one more octet after it, if that fits.
 fn shift_in(number: i64, octet: u8) -> Option<i64>
     ensures { SomeIff result (FitsSigned w64 (number *ℤ pos 256 +ℤ pos octet)) (number *ℤ pos 256 +ℤ pos octet) }
 {
@@ -56,7 +56,7 @@ fn number(octets: &[u8]) -> Option<i64>
     Some(number)
 }
 
-/// Whether the octets are an INTEGER from 0 to 2^32 - 1.
+/// Returns whether the octets are an INTEGER from 0 to 2^32 - 1.
 pub fn is_uint32(octets: &[u8]) -> bool
     ensures { result ≡ is_uint32 octets.now }
 {

@@ -29,7 +29,7 @@ impl Model for Name {
     ghost inverse = { λ octets. record { octets = octets } };
 }
 
-/// Whether each octet is below 80 hex.
+/// Returns whether each octet is below 80 hex.
 pub fn is_ascii(octets: &[u8]) -> bool
     ensures { result ≡ is_ascii octets.now }
 {

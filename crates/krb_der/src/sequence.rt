@@ -15,7 +15,7 @@ use crate::writer::Writer;
 use std::alloc::Global;
 use std::marker::Model;
 
-/// Reads the fields of a SEQUENCE one after another, and tells at the end whether they were the fields:
+/// Reads the fields of a SEQUENCE one after another, and returns at the end whether they were the fields:
 ///
 /// ```text
 /// let mut fields = FieldReader::of_sequence(alloc, contents);
@@ -72,7 +72,7 @@ impl<'a> FieldReader<'a> {
         }
     }
 
-    /// The next field, which stands in context tag `n`. Where reading fails, or failed before, a blank value.
+    /// Reads the next field, which is in context tag `n`. Returns a blank value if reading fails or failed before.
     pub fn required<T: Asn1 + Blank>(&mut self, n: u8) -> T
         requires { n < 32 }
         ensures { Next T.layout n result self.old self.new }
@@ -81,7 +81,7 @@ impl<'a> FieldReader<'a> {
         self.required_or(n, blank)
     }
 
-    /// The same of a type that has no blank value: where reading fails, or failed before, the one that is given.
+    /// Reads the next field, of a type that has no blank value. Returns `blank` if reading fails or failed before.
     pub fn required_or<T: Asn1>(&mut self, n: u8, blank: T) -> T
         requires { n < 32 }
         ensures { Next T.layout n result self.old self.new }
@@ -115,7 +115,7 @@ impl<'a> FieldReader<'a> {
         }
     }
 
-    /// What was made of the fields, if reading did not fail and no octet is left.
+    /// Returns `value`, which was made of the fields, if reading did not fail and no octet is left.
     #[tactic(auto, unfolding(crate::specs::Records::row_in, crate::specs::Reading::nothing_left))]
     pub fn finish<T: Drop>(self, value: T) -> Result<T, Fault>
         ensures { FinishesRecord value result self.entry }
@@ -128,7 +128,7 @@ impl<'a> FieldReader<'a> {
     }
 }
 
-/// Writes the fields of a SEQUENCE one after another, and tells at the end whether there was memory for all of them:
+/// Writes the fields of a SEQUENCE one after another, and returns at the end whether there was memory for all of them:
 ///
 /// ```text
 /// let mut fields = FieldWriter::new(alloc);

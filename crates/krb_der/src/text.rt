@@ -31,7 +31,7 @@ impl Model for Text {
     ghost inverse = { λ octets. record { octets = octets } };
 }
 
-/// Whether a text has this octet, as one below 80 hex: a character of ASCII.
+/// Returns whether a text has this octet. An octet below 80 hex is a character of ASCII.
 pub fn has_octet(text: &str, octet: u8) -> bool
     ensures { result ≡ list_any (λ each. each == octet) text.now }
 {

@@ -138,7 +138,7 @@ fn digits(number: u8) -> [u8; 2]
     [b'0' + number / 10, b'0' + number % 10]
 }
 
-/// The date so many days after 0000-01-01.
+/// Returns the date `days` days after 0000-01-01.
 fn date_after(days: u32) -> Date
     requires { days < 3652425 }
     ensures year { result.year ≡ pos (day_after days).year }
@@ -168,7 +168,7 @@ fn spell(date: Date, second: u32) -> [u8; 15]
     ]
 }
 
-/// The octets of the moment so many seconds after 0000-01-01T00:00:00Z.
+/// Returns the octets of the moment `seconds` seconds after 0000-01-01T00:00:00Z.
 fn octets_since(seconds: u64) -> [u8; 15]
     requires { seconds < 315569520000 }
     ensures { result ≡ day_octets (day_after (seconds / 86400)) (seconds % 86400) }
@@ -178,7 +178,7 @@ fn octets_since(seconds: u64) -> [u8; 15]
 }
 
 impl Time {
-    /// The moment so many seconds from 1970-01-01T00:00:00Z.
+    /// Returns the moment `seconds` seconds from 1970-01-01T00:00:00Z.
     pub fn new(seconds: i64) -> Time
         requires from { negsuc 62_167_219_199 ≤ℤ seconds }
         requires to { seconds ≤ℤ pos 253_402_300_799 }
@@ -196,7 +196,7 @@ impl Time {
         self.seconds
     }
 
-    /// The same in microseconds, in the width that sums of moments and skews need.
+    /// Returns the microseconds from 1970-01-01T00:00:00Z, in the width that sums of moments and skews need.
     pub fn microseconds(self) -> i128
         ensures value { result ≡ self *ℤ pos 1_000_000 }
         ensures from { negsuc 62_167_219_199_999_999 ≤ℤ result }
@@ -208,9 +208,9 @@ impl Time {
     /// The moment that the 15 octets `YYYYMMDDHHMMSSZ` spell (X.690 11.7 without a fraction, as RFC 4120 5.2.3 has it).
     /// Year 0000 is a leap year.
     pub fn from_octets(octets: &[u8]) -> Result<Time, Shape>
-        // What is read is spelled so.
+        // A moment that is returned is spelled by the octets.
         ensures found { IfOk result (λ time. SpellsMoment time octets.now) }
-        // What is refused spells no moment.
+        // After an error the octets spell no moment.
         ensures none { OnErr result ((seconds : ℤ) → SpellsMoment seconds octets.now → ⊥) }
         // For proofs: the same as a function of the octets.
         ensures exact { Gives (λ time. time) result (time_in octets.now) }

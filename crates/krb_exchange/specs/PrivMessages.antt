@@ -1,5 +1,5 @@
--- A KRB-PRIV behind an AP message, as it goes to the service that changes passwords and back (RFC 3244 2). Two octets each
--- are the length of the whole, a version, and the length of the AP message; the AP message and the KRB-PRIV follow.
+-- A KRB-PRIV after an AP message: a request to the service that changes passwords, and its reply (RFC 3244 2). The length of
+-- the whole, a version, and the length of the AP message have two octets each; the AP message and the KRB-PRIV follow.
 use Rattle.std.specs.Prelude.{◌≡◌, ℕ, ◌+◌, ◌*◌, ◌%◌, ◌^◌, ◌≤◌, ◌<◌, List, ◌∷◌, ◌++◌, length, take, drop, get_or}
 use Rattle.std.specs.Int.{w16, to_be_bytes}
 use Rattle.krb_der.specs.Der.{tlv}
@@ -16,7 +16,7 @@ abbrev pub SpellsAp : ApMessage → List ℕ → Type 0
 SpellsAp (ApReq request) octets = Spells ap_req_layout.kind (ap_req_layout.view request) octets
 SpellsAp (ApRep reply) octets = Spells ap_rep_layout.kind (ap_rep_layout.view reply) octets
 
--- the length of the AP message, as the fifth and sixth octet have it
+-- the length of the AP message, from the fifth and sixth octet
 abbrev pub ap_length : List ℕ → ℕ
 ap_length octets = 256 * get_or octets 4 0 + get_or octets 5 0
 
@@ -41,7 +41,7 @@ two_octets n = to_be_bytes w16 (n % 2 ^ 16)
 abbrev pub message_octets : List ℕ → List ℕ → List ℕ
 message_octets ap priv = two_octets (6 + (length ap + length priv)) ++ (0x00 ∷ 0x01 ∷ (two_octets (length ap) ++ (ap ++ priv)))
 
--- The message is written so.
+-- The octets are the message as it is written.
 pub record IsWritten (message : KrbPrivMessage) (octets : List ℕ) : Type 0 where
   pub ap : List ℕ
   pub priv : List ℕ
@@ -49,7 +49,7 @@ pub record IsWritten (message : KrbPrivMessage) (octets : List ℕ) : Type 0 whe
   pub krb_priv : Spells krb_priv_layout.kind (krb_priv_layout.view message.krb_priv) priv
   pub is : octets ≡ message_octets ap priv
 
--- What is asked of a record that is written: an octet in each integer, at most 7 unused bits, and a spelling shorter than 2^31.
+-- A record can be written: it has an octet in each integer, at most 7 unused bits, and a spelling shorter than 2^31.
 pub record IsWritable {A : Type 0} (layout : Layout A) (x : A) : Type 0 where
   pub complete : IsComplete layout.kind (layout.view x)
   pub short : length (tlv (tag_of layout.kind) (contents layout.kind (layout.view x))) < 2 ^ 31

@@ -15,7 +15,7 @@ pub type LastReq = Items<LastReqEntry>;
 /// An element of LastReq (RFC 4120 5.4.2).
 #[derive(Drop)]
 pub struct LastReqEntry {
-    /// What the time is of.
+    /// The kind of request that `lr_value` is the time of.
     pub lr_type: IntegerAsn1,
     /// The time.
     pub lr_value: Time,
@@ -61,7 +61,7 @@ impl TryCopy for LastReqEntry {
     }
 }
 
-/// EncKDCRepPart (RFC 4120 5.4.2): what a KDC tells the client alone.
+/// EncKDCRepPart (RFC 4120 5.4.2): the part of a reply that a KDC encrypts, so that only the client reads it.
 #[derive(Drop)]
 pub struct EncKdcRepPart {
     /// The session key.

@@ -8,7 +8,7 @@ use std::alloc::Global;
 /// KDC-PROXY-MESSAGE (MS-KKDCP 2.2.2): a message as it goes over HTTP.
 #[derive(Drop)]
 pub struct KdcProxyMessage {
-    /// The message behind its length in four big-endian octets.
+    /// The message after its length in four big-endian octets.
     pub kerb_message: Octets,
     /// The realm whose KDC is to have it.
     pub target_domain: Option<Name>,

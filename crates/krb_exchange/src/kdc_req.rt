@@ -9,10 +9,10 @@ use krb_der::{
 use krb_messages::{EncryptedData, HostAddresses, PrincipalName, Ticket};
 use std::alloc::Global;
 
-/// KDC-REQ-BODY (RFC 4120 5.4.1): what is asked for.
+/// KDC-REQ-BODY (RFC 4120 5.4.1): the ticket that the client requests.
 #[derive(Drop)]
 pub struct KdcReqBody {
-    /// What the ticket is to be like.
+    /// The flags that the client requests for the ticket, and options of the request.
     pub kdc_options: Bits,
     /// The client, in an AS-REQ.
     pub cname: Option<PrincipalName>,
@@ -20,15 +20,15 @@ pub struct KdcReqBody {
     pub realm: Name,
     /// The service.
     pub sname: Option<PrincipalName>,
-    /// From when the ticket is wanted.
+    /// The requested start time of the ticket.
     pub from: Option<Time>,
-    /// Until when it is wanted.
+    /// The requested end time of the ticket.
     pub till: Time,
-    /// Until when it is to be renewed.
+    /// The requested time until which the ticket can be renewed.
     pub rtime: Option<Time>,
     /// A number that the reply repeats.
     pub nonce: IntegerAsn1,
-    /// The encryption types that the client takes, the best first.
+    /// The encryption types that the client accepts, the best first.
     pub etype: Items<IntegerAsn1>,
     /// The addresses that the ticket is used from.
     pub addresses: Option<HostAddresses>,
@@ -136,7 +136,7 @@ pub struct KdcReq {
     pub msg_type: IntegerAsn1,
     /// Pre-authentication.
     pub padata: Option<Items<PaData>>,
-    /// What is asked for.
+    /// The body: the ticket that the client requests.
     pub req_body: KdcReqBody,
 }
 

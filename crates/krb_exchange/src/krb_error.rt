@@ -27,11 +27,11 @@ pub struct KrbError {
     pub msg_type: IntegerAsn1,
     /// The client's time.
     pub ctime: Option<Time>,
-    /// The microseconds behind it.
+    /// The microseconds of the client's time.
     pub cusec: Option<IntegerAsn1>,
     /// The server's time.
     pub stime: Time,
-    /// The microseconds behind it.
+    /// The microseconds of the server's time.
     pub susec: IntegerAsn1,
     /// The code (RFC 4120 7.5.9).
     pub error_code: ErrorCode,

@@ -65,15 +65,15 @@ impl TryCopy for KrbPriv {
 pub struct EncKrbPrivPart {
     /// The data.
     pub user_data: Octets,
-    /// When they were sent.
+    /// The time when the sender sent the data, to the whole second.
     pub timestamp: Option<Time>,
-    /// The microseconds behind it.
+    /// The microseconds of `timestamp`.
     pub usec: Option<IntegerAsn1>,
-    /// Their number.
+    /// The sequence number of the message.
     pub seq_number: Option<IntegerAsn1>,
-    /// Who sent them.
+    /// The address of the sender.
     pub s_address: HostAddress,
-    /// Who is to have them.
+    /// The address of the recipient.
     pub r_address: Option<HostAddress>,
 }
 

@@ -53,7 +53,7 @@ pub fn one_priv_message()
     ensures { (x y : KrbPrivMessage) (octets : List ℕ) → IsPrivMessage x octets → IsPrivMessage y octets → x ≡ y }
 {}
 
-/// What was written is read back, where the length of the AP message fits its two octets.
+/// A written message is read back if the length of its AP message fits the two octets.
 pub fn written_priv_messages_are_read()
     ensures { (message : KrbPrivMessage) (octets : List ℕ) (written : IsWritten message octets) → length written.ap < 2 ^ 16 → IsPrivMessage message octets }
 {}

@@ -9,7 +9,7 @@ use std::alloc::Global;
 /// PA-DATA (RFC 4120 5.2.7): one pre-authentication element.
 #[derive(Drop)]
 pub struct PaData {
-    /// What the value is; compared by its octets.
+    /// The type of the value; compared by its octets.
     pub padata_type: IntegerAsn1,
     /// The value.
     pub padata_value: Octets,
@@ -117,7 +117,7 @@ impl TryCopy for EtypeInfo2Entry {
 pub struct PaEncTsEnc {
     /// The whole second.
     pub patimestamp: Time,
-    /// The microseconds behind it.
+    /// The microseconds of the client's time.
     pub pausec: Option<IntegerAsn1>,
 }
 
@@ -161,10 +161,10 @@ impl TryCopy for PaEncTsEnc {
     }
 }
 
-/// KERB-PA-PAC-REQUEST (MS-KILE 2.2.3): whether a PAC is wanted in the ticket.
+/// KERB-PA-PAC-REQUEST (MS-KILE 2.2.3): a request for a ticket with or without a PAC.
 #[derive(Drop)]
 pub struct KerbPaPacRequest {
-    /// Whether it is.
+    /// True if the client requests a PAC in the ticket.
     pub include_pac: bool,
 }
 
@@ -203,10 +203,10 @@ impl TryCopy for KerbPaPacRequest {
     }
 }
 
-/// PA-PAC-OPTIONS (MS-KILE 2.2.10): what the PAC is to be like.
+/// PA-PAC-OPTIONS (MS-KILE 2.2.10): the options that the client requests for the PAC.
 #[derive(Drop)]
 pub struct PaPacOptions {
-    /// Bit 1: claims are wanted.
+    /// The options. Bit 1: the client requests claims.
     pub flags: Bits,
 }
 

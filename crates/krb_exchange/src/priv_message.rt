@@ -1,4 +1,4 @@
-//! A KRB-PRIV behind an AP message, as it goes to the service that changes passwords and back (RFC 3244 2).
+//! A KRB-PRIV after an AP message: a request to the service that changes passwords, and its reply (RFC 3244 2).
 
 ghost use Rattle.std.specs.Prelude.{◌≡◌, ◌+◌, ◌^◌, ◌≤◌, ◌<◌, ℕ, List, length, IfOk, OnErr, Err};
 ghost use Rattle.krb_exchange.specs.Layouts.{krb_priv_layout};
@@ -14,25 +14,25 @@ use std::alloc::Global;
 /// The version of the requests and of the replies, in two big-endian octets.
 const VERSION: [u8; 2] = [0x00, 0x01];
 
-/// The message that shows who asks, or the one that answers it. Their application tags tell them apart.
+/// The AP-REQ that authenticates the client of a request, or the AP-REP of the reply. They differ in their application tags.
 #[derive(Drop)]
 pub enum ApMessage {
     ApReq(ApReq),
     ApRep(ApRep),
 }
 
-/// A request has an AP-REQ and a reply an AP-REP. Before them stand the length of the whole, the version 1 and the length of
-/// the AP message, each in two big-endian octets.
+/// A request has an AP-REQ and a reply an AP-REP. The length of the whole, the version 1 and the length of the AP message come
+/// before it, each in two big-endian octets.
 #[derive(Drop)]
 pub struct KrbPrivMessage {
-    /// Who asks, or that the service opened the ticket.
+    /// In a request, the authentication of the client; in a reply, the proof that the service decrypted the ticket.
     pub ap_message: ApMessage,
-    /// The data, sealed.
+    /// The data, encrypted.
     pub krb_priv: KrbPriv,
 }
 
 impl ApMessage {
-    /// The AP message that the octets are, all of them. `Shape` where they are neither.
+    /// Reads all octets as an AP message. Fails with `Shape` if they are neither an AP-REQ nor an AP-REP.
     pub fn read(alloc: Global, octets: &[u8]) -> Result<ApMessage, Fault>
         ensures found { IfOk result (λ message. SpellsAp message octets.now) }
         ensures shape { result ≡ Err Fault.Shape → (message : ApMessage) → SpellsAp message octets.now → ⊥ }
@@ -44,7 +44,7 @@ impl ApMessage {
         }
     }
 
-    /// Its spelling.
+    /// Returns the octets of the AP message.
     pub fn write(&self, alloc: Global) -> Result<Octets, OutOfMemory>
         requires { IsWritableAp self.now }
         ensures { IfOk result (SpellsAp self.now) }
@@ -65,7 +65,8 @@ impl TryCopy for ApMessage {
     }
 }
 
-/// The octets of the AP message, as its length cuts them, and those behind.
+/// Returns the octets of the AP message, up to its length, and the octets after it. Fails with `Shape` if `octets` are shorter
+/// than that length and the six octets before.
 fn split_message(octets: &[u8]) -> Result<(&[u8], &[u8]), Shape>
     ensures long { IfOk result (λ _. 6 + ap_length octets.now ≤ length octets.now) }
     ensures ap { IfOk result (λ parts. parts.0.now ≡ ap_octets octets.now) }
@@ -82,7 +83,7 @@ fn split_message(octets: &[u8]) -> Result<(&[u8], &[u8]), Shape>
     Ok(rest.split_at(length))
 }
 
-/// The octets of a message of these two. A length of 2^16 or more is written modulo 2^16.
+/// Returns the octets of the message with this AP message and this KRB-PRIV. A length of 2^16 or more is written modulo 2^16.
 fn put_together(alloc: Global, ap_message: &[u8], krb_priv: &[u8]) -> Result<Octets, OutOfMemory>
     requires { 6 + (length ap_message.now + length krb_priv.now) < 2 ^ 64 }
     ensures { IfOk result (λ octets. octets ≡ message_octets ap_message.now krb_priv.now) }
@@ -97,8 +98,8 @@ fn put_together(alloc: Global, ap_message: &[u8], krb_priv: &[u8]) -> Result<Oct
 }
 
 impl KrbPrivMessage {
-    /// The message that the octets are. The length of the AP message cuts it exactly, and the KRB-PRIV is all that follows;
-    /// the length of the whole and the version are not compared. `Shape` where there is no such message.
+    /// Reads the octets as a message. The AP message has exactly its length, and the KRB-PRIV is everything after it; the length
+    /// of the whole and the version are not compared. Fails with `Shape` if there is no such message.
     pub fn read(alloc: Global, octets: &[u8]) -> Result<KrbPrivMessage, Fault>
         ensures found { IfOk result (λ message. IsPrivMessage message octets.now) }
         ensures shape { result ≡ Err Fault.Shape → (message : KrbPrivMessage) → IsPrivMessage message octets.now → ⊥ }
@@ -110,8 +111,8 @@ impl KrbPrivMessage {
         })
     }
 
-    /// The octets of the message. A length of 2^16 or more is written modulo 2^16, and a message whose AP message is as long
-    /// is not read back.
+    /// Returns the octets of the message. A length of 2^16 or more is written modulo 2^16, and a message whose AP message is as
+    /// long is not read back.
     pub fn write(&self, alloc: Global) -> Result<Octets, OutOfMemory>
         requires ap_message { IsWritableAp self.now.ap_message }
         requires krb_priv { IsWritable krb_priv_layout self.now.krb_priv }

@@ -1,4 +1,4 @@
-//! What a KDC answers: the reply that was asked for, or an error.
+//! The result of a request to a KDC: the reply, or an error.
 
 ghost use Rattle.std.specs.Prelude.{◌≡◌, IfOk, Err};
 ghost use Rattle.krb_exchange.specs.Results.{IsResult};
@@ -15,7 +15,7 @@ pub enum KrbResult<T> {
     Err(KrbError),
 }
 
-/// The reply or the KRB-ERROR that the octets are, all of them. `Shape` where they are neither.
+/// Reads all octets as the reply or as a KRB-ERROR. Fails with `Shape` if they are neither.
 pub fn read_result<T: Asn1>(alloc: Global, octets: &[u8]) -> Result<KrbResult<T>, Fault>
     ensures found { IfOk result (IsResult T.layout octets.now) }
     ensures shape { result ≡ Err Fault.Shape → (answer : KrbResult T) → IsResult T.layout octets.now answer → ⊥ }

@@ -1,4 +1,4 @@
--- A frame is read at one place only: its object identifier and its message are the ones that stand there.
+-- A frame is read in one way only: octets that are a frame determine its object identifier and its message.
 use Rattle.std.proofs.Common.{◌≡◌, ℕ, ◌^◌, ◌<◌, List, [], ◌++◌, length, drop, Result, Ok, Err, refl, sym, ap, ◌∙◌, arith}
 use Rattle.std.specs.Prelude.{OnErr}
 use Rattle.std.proofs.lemmas.Option.{some_pair_parts}
@@ -28,26 +28,26 @@ module _ (oid token_id message octets : List ℕ) (frame : IsFrame oid token_id 
   oid_short : length oid < 2 ^ 31
   oid_short = omega (arith, frame.is.short, length-append (tlv 0x06 oid) (token_id ++ message), length-tlv 0x06 oid)
 
-  -- The frame's value is there,
+  -- The octets begin with the frame's value,
   pub frame_stands : NoneNext 0x60 octets → ⊥
   frame_stands none = none inside [] (record { value = octets; is_value = frame.is; parts = sym (append-nil octets) })
 
-  -- it has these contents, and nothing follows it.
+  -- the value has these contents, and nothing follows it.
   pub frame_opens : (contents rest : List ℕ) → StandsNext 0x60 contents octets rest → (contents ≡ inside) × (rest ≡ [])
   frame_opens contents rest s =
       same_value 0x60 contents rest inside [] s.is_value.short frame.is.short (sym (stands 0x60 contents octets rest s) ∙ frame.is.is ∙ sym (append-nil (tlv 0x60 inside)))
 
-  -- The object identifier is there,
+  -- The contents begin with the object identifier,
   pub oid_stands : (contents rest : List ℕ) → StandsNext 0x60 contents octets rest → NoneNext 0x06 contents → ⊥
   oid_stands contents rest s none =
       none oid (token_id ++ message) (record { value = tlv 0x06 oid; is_value = record { short = oid_short; is = refl }; parts = (frame_opens contents rest s).0 })
 
-  -- and behind it stand the token id and the message.
+  -- and the token id and the message follow the object identifier.
   pub oid_opens : (contents rest name after : List ℕ) → StandsNext 0x60 contents octets rest → StandsNext 0x06 name contents after → (name ≡ oid) × (after ≡ token_id ++ message)
   oid_opens contents rest name after s t =
       same_value 0x06 name after oid (token_id ++ message) t.is_value.short oid_short (sym (stands 0x06 name contents after t) ∙ (frame_opens contents rest s).0)
 
--- What was found so is a frame.
+-- Octets are a frame if they are one value whose contents are a nonempty object identifier, the token id and the message.
 pub frame_found : (oid token_id message contents octets after : List ℕ) → StandsNext 0x60 contents octets [] → StandsNext 0x06 oid contents after → 0 < length oid → after ≡ token_id ++ message → IsFrame oid token_id message octets
 frame_found oid token_id message contents octets after s t named e =
     let inside : contents ≡ tlv 0x06 oid ++ (token_id ++ message) = stands 0x06 oid contents after t ∙ ap (λ (w : List ℕ). tlv 0x06 oid ++ w) e in
@@ -67,11 +67,11 @@ one_frame_lem oid other token_id message another octets f g =
     let same = same_value 0x06 oid (token_id ++ message) other (token_id ++ another) (oid_short oid token_id message octets f) (oid_short other token_id another octets g) (frame_opens other token_id another octets g here [] stand).0 in
     (same.0, sym (drop_at token_id message (length token_id) refl) ∙ ap (drop (length token_id)) same.1 ∙ drop_at token_id another (length token_id) refl)
 
--- A frame with a token id is a frame of all that stands behind its object identifier.
+-- A frame with a token id is also a frame with an empty one, whose message is everything after the object identifier.
 pub opens_all : (oid token_id message octets : List ℕ) → IsFrame oid token_id message octets → IsFrame oid [] (token_id ++ message) octets
 opens_all oid token_id message octets f = record { named = f.named; is = f.is }
 
--- What is too short for a token id has none.
+-- A frame with fewer than two octets after its object identifier is no frame with a token id of two octets.
 pub none_fits : (found inside octets : List ℕ) → IsFrame found [] inside octets → length inside < 2 → (token_id : List ℕ) → length token_id ≡ 2 → NoFrame token_id octets
 none_fits found inside octets f short token_id two oid message g =
     let same = (one_frame_lem found oid [] inside (token_id ++ message) octets f (opens_all oid token_id message octets g)).1 in

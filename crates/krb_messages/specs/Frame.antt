@@ -1,4 +1,5 @@
--- Messages behind a mechanism's name (RFC 2743 3.1, RFC 4121 4.1), and in front of a stream (RFC 4120 7.2.2).
+-- The framing of messages: after a mechanism's object identifier (RFC 2743 3.1, RFC 4121 4.1), and after a length on a stream
+-- (RFC 4120 7.2.2).
 use Rattle.std.specs.Prelude.{ℕ, ◌<◌, List, ◌++◌, length}
 use Rattle.std.specs.Int.{to_be_bytes, w32}
 use Rattle.krb_der.specs.Der.{tlv, IsValue}
@@ -17,6 +18,6 @@ NoFrame token_id octets = (oid message : List ℕ) → IsFrame oid token_id mess
 unfoldable pub framed : List ℕ → List ℕ → List ℕ → List ℕ
 framed oid token_id message = tlv 0x60 (tlv 0x06 oid ++ (token_id ++ message))
 
--- the message behind its length in four big-endian octets
+-- the message after its length in four big-endian octets
 abbrev pub with_length : List ℕ → List ℕ
 with_length message = to_be_bytes w32 (length message) ++ message

@@ -1,4 +1,4 @@
--- The records of RFC 4120 5.2 to 5.5, each with its fields in the order of their tags, to be read beside the standard's
+-- The records of RFC 4120 5.2 to 5.5, each with its fields in the order of their tags, to be read next to the standard's
 -- modules: `required n kind` is a field [n], `optional n kind` one that is OPTIONAL, `integer` an INTEGER of any length
 -- (Int32, UInt32, Microseconds), `text` a GeneralString of ASCII octets (KerberosString, Realm), `time` a
 -- GeneralizedTime (KerberosTime), `bits` a BIT STRING (KerberosFlags), `application n` a tag [APPLICATION n].

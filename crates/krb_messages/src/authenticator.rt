@@ -1,4 +1,4 @@
-//! What a client seals to show that it holds a session key (RFC 4120 5.5.1).
+//! Authenticators: a client encrypts one to prove that it holds a session key (RFC 4120 5.5.1).
 
 use crate::authorization_data::AuthorizationData;
 use crate::encryption::{Checksum, EncryptionKey};

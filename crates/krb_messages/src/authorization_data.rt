@@ -12,9 +12,9 @@ pub type AuthorizationData = Items<AuthorizationDataElement>;
 /// An element of AuthorizationData (RFC 4120 5.2.6).
 #[derive(Debug, PartialEq, Eq, Drop)]
 pub struct AuthorizationDataElement {
-    /// What its contents are (RFC 4120 7.5.4).
+    /// The type of the contents (RFC 4120 7.5.4).
     pub ad_type: IntegerAsn1,
-    /// The contents, as the type says.
+    /// The contents, in the format of the type.
     pub ad_data: Octets,
 }
 

@@ -1,6 +1,6 @@
 //! The numbers and names of the Kerberos messages, each with the document that assigns it.
 //!
-//! Numbers that are compared by the octets of their INTEGER (checksum types, authorization data types) stand here as
+//! Numbers that are compared by the octets of their INTEGER (checksum types, authorization data types) are constants of
 //! those octets, big-endian, as they are written.
 
 /// The protocol version (`pvno`, `tkt-vno`, `authenticator-vno`; RFC 4120 5.3 and 5.4.1).
@@ -82,11 +82,11 @@ pub const AP_REQ_AUTHENTICATOR_USAGE: u32 = 11;
 pub const AP_REP_USAGE: u32 = 12;
 /// A KRB-PRIV's sealed part (RFC 4120 7.5.1).
 pub const KRB_PRIV_USAGE: u32 = 13;
-/// What an acceptor wraps (RFC 4121 2).
+/// A message that an acceptor wraps (RFC 4121 2).
 pub const ACCEPTOR_SEAL_USAGE: u32 = 22;
 /// An acceptor's MIC (RFC 4121 2).
 pub const ACCEPTOR_SIGN_USAGE: u32 = 23;
-/// What an initiator wraps (RFC 4121 2).
+/// A message that an initiator wraps (RFC 4121 2).
 pub const INITIATOR_SEAL_USAGE: u32 = 24;
 /// An initiator's MIC (RFC 4121 2).
 pub const INITIATOR_SIGN_USAGE: u32 = 25;

@@ -1,4 +1,5 @@
-//! Messages behind a mechanism's name (RFC 2743 3.1, RFC 4121 4.1), and in front of a stream (RFC 4120 7.2.2).
+//! The framing of messages: after a mechanism's object identifier (RFC 2743 3.1, RFC 4121 4.1), and after a length on a stream
+//! (RFC 4120 7.2.2).
 
 ghost use Rattle.std.specs.Prelude.{◌≡◌, ◌≢◌, ◌++◌, ◌<◌, ◌^◌, List, ℕ, length, IfOk, OnErr};
 ghost use Rattle.krb_der.specs.Der.{tlv};
@@ -15,7 +16,7 @@ const FRAME_TAG: u8 = 0x60;
 /// The tag of an OBJECT IDENTIFIER.
 const OID_TAG: u8 = 0x06;
 
-/// What stands behind these octets.
+/// Returns the octets after `front`. Fails with `Shape` if `octets` do not begin with `front`.
 fn behind<'a>(octets: &'a [u8], front: &[u8]) -> Result<&'a [u8], Shape>
     ensures found { IfOk result (λ rest. octets.now ≡ front.now ++ rest.now) }
     ensures none { OnErr result ((rest : List ℕ) → octets.now ≢ front.now ++ rest) }
@@ -23,7 +24,8 @@ fn behind<'a>(octets: &'a [u8], front: &[u8]) -> Result<&'a [u8], Shape>
     octets.strip_prefix(front).ok_or(Shape)
 }
 
-/// The contents of the frame's object identifier, and its message.
+/// Returns the contents of the frame's object identifier, and the message after `token_id`. Fails with `Shape` if the octets
+/// are not one frame with this token id.
 fn split_frame<'a>(octets: &'a [u8], token_id: &[u8]) -> Result<(&'a [u8], &'a [u8]), Shape>
     ensures found { IfOk result (λ x. IsFrame x.0.now token_id.now x.1.now octets.now) }
     ensures none { OnErr result (NoFrame token_id.now octets.now) }
@@ -40,8 +42,8 @@ fn split_frame<'a>(octets: &'a [u8], token_id: &[u8]) -> Result<(&'a [u8], &'a [
     Ok((oid, message))
 }
 
-/// The object identifier and the message of a frame with this token id, where the octets are one frame and nothing
-/// else. The message is whatever stands behind the token id.
+/// Returns the object identifier and the message of a frame with this token id. The message is everything after the token id.
+/// Fails with `Shape` if the octets are not one frame with this token id and nothing more.
 pub fn read_framed(octets: &[u8], token_id: [u8; 2]) -> Result<(Oid<'_>, &[u8]), Shape>
     ensures frame { IfOk result (λ x. IsFrame (contents_of x.0) token_id x.1.now octets.now) }
     ensures by_name { IfOk result (λ x. IsByName x.0) }
@@ -51,8 +53,8 @@ pub fn read_framed(octets: &[u8], token_id: [u8; 2]) -> Result<(Oid<'_>, &[u8]),
     Ok((Oid::from_contents(oid), message))
 }
 
-/// The object identifier, the token id and the message of a frame, where the octets are one frame with any token id of
-/// two octets and nothing else: some mechanisms leave the token id to their reader.
+/// Returns the object identifier, the token id and the message of a frame with any token id of two octets: some mechanisms
+/// leave the token id to their reader. Fails with `Shape` if the octets are not one such frame and nothing more.
 pub fn read_any_framed(octets: &[u8]) -> Result<(Oid<'_>, &[u8], &[u8]), Shape>
     ensures frame { IfOk result (λ x. IsFrame (contents_of x.0) x.1.now x.2.now octets.now) }
     ensures token_id { IfOk result (λ x. length x.1.now ≡ 2) }
@@ -67,7 +69,7 @@ pub fn read_any_framed(octets: &[u8]) -> Result<(Oid<'_>, &[u8], &[u8]), Shape>
     Ok((Oid::from_contents(oid), token_id, message))
 }
 
-/// The frame of a message. `Other` has at least one octet.
+/// Returns the frame of a message. An `oid` that is `Other` needs at least one octet.
 pub fn write_framed(
     alloc: Global,
     oid: Oid<'_>,
@@ -88,7 +90,7 @@ pub fn write_framed(
     Ok(frame.finish())
 }
 
-/// The message behind its length in four big-endian octets, as it goes over TCP (RFC 4120 7.2.2).
+/// Returns the message after its length in four big-endian octets, the format over TCP (RFC 4120 7.2.2).
 pub fn serialize_message(alloc: Global, message: &[u8]) -> Result<Octets, OutOfMemory>
     requires { length message.now < 2 ^ 32 }
     ensures { IfOk result (λ octets. octets ≡ with_length message.now) }

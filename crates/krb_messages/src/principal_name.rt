@@ -9,7 +9,7 @@ use std::alloc::Global;
 /// PrincipalName (RFC 4120 5.2.2): the name of a user or a service within its realm.
 #[derive(Debug, PartialEq, Eq, PartialOrd, Ord, Hash, Drop)]
 pub struct PrincipalName {
-    /// What kind of name it is (RFC 4120 6.2).
+    /// The name type (RFC 4120 6.2).
     pub name_type: IntegerAsn1,
     /// Its components, as `host` and `server.example.com`.
     pub name_string: Items<Name>,

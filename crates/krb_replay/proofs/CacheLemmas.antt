@@ -1,4 +1,4 @@
--- What an insertion leaves in the cache.
+-- The cache after an insertion.
 use Rattle.std.proofs.Common.{◌≡◌, Bool, true, false, not, ◌&&◌, ◌||◌, cond, if◌then◌else◌, List, None, refl, sym, ap, ◌∙◌, subst}
 use Rattle.krb_replay.specs.declared.ask.Ask.{Ask}
 use Rattle.krb_replay.specs.declared.ask.Verdict.{Verdict}

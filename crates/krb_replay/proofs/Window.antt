@@ -79,7 +79,7 @@ pub or_false : (p q : Bool) → (p || q) ≡ false → (p ≡ false) × (q ≡ f
 or_false true q e = absurd (false≢true (sym e))
 or_false false q e = (refl, e)
 
--- a record that is not there yet is put behind
+-- records stay distinct if a record that is not among them is put after them
 pub IsDistinct-push : (records : List Record) (r : Record) → IsDistinct records → has_record records r ≡ false → IsDistinct (records ++ r ∷ [])
 IsDistinct-push [] r h e = (refl, tt)
 IsDistinct-push (x ∷ xs) r h e =

@@ -44,7 +44,7 @@ pub record IsBlockOf (entry : Record) (blocks : List (List Record)) (index : ℕ
   pub below : AllBelow entry (flat (take index blocks))
   pub here : (d : List Record) → ends_below entry (slice_index_or blocks index d) ≡ false
 
--- the first of several blocks has at least so many records, each between it and the last at least 256, and the last at least one
+-- the first of several blocks has at least `least` records, each between it and the last at least 256, and the last at least one
 abbrev pub Filled : ℕ → List (List Record) → Type 0
 Filled least [] = ⊤
 Filled least (b ∷ []) = 1 ≤ length b
@@ -54,7 +54,7 @@ Filled least (b ∷ c ∷ cs) = (least ≤ length b) × Filled 256 (c ∷ cs)
 abbrev pub AllNone : List (List Record) → Type 0
 AllNone blocks = AllByRecursion (λ b. b ≡ []) blocks
 
--- how many records so many blocks hold, however these are cut
+-- how many records a number of blocks hold, however these are cut
 abbrev pub room_of : ℕ → ℕ
 room_of blocks = min ((blocks - 2) * 256) (2 ^ 64 - 1)
 

@@ -1,4 +1,4 @@
--- What contracts see of a replay book, and the histories that it stands for.
+-- The view of a replay book in contracts, and the histories that it represents.
 use Rattle.std.specs.Prelude.{◌≡◌, refl, ℕ, ◌+◌, ◌≤◌, ◌<◌, List, length}
 use Rattle.std.proofs.Common.{ap, sym, ◌∙◌, subst, arith}
 use Rattle.krb_replay.specs.declared.record.Record.{Record}
@@ -17,8 +17,8 @@ pub record Book : Type 0 where
   pub kept : List Record
   pub spare : ℕ
 
--- one call answers as the book that never forgets does, for every history that the book stands for, and leaves a book that
--- stands for the history after it; whatever it stands for, the verdict is one that its moment allows; the number of records
+-- one call answers as the book that never forgets does, for every history that the book represents, and leaves a book that
+-- represents the history after it; for any history, the verdict is one that the new book's moment allows; the number of records
 -- that the book has room for never falls
 pub record Follows (Stands : Book → History → Type 0) (old : Book) (ask : Ask) (verdict : Verdict) (new : Book) : Type 0 where
   pub skew : new.skew ≡ old.skew
@@ -27,7 +27,7 @@ pub record Follows (Stands : Book → History → Type 0) (old : Book) (ask : As
   pub judged : IsJudged old.skew new.moment ask verdict
   pub room : old.spare + length old.kept ≤ new.spare + length new.kept
 
--- nothing that a caller can tell has changed; there may be more room
+-- nothing that a caller can observe has changed; there may be more room
 pub record IsUnchanged (old new : Book) : Type 0 where
   pub skew : new.skew ≡ old.skew
   pub moment : new.moment ≡ old.moment

@@ -1,4 +1,4 @@
--- What the clock alone says of an ask (RFC 4120 3.2.3).
+-- Refusal of an ask by the clock alone (RFC 4120 3.2.3).
 use Rattle.std.specs.Prelude.{ℕ, ◌*◌, ℤ, pos, ◌+ℤ◌, ◌*ℤ◌, int_lt, Bool, not, ◌||◌, if◌then◌else◌, unwrap_or, Option, Some, None}
 use Rattle.krb_replay.specs.declared.record.Record.{Record}
 use Rattle.krb_replay.specs.declared.ask.Ask.{Ask}

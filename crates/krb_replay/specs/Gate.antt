@@ -1,4 +1,4 @@
--- What every gate keeps, and what a list of calls makes of a gate.
+-- The verdicts that any gate may return, and a gate after a list of calls.
 use Rattle.std.specs.Prelude.{◌≡◌, ℕ, ◌≤◌, Bool, true, false, if◌then◌else◌, MatchOption, Option, Some, None, unwrap_or, List, [], ◌∷◌}
 use Rattle.std.proofs.Common.{sym, subst}
 use Rattle.krb_replay.specs.declared.ask.Ask.{Ask}

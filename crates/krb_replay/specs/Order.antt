@@ -12,7 +12,7 @@ abbrev pub Ascends : List Record → Type 0
 Ascends [] = ⊤
 Ascends (x ∷ xs) = AllByRecursion (λ y. is_gt (record_cmp x y) ≡ false) xs × Ascends xs
 
--- the entry is put behind those that are less
+-- the records with the entry after those that are less
 abbrev pub place : List Record → Record → List Record
 place [] entry = entry ∷ []
 place (x ∷ xs) entry = if is_lt (record_cmp x entry) then x ∷ place xs entry else entry ∷ x ∷ xs

@@ -1,4 +1,4 @@
--- A gate that is told what a store outside has answered, and the store that machines share.
+-- A gate that gets the answer of an external store, and the store that machines share.
 use Rattle.std.specs.Prelude.{◌≡◌, refl, ℕ, max, ◌≤◌, Bool, not, ◌||◌, ⊤, List, [], ◌∷◌, if◌then◌else◌}
 use Rattle.std.specs.List.{filter}
 use Rattle.std.proofs.Common.{ap, sym, ◌∙◌, subst, arith}

@@ -1,4 +1,4 @@
-//! What a replay gate is asked, and what it answers.
+//! The question to a replay gate, and the gate's verdict.
 
 ghost use Rattle.krb_replay.specs.Verdicts.{verdict_text};
 ghost use Rattle.std.specs.Prelude.{Some};
@@ -12,9 +12,9 @@ use std::fmt;
 /// A question to a replay gate: may this authenticator be admitted now?
 #[derive(PartialEq, Eq, Drop)]
 pub struct Ask {
-    /// What is remembered where the answer is yes.
+    /// The record that is remembered if the answer is yes.
     pub entry: Record,
-    /// The service's name, as it stands in the clear part of the ticket.
+    /// The service's name, as in the clear part of the ticket.
     pub sname: PrincipalName,
     /// When the ticket's life starts: its starttime, or else its authtime (RFC 4120 5.3).
     pub start: Time,

@@ -58,7 +58,7 @@ impl Block {
         self.records.len() >= ROOM
     }
 
-    /// Whether the last record is less than this one. No record is not less.
+    /// Returns whether the last record is less than this one: true if there is no record.
     pub fn ends_below(&self, entry: &Record) -> bool
         ensures { result ≡ ends_below entry.now self.now }
     {
@@ -68,7 +68,7 @@ impl Block {
         }
     }
 
-    /// Whether an equal record is there.
+    /// Returns whether the block contains an equal record.
     pub fn contains(&self, entry: &Record) -> bool
         requires { Ascends self.now }
         ensures { result ≡ has_record self.now entry.now }
@@ -76,7 +76,7 @@ impl Block {
         self.records.binary_search(entry).is_ok()
     }
 
-    /// Puts the record behind all others.
+    /// Puts the record after all others.
     pub fn push(&mut self, entry: Record)
         requires { length self.old < 512 }
         ensures { self.new ≡ self.old ++ entry ∷ [] }
@@ -96,7 +96,7 @@ impl Block {
         }
     }
 
-    /// Whether the first record is no longer current.
+    /// Returns whether the first record is no longer current.
     pub fn is_front_stale(&self, skew: u32, moment: u64) -> bool
         ensures { result ≡ is_front_stale skew moment self.now }
     {
@@ -125,7 +125,7 @@ impl Block {
     }
 }
 
-/// Moves what is behind the lower half of a full block.
+/// Moves the records after the lower half of a full block.
 fn move_upper(records: &mut VecDeque<Record>, upper: &mut VecDeque<Record>)
     requires full { deque_len records.old ≡ 512 }
     requires none { upper.old.items ≡ [] }

@@ -57,7 +57,7 @@ impl Blocks {
         self.len
     }
 
-    /// Makes room for so many records beside those that are there.
+    /// Makes room for `records` more records.
     pub fn reserve(&mut self, records: usize) -> Result<(), OutOfMemory>
         ensures room { OnOk result (records ≤ self.new.spare) }
         ensures items { self.new.items ≡ self.old.items }
@@ -84,7 +84,7 @@ impl Blocks {
         Ok(())
     }
 
-    /// Whether the records fill their room, and all stay current.
+    /// Returns whether the records fill their room, and all stay current.
     fn is_full(&self, skew: u32, moment: u64) -> bool
         ensures full { IsTrue result → (self.now.spare ≡ 0) × (filter (is_current skew moment) self.now.items ≡ self.now.items) }
         ensures room { IsFalse result → length (filter (is_current skew moment) self.now.items) < self.now.spare + length self.now.items }
@@ -92,7 +92,7 @@ impl Blocks {
         self.len == room(&self.blocks, &self.spare) && !is_front_stale(&self.blocks, skew, moment)
     }
 
-    /// Whether an equal record is there. The newest come last, so look there first.
+    /// Returns whether an equal record is kept. The newest records come last, so the last one is compared first.
     pub fn contains(&self, entry: &Record) -> bool
         ensures { result ≡ has_record self.now.items entry.now }
     {
@@ -132,7 +132,7 @@ fn room(blocks: &VecDeque<Block>, spare: &Vec<Block>) -> usize
         .saturating_mul(HALF)
 }
 
-/// Takes the blocks that so many records can need.
+/// Allocates the blocks that `records` records can need.
 fn take_blocks(
     blocks: &mut VecDeque<Block>,
     spare: &mut Vec<Block>,
@@ -159,7 +159,7 @@ fn take_blocks(
     fill_spare(spare, *blocks.allocator(), wanted)
 }
 
-/// Takes blocks until there are so many.
+/// Allocates blocks until there are `wanted` spare ones.
 fn fill_spare(spare: &mut Vec<Block>, alloc: Global, wanted: usize) -> Result<(), OutOfMemory>
     requires room { wanted ≤ vec_capacity spare.old }
     requires fewer { length spare.old.items ≤ wanted }
@@ -176,7 +176,7 @@ fn fill_spare(spare: &mut Vec<Block>, alloc: Global, wanted: usize) -> Result<()
     Ok(())
 }
 
-/// Whether each record is less than this one.
+/// Returns whether each record is less than this one.
 fn are_below(blocks: &VecDeque<Block>, entry: &Record) -> bool
     ensures { result ≡ are_below entry.now blocks.now.items }
 {
@@ -206,7 +206,7 @@ fn block_of(blocks: &VecDeque<Block>, entry: &Record) -> usize
     low
 }
 
-/// Whether the oldest record is no longer current.
+/// Returns whether the oldest record is no longer current.
 fn is_front_stale(blocks: &VecDeque<Block>, skew: u32, moment: u64) -> bool
     requires { Filled 1 blocks.now.items }
     ensures { result ≡ is_front_stale skew moment (flat blocks.now.items) }
@@ -282,7 +282,7 @@ fn put(blocks: &mut VecDeque<Block>, spare: &mut Vec<Block>, entry: Record)
     }
 }
 
-/// Puts a record behind all others, in a new block where the last one is full.
+/// Puts a record after all others, in a new block if the last one is full.
 fn push(blocks: &mut VecDeque<Block>, spare: &mut Vec<Block>, entry: Record)
     requires filled { Filled 1 blocks.old.items }
     requires none { AllNone spare.old.items }
@@ -302,7 +302,7 @@ fn push(blocks: &mut VecDeque<Block>, spare: &mut Vec<Block>, entry: Record)
     }
 }
 
-/// Whether the last block has room.
+/// Returns whether there is a last block, and it has room.
 fn has_room(blocks: &VecDeque<Block>) -> bool
     ensures { result ≡ has_room blocks.now.items }
 {

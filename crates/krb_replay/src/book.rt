@@ -45,7 +45,7 @@ impl ReplayBook {
         })
     }
 
-    /// Makes room for this many records beside those that are kept.
+    /// Makes room for `records` more records than are kept.
     pub fn reserve(&mut self, records: usize) -> Result<(), OutOfMemory>
         ensures room { OnOk result (records ≤ self.new.spare) }
         ensures same { IsUnchanged self.old self.new }

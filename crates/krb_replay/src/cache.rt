@@ -11,12 +11,12 @@ use krb_messages::PrincipalName;
 use std::alloc::Global;
 use std::collections::HashSet;
 
-/// What `sspi` keeps of an authenticator. Two are equal where all four fields are.
+/// The parts of an authenticator that `sspi` keeps. Two records are equal if all four fields are.
 #[derive(PartialEq, Eq, Hash, Drop)]
 pub struct AuthenticatorCacheRecord {
     /// The client's name, without its realm.
     pub cname: PrincipalName,
-    /// The service's name, as it stands in the clear part of the ticket.
+    /// The service's name, as in the clear part of the ticket.
     pub sname: PrincipalName,
     /// The client's time, in whole seconds.
     pub ctime: Time,
@@ -34,7 +34,7 @@ pub type AuthenticatorsCache = HashSet<AuthenticatorCacheRecord>;
 pub struct CacheGate {
     /// The clock skew that is tolerated, in seconds.
     pub skew: u32,
-    /// What was admitted.
+    /// The records of the admitted authenticators.
     pub cache: AuthenticatorsCache,
     /// The last asked moment, in microseconds since 1970-01-01T00:00:00Z, and 0 at first.
     pub moment: u64,
@@ -66,7 +66,7 @@ fn verdict_of_added(added: bool) -> Verdict
     }
 }
 
-/// What the cache keeps of an ask.
+/// Returns the parts of an ask that the cache keeps.
 fn cache_record(ask: Ask) -> AuthenticatorCacheRecord
     ensures { result ≡ cache_record_of ask }
 {

@@ -1,4 +1,4 @@
-//! What the clock alone says of an ask.
+//! Refusal of an ask by the clock alone.
 
 ghost use Rattle.std.specs.Prelude.{◌≡◌, pos, ◌<ℤ◌, ◌^◌};
 ghost use Rattle.krb_replay.specs.Clock.{clock_refusal, is_current, is_later};
@@ -6,7 +6,7 @@ ghost use Rattle.krb_replay.specs.Clock.{clock_refusal, is_current, is_later};
 use crate::ask::{Ask, Verdict};
 use crate::record::Record;
 
-/// Whether `a` is later than `b` by more than the skew. The times are in microseconds, and the skew in seconds.
+/// Returns whether `a` is later than `b` by more than the skew. The times are in microseconds, and the skew in seconds.
 pub fn is_later(a: i128, b: i128, skew: u32) -> bool
     requires { b <ℤ pos (2 ^ 100) }
     ensures { result ≡ is_later a b skew }
@@ -31,7 +31,7 @@ pub fn clock_refusal(skew: u32, moment: u64, ask: &Ask) -> Option<Verdict>
     }
 }
 
-/// Whether the record's time is at least the moment less the skew, so that a later ask can still repeat it.
+/// Returns whether the record's time is at least the moment less the skew, so that a later ask can still repeat it.
 pub fn is_current(skew: u32, moment: u64, entry: &Record) -> bool
     ensures { result ≡ is_current skew moment entry.now }
 {

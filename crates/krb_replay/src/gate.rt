@@ -1,4 +1,4 @@
-//! What decides which authenticators are admitted.
+//! Gates decide which authenticators are admitted.
 
 ghost use Rattle.std.specs.Prelude.{◌≡◌, ℕ, IfOk, OnErr};
 ghost use Rattle.krb_replay.specs.declared.ask.Ask.{Ask};
@@ -8,8 +8,8 @@ ghost use Rattle.krb_replay.specs.Gate.{IsJudged};
 use crate::ask::{Ask, Verdict};
 use krb_der::OutOfMemory;
 
-/// A gate that admits each authenticator once (RFC 4120 3.2.3). Its members say how it is seen by those that stand
-/// above any gate.
+/// A gate that admits each authenticator once (RFC 4120 3.2.3). Its ghost members describe it to code that works
+/// with any gate.
 pub trait ReplayGate {
     /// The clock skew that is tolerated, in seconds. No call changes it.
     ghost skew: { Self → ℕ };
@@ -17,16 +17,16 @@ pub trait ReplayGate {
     /// The moment that the last call judged by, in microseconds since 1970-01-01T00:00:00Z.
     ghost moment: { Self → ℕ };
 
-    /// What one call may do: the gate before it, the ask, the verdict, and the gate after it.
+    /// The steps that one call may make: the gate before it, the ask, the verdict, and the gate after it.
     ghost admits: { Self → Ask → Verdict → Self → Type 0 };
 
-    /// No caller can tell the second gate from the first: what is left after a call that ran out of memory.
+    /// No caller can distinguish the second gate from the first: so it is after a call that ran out of memory.
     ghost is_same: { Self → Self → Type 0 };
 
     /// Judges the ask, and remembers its record where it is admitted. Out of memory, the gate is as before.
     fn admit(&mut self, ask: Ask) -> Result<Verdict, OutOfMemory>
         ensures step { IfOk result (λ verdict. admits self.old ask verdict self.new) }
-        // Whatever the gate: the clock's refusal at its moment, and else Admitted or Replayed.
+        // For any gate: the clock's refusal at its moment, otherwise Admitted or Replayed.
         ensures judged { IfOk result (λ verdict. IsJudged (skew self.old) (moment self.new) ask verdict) }
         ensures skew { skew self.new ≡ skew self.old }
         ensures err { OnErr result (is_same self.old self.new) };
@@ -37,13 +37,13 @@ pub trait ReplayGate {
 
     ghost same: { (a : Self) → is_same a a };
 
-    /// A gate that no caller can tell from another judged its last call by the same moment.
+    /// If no caller can distinguish two gates, both judged their last call by the same moment.
     ghost same_moment: { (a b : Self) → is_same a b → moment b ≡ moment a };
 
     /// And it tolerates the same skew.
     ghost same_skew: { (a b : Self) → is_same a b → skew b ≡ skew a };
 
-    /// Whatever may be answered is the clock's refusal at the gate's moment, and else Admitted or Replayed.
+    /// Each possible verdict is the clock's refusal at the gate's moment, otherwise Admitted or Replayed.
     ghost judges: { (old new : Self) (ask : Ask) (verdict : Verdict) → admits old ask verdict new → IsJudged (skew old) (moment new) ask verdict };
 
     /// No call changes the skew.

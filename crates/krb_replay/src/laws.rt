@@ -1,4 +1,4 @@
-//! What holds for all values and all lists of asks.
+//! Properties of all values and all lists of asks.
 
 ghost use Rattle.std.specs.Prelude.{◌≡◌, ◌↔◌, ◌⊎◌, ℕ, ◌+◌, ◌≤◌, List, [], ◌∷◌, ◌++◌, length, None, IsTrue, true, false};
 ghost use Rattle.std.specs.Ordering.{int_cmp, is_eq};
@@ -63,8 +63,8 @@ pub fn records_are_admitted_once()
         → StandsFor old h → Run (Follows StandsFor) old asks verdicts new → IsDistinct (h.admitted ++ admitted_of asks verdicts) }
 {}
 
-/// A telling gate admits the ask that it was told of alone, and only where the store did not have its record. Over every list
-/// of asks it admits nothing, or this one record.
+/// A telling gate admits only the ask that the store was asked about, and only if the store did not have its record. Over every
+/// list of asks it admits nothing, or this one record.
 pub fn telling_gates_admit_once()
     ensures only { (old new : TellingGate) (ask : Ask) → AdmitsAsTold old ask Admitted new
         → (old.seen ≡ false) × (ask ≡ old.told) × (new.seen ≡ true) }
@@ -103,8 +103,8 @@ pub fn cache_records_compare_by_their_fields()
         → ⟦<AuthenticatorCacheRecord as Hash>⟧.hash_input a ≡ ⟦<AuthenticatorCacheRecord as Hash>⟧.hash_input b }
 {}
 
-/// A book is its skew, its moment and its records, and nothing else: two with the same three are equal, so no list that only grows
-/// can hide behind them. Its records are their blocks, the spare ones, which are empty, and how many records there are; and
+/// A book is its skew, its moment and its records, and nothing more: two with the same three are equal, so a book has no hidden list
+/// that only grows. Its records are their blocks, the spare ones, which are empty, and how many records there are; and
 /// a block is a list of records.
 pub fn books_hold_nothing_else()
     ensures book { (a b : Inside) → a.skew ≡ b.skew → a.moment ≡ b.moment → a.records ≡ b.records → a ≡ b }

@@ -12,8 +12,8 @@
 //! }
 //! ```
 //!
-//! Its clock is the greatest moment that it was ever asked, so that a clock that falls back admits nothing anew. What
-//! stands above a gate is written for any [`ReplayGate`]; [`CacheGate`] is the one that does as the crate `sspi` does, and
+//! Its clock is the greatest moment that it was ever asked, so that a clock that falls back admits nothing anew. Callers
+//! of a gate are written for any [`ReplayGate`]; [`CacheGate`] is the one that does as the crate `sspi` does, and
 //! [`TellingGate`] the one of machines that share a store.
 #![tactic(auto)]
 

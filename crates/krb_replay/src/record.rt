@@ -1,4 +1,4 @@
-//! What is remembered of an authenticator.
+//! The record that is remembered of an authenticator.
 
 ghost use Rattle.std.specs.Prelude.{◌≡◌, IfOk};
 
@@ -6,8 +6,8 @@ use krb_der::{Name, Octets, OutOfMemory, Time, TryCopy};
 use krb_messages::PrincipalName;
 use std::alloc::Global;
 
-/// What two uses of one authenticator have in common (RFC 4120, section 3.2.3): its time and its client, and its tag where records
-/// have one. Two are equal where all five fields are. The order is by time first, and then by the other fields in their order here.
+/// The parts that two uses of one authenticator have in common (RFC 4120, section 3.2.3): its time, its client, and its tag if
+/// records have one. Two are equal if all five fields are. The order is by time first, then by the other fields in their order here.
 #[derive(PartialEq, Eq, PartialOrd, Ord, Hash, Drop)]
 pub struct Record {
     /// The client's time, in whole seconds (RFC 4120 5.5.1, ctime).

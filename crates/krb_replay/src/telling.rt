@@ -11,10 +11,10 @@ use crate::clock::clock_refusal;
 use crate::gate::ReplayGate;
 use krb_der::OutOfMemory;
 
-/// A gate that is told what a store outside has answered, as machines have that share one store. The store is asked first, about
-/// the record of one ask, and keeps it from then on: in one step, so that of several askers one alone is told that it was new.
-/// Then this gate is asked the same. It admits that ask, once, where the store did not have its record and the clock refuses
-/// nothing. Whatever else it is asked is never admitted: it is Replayed, where the clock does not refuse it.
+/// A gate that gets the answer of an external store, for machines that share one store. The store is asked first, about
+/// the record of one ask, and keeps it from then on: in one step, so that of several askers only one gets the answer that it was new.
+/// Then this gate is asked the same. It admits that ask, once, if the store did not have its record and the clock refuses
+/// nothing. It never admits another ask: another ask is Replayed if the clock does not refuse it.
 ///
 /// The store may drop a record once its own time is later than the record's by more than the skew. `moment` is the store's
 /// own time when it answered: so what it has dropped is refused by the clock.
@@ -27,12 +27,12 @@ pub struct TellingGate {
     pub moment: u64,
     /// The ask that the store was asked about.
     pub told: Ask,
-    /// Whether the store had its record, or it was admitted here.
+    /// True if the store had the record of the ask, or this gate admitted the ask.
     pub seen: bool,
 }
 
 impl TellingGate {
-    /// Whether the ask is one that must not be admitted.
+    /// Returns whether the ask must not be admitted.
     fn is_seen(&self, ask: &Ask) -> bool
         ensures { result ≡ is_seen self.now ask.now }
     {
@@ -83,7 +83,7 @@ impl ReplayGate for TellingGate {
         ensures judged { IfOk result (λ verdict. IsJudged self.old.skew self.new.moment ask verdict) }
         ensures skew { self.new.skew ≡ self.old.skew }
         ensures err { OnErr result (IsSameTelling self.old self.new) }
-        // It takes no memory: nothing that the store has kept is lost behind it.
+        // The call allocates no memory: no record that the store has kept is lost by a call that fails.
         ensures no_memory { IsOk result }
     {
         let moment = self.moment.max(ask.moment);

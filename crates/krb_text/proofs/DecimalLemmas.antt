@@ -1,4 +1,4 @@
--- The number that decimal digits stand for.
+-- The value of decimal digits.
 use Rattle.std.proofs.Common.{◌≡◌, ℕ, ◌+◌, ◌-◌, ◌*◌, ◌≤◌, List, [], ◌∷◌, take, drop, fold, sym, ap, ◌∙◌, arith}
 use Rattle.std.proofs.lemmas.List.{take-append-drop}
 use Rattle.std.proofs.lemmas.List.Sums.{fold-append}
@@ -11,7 +11,7 @@ grows : (value : ℕ) (digits : List ℕ) → value ≤ fold with_digit value di
 grows value [] = omega arith
 grows value (digit ∷ digits) = let again = grows (with_digit value digit) digits in omega arith
 
--- more digits stand for no smaller number
+-- the value of the first `i` digits is at most the value of all digits
 pub decimal_value-take : (digits : List ℕ) (i : ℕ) → decimal_value (take i digits) ≤ decimal_value digits
 decimal_value-take digits i =
     let whole : decimal_value digits ≡ fold with_digit (decimal_value (take i digits)) (drop i digits) =

@@ -1,4 +1,4 @@
--- The first 0A of a piece, as a search for it tells it.
+-- The first 0A of a piece, as a search for it finds it.
 use Rattle.std.proofs.Common.{◌≡◌, ℕ, ◌<◌, ◌≤◌, ⊎_elim, Bool, true, false, not, cond, List, length, Option, Some, None, refl, ap, sym, ◌∙◌, arith}
 use Rattle.std.specs.Prelude.{◌==◌, slice_index}
 use Rattle.std.specs.List.{prefix_len}
@@ -18,11 +18,11 @@ both : (t : Bool) → not t ≡ true → t ≡ true → ⊥
 both true e f = absurd (cc)
 both false e f = absurd (cc)
 
--- a 0A stands behind the octets before the first one
+-- the octet after those before the first 0A is a 0A
 stops : (bs : List ℕ) → prefix_len is_open bs < length bs → (slice_index bs (prefix_len is_open bs) == 10) ≡ true
 stops bs low = shut _ (prefix_len_stops is_open bs 0 low)
 
--- no 0A stands among them
+-- none of the octets before the first 0A is a 0A
 passes : (bs : List ℕ) (k : ℕ) → k < prefix_len is_open bs → (slice_index bs k == 10) ≡ true → ⊥
 passes bs k low e = both _ (prefix_len_passes is_open bs k 0 low) e
 

@@ -1,4 +1,4 @@
--- What is held after a read, and after octets of it are taken.
+-- The held octets after a read, and after some of them are taken.
 use Rattle.std.proofs.Common.{◌≡◌, ℕ, ◌+◌, ◌-◌, ◌≤◌, List, [], ◌++◌, length, length-drop, take, drop, Option, Some, None, ap, sym, ◌∙◌, append_assoc, arith}
 use Rattle.std.specs.Io.KnownBytes.{Consumes, prepend_known}
 use Rattle.std.specs.List.{copy_within}
@@ -20,7 +20,7 @@ consumes-read None after old more p = tt
 consumes-read (Some u) None old more p = absurd p
 consumes-read (Some u) (Some v) old more p = ap (λ l. old ++ l) p ∙ sym (append_assoc old more v)
 
--- the octets behind those that are taken
+-- the octets after those that are taken
 pub held-taken : (items : List ℕ) (count n : ℕ) → n ≤ count → count ≤ length items → take (count - n) (copy_within items n count 0) ≡ drop n (take count items)
 held-taken items count n low fits =
     let len = length-drop n items in

@@ -21,7 +21,7 @@ fn are_digits(text: &[u8]) -> bool
     text.iter().all(|b| b.is_ascii_digit())
 }
 
-/// The decimal number, if it is at most `limit`.
+/// Returns the decimal number, if it is at most `limit`.
 pub fn decimal_up_to(limit: u64, text: &[u8]) -> Option<u64>
     ensures { result ≡ decimal_up_to limit text.now }
 {

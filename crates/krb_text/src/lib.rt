@@ -1,7 +1,7 @@
 //! Lines of text in and out.
 //!
-//! A [`Source`] gives an input in pieces, and a [`LineReader`] cuts it into lines; [`Pieces`] hold the lines of a large piece at
-//! once. Text goes to a [`Sink`] by [`write_line`].
+//! A [`Source`] returns an input in pieces, and a [`LineReader`] cuts it into lines; [`Pieces`] holds the lines of a large piece at
+//! once. [`write_line`] writes text to a [`Sink`].
 //!
 //! ```
 //! let mut cutter = LineCutter::new(alloc);

@@ -6,17 +6,17 @@ use krb_der::OutOfMemory;
 use std::alloc::Global;
 use std::marker::Model;
 
-/// How many octets one call reads at the most.
+/// The most bytes that one call reads.
 const PIECE: usize = 1 << 20;
 
-/// Room for a line of the greatest length, and for a piece behind it.
+/// Room in bytes for a line of the greatest length, and for a piece after it.
 const ROOM: usize = MAX_LINE + PIECE;
 
 ghost use Rattle.std.specs.Prelude.{◌≡◌, ◌<◌, ◌≤◌, ◌+◌, length, take, drop, IfOk};
 ghost use Rattle.std.specs.Io.KnownBytes.{ReadConsumes};
 ghost use Rattle.krb_text.specs.Causes.{HasCause};
 
-/// Reads at most `room` octets behind the first `at`.
+/// Reads at most `room` bytes into `octets` after the first `at`, and returns their number.
 fn read_behind<S: Source>(
     source: &mut S,
     octets: &mut [u8],
@@ -33,7 +33,7 @@ fn read_behind<S: Source>(
     source.read(&mut octets[at..at + room])
 }
 
-/// The octets of an input that were read and not taken yet: the lines of a piece, for a caller who takes all of them at once.
+/// The bytes of an input that were read and not taken yet: the lines of a piece, for a caller who takes all of them at once.
 #[derive(Drop)]
 pub struct Pieces {
     octets: Vec<u8>,
@@ -59,7 +59,7 @@ impl Pieces {
     ghost use Rattle.krb_text.specs.Limits.{max_line, max_input};
     ghost use Rattle.krb_text.specs.Pieces.{no_pieces, ahead, IsWithin, IsBegun};
 
-    /// Nothing of an input was read yet. It takes 2 MiB.
+    /// Returns pieces of an input of which nothing was read yet. Allocates 2 MiB.
     pub fn new(alloc: Global) -> Result<Pieces, OutOfMemory>
         ensures { IfOk result (λ pieces. pieces ≡ no_pieces) }
     {
@@ -70,7 +70,7 @@ impl Pieces {
         })
     }
 
-    /// The octets that were read and not taken yet.
+    /// Returns the bytes that were read and not taken yet.
     pub fn held(&self) -> &[u8]
         ensures held { result.now ≡ self.now.held }
         ensures within { IsWithin self.now }
@@ -79,21 +79,22 @@ impl Pieces {
         &self.octets[..self.count]
     }
 
-    /// How many octets were taken.
+    /// Returns how many bytes were taken.
     pub fn taken(&self) -> u64
         ensures { result ≡ self.now.taken }
     {
         self.taken
     }
 
-    /// Whether what is held, one line's begin, is longer than a line may be, or the input than an input may be.
+    /// Returns whether the held bytes, the beginning of one line, are more than a line may have, or the input has more bytes than
+    /// an input may have.
     pub fn is_past(&self) -> bool
         ensures { IsTrue result ↔ ((max_line < length self.now.held) ⊎ (max_input < self.now.taken + length self.now.held)) }
     {
         self.count > MAX_LINE || self.taken + self.count as u64 > MAX_INPUT
     }
 
-    /// How many octets the next call may read: no more than one past the limit of the input.
+    /// Returns how many bytes the next call may read: no more than one past the limit of the input.
     fn limit(&self) -> usize
         requires { self.now.taken + length self.now.held ≤ max_input }
         ensures some { 0 < result }
@@ -108,7 +109,7 @@ impl Pieces {
         }
     }
 
-    /// Reads one piece, of 1 MiB at the most, and says how many octets it has: 0 is the end of the source.
+    /// Reads one piece, of 1 MiB at the most, and returns its length in bytes: 0 is the end of the source.
     pub fn read<S: Source>(&mut self, source: &mut S) -> Result<usize, Failed>
         requires begun { IsBegun self.old }
         ensures ahead { Consumes (ahead self.old (S.left source.old)) (ahead self.new (S.left source.new)) [] }
@@ -124,7 +125,7 @@ impl Pieces {
         Ok(count)
     }
 
-    /// Takes so many octets of those that are held.
+    /// Takes the first `count` of the held bytes.
     pub fn take(&mut self, count: usize)
         requires { count ≤ length self.old.held }
         ensures { self.new ≡ record { held = drop count self.old.held; taken = self.old.taken + count } }

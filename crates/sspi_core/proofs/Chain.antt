@@ -45,7 +45,7 @@ pub held : {E : Type 0} (refusal : E) (test : Bool) (x : Unit {0}) → Holds ref
 held refusal true x h = search rules
 held refusal false x h = let e = h.is in absurd cc
 
--- ---- what is known behind checks that were passed
+-- ---- what is known after checks that were passed
 
 -- a chain that ends well found something first and went on with it
 pub record Passed {A B E : Type 0} (first : Result A E → Type 0) (next : A → Result B E → Type 0) (b : B) : Type 0 where

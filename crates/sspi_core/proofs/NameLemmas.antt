@@ -32,7 +32,7 @@ pub joined_is_named : (account suffix text : List ℕ) → text ≡ upn_text acc
 joined_is_named account suffix text e none plain =
     let parts = parts_of_joined account suffix text e in rw (none, plain) (ap₂ (λ (a b : List ℕ). Some (UserPrincipal a b)) (sym parts.0) (sym parts.1))
 
--- a text may be cut behind its `@`
+-- a text may be cut after its `@`
 pub cut_behind : (text : List ℕ) (place : ℕ) → IsUtf8 text → text ≡ upn_text (take place text) (drop (place + 1) text) → IsCharBoundary text (place + 1)
 cut_behind text place utf8 e =
     let inside = inside_of text place e in

@@ -1,4 +1,4 @@
--- What two truth values joined say of each.
+-- The truth values of a conjunction or disjunction, each by itself.
 use Rattle.std.proofs.Common.{◌≡◌, ◌↔◌, Bool, true, false, not, ◌&&◌, ◌||◌, IsTrue, MatchBool, refl}
 
 pub both : (a b : Bool) → (a && b) ≡ true → (a ≡ true) × (b ≡ true)

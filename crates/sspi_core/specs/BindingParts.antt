@@ -7,7 +7,7 @@ abbrev pub word : List ℕ → ℕ → ℕ
 word octets i =
     from_le_bytes w32 (slice_index octets i ∷ slice_index octets (i + 1) ∷ slice_index octets (i + 2) ∷ slice_index octets (i + 3) ∷ [])
 
--- whether so many octets from a place on lie inside
+-- whether `size` octets from `place` on lie inside
 abbrev pub is_inside : List ℕ → ℕ → ℕ → Bool
 is_inside octets place size = nat_le (place + size) (length octets)
 

@@ -1,4 +1,4 @@
--- Channel bindings, as a caller hands them over: eight numbers of four octets, the lowest octet first, and then octets.
+-- Channel bindings, as a caller passes them: eight numbers of four octets, the lowest octet first, and then octets.
 use Rattle.std.specs.Prelude.{ℕ, List, length, Bool, ◌&&◌, nat_le}
 use Rattle.sspi_core.specs.declared.bindings.ChannelBindings.{ChannelBindings}
 use Rattle.sspi_core.specs.BindingParts.{word, is_inside, part}

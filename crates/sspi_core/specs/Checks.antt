@@ -38,7 +38,7 @@ pub record Passes {E : Type 0} (refusal : Option E) (answer : Result (Unit {0}) 
 pub record Gives {A E : Type 0} (value : A) (answer : Result A E) : Type 0 where
   pub is : answer ≡ Ok value
 
--- what follows an answer: more checks behind what was found, nothing behind a refusal
+-- the rest of a chain: more checks after what was found, the refusal itself after a refusal
 abbrev pub Goes : {A B E : Type 0} → (A → Result B E → Type 0) → Result A E → Result B E → Type 0
 Goes next (Ok x) answer = next x answer
 Goes next (Err e) answer = answer ≡ Err e

@@ -4,8 +4,8 @@ use Rattle.std.specs.Prelude.{ℕ, Bool, ◌==◌, bit_and}
 abbrev pub has_flag : ℕ → ℕ → Bool
 has_flag flags flag = bit_and flags flag == flag
 
--- of a request: to delegate, to answer, to tell replays, to tell the order, to seal, to use a session key (user-to-user),
--- to send bare tokens (DCE style), to protect, not to protect
+-- flags of a request: delegation, mutual authentication, replay detection, sequence detection, confidentiality,
+-- a session key (user-to-user), bare tokens (DCE style), integrity, no integrity
 abbrev pub delegate : ℕ
 delegate = 0x1
 

@@ -1,4 +1,4 @@
--- A name and the two texts that stand for it.
+-- A name and the two texts that represent it.
 use Rattle.std.specs.Prelude.{ℕ, List, [], length, Option, Some, None, Bool, false, ◌==◌, if◌then◌else◌}
 use Rattle.sspi_core.specs.Usernames.{UserName, UserPrincipal, DownLevel, user_name, parsed, upn_text}
 
@@ -24,7 +24,7 @@ abbrev pub is_empty_text : Option (List ℕ) → Bool
 is_empty_text None = false
 is_empty_text (Some text) = length text == 0
 
--- whether a name has a domain without octets, which the two texts do not tell from none
+-- whether a name has a domain without octets, which the two texts do not distinguish from no domain
 abbrev pub has_empty_domain : UserName → Bool
 has_empty_domain (UserPrincipal account suffix) = false
 has_empty_domain (DownLevel account domain) = is_empty_text domain

@@ -109,7 +109,7 @@ cause_name BadUser = codes "BadUser"
 cause_name Unsupported = codes "Unsupported"
 cause_name Suspended = codes "Suspended"
 
--- the number of a cause behind a space, where it has one
+-- a space and the number of a cause, if it has one
 abbrev pub cause_number : Cause → List ℕ
 cause_number (Network code) = codes " " ++ decimal code
 cause_number (Kdc code) = codes " " ++ decimal code

@@ -8,7 +8,7 @@ abbrev pub name_of : Form → UserName
 name_of (WholeText text place) = UserPrincipal (take place text) (drop (place + 1) text)
 name_of (Parts account domain) = DownLevel account domain
 
--- the `@` stands at its place, and the parts are a name
+-- the `@` is at its place, and the parts are a name
 abbrev pub IsWhole : Form → Type 0
 IsWhole (WholeText text place) = (text ≡ upn_text (take place text) (drop (place + 1) text))
     × IsTrue (is_user_name (UserPrincipal (take place text) (drop (place + 1) text)))

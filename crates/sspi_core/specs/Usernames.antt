@@ -2,7 +2,7 @@
 use Rattle.std.specs.Prelude.{◌≡◌, ℕ, List, ◌∷◌, ◌++◌, Bool, true, not, ◌&&◌, ◌==◌, Option, Some, None, if◌then◌else◌}
 use Rattle.std.specs.List.{list_any, before_first, after_first, before_last, after_last}
 
--- an account and the suffix behind the last `@`, or an account and its NetBIOS domain
+-- an account and the suffix after the last `@`, or an account and its NetBIOS domain
 pub data UserName : Type 0 where
   UserPrincipal : (account : List ℕ) → (suffix : List ℕ) → UserName
   DownLevel : (account : List ℕ) → (domain : Option (List ℕ)) → UserName

@@ -12,10 +12,10 @@ use krb_der::Octets;
 use std::alloc::Global;
 use std::marker::Model;
 
-/// What a buffer is for.
+/// The purpose of a buffer.
 #[derive(Clone, Copy, Debug, PartialEq, Eq, Hash)]
 pub enum BufferType {
-    /// The token that is sent beside the data.
+    /// The token that is sent next to the data.
     Token,
     /// A text that is sealed, or that the checksum covers.
     Data,
@@ -98,7 +98,7 @@ impl SecurityBufferRef {
         buffer
     }
 
-    /// What the buffer is for.
+    /// Returns the purpose of the buffer.
     pub fn kind(&self) -> BufferType
         ensures { result ≡ self.now.kind }
     {
@@ -127,7 +127,7 @@ impl SecurityBufferRef {
         self.octets.as_slice()
     }
 
-    /// Whether this is the token, the stream or the data that are sealed.
+    /// Returns whether the buffer is this part: the token, the stream or the data that are encrypted.
     pub fn is_part(&self, part: Part) -> bool
         ensures { result ≡ is_part part self.now }
     {
@@ -154,8 +154,8 @@ impl SecurityBufferRef {
                 .contains(SecurityBufferFlags::SECBUFFER_READONLY_WITH_CHECKSUM)
     }
 
-    /// Puts other octets into the buffer. They are refused as `TooSmall` exactly where they are longer than the limit, and
-    /// a refusal leaves the buffer.
+    /// Replaces the bytes in the buffer. Fails with `TooSmall` if and only if they are longer than the limit.
+    /// The buffer is unchanged after an error.
     pub fn write_data(&mut self, alloc: Global, octets: &[u8]) -> Result<(), Error>
         ensures ok { OnOk result ((length octets.now ≤ self.old.limit) × (self.new ≡ record self.old { octets = octets.now })) }
         ensures err { OnErr result (self.new ≡ self.old) }

@@ -11,7 +11,7 @@ use krb_der::OutOfMemory;
 use std::alloc::{AllocError, AllocFailed};
 use std::fmt;
 
-/// What exactly failed.
+/// The exact reason of a failure.
 #[derive(Clone, Copy, Debug, PartialEq, Eq, Hash)]
 pub enum Cause {
     /// Memory ran out.
@@ -36,7 +36,7 @@ pub enum Cause {
     Short,
     /// A checksum does not fit, or no plain text is sealed to these octets.
     Altered,
-    /// What was sealed is not in the grammar of its record.
+    /// The decrypted bytes are not in the grammar of their record.
     Inner,
     /// The client of the ticket is not the client of the authenticator (RFC 4120 section 3.2.3).
     Names,
@@ -117,13 +117,13 @@ pub enum Cause {
     TooSmall,
     /// The header of a token is too short or not that of its form (RFC 4121 section 4.2.6).
     Header,
-    /// A token comes from the own side (RFC 4121 section 4.2.2).
+    /// The token was sent by this side (reflected; RFC 4121 section 4.2.2).
     Direction,
     /// The extra count of a sealed token is not that of the context (RFC 4121 section 4.2.3).
     ExtraCount,
     /// The text is longer than the limit of the data buffer.
     Room,
-    /// A message is too old to tell whether it was opened before.
+    /// A message is too old to be checked for duplication.
     Old,
     /// A message was opened before.
     Repeated,

@@ -1,8 +1,8 @@
-//! What one step may use of the outside.
+//! The inputs of one step from outside.
 
 ghost use Rattle.std.specs.Prelude.{◌≡◌, ◌+◌, ◌≤◌, take, drop};
 
-/// The moment and the random octets that one step may use. They are handed in, so that a step is a function of its arguments.
+/// The moment and the random bytes that one step may use. The caller passes them, so that a step is a function of its arguments.
 #[derive(Clone, Copy, PartialEq, Eq)]
 pub struct Draw {
     /// Microseconds since 1970-01-01T00:00:00Z, at most `MAX_MOMENT`: a condition of each call that takes one.

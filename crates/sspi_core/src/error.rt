@@ -1,4 +1,4 @@
-//! What a refused call answers: a kind, and the cause that it belongs to.
+//! The error of a call that fails: a kind and a cause.
 
 ghost use Rattle.std.specs.Prelude.{◌≡◌, Some};
 ghost use Rattle.sspi_core.specs.Kinds.{kind_at, error_at, error_of};
@@ -11,7 +11,7 @@ use krb_der::OutOfMemory;
 use std::alloc::{AllocError, AllocFailed};
 use std::fmt;
 
-/// Where a refusal is made, as far as its kind depends on it.
+/// The place of an error, as far as the kind of the error depends on the place.
 #[derive(Clone, Copy, Debug, PartialEq, Eq, Hash)]
 pub enum Place {
     /// A query of a context, or a handle of credentials.
@@ -22,7 +22,7 @@ pub enum Place {
     Elsewhere,
 }
 
-/// Why a call was refused. It is printed as `<kind> <cause>`, and behind a space the number of the cause where it has one.
+/// The reason why a call failed. It is printed as `<kind> <cause>`, followed by a space and the number of the cause if it has one.
 #[derive(Clone, Copy, Debug, PartialEq, Eq, Hash)]
 pub struct Error {
     pub error_type: ErrorKind,

@@ -5,11 +5,11 @@ ghost use Rattle.sspi_core.specs.Flags as bits;
 
 use bitflags::{Flag, Flags, bitflag_items};
 
-/// What the caller of an initiator asks for. An acceptor reads `USE_SESSION_KEY` and `USE_DCE_STYLE` alone.
+/// The options that the caller of an initiator requests. An acceptor reads only `USE_SESSION_KEY` and `USE_DCE_STYLE`.
 #[derive(Clone, Copy, Debug, PartialEq, Eq, PartialOrd, Ord, Hash)]
 pub struct ClientRequestFlags(u32);
 
-/// What the caller of an acceptor asks for.
+/// The options that the caller of an acceptor requests.
 #[derive(Clone, Copy, Debug, PartialEq, Eq, PartialOrd, Ord, Hash)]
 pub struct ServerRequestFlags(u32);
 
@@ -23,15 +23,15 @@ bitflag_items! {
         const DELEGATE = 0x1;
         /// The target answers with a token of its own.
         const MUTUAL_AUTH = 0x2;
-        /// Messages that come twice are told (RFC 2743 section 1.2.3).
+        /// Messages that arrive twice are reported (RFC 2743 section 1.2.3).
         const REPLAY_DETECT = 0x4;
-        /// Messages that come out of their order are told (RFC 2743 section 1.2.3).
+        /// Messages that arrive out of order are reported (RFC 2743 section 1.2.3).
         const SEQUENCE_DETECT = 0x8;
         /// Messages are sealed.
         const CONFIDENTIALITY = 0x10;
         /// A ticket under the session key of the target's ticket, as user-to-user has it (RFC 4120 section 3.7).
         const USE_SESSION_KEY = 0x20;
-        /// Tokens are bare, and the initiator has the last word.
+        /// Tokens are bare, and the initiator sends the third leg.
         const USE_DCE_STYLE = 0x200;
         /// Messages have a checksum.
         const INTEGRITY = 0x10000;
@@ -42,7 +42,7 @@ bitflag_items! {
     impl ServerRequestFlags: u32 {
         /// A ticket under the session key of the acceptor's ticket, as user-to-user has it (RFC 4120 section 3.7).
         const USE_SESSION_KEY = 0x20;
-        /// Tokens are bare, and the initiator has the last word.
+        /// Tokens are bare, and the initiator sends the third leg.
         const USE_DCE_STYLE = 0x200;
     }
 

@@ -1,4 +1,4 @@
-//! Who a context speaks for.
+//! The identity that a context acts for: a user with a password or a key.
 
 ghost use Rattle.std.specs.Prelude.{◌≡◌, ◌↔◌, ◌==◌, ◌||◌, IfOk, IsTrue, None, Some};
 ghost use Rattle.sspi_core.specs.Identities.{named};
@@ -42,7 +42,7 @@ pub enum CredentialsBuffers {
     Keytab(KeytabIdentity),
 }
 
-/// Credentials, as a caller hands them over.
+/// Credentials, as a caller passes them.
 #[derive(PartialEq, Eq, Drop)]
 pub enum Credentials {
     AuthIdentity(AuthIdentity),
@@ -52,7 +52,7 @@ pub enum Credentials {
 impl AuthIdentityBuffers {
     ghost use Rattle.sspi_core.specs.CredentialBuffers.{identity_buffers};
 
-    /// The parts of an identity: of a user principal name the whole text and no domain, else the account and its domain.
+    /// Returns the parts of an identity: the whole text of a user principal name and no domain, otherwise the account and its domain.
     pub fn from_identity(
         alloc: Global,
         identity: &AuthIdentity,
@@ -74,7 +74,7 @@ impl AuthIdentityBuffers {
 }
 
 impl AuthIdentity {
-    /// The identity of these parts: without a domain the name that the user's text is, else the account with this domain.
+    /// Returns the identity of these parts: without a domain, the name that the user text is; otherwise the account with this domain.
     pub fn from_buffers(
         alloc: Global,
         buffers: &AuthIdentityBuffers,

@@ -50,7 +50,7 @@ pub enum ErrorKind {
     NoTgtReply,
     /// Mutual authentication failed.
     MutualAuthFailed,
-    /// The principal stands more than once in the database of the KDC.
+    /// The KDC's database has the principal more than once.
     TooManyPrincipals,
     /// The encryption type is not supported by the KDC.
     OperationNotSupported,

@@ -1,4 +1,4 @@
-//! What holds of all values.
+//! Laws that hold for all values.
 
 ghost use Rattle.std.specs.Prelude.{◌≡◌, IsTrue, Some, false};
 ghost use Rattle.sspi_core.specs.Usernames.{UserName, is_user_name};

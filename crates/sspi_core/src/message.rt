@@ -43,8 +43,8 @@ fn has_readonly_alone(buffers: &[SecurityBufferRef]) -> bool
 }
 
 impl Message {
-    /// Refused as `Buffers` exactly where there are two tokens, two streams or two data buffers without flags, or a data
-    /// buffer that is read-only without a checksum.
+    /// Makes a message of these buffers. Fails with `Buffers` if and only if there are two tokens, two streams or two data buffers
+    /// without flags, or a data buffer that is read-only without a checksum.
     pub fn new(buffers: Items<SecurityBufferRef>) -> Result<Message, Error>
         ensures ok { IfOk result (λ m. (m ≡ buffers) × IsTrue (is_message buffers)) }
         ensures err { OnErr result ((result ≡ Err (error_of Cause.Buffers)) × (is_message buffers ≡ false)) }
@@ -107,7 +107,7 @@ impl Message {
     }
 }
 
-/// Where the part stands first.
+/// Returns the index of the first buffer that is this part.
 fn place_of(buffers: &[SecurityBufferRef], part: Part) -> Option<usize>
     ensures { MatchOption result (IsNowhere part buffers.now) (λ i. IsAt part buffers.now i) }
 {

@@ -16,7 +16,7 @@ pub enum NetworkProtocol {
 }
 
 impl NetworkProtocol {
-    /// The protocol whose URLs have this scheme. A scheme is compared as it stands, in lower case.
+    /// Returns the protocol whose URLs have this scheme. The scheme is compared as it is: only lower case matches.
     pub fn from_url_scheme(scheme: &str) -> Option<NetworkProtocol>
         ensures found { IfSome result (λ protocol. scheme.now ≡ scheme_of protocol) }
         ensures known { (protocol : NetworkProtocol) → scheme.now ≡ scheme_of protocol → result ≡ Some protocol }

@@ -1,10 +1,10 @@
-//! Plain values that calls answer.
+//! Plain values that calls return.
 
 use crate::secret::Secret;
 use crate::username::Username;
 use krb_der::{Octets, Text};
 
-/// Whether a context is established.
+/// The status of a context: established or not.
 #[derive(Clone, Copy, Debug, PartialEq, Eq, Hash)]
 pub enum SecurityStatus {
     /// The exchange is complete.
@@ -13,10 +13,10 @@ pub enum SecurityStatus {
     ContinueNeeded,
 }
 
-/// What a security package is.
+/// The description of a security package.
 #[derive(Debug, PartialEq, Eq, Drop)]
 pub struct PackageInfo {
-    /// What the package can do, a bit each (`SECPKG_FLAG_*` of Windows).
+    /// The capabilities of the package, one bit each (`SECPKG_FLAG_*` of Windows).
     pub capabilities: u32,
     /// The identifier of the package for DCE RPC; 65535 where it has none.
     pub rpc_id: u16,
@@ -35,7 +35,7 @@ pub struct ContextSizes {
     pub max_signature: u32,
     /// The unit to which a text is padded; 0 where it is not.
     pub block: u32,
-    /// What a sealed message has beside its text.
+    /// The bytes that an encrypted message has in addition to its text.
     pub security_trailer: u32,
 }
 
@@ -51,7 +51,7 @@ pub struct SessionKeys {
     pub session_key: Secret<Octets>,
 }
 
-/// What credentials are to be used for.
+/// The use that credentials are for.
 #[derive(Clone, Copy, Debug, PartialEq, Eq, Hash)]
 pub enum CredentialUse {
     /// To admit clients.

@@ -9,8 +9,8 @@ use krb_der::{Octets, OutOfMemory, Text, TryCopy, is_equal};
 use std::alloc::Global;
 use std::marker::Model;
 
-/// A password or a key. It has no printed form, so that it does not stand in a log by accident. Contracts see the value
-/// itself. Its memory is not wiped. Keys and passwords are compared with no early end.
+/// A password or a key. It has no printed form, so it does not get into a log by accident. Contracts see the value itself.
+/// Its memory is not wiped. Keys and passwords are compared with no early end.
 #[derive(Drop)]
 pub struct Secret<T> {
     value: T,

@@ -45,7 +45,7 @@ impl From<AllocError> for UsernameError {
 /// How a name is kept.
 #[derive(Debug, PartialEq, Eq, Hash, Drop)]
 enum Form {
-    /// The whole text, and where its last `@` stands.
+    /// The whole text, and the byte index of its last `@`.
     UserPrincipal(Text, usize),
     /// The account, and the NetBIOS domain.
     DownLevel(Text, Option<Text>),
@@ -82,9 +82,9 @@ impl Model for Username {
 pub struct UserPrincipalName<'a> {
     /// The whole text.
     pub upn: &'a str,
-    /// What stands before the last `@`.
+    /// The text before the last `@`.
     pub account_name: &'a str,
-    /// What stands behind the last `@`.
+    /// The text after the last `@`.
     pub suffix: &'a str,
 }
 
@@ -96,14 +96,14 @@ impl<'a> UserPrincipalName<'a> {
         self.upn
     }
 
-    /// What stands before the last `@`.
+    /// Returns the text before the last `@`.
     pub fn account_name(&self) -> &'a str
         ensures { result.now ≡ self.now.account_name.now }
     {
         self.account_name
     }
 
-    /// What stands behind the last `@`.
+    /// Returns the text after the last `@`.
     pub fn suffix(&self) -> &'a str
         ensures { result.now ≡ self.now.suffix.now }
     {
@@ -114,21 +114,21 @@ impl<'a> UserPrincipalName<'a> {
 /// An account, with a NetBIOS domain or none.
 #[derive(Clone, Copy, Debug, PartialEq, Eq)]
 pub struct DownLevelLogonName<'a> {
-    /// What stands behind the first `\`, or the whole text.
+    /// The text after the first `\`, or the whole text.
     pub account_name: &'a str,
-    /// What stands before the first `\`, which may be empty.
+    /// The text before the first `\`, which may be empty.
     pub netbios_domain: Option<&'a str>,
 }
 
 impl<'a> DownLevelLogonName<'a> {
-    /// What stands behind the first `\`, or the whole text.
+    /// Returns the text after the first `\`, or the whole text.
     pub fn account_name(&self) -> &'a str
         ensures { result.now ≡ self.now.account_name.now }
     {
         self.account_name
     }
 
-    /// What stands before the first `\`, which may be empty; None where the text has no `\`.
+    /// Returns the text before the first `\`, which may be empty; None if the text has no `\`.
     pub fn netbios_domain(&self) -> Option<&'a str>
         ensures { result ≡ self.now.netbios_domain }
     {
@@ -158,14 +158,14 @@ fn is_plain_option(text: Option<&str>) -> bool
     }
 }
 
-/// What stands round the first `\`.
+/// Returns the texts before and after the first `\`.
 fn cut_backslash(text: &str) -> Option<(&str, &str)>
     ensures { MatchOption result (has backslash text.now ≡ false) (λ parts. IsCutAtFirst text.now parts.0.now parts.1.now) }
 {
     text.split_once('\\')
 }
 
-/// What stands round the last `@`.
+/// Returns the texts before and after the last `@`.
 fn cut_at_sign(text: &str) -> Option<(&str, &str)>
     ensures { MatchOption result (has at_sign text.now ≡ false) (λ parts. IsCutAtLast text.now parts.0.now parts.1.now) }
 {
@@ -184,7 +184,7 @@ fn joined(alloc: Global, account: &str, suffix: &str) -> Result<Text, OutOfMemor
 }
 
 impl Username {
-    /// An account with a NetBIOS domain or none. Where a part has a `\` or an `@` it is refused as `MixedFormat`.
+    /// Makes an account with a NetBIOS domain or none. Fails with `MixedFormat` if a part has a `\` or an `@`.
     pub fn new(
         alloc: Global,
         account: &str,
@@ -206,7 +206,7 @@ impl Username {
         })
     }
 
-    /// A user principal name. Where a part has a `\`, or the suffix an `@`, it is refused as `MixedFormat`.
+    /// Makes a user principal name. Fails with `MixedFormat` if a part has a `\`, or the suffix an `@`.
     pub fn new_upn(alloc: Global, account: &str, suffix: &str) -> Result<Username, UsernameError>
         ensures name { IfOk result (λ name. user_name (UserPrincipal account.now suffix.now) ≡ Some name) }
         ensures mixed { (result ≡ Err UsernameError.MixedFormat) ↔ (user_name (UserPrincipal account.now suffix.now) ≡ None) }
@@ -220,8 +220,8 @@ impl Username {
         })
     }
 
-    /// The name that a text is: a domain and an account round the first `\`, an account and a suffix round the last `@`,
-    /// or an account alone. A text with both signs is none, and refused as `MixedFormat`.
+    /// Parses a name: a domain and an account around the first `\`, an account and a suffix around the last `@`,
+    /// or an account alone. Fails with `MixedFormat` if the text has both signs.
     pub fn parse(alloc: Global, value: &str) -> Result<Username, UsernameError>
         ensures name { IfOk result (λ name. parsed value.now ≡ Some name) }
         ensures mixed { (result ≡ Err UsernameError.MixedFormat) ↔ (parsed value.now ≡ None) }
