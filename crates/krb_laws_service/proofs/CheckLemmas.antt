@@ -1,4 +1,4 @@
--- What the first checks of an event let through, and what stands at its connection then.
+-- The events that pass the first checks, and the connection afterwards.
 use Rattle.std.proofs.Common.{◌≡◌, ℕ, ◌≤◌, Bool, true, List, Option, Some, None, Result, Ok, sym, ap, ◌∙◌}
 use Rattle.std.specs.Prelude.{nat_le, not, is_some, is_none}
 use Rattle.std.specs.Ordering.{nat_cmp}
@@ -20,7 +20,7 @@ use Rattle.sspi_core.specs.declared.cause.Cause.{Cause}
 use Rattle.sspi_core.specs.declared.cause.Cause.TheVariants as causes
 use Rattle.sspi_core.specs.declared.draw.Draw.{Draw}
 
--- what was set at the number is what stands there
+-- the connection that was set at a number is the one at the number
 pub set_is : (before after : List (ℕ × Connection)) (id : ℕ) (old new next : Connection) → after ≡ set_value (is_at (nat_cmp id)) before new → at_id id before ≡ Some old → at_id id after ≡ Some next → next ≡ new
 set_is before after id old new next put there behind =
     let A : List (ℕ × Connection) → Option Connection = λ l. at_id id l in

@@ -1,4 +1,4 @@
--- An initiator that is started, and whose KDCs' replies are handed in.
+-- An initiator that is started, and that gets the replies of its KDCs.
 use Rattle.std.proofs.Common.{◌≡◌, ℕ, Bool, true, false, List, [], ◌∷◌, Option, Some, None, Result, Ok, sym, ap, ◌∙◌, subst}
 use Rattle.std.specs.Prelude.{nat_le}
 use Rattle.krb_as.specs.Turns.{state_of, phase_of}
@@ -43,7 +43,7 @@ use Rattle.sspi_generator.specs.declared.network.NetFault.{NetFault}
 use Rattle.krb_laws_service.specs.Served.{IsAnsweredAt, Meets, AreHandedIn}
 use Rattle.krb_laws_service.proofs.CheckLemmas.{set_is, in_range_is, heard_is, awaited_is, initiator_is}
 
--- what a turn of a run makes of its connection, and what it is answered
+-- the reply to a turn of a run, and the connection afterwards
 abbrev pub Made : Connection → InitRun → Turn InitPhase InitDone → Reply → Connection → Type 0
 Made connection later (Asks request phase) reply next = (reply ≡ replies.Ask request) × (later.phase ≡ phase) × (next ≡ record connection { exchange = Some (Initiates later) })
 Made connection later (Ends done) reply next = (reply ≡ replies.Done done.status done.token false) × (next ≡ record connection { context = settled connection.context done.change; exchange = None })
@@ -69,7 +69,7 @@ pub record CameTo (initiation : Initiation) (connection : Connection) (turn : Tu
   pub stays : later.initiation ≡ initiation
   pub made : Made connection later turn reply next
 
--- ---- an initiator begins, or hears its peer
+-- ---- an initiator begins, or takes a token of its peer
 
 set_out : (connection : Connection) (draw : Draw) (initiation : Initiation) (turn : Turn InitPhase InitDone) (answer : Result Initiation Cause) (reply : Reply) (next : Connection) → answer ≡ Ok initiation
     → Starts initiation New draw (Ok turn) → SetsOut connection draw answer reply next → CameTo initiation connection turn reply next
@@ -87,7 +87,7 @@ set_out connection draw initiation turn answer reply next is starts out =
     }
 
 module _ {G : Type 0} (admits : G → Ask → Verdict → G → Type 0) where
-  -- where an event begins or goes on with the peer, at an initiator
+  -- an event that begins an exchange or goes on with the peer, at an initiator
   turn_taken : (state after : State G) (event : Event) (reply : Reply) (connection : Connection) (token : List ℕ) → is_call event.input ≡ false → answer_of event.input ≡ None
       → is_initiator event.connection state.connections ≡ true → heard state.connections event ≡ Ok (connection, token) → Steps admits state event reply after
       → InitiatesAt state event connection token reply after
@@ -112,7 +112,7 @@ module _ {G : Type 0} (admits : G → Ask → Verdict → G → Type 0) where
       let C : Connection → Type 0 = λ c. CameTo initiation connection turn reply c in
       subst C (sym (set_is state.connections after.connections event.connection connection i.next next i.connections at.there at.behind)) came
 
-  -- ---- a KDC's reply is handed in
+  -- ---- an initiator gets a reply of a KDC
 
   answer_taken : (state after : State G) (event : Event) (reply : Reply) (connection : Connection) (run : Run) (octets : List ℕ) → event.input ≡ KdcReply octets
       → awaited state.connections event ≡ Ok (connection, run) → Steps admits state event reply after → Resumes state event (connection, run) (Ok octets) reply after
@@ -143,7 +143,7 @@ module _ {G : Type 0} (admits : G → Ask → Verdict → G → Type 0) where
         made = subst M (sym (set_is m.state.connections m.after.connections event.connection connection r.next next r.connections at.there at.behind)) mk;
       }
 
-  -- what the end of a run leaves of a connection
+  -- the connection after the end of a run
   pub record EndsRun (connection : Connection) (done : InitDone) (reply : Reply) (final : Connection) : Type 0 where
     pub reply_is : reply ≡ replies.Done done.status done.token false
     pub final_is : final ≡ record connection { context = settled connection.context done.change; exchange = None }

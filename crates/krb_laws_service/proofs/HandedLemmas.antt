@@ -1,4 +1,4 @@
--- The tokens of both ends are handed over.
+-- The tokens of both ends are delivered.
 use Rattle.std.proofs.Common.{◌≡◌, ℕ, Bool, true, false, List, [], Option, Some, None, Result, Ok, refl, sym, ap, ◌∙◌, subst}
 use Rattle.std.specs.Prelude.{nat_le, is_some, if◌then◌else◌}
 use Rattle.std.proofs.lemmas.Bool.{le-leb}
@@ -87,7 +87,7 @@ module _ {G : Type 0} (admits : G → Ask → Verdict → G → Type 0) where
   judges_it state after event reply acceptor next token bare free role h =
       token-step admits state event acceptor token reply after (reaches_it state after event reply acceptor next token bare free role h) h.answered.steps
 
-  -- what is told, and the connection then
+  -- the reply, and the connection after it
   record Tells (connection next : Connection) (server : Kerberos) (reply : Reply) (status : SecurityStatus) (token : List ℕ) (admitting : Bool) : Type 0 where
     reply_is : reply ≡ Done status token admitting
     next_is : next ≡ record connection { context = server }
@@ -109,12 +109,12 @@ module _ {G : Type 0} (admits : G → Ask → Verdict → G → Type 0) (initiat
   abbrev seeker : Seeker
   seeker = seeker_for initiator.context options target credentials client
 
-  -- the user name that the acceptor has of its client
+  -- the user name by which the acceptor knows its client
   abbrev user : Option UserName
   user = user_of acceptor.context.rules part.cname part.crealm
 
   module _ (can : CanBegin initiator.context options target credentials client) (kdcs : AreHonestKdcs seeker suite service_key draw answers rep part) (holds : HoldsKey acceptor.context target service_key) (fits : FitsRules acceptor.context.rules part) (unbound : channel_held acceptor.context ≡ None) (are_new : AreNew initiator.context acceptor.context) (initiator_free : initiator.exchange ≡ None) (acceptor_free : acceptor.exchange ≡ None) (end : EndsWithOffer initiator.context seeker service_key suite draw answers rep part) where
-    -- the initiator once its token was said
+    -- the initiator after it has sent its token
     abbrev shown : Connection
     shown = record initiator { context = settled initiator.context end.done.change; exchange = None }
 
@@ -197,7 +197,7 @@ module _ {G : Type 0} (admits : G → Ask → Verdict → G → Type 0) (initiat
           let is = is_answered admits acceptor.context j.server state.env (draw_of event) user end.offer state.gate after.gate j.answer is_for step in
           is.made (only is.verdict is.asked)
 
-      -- it is an acceptor still, with the filler that it had
+      -- the context is an acceptor still, with the EC that it had
       still : is_acceptor j.server ≡ true
       unfolding admitted mutual_admission
       still = ap is_acceptor settled_so ∙ ap (λ (s : Option ServerProperties). is_some (with_client s user)) holds.has

@@ -30,7 +30,7 @@ use Rattle.krb_laws_service.proofs.HandedLemmas.{both-by-events}
 use Rattle.krb_laws_service.proofs.PlayedLemmas.{other-connections}
 use Rattle.krb_laws_service.proofs.StandingLemmas.{differs_back, still_there, turn_keeps_gate, answer_keeps_gate}
 
--- the first checks of a token look at its own connection alone
+-- the first checks of a token look only at its own connection
 reached_same : (one other : List (ℕ × Connection)) (event : Event) → at_id event.connection one ≡ at_id event.connection other → reached one event ≡ reached other event
 reached_same one other event same =
     ap (λ (found : Option Connection). ((check causes.Moment (nat_le event.moment last_moment) >>= (λ u. ok_or causes.Connection found)) >>= freed) >>= judges (input_token event.input)) same
@@ -140,7 +140,7 @@ module _ {G : Type 0} (admits : G → Ask → Verdict → G → Type 0) (before 
             ∙ start_keeps one asked first_step));
       }
 
-  -- ---- the tokens are handed over
+  -- ---- the tokens are delivered
 
   module _ (said : Reply) (four : State G) (told : Told said four) (let_in : CanOnlyAdmit admits before (handing e said)) where
     shown : IsShown admits suite part filler (is_bare e.flags) said told.waiting acceptor

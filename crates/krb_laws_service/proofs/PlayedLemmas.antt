@@ -1,4 +1,4 @@
--- Events leave other connections, and turns of a talk as events are answered.
+-- Events leave other connections, and the replies to the turns of a talk as events.
 use Rattle.std.proofs.Common.{◌≡◌, ℕ, ◌==◌, Bool, true, false, List, [], ◌∷◌, Option, Some, None, Result, Ok, Err, refl, sym, ap, ◌∙◌, subst}
 use Rattle.std.specs.Prelude.{map}
 use Rattle.std.specs.Ordering.{nat_cmp}

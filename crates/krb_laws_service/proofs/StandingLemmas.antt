@@ -1,4 +1,4 @@
--- What stands at a connection behind its own event, and which events leave the gate.
+-- The connection after its own event, and the events that leave the gate.
 use Rattle.std.proofs.Common.{◌≡◌, ℕ, ◌==◌, Bool, true, false, List, Option, Some, None, Result, Ok, Err, refl, sym, ap, ◌∙◌}
 use Rattle.std.specs.Ordering.{nat_cmp}
 use Rattle.std.specs.BTreeMap.{is_at}
@@ -70,7 +70,7 @@ module _ {G : Type 0} (admits : G → Ask → Verdict → G → Type 0) where
       → (next : Connection) × (at_id event.connection after.connections ≡ Some next)
   still_there state after event reply connection there step = by_there state after event reply connection there (is_call event.input) step
 
--- ---- the gate stays where an initiator hears its peer or a KDC
+-- ---- the gate is unchanged if an initiator takes a token of its peer or a reply of a KDC
 
 pub turn_keeps_gate : {G : Type 0} (state after : State G) (event : Event) (reply : Reply) (found : Result (Connection × List ℕ) Cause) → TakesTurn state event found reply after → after.gate ≡ state.gate
 turn_keeps_gate {G} state after event reply (Ok found) h = h.gate

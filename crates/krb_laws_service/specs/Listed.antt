@@ -29,9 +29,9 @@ use Rattle.sspi_core.specs.declared.identity.CredentialsBuffers.{CredentialsBuff
 use Rattle.sspi_core.specs.declared.results.SecurityStatus.TheVariants.{Ok as Complete, ContinueNeeded}
 use Rattle.krb_laws_service.specs.Served.{HaveOneContext}
 
--- two connections by their numbers, the flags of every event, three replies of the KDC of the client's realm, and what is drawn: at
--- the start, where the acceptor is handed the initiator's token, where the initiator is handed the acceptor's, and, in DCE style, where
--- the acceptor is handed the initiator's last word
+-- two connections by their numbers, the flags of every event, three replies of the KDC of the client's realm, and the draws: at
+-- the start, when the acceptor gets the initiator's token, when the initiator gets the acceptor's token, and, in DCE style, when the
+-- acceptor gets the third leg
 pub record Exchanged : Type 0 where
   pub initiator : ℕ
   pub acceptor : ℕ
@@ -60,12 +60,12 @@ token_in (Refused error) = []
 abbrev pub replies_of : Exchanged → Answers
 replies_of e = record { error = Some e.error; first = e.first; referrals = []; last = e.last }
 
--- the acceptor is handed the token of a reply
+-- the acceptor gets the token of a reply
 abbrev pub handing : Exchanged → Reply → Event
 handing e said = event_at e.acceptor e.flags e.accepting (Token (token_in said))
 
--- the initiator is started, the replies of its KDC are handed in, the acceptor is handed the token of the reply to the last of these,
--- and the initiator that of the acceptor's
+-- the initiator is started and gets the replies of its KDC; the acceptor gets the token of the reply to the last of these, and the
+-- initiator gets the token of the acceptor's reply
 abbrev pub events_of : Exchanged → Reply → Reply → List Event → List Event
 events_of e said answered more =
     event_at e.initiator e.flags e.start Start
@@ -76,12 +76,12 @@ events_of e said answered more =
     ∷ event_at e.initiator e.flags e.ending (Token (token_in answered))
     ∷ more
 
--- in DCE style the acceptor is handed the initiator's last word
+-- in DCE style the acceptor gets the third leg
 abbrev pub closing_of : Exchanged → Reply → List Event
 closing_of e ended = event_at e.acceptor e.flags e.closing (Token (token_in ended)) ∷ []
 
 -- an initiator and an acceptor of a service, which await no KDC; the replies are those of an honest KDC, and the acceptor holds the
--- service's key. The ticket is one that the acceptor's rules let in, and they hold its clients to no channel
+-- service's key. The ticket is one that the acceptor's rules allow, and the acceptor holds its clients to no channel
 pub record AreReady {G : Type 0} (before : State G) (e : Exchanged) (initiator acceptor : Connection) (target service_key : List ℕ) (credentials : CredentialsBuffers)
     (client : Client) (suite : CipherSuite) (rep : TgsRep) (part : EncTicketPart) : Type 0 where
   pub initiates : at_id e.initiator before.connections ≡ Some initiator
@@ -99,12 +99,12 @@ pub record AreReady {G : Type 0} (before : State G) (e : Exchanged) (initiator a
   pub drawn : AllByRecursion IsDraw (e.start ∷ e.error.draw ∷ e.first.draw ∷ e.last.draw ∷ e.accepting ∷ e.ending ∷ e.closing ∷ [])
 
 module _ {G : Type 0} (admits : G → Asks → Verdict → G → Type 0) where
-  -- asked for the request that an event brings, the gate can do nothing but admit it
+  -- the gate can only admit the request that an event brings
   abbrev pub CanOnlyAdmit : State G → Event → Type 0
   CanOnlyAdmit state event = (request : Request) (new : G) (brings : Brings state.connections event request)
       → AdmitsOnly admits state.gate (ask_of brings.connection.context.rules request event.moment) new
 
--- the connections stand in the service, and have one context
+-- the connections are in the service, and have one context
 pub record MeetIn {G : Type 0} (e : Exchanged) (suite : CipherSuite) (part : EncTicketPart) (ec : ℕ) (after : State G) : Type 0 where
   pub initiator : Connection
   pub acceptor : Connection
@@ -112,14 +112,14 @@ pub record MeetIn {G : Type 0} (e : Exchanged) (suite : CipherSuite) (part : Enc
   pub accepts : at_id e.acceptor after.connections ≡ Some acceptor
   pub have : HaveOneContext suite part e.accepting ec initiator acceptor
 
--- how the events are answered: the initiator says a token, the acceptor admits it with one of its own, and the initiator is done
+-- the replies to the events: the initiator sends a token, the acceptor admits it with a token of its own, and the initiator is done
 pub record EndsPlainly {G : Type 0} (e : Exchanged) (suite : CipherSuite) (part : EncTicketPart) (ec : ℕ) (said answered ended : Reply) (after : State G) : Type 0 where
   pub said_is : said ≡ Done ContinueNeeded (token_in said) false
   pub answered_is : answered ≡ Done Complete (token_in answered) true
   pub ended_is : ended ≡ Done Complete [] false
   pub meet : MeetIn e suite part ec after
 
--- in DCE style the acceptor waits for the initiator's last word, and takes it
+-- in DCE style the acceptor waits for the third leg, and takes it
 pub record EndsInTurn {G : Type 0} (e : Exchanged) (suite : CipherSuite) (part : EncTicketPart) (said answered ended closed : Reply) (after : State G) : Type 0 where
   pub said_is : said ≡ Done ContinueNeeded (token_in said) false
   pub answered_is : answered ≡ Done ContinueNeeded (token_in answered) true

@@ -27,11 +27,11 @@ ghost use Rattle.krb_laws_ends.specs.Talk.{Turn, IsFair};
 
 use krb_replay::ReplayGate;
 
-/// Both ends over a service, or over two: an initiator that is started, and whose honest KDCs' replies are handed in, says a token.
-/// Handed to an acceptor that holds the service's key, and whose gate admits the client, it is answered by one; that is handed to the
-/// initiator, and in DCE style the initiator's last word to the acceptor. Then both are established with one session key, one
-/// sub-session key, one suite and one length of the filler. Events of other connections may come between. The acceptor may go by any rules:
-/// the ticket is one that they let in, and they hold its clients to no channel, since the initiator has no bindings here.
+/// Both ends over a service, or over two: an initiator that is started, and that gets the replies of honest KDCs, sends a token. An
+/// acceptor that gets the token, holds the service's key, and whose gate admits the client, replies with a token; the initiator gets
+/// that token, and in DCE style the acceptor gets the third leg. Then both are established with one session key, one subkey, one
+/// suite and one EC. Events of other connections may come between. The acceptor may have any rules: the ticket is one that they
+/// allow, and the acceptor holds its clients to no channel, since the initiator has no bindings here.
 pub fn both_ends_reach_one_context_by_events<G: ReplayGate>()
     ensures { (initiator waiting acceptor : Connection) (flags : ClientRequestFlags) (env : Env) (target service_key : List ℕ)
         (credentials : CredentialsBuffers) (client : Client) (suite : CipherSuite) (answers : Answers) (rep : TgsRep) (part : EncTicketPart)
@@ -45,14 +45,14 @@ pub fn both_ends_reach_one_context_by_events<G: ReplayGate>()
         → IsShown G.admits suite part acceptor.context.encryption_params.ec (is_bare flags) reply waiting acceptor }
 {}
 
-/// An event leaves every connection but its own.
+/// An event leaves every connection but its own unchanged.
 pub fn events_leave_other_connections<G: ReplayGate>()
     ensures { (state after : State G) (event : Event) (reply : Reply) (id : ℕ) → Steps G.admits state event reply after
         → (event.connection == id) ≡ false → at_id id after.connections ≡ at_id id state.connections }
 {}
 
-/// What two established connections wrap, in whatever order each is handed what the other wrapped: each wrap is answered by the
-/// message, and each unwrap of one that comes for the first time and in time is answered by the text that was wrapped.
+/// Two established connections wrap messages, and each gets the messages of the other in any order: the reply to each wrap has the
+/// message, and the reply to each unwrap of a message that comes for the first time and in time has the text that was wrapped.
 pub fn established_connections_understand_each_other<G: ReplayGate>()
     ensures { (left right : Connection) (suite : CipherSuite) (session_key sub_session_key : List ℕ) (ec : ℕ) (turns : List Turn)
         (replies : List Reply) → AreEstablished left.context right.context suite session_key sub_session_key ec
@@ -61,10 +61,10 @@ pub fn established_connections_understand_each_other<G: ReplayGate>()
         → ArePlayed G.admits left right turns replies → replies ≡ map answer_to turns }
 {}
 
-/// The same as one list of events at two connections of one service, where the KDC of the client's realm has the service: the initiator
-/// is started, three replies are handed in, the acceptor is handed the token that the initiator said, and the initiator the acceptor's.
-/// If the gate can do nothing but admit the request, both connections have one context then. In DCE style the acceptor is handed the
-/// initiator's last word, too.
+/// Both ends as one list of events at two connections of one service, if the KDC of the client's realm has the service: the
+/// initiator is started and gets three replies, the acceptor gets the token that the initiator sent, and the initiator gets the
+/// acceptor's token. If the gate can only admit the request, both connections have one context then. In DCE style the acceptor gets
+/// the third leg, too.
 pub fn one_list_of_events_brings_both_to_one_context<G: ReplayGate>()
     ensures plain { (before after : State G) (e : Exchanged) (initiator acceptor : Connection) (target service_key : List ℕ)
         (credentials : CredentialsBuffers) (client : Client) (suite : CipherSuite) (rep : TgsRep) (part : EncTicketPart)
