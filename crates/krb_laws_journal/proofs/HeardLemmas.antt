@@ -1,4 +1,4 @@
--- A run over a gate is one over another gate that keeps pace with it.
+-- A run over a gate is also a run over another gate that keeps pace with it.
 use Rattle.std.proofs.Common.{◌≡◌, ℕ, ◌+◌, ◌≤◌, Bool, true, false, List, [], ◌∷◌, length, Option, Some, None, Result, Ok, Err, refl, ap, sym, subst, arith}
 use Rattle.krb_replay.specs.declared.ask.Ask.{Ask}
 use Rattle.krb_replay.specs.declared.ask.Verdict.{Verdict}
@@ -25,7 +25,7 @@ use Rattle.krb_machine.specs.Policy.{State, Behind, AnswersCall, TakesAnswer, Ta
 use Rattle.krb_machine.proofs.CallLemmas.{call-gate}
 use Rattle.krb_machine.proofs.ExchangeLemmas.{answer-gate, turn-gate}
 
--- the other gate, where it has come to keep pace: what holds of it, and that it has counted one call more at most
+-- the other gate after it has kept pace: a fact about it, and it has counted at most one more call
 pub record Paced {G H : Type 0} (keeps : G → H → Type 0) (count : H → ℕ) (old : H) (new : G) (Holds : H → Type 0) : Type 0 where
   pub next : H
   pub holds : Holds next
@@ -34,7 +34,7 @@ pub record Paced {G H : Type 0} (keeps : G → H → Type 0) (count : H → ℕ)
 
 module _ {G H : Type 0} (admits : G → Ask → Verdict → G → Type 0) (hears : H → Ask → Verdict → H → Type 0) (keeps : G → H → Type 0) (count : H → ℕ)
     (step : (old new : G) (ask : Ask) (verdict : Verdict) (h : H) → keeps old h → admits old ask verdict new → Paced keeps count h new (λ next. hears h ask verdict next)) where
-  -- nothing is asked of it
+  -- the gate is not asked
   stays : (old new : G) (h : H) (Holds : H → Type 0) → new ≡ old → keeps old h → Holds h → Paced keeps count h new Holds
   stays old new h Holds same k holds = let K : G → Type 0 = λ g. keeps g h in record { next = h; holds = holds; paces = subst K (sym same) k; one = omega arith }
 
@@ -90,7 +90,7 @@ module _ {G H : Type 0} (admits : G → Ask → Verdict → G → Type 0) (hears
       stays state.gate after.gate h (λ next. Behind hears (with_gate state h) event (Err cause) reply (with_gate after next)) (ap (λ (s : State G). s.gate) b.1) k
       (b.0, ap (λ (s : State G). with_gate s h) b.1)
 
-  -- no gate is asked at a call, at what the network brings, and at an initiator
+  -- no gate is asked at a call, at an answer of the network, and at an initiator
   call_paced : (state after : State G) (h : H) (event : Event) (found : Result Connection Cause) (reply : Reply) → AnswersCall state event found reply after
       → AnswersCall (with_gate state h) event found reply (with_gate after h)
   call_paced state after h event (Ok connection) reply c = record { context = c.context; calls = c.calls; connections = c.connections; env = c.env; gate = refl }

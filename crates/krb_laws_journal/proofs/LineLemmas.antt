@@ -1,4 +1,4 @@
--- The lines of a journal: from the last one on, each is what its entry was told as.
+-- The lines of a journal, from the last one on: each determines its entry's seat and verdict.
 use Rattle.std.proofs.Common.{◌≡◌, ◌≢◌, ℕ, ◌+◌, ◌==◌, ◌<◌, ◌⊎◌, inl, inr, suc, Bool, true, false, cond, List, [], ◌∷◌, ◌++◌, length, map, get_or, refl, ap, sym, ◌∙◌, subst, arith, append_assoc}
 use Rattle.std.specs.Prelude.{◌^◌, if◌then◌else◌, codes, reverse}
 use Rattle.std.specs.Fmt.{decimal}
@@ -13,7 +13,7 @@ use Rattle.krb_threads.specs.Answers.{verdict_name, entry_line, entries_text}
 use Rattle.krb_threads.proofs.TextLemmas.{entries-push}
 use Rattle.krb_laws_journal.proofs.SplitLemmas.{lacks, lacks-append, split-last, split-first, decimal-lacks}
 
--- what an octet is not: a digit
+-- octets that are no digits
 is_j : (106 < 48) ⊎ (57 < 106)
 is_j = inr (omega arith)
 
@@ -45,11 +45,11 @@ verdict_lacks NotYet = refl
 verdict_lacks Expired = refl
 verdict_lacks Replayed = refl
 
--- equal texts are those of equal numbers
+-- numbers with equal texts are equal
 decimal_once : (m n : ℕ) → m < 10 ^ 64 → n < 10 ^ 64 → decimal m ≡ decimal n → m ≡ n
 decimal_once m n p q e = sym (decimal_is_IsNumeral_wide m p).1 ∙ ap (digits_value 10) e ∙ (decimal_is_IsNumeral_wide n q).1
 
--- a line behind its first letter
+-- a line after its first letter
 abbrev rest_of : ℕ → Entry → List ℕ
 rest_of place entry =
     32 ∷ (decimal place ++ codes " " ++ decimal entry.seat ++ codes " " ++ decimal entry.call ++ codes " " ++ verdict_name entry.verdict ++ codes "\n")
@@ -72,11 +72,11 @@ rest_lacks place entry =
     words_lack (decimal place) (decimal entry.seat) (decimal entry.call) (verdict_name entry.verdict) (decimal-lacks 106 place is_j) (decimal-lacks 106 entry.seat is_j) (decimal-lacks 106 entry.call is_j)
     (verdict_lacks entry.verdict)
 
--- its words, one behind the other
+-- the words of a line, one after the other
 apart : (p s c v : List ℕ) → p ++ codes " " ++ s ++ codes " " ++ c ++ codes " " ++ v ++ codes "\n" ≡ p ++ 32 ∷ (s ++ 32 ∷ (c ++ 32 ∷ (v ++ codes "\n")))
 apart p s c v = simp append_assoc
 
--- what a line tells of its entry, beside its place and its call
+-- the seat and the verdict of an entry, which its line shows next to its place and its call
 abbrev pub told_of : Entry → ℕ × Verdict
 told_of entry = (entry.seat, entry.verdict)
 
@@ -99,7 +99,7 @@ same_words p q x y e =
       verdict = same_verdict x.verdict y.verdict (append_cancel_right (verdict_name x.verdict) (verdict_name y.verdict) (codes "\n") calls.1);
     }
 
--- the text of entries that stand here from the last one to the first
+-- the text of entries that are listed here from the last one to the first
 abbrev pub back_text : List Entry → List ℕ
 back_text [] = []
 back_text (entry ∷ earlier) = back_text earlier ++ entry_line (length earlier + 1) entry
@@ -118,14 +118,14 @@ same_told x y a b seat verdict =
     let s = decimal_once x.seat y.seat (small x.seat a) (small y.seat b) seat in
     ap (λ (n : ℕ). (n, x.verdict)) s ∙ ap (λ (v : Verdict). (y.seat, v)) verdict
 
--- the last lines of two texts, and what stands before them
+-- the last lines of two texts, and the texts before them
 last_lines : (a b : List ℕ) (x y : Entry) (xs ys : List Entry) → a ++ back_text (x ∷ xs) ≡ b ++ back_text (y ∷ ys)
     → (a ++ back_text xs ≡ b ++ back_text ys) × (rest_of (length xs + 1) x ≡ rest_of (length ys + 1) y)
 last_lines a b x y xs ys e =
     split-last 106 (a ++ back_text xs) (b ++ back_text ys) (rest_of (length xs + 1) x) (rest_of (length ys + 1) y) (rest_lacks (length xs + 1) x) (rest_lacks (length ys + 1) y)
     (append_assoc a (back_text xs) (entry_line (length xs + 1) x) ∙ e ∙ sym (append_assoc b (back_text ys) (entry_line (length ys + 1) y)))
 
--- as many entries whose texts end two equal texts were told alike
+-- entries of two equally long lists, whose texts end two equal texts, have the same seats and verdicts
 told_back : (a b : List ℕ) (xs ys : List Entry) → AreOfTwo xs → AreOfTwo ys → length xs ≡ length ys → a ++ back_text xs ≡ b ++ back_text ys → map told_of xs ≡ map told_of ys
 told_back a b [] [] p q l e = refl
 told_back a b [] (y ∷ ys) p q l e = absurd (omega (arith, l))
@@ -144,7 +144,7 @@ as_many a b x y xs ys p q e =
     let s = decimal_once (length xs + 1) (length ys + 1) p q words.place in
     omega (arith, s)
 
--- the last line of all, behind its first letter
+-- the last line of all, after its first letter
 abbrev end_rest : ℕ → ℕ → List ℕ
 end_rest admissions records = codes "nd " ++ decimal admissions ++ codes " " ++ decimal records ++ codes "\n"
 
@@ -155,7 +155,7 @@ end_lacks admissions records =
     let c = lacks-append 101 (codes "nd " ++ decimal admissions ++ codes " ") (decimal records) b (decimal-lacks 101 records is_e) in
     lacks-append 101 (codes "nd " ++ decimal admissions ++ codes " " ++ decimal records) (codes "\n") c refl
 
--- what stands before the last line
+-- the texts before the last lines are equal if the whole texts are
 pub before-end : (a b : List ℕ) (m n k l : ℕ) → a ++ end_line m k ≡ b ++ end_line n l → a ≡ b
 before-end a b m n k l e = (split-last 101 a b (end_rest m k) (end_rest n l) (end_lacks m k) (end_lacks n l) e).0
 
@@ -189,7 +189,7 @@ map_forth : (xs ys : List Entry) → map told_of (reverse xs) ≡ map told_of (r
 map_forth xs ys e =
     sym (reverse-reverse (map told_of xs)) ∙ ap reverse (sym (map_back xs) ∙ e ∙ map_back ys) ∙ reverse-reverse (map told_of ys)
 
--- how two equal texts tell of two journals: alike, or one of them has no entry
+-- two journals with equal texts: they have the same seats and verdicts, or one of them has no entry
 abbrev pub AreAlike : List Entry → List Entry → Type 0
 AreAlike xs ys = (map told_of xs ≡ map told_of ys) ⊎ ((xs ≡ []) ⊎ (ys ≡ []))
 

@@ -4,7 +4,7 @@ use Rattle.std.specs.Prelude.{if◌then◌else◌}
 use Rattle.std.specs.Fmt.{decimal, digits, digits_onto, digit_glyph}
 use Rattle.std.proofs.lemmas.Bool.Decides.{nat_tests}
 
--- an octet does not stand in a text
+-- an octet does not occur in a text
 abbrev pub lacks : ℕ → List ℕ → Bool
 lacks octet [] = true
 lacks octet (x ∷ xs) = if x == octet then false else lacks octet xs
@@ -25,12 +25,12 @@ lacks-append octet (x ∷ a) b p q =
     let t = lacks_tail (x == octet) (lacks octet a) p in
     ap (λ (here : Bool). if here then false else lacks octet (a ++ b)) t.0 ∙ lacks-append octet a b t.1 q
 
--- where it stands it is not lacked
+-- an octet that occurs in a text is not lacking
 stands : (octet : ℕ) (a b : List ℕ) → lacks octet (a ++ octet ∷ b) ≡ true → ⊥
 stands octet [] b p = let t = lacks_tail (octet == octet) (lacks octet b) p in let s = same_is octet in cc
 stands octet (x ∷ a) b p = stands octet a b (lacks_tail (x == octet) (lacks octet (a ++ octet ∷ b)) p).1
 
--- a text that is split where the octet stands last is split one way
+-- a text has only one split at the last occurrence of an octet
 pub split-last : (octet : ℕ) (a b r s : List ℕ) → lacks octet r ≡ true → lacks octet s ≡ true → a ++ octet ∷ r ≡ b ++ octet ∷ s → (a ≡ b) × (r ≡ s)
 split-last octet [] [] r s p q e = (refl, cc)
 split-last octet [] (y ∷ b) r s p q e =
@@ -45,7 +45,7 @@ split-last octet (x ∷ a) (y ∷ b) r s p q e =
     let same = split-last octet a b r s p q t in
     (cc, same.1)
 
--- and so is one that is split where it stands first
+-- a text has only one split at the first occurrence of an octet
 pub split-first : (octet : ℕ) (a b r s : List ℕ) → lacks octet a ≡ true → lacks octet b ≡ true → a ++ octet ∷ r ≡ b ++ octet ∷ s → (a ≡ b) × (r ≡ s)
 split-first octet [] [] r s p q e = (refl, cc)
 split-first octet [] (y ∷ b) r s p q e =

@@ -1,4 +1,4 @@
--- The text of an answer tells its journal.
+-- The text of an answer determines its journal.
 use Rattle.std.proofs.Common.{◌≡◌, ℕ, ◌+◌, ◌<◌, ◌≤◌, ◌⊎◌, inl, inr, Bool, true, false, cond, List, [], ◌∷◌, ◌++◌, length, map, refl, ap, sym, ◌∙◌, subst, arith, append_assoc, length-append}
 use Rattle.std.specs.Prelude.{◌^◌}
 use Rattle.std.proofs.lemmas.List.{append-nil, nil_from_length}
@@ -24,7 +24,7 @@ use Rattle.krb_laws_journal.proofs.HeardLemmas.{Paced, RunPaced, run-paced}
 use Rattle.krb_laws_journal.proofs.LineLemmas.{AreAlike, told_of, before-end, told-alike}
 use Rattle.krb_laws_journal.proofs.WovenLemmas.{two-all, same-verdicts, woven}
 
--- a gate that is given its verdicts beforehand, and enters what it is asked
+-- a gate that gets its verdicts beforehand, and enters each call
 record Heard : Type 0 where
   verdicts : List Verdict
   entries : List Entry
@@ -50,7 +50,7 @@ hears_determined seat = record {
 abbrev verdicts_in : List Entry → List Verdict
 verdicts_in entries = map (λ (e : Entry). e.verdict) entries
 
--- it keeps pace with one that reads these entries: what it has entered are the first of them, and the others bring its verdicts, behind
+-- the gate keeps pace with one that reads these entries: it has entered the first of them, and the others bring its verdicts, after
 -- which more may come
 record Keeps (all : List Entry) (more : List Verdict) (rest : Rest) (heard : Heard) : Type 0 where
   verdicts : heard.verdicts ≡ verdicts_in rest.entries ++ more
@@ -80,7 +80,7 @@ keeps_on seat all more old new ask verdict h k reads =
       one = omega (arith, grown);
     }
 
--- a worker's run by its entries is one over that gate
+-- a worker's run by its entries is a run over the gate that gets its verdicts beforehand
 record HeardRun (seat : ℕ) (env : Env) (connections : List (ℕ × Connection)) (events : List Event) (entries : List Entry) (replies : List Reply) (more : List Verdict) : Type 0 where
   after : State Heard
   runs : Runs (Hears seat) (record { connections = connections; env = env; gate = record { verdicts = verdicts_in entries ++ more; entries = [] } }) events replies after
@@ -106,7 +106,7 @@ heard_run seat env connections events entries replies more run =
       few = omega (arith, many, few);
     }
 
--- two runs of a worker by the same verdicts have the same entries and replies, where one may be told more verdicts than it asks for
+-- two runs of a worker by the same verdicts have the same entries and replies; one may get more verdicts than it asks for
 record SameRun (x y : List Entry) (r s : List Reply) (more : List Verdict) : Type 0 where
   entries : x ≡ y
   replies : r ≡ s
@@ -130,7 +130,7 @@ few_entries : (seat : ℕ) (env : Env) (connections : List (ℕ × Connection)) 
     → length entries ≤ length events
 few_entries seat env connections events entries replies run = (heard_run seat env connections events entries replies [] run).few
 
--- the same of the entries of one seat of two journals that are told alike
+-- the entries of one seat, and the replies, are the same in two journals with the same seats and verdicts
 seat_same : (seat : ℕ) (env : Env) (connections : List (ℕ × Connection)) (events : List Event) (x y : List Entry) (r s : List Reply) → AreAlike x y
     → RunsBy 1 seat env connections events (entries_of seat x) r → RunsBy 1 seat env connections events (entries_of seat y) s → (entries_of seat x ≡ entries_of seat y) × (r ≡ s)
 seat_same seat env connections events x y r s (inl told) run other =
@@ -171,7 +171,7 @@ few_own : (worker : ℕ) (events : List Event) → length (events_of worker even
 few_own worker [] = omega arith
 few_own worker (event ∷ events) = few_by (is_of worker event.connection) event (events_of worker events) events (few_own worker events)
 
--- so an answer's journal has fewer entries than a number of 64 digits tells
+-- an answer's journal has fewer than 10^64 entries
 few_in : (so_far : Declared) (text : List ℕ) → length so_far.events < 2 ^ 64 → (one : IsAnswer so_far text) → length one.journal.entries < 10 ^ 64
 few_in so_far text small one =
     let a = one.answers in
@@ -190,7 +190,7 @@ alike_in so_far text small one other =
     told-alike (front one) (front other) one.journal.entries other.journal.entries (two-all one.journal.entries one.answers.whole) (two-all other.journal.entries other.answers.whole)
     (few_in so_far text small one) (few_in so_far text small other) before
 
--- what the text of an answer tells
+-- two answers with the same text have the same journal and replies
 pub record SameAnswer (so_far : Declared) (text : List ℕ) (one other : IsAnswer so_far text) : Type 0 where
   pub journal : one.journal ≡ other.journal
   pub first : one.first ≡ other.first

@@ -1,4 +1,4 @@
--- A journal of two seats is known by what its lines tell and by the entries of each seat.
+-- A journal of two seats is determined by the seats and verdicts of its lines and by the entries of each seat.
 use Rattle.std.proofs.Common.{◌≡◌, ◌≢◌, ℕ, ◌+◌, ◌==◌, ◌≤◌, ◌⊎◌, inl, inr, suc, Bool, true, false, cond, List, [], ◌∷◌, ◌++◌, length, map, refl, ap, sym, ◌∙◌, subst, arith}
 use Rattle.std.specs.Prelude.{if◌then◌else◌}
 use Rattle.std.proofs.lemmas.Bool.Decides.{nat_tests}
@@ -7,7 +7,7 @@ use Rattle.krb_shared.specs.declared.entry.Entry.{Entry}
 use Rattle.krb_threads.specs.Journaled.{entries_of}
 use Rattle.krb_laws_journal.proofs.LineLemmas.{AreOfTwo, told_of}
 
--- whether the first of some entries is of a seat
+-- the first of some entries is of a seat, or not
 abbrev pub Splits : ℕ → Entry → List Entry → Type 0
 Splits seat entry entries =
     ((entry.seat ≡ seat) × (entries_of seat (entry ∷ entries) ≡ entry ∷ entries_of seat entries)) ⊎ ((entry.seat ≢ seat) × (entries_of seat (entry ∷ entries) ≡ entries_of seat entries))
@@ -31,7 +31,7 @@ few : (entries : List Entry) → length (entries_of 0 entries) + length (entries
 few [] = omega arith
 few (entry ∷ entries) = few_step entry entries (few entries) (splits 0 entry entries) (splits 1 entry entries)
 
--- and where they are all, each is of one of them
+-- if the entries of both seats are all entries, each entry is of one of the two seats
 record TwoStep (entry : Entry) (entries : List Entry) : Type 0 where
   seat : (entry.seat ≡ 0) ⊎ (entry.seat ≡ 1)
   rest : length entries ≡ length (entries_of 0 entries) + length (entries_of 1 entries)
@@ -47,7 +47,7 @@ pub two-all : (entries : List Entry) → length entries ≡ length (entries_of 0
 two-all [] h = tt
 two-all (entry ∷ entries) h = let s = two_step entry entries h (splits 0 entry entries) (splits 1 entry entries) in (s.seat, two-all entries s.rest)
 
--- the verdicts that a seat was told
+-- the verdicts that a seat got
 abbrev pub verdicts_at : ℕ → List (ℕ × Verdict) → List Verdict
 verdicts_at seat [] = []
 verdicts_at seat (told ∷ more) = if told.0 == seat then told.1 ∷ verdicts_at seat more else verdicts_at seat more
@@ -61,11 +61,11 @@ picked : (seat : ℕ) (entries : List Entry) → map (λ (e : Entry). e.verdict)
 picked seat [] = refl
 picked seat (entry ∷ entries) = picked_by (entry.seat == seat) entry (entries_of seat entries) (verdicts_at seat (map told_of entries)) (picked seat entries)
 
--- what is told alike tells each seat the same verdicts
+-- journals with the same seats and verdicts have the same verdicts for each seat
 pub same-verdicts : (seat : ℕ) (xs ys : List Entry) → map told_of xs ≡ map told_of ys → map (λ (e : Entry). e.verdict) (entries_of seat xs) ≡ map (λ (e : Entry). e.verdict) (entries_of seat ys)
 same-verdicts seat xs ys e = picked seat xs ∙ ap (verdicts_at seat) e ∙ sym (picked seat ys)
 
--- one entry more, of the same seat in both
+-- one more entry, of the same seat in both
 record Step (x y : Entry) (xs ys : List Entry) : Type 0 where
   first : x ≡ y
   low : entries_of 0 xs ≡ entries_of 0 ys
@@ -88,7 +88,7 @@ same_step x y xs ys (inr z) s low high a (inr b) c d = absurd (b.0 z)
 same_step x y xs ys (inr z) s low high a b (inl c) d = absurd (let p = c.0 in omega (arith, p, s, z))
 same_step x y xs ys (inr z) s low high a b c (inr d) = absurd (d.0 (sym s ∙ z))
 
--- two journals that are told alike, and are the same at each seat, are the same
+-- two journals with the same seats and verdicts, and the same entries for each seat, are the same
 pub woven : (xs ys : List Entry) → AreOfTwo xs → map told_of xs ≡ map told_of ys → entries_of 0 xs ≡ entries_of 0 ys → entries_of 1 xs ≡ entries_of 1 ys → xs ≡ ys
 woven [] [] two told low high = refl
 woven [] (y ∷ ys) two told low high = absurd (cc)

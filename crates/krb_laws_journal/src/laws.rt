@@ -4,8 +4,8 @@ ghost use Rattle.std.specs.Prelude.{◌≡◌, ◌<◌, ◌^◌, ℕ, List, leng
 ghost use Rattle.krb_script.specs.Script.{Declared};
 ghost use Rattle.krb_threads.specs.Answers.{IsAnswer};
 
-/// The printed lines tell the journal: two runs over the same declarations, of fewer than 2^64 events, whose texts are equal have equal
-/// journals, with what was asked. Their replies are equal too.
+/// The printed lines determine the journal: two runs over the same declarations, of fewer than 2^64 events, whose texts are equal have
+/// equal journals, with the asks of the calls. Their replies are equal too.
 pub fn texts_tell_the_journal()
     ensures journal { (so_far : Declared) (text : List ℕ) (one other : IsAnswer so_far text) → length so_far.events < 2 ^ 64
         → one.journal ≡ other.journal }
