@@ -188,9 +188,10 @@ pub fn established_ends_understand_each_other()
 {}
 
 /// Both ends reach one context: an initiator's run over honest KDCs ends with a token; an acceptor that holds the service's key
-/// answers that token if its gate admits the client, and the initiator takes the answer; in DCE style the acceptor takes the third leg.
-/// Then both are established with one session key, one subkey, one suite and one EC, and all messages are before them. The acceptor
-/// may go by any rules: the ticket fits them, and if they hold a client to the channel, the initiator has the channel's bindings.
+/// answers that token if its gate admits the client, and the initiator takes the answer; in DCE style the acceptor takes the third
+/// leg. Then both are established with one session key, one subkey, one suite and one EC, and all messages are before them. The
+/// acceptor may go by any rules: the ticket fits them, and if they hold a client to the channel, the initiator has the channel's
+/// bindings.
 pub fn both_ends_reach_one_context<G: ReplayGate>()
     ensures { (initiator acceptor acceptor' : Kerberos) (options more : InitOptions) (target service_key : List ℕ) (credentials : CredentialsBuffers)
         (client : Client) (suite : CipherSuite) (answers : Answers) (rep : TgsRep) (part : EncTicketPart) (env : Env)
