@@ -1,4 +1,4 @@
--- Writing one piece behind another.
+-- Writing one piece after another.
 use Rattle.std.proofs.Common.{◌≡◌, ℕ, ◌+◌, ◌%◌, ◌<◌, List, [], ◌∷◌, ◌++◌, length, take, get_or, sym, ap, ◌∙◌, append_assoc, Result, Ok, Err}
 use Rattle.std.specs.Prelude.{OnOk}
 use Rattle.std.specs.List.{flat_map}
@@ -23,7 +23,7 @@ both_parts entry =
     append_assoc (to_be_bytes w16 (length entry.components)) (counted entry.realm ++ flat_map counted entry.components) tail
     ∙ ap (λ (o : List ℕ). to_be_bytes w16 (length entry.components) ++ o) (append_assoc (counted entry.realm) (flat_map counted entry.components) tail)
 
--- one more piece behind those of the elements before it
+-- one more piece after the pieces of the earlier elements
 pub piece_more : {X A : Type 0} (f : X → List A) (front : List A) (xs : List X) (i : ℕ) (x : X) → i < length xs → x ≡ get_or xs i x → (front ++ flat_map f (take i xs)) ++ f x ≡ front ++ flat_map f (take (i + 1) xs)
 piece_more {X} f front xs i x lt is =
     flat_map_more f front (take i xs) x ∙ ap (λ (ys : List X). front ++ flat_map f ys) (ap (λ (y : X). take i xs ++ y ∷ []) is ∙ sym (take_more xs i x lt))

@@ -21,7 +21,7 @@ version_below short behind small fits =
     cond_below (ltb (length behind) 4) short (cond (eqb (from_be_bytes w32 (take 4 behind)) 0) short (from_be_bytes w32 (take 4 behind))) (2 ^ 32) low
     (cond_below (eqb (from_be_bytes w32 (take 4 behind)) 0) short (from_be_bytes w32 (take 4 behind)) (2 ^ 32) low long)
 
--- ---- what stands behind the names
+-- ---- the fields after the names
 
 abbrev tail_octets : Tail → ℕ → List ℕ → List ℕ
 tail_octets tail short behind =

@@ -84,7 +84,7 @@ octet_takes (first ∷ octets) n rest fits e =
     let rest-is : octets ≡ rest = ap (λ (p : ℕ × List ℕ). p.1) same in
     (record { parts = rw (← n-is, ← rest-is) refl; rest_bytes = rw (← rest-is) (IsBytes-tail first octets fits) }, rw (← n-is) (fits 0))
 
--- ---- so many octets
+-- ---- a given number of octets
 
 pub cut_takes : (size : ℕ) (octets body rest : List ℕ) → IsBytes octets → cut size octets ≡ Some (body, rest) → Takes octets body rest × (length body ≡ size) × IsBytes body
 cut_takes size octets body rest fits e =
@@ -102,7 +102,7 @@ cut_again body rest size len =
     let long : ltb (length (body ++ rest)) size ≡ false = le-ltb _ _ (omega (arith, length-append body rest)) in
     rw (long, take_at body rest size len, drop_at body rest size len) refl
 
--- ---- octets behind their length
+-- ---- octets after their length
 
 pub counted_takes : (octets text rest : List ℕ) → IsBytes octets → counted_at octets ≡ Some (text, rest) → Takes octets (counted text) rest × (length text < 2 ^ 16)
 unfolding counted_at

@@ -1,4 +1,4 @@
--- Files as their items one behind another.
+-- Files as their consecutive items.
 use Rattle.std.proofs.Common.{◌≡◌, ℕ, zero, suc, ◌+◌, ◌%◌, ◌-◌, ◌^◌, ◌<◌, ◌≢◌, true, false, ltb, eqb, List, [], ◌∷◌, ◌++◌, length, All, Option, Some, Err, refl, sym, ap, subst, ◌∙◌, append_assoc, arith, inl, inr}
 use Rattle.std.specs.Option.{option_to_list}
 use Rattle.std.specs.List.{flat_map, AllByRecursion}
@@ -83,7 +83,7 @@ took_fault body rest place entries after errors.OutOfMemory s is t = tt
 
 -- ---- one way
 
--- no item stands at the front
+-- no item is at the front
 abbrev Stops : List ℕ → Type 0
 Stops octets = (entry : Option KeytabEntry) (rest : List ℕ) → next_of octets ≡ brought entry rest → ⊥
 

@@ -1,4 +1,4 @@
--- What stands at the front of a file: its end, an item and what follows it, or neither.
+-- The front of a file: its end, an item and what follows it, or neither.
 use Rattle.std.proofs.Common.{◌≡◌, ◌⊎◌, ℕ, zero, suc, ◌-◌, ◌^◌, ◌<◌, ◌≤◌, Bool, true, false, cond, ltb, eqb, List, [], ◌∷◌, ◌++◌, length, Option, Some, None, refl, sym, ap, subst, ◌∙◌, append_assoc, arith, inl, inr}
 use Rattle.std.specs.Option.{option_to_list}
 use Rattle.std.specs.Int.{w32, to_be_bytes}

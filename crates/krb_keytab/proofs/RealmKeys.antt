@@ -19,7 +19,7 @@ module _ (realm : List ℕ) (suite : CipherSuite) (entry : KeytabEntry) where
   abbrev wants : List (List ℕ) → Bool
   wants name = is_wanted (asked realm suite name) entry
 
-  -- an entry is wanted under its own name alone
+  -- an entry is looked for under its own name alone
   elsewhere : (name : List (List ℕ)) → same_names entry.components name ≡ false → wants name ≡ false
   elsewhere name other = not_wanted (asked realm suite name) entry (no_second (same_octets entry.realm realm) (same_names entry.components name) other)
 
@@ -33,15 +33,15 @@ module _ (realm : List ℕ) (suite : CipherSuite) (entry : KeytabEntry) where
       by true e = sym (here name e) ∙ unwanted
       by false e = elsewhere name e
 
-  -- where the entry is not wanted the map stays
+  -- if the entry is not looked for, the map is unchanged
   pub left_out : {S : Type 0} (found : IndexMap LentName (Bor KeytabEntry) S) → wants entry.components ≡ false → (name : LentName) → found_at found name ≡ greatest_with (is_wanted (asked realm suite name.now)) (found_at found name) entry
   left_out found unwanted name = ap (λ (b : Bool). cond b (Some (greater (found_at found name) entry)) (found_at found name)) (sym (nowhere unwanted name.now))
 
-  -- what a map has at the entry's own name
+  -- the entry that a map has at the entry's own name
   abbrev at_own : {S : Type 0} → IndexMap LentName (Bor KeytabEntry) S → Option KeytabEntry
   at_own found = option_map (λ (e : Bor KeytabEntry). e.now) (lookup (λ (k : LentName). same_names entry.components k.now) found.entries)
 
-  -- where it is wanted it takes its place
+  -- if the entry is looked for, it is put at its own name
   module _ {S : Type 0} (old new : IndexMap LentName (Bor KeytabEntry) S) (best : Bor KeytabEntry) where
     own_name : (name : LentName) → entry.components ≡ name.now → at_own old ≡ found_at old name
     own_name name is = ap (λ (n : List (List ℕ)). option_map (λ (e : Bor KeytabEntry). e.now) (lookup (λ (k : LentName). same_names n k.now) old.entries)) is

@@ -3,8 +3,8 @@ use Rattle.std.specs.Prelude.{◌≡◌, ℕ, ◌<◌, ◌≤◌, Bool, true, fa
 use Rattle.std.specs.Cmp.Lexicographic.{pointwise}
 use Rattle.krb_keytab.specs.declared.entry.KeytabEntry.{KeytabEntry}
 
--- What an entry is asked for: a realm and the components of a name, octet for octet, a type of key and, where they are given, a version
--- and a number of octets of the key.
+-- A query for an entry: a realm and the components of a name, octet for octet, a type of key and, if they are given, a version and a
+-- number of octets of the key.
 pub record Wanted : Type 0 where
   pub realm : List ℕ
   pub components : List (List ℕ)
@@ -37,7 +37,8 @@ greater (Some best) entry = if nat_lt entry.version best.version then best else 
 unfoldable pub greatest : (KeytabEntry → Bool) → List KeytabEntry → Option KeytabEntry
 greatest passes entries = fold (λ best entry. if passes entry then Some (greater best entry) else best) None entries
 
--- The same, as it is meant: it passes, none before it that passes is of a greater version, and each behind it that passes is of a lower one.
+-- The greatest, as it is meant: it passes, none before it that passes is of a greater version, each after it that passes of a lower
+-- one.
 pub record IsGreatest (passes : KeytabEntry → Bool) (entries : List KeytabEntry) (entry : KeytabEntry) : Type 0 where
   pub before : List KeytabEntry
   pub behind : List KeytabEntry

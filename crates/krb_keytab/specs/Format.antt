@@ -7,18 +7,18 @@ use Rattle.krb_keytab.specs.declared.entry.KeytabEntry.{KeytabEntry}
 use Rattle.krb_keytab.specs.declared.error.KeytabError.{KeytabError}
 use Rattle.krb_keytab.specs.declared.error.KeytabError.TheVariants as errors
 
--- two octets of length, and so many octets
+-- the length in two octets, and the octets
 abbrev pub counted : List ℕ → List ℕ
 counted octets = to_be_bytes w16 (length octets) ++ octets
 
--- What stands behind the key of an entry is its version in four octets, where they are there and not zero, whatever follows; else its
--- version is the one of a single octet in front of the key.
+-- The version of an entry is in the four octets after its key, if they are there and not zero, whatever follows; otherwise it is in
+-- the single octet before the key.
 abbrev pub version_of : ℕ → List ℕ → ℕ
 version_of short behind =
     if nat_lt (length behind) 4 then short else
     if from_be_bytes w32 (take 4 behind) == 0 then short else from_be_bytes w32 (take 4 behind)
 
--- an entry with this octet as its short version, and with this behind its key
+-- an entry with this octet as its short version, and with these octets after its key
 abbrev pub entry_octets : KeytabEntry → ℕ → List ℕ → List ℕ
 entry_octets entry short behind =
     to_be_bytes w16 (length entry.components) ++ (counted entry.realm ++ (flat_map counted entry.components ++ (to_be_bytes w32 entry.name_type
@@ -71,7 +71,7 @@ entries_among (Hole octets ∷ items) = entries_among items
 abbrev pub IsEnd : List ℕ → Type 0
 IsEnd octets = (octets ≡ []) ⊎ ((behind : List ℕ) × (octets ≡ 0 ∷ 0 ∷ 0 ∷ 0 ∷ behind))
 
--- The octets are a file with these entries: the version, items one behind another, and the end.
+-- The octets are a file with these entries: the version, consecutive items, and the end.
 pub record Spells (entries : List KeytabEntry) (octets : List ℕ) : Type 0 where
   pub items : List Item
   pub rest : List ℕ
@@ -84,12 +84,12 @@ pub record Spells (entries : List KeytabEntry) (octets : List ℕ) : Type 0 wher
 abbrev pub HasNoVersion : List ℕ → Type 0
 HasNoVersion octets = (behind : List ℕ) → octets ≡ 5 ∷ 2 ∷ behind → ⊥
 
--- Neither the end of a file nor an item stands at the front.
+-- Neither the end of a file nor an item is at the front.
 pub record IsBroken (octets : List ℕ) : Type 0 where
   pub no_end : IsEnd octets → ⊥
   pub no_item : (item : Item) (behind : List ℕ) → IsItem item → octets ≡ item_octets item ++ behind → ⊥
 
--- Behind the version and whole items comes, this far from the front, neither an item nor the end.
+-- After the version and whole items comes, this far from the front, neither an item nor the end.
 pub record IsBrokenAt (place : ℕ) (octets : List ℕ) : Type 0 where
   pub items : List Item
   pub rest : List ℕ
@@ -115,24 +115,24 @@ written_item entry = item_octets (Entry entry (written_entry entry))
 abbrev pub written : List KeytabEntry → List ℕ
 written entries = 5 ∷ 2 ∷ flat_map written_item entries
 
--- what stands in two octets of length
+-- octets whose length fits two octets
 abbrev pub is_short : List ℕ → Bool
 is_short octets = nat_lt (length octets) (2 ^ 16)
 
--- how many octets components take, each behind its length
+-- the number of octets of components, each after its length
 abbrev pub sizes : List (List ℕ) → ℕ
 sizes [] = 0
 sizes (part ∷ parts) = (2 + length part) + sizes parts
 
--- how many octets an entry takes as it is written
+-- the number of octets of an entry as it is written
 abbrev pub size_of : KeytabEntry → ℕ
 size_of entry = (21 + length entry.realm + length entry.key) + sizes entry.components
 
--- whether each length and the count of components stand in two octets
+-- each length and the count of components fit two octets
 abbrev pub has_short_parts : KeytabEntry → Bool
 has_short_parts entry = is_short entry.realm && (is_short entry.key && (nat_lt (length entry.components) (2 ^ 16) && list_all is_short entry.components))
 
--- whether an entry can be written so: it has short parts and a version, and its size stands in four octets as a positive number
+-- an entry can be written so: it has short parts and a version, and its size fits four octets as a positive number
 abbrev pub can_be_written : KeytabEntry → Bool
 can_be_written entry = has_short_parts entry && (not (entry.version == 0) && nat_lt (size_of entry) (2 ^ 31))
 

@@ -20,11 +20,11 @@ is_new realm names entry = same_octets entry.realm realm && not (list_any (λ na
 abbrev pub names_with : List ℕ → List (List (List ℕ)) → KeytabEntry → List (List (List ℕ))
 names_with realm names entry = if is_new realm names entry then names ++ entry.components ∷ [] else names
 
--- each name of the realm once, in the order in which it first stands
+-- each name of the realm once, in the order of their first entries
 unfoldable pub names_of : List ℕ → List KeytabEntry → List (List (List ℕ))
 names_of realm entries = fold (λ names entry. names_with realm names entry) [] entries
 
--- the key of the greatest version of this type with so many octets
+-- the key of the greatest version of this type with this number of octets
 abbrev pub sized_key : List KeytabEntry → List ℕ → List (List ℕ) → ℕ → ℕ → Option (List ℕ)
 sized_key entries realm components key_type size =
     let wanted : Wanted = record { realm = realm; components = components; key_type = key_type; version = None; size = Some size } in
@@ -34,7 +34,7 @@ sized_key entries realm components key_type size =
 abbrev pub suite_key : List KeytabEntry → List ℕ → List (List ℕ) → CipherSuite → Option (List ℕ)
 suite_key entries realm components suite = sized_key entries realm components (suite_number suite) (key_size suite)
 
--- the key of a name: one of AES-256, else one of AES-128
+-- the key of a name: one of AES-256, otherwise one of AES-128
 abbrev pub key_for : List KeytabEntry → List ℕ → List (List ℕ) → Option (List ℕ)
 key_for entries realm components = or_else (suite_key entries realm components Aes256CtsHmacSha196) (suite_key entries realm components Aes128CtsHmacSha196)
 
@@ -46,6 +46,6 @@ service_key_of entries realm components = option_map (λ key. (service_named com
 unfoldable pub keys_of : List ℕ → List KeytabEntry → List (PrincipalName × List ℕ)
 keys_of realm entries = flat_map (λ name. option_to_list (service_key_of entries realm name)) (names_of realm entries)
 
--- the properties with further keys behind those that are there
+-- the properties with further keys after the existing ones
 abbrev pub with_keys : ServerProperties → List (PrincipalName × List ℕ) → ServerProperties
 with_keys server keys = record server { additional_service_keys = server.additional_service_keys ++ keys }

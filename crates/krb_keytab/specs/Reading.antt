@@ -31,7 +31,7 @@ parts_at (suc count) octets = do
   parts ← parts_at count part.1
   Some (part.0 ∷ parts.0, parts.1)
 
--- what stands behind the names of an entry
+-- the fields after the names of an entry
 pub record Tail : Type 0 where
   pub name_type : ℕ
   pub time : ℕ
@@ -64,7 +64,7 @@ entry_in octets = do
     key = tail.key;
   })
 
--- What stands at the front of a file: its end, or an item, which may bring an entry, and what follows it.
+-- The front of a file: its end, or an item, which may have an entry, and what follows it.
 pub data Next : Type 0 where
   End : Next
   Item : Option KeytabEntry → List ℕ → Next

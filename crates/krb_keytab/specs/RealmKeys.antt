@@ -34,7 +34,7 @@ found_at found name = option_map (λ entry. entry.now) (get same_name found name
 abbrev pub HasGreatest : {S : Type 0} → List ℕ → CipherSuite → List KeytabEntry → IndexMap LentName (Bor KeytabEntry) S → Type 0
 HasGreatest realm suite entries found = (name : LentName) → found_at found name ≡ greatest (is_wanted (asked realm suite name.now)) entries
 
--- the key at a name: one of AES-256, else one of AES-128
+-- the key at a name: one of AES-256, otherwise one of AES-128
 abbrev pub key_at : RealmKeys → LentName → Option (List ℕ)
 key_at keys name = or_else (option_map (λ entry. entry.key) (found_at keys.aes256 name)) (option_map (λ entry. entry.key) (found_at keys.aes128 name))
 

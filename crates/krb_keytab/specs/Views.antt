@@ -1,4 +1,4 @@
--- What reading gives, without where it lies in memory.
+-- The results of reading, without their addresses in memory.
 use Rattle.std.specs.Prelude.{◌≡◌, ℕ, List, ◌++◌, Option, Some, None, Result, Ok, Err}
 use Rattle.std.specs.Borrow.{Bor}
 use Rattle.std.specs.Option.{option_to_list}
@@ -19,7 +19,7 @@ abbrev pub next_view : ReadNext → Next
 next_view nexts.End = End
 next_view (nexts.Item entry rest) = Item entry rest.now
 
--- What taking an item from the front of octets answers, and the entries before and afterwards.
+-- The result of taking an item from the front of octets, and the entries before and after.
 abbrev pub TakesItem : List ℕ → ℕ → List KeytabEntry → Result (Option (Bor (List ℕ))) KeytabError → List KeytabEntry → Type 0
 TakesItem octets place old (Ok None) new = (next_of octets ≡ Some End) × (new ≡ old)
 TakesItem octets place old (Ok (Some rest)) new = (entry : Option KeytabEntry) × (next_of octets ≡ Some (Item entry rest.now))

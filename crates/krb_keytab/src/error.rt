@@ -11,7 +11,7 @@ use std::alloc::AllocFailed;
 pub enum KeytabError {
     /// The file does not begin with the version 05 02.
     Version,
-    /// What stands at this place, in octets from the front of the file, is no item.
+    /// No item begins at this place, in bytes from the front of the file.
     Entry { place: usize },
     /// Memory ran out.
     OutOfMemory,

@@ -7,15 +7,15 @@ ghost use Rattle.krb_keytab.specs.Views.{wanted_view};
 use crate::entry::KeytabEntry;
 use krb_der::{Items, Name};
 
-/// What an entry is asked for.
+/// A query for an entry.
 #[derive(Clone, Copy)]
 pub struct Wanted<'a> {
     pub realm: &'a Name,
     pub components: &'a Items<Name>,
     pub key_type: u16,
-    /// Any version where there is none.
+    /// None for any version.
     pub version: Option<u32>,
-    /// How many octets the key has, any number where there is none.
+    /// The number of bytes of the key, None for any.
     pub size: Option<usize>,
 }
 
@@ -37,7 +37,7 @@ fn is_given_size(given: Option<usize>, size: usize) -> bool
     }
 }
 
-/// Whether the entry is one of those that are asked for.
+/// Returns whether the entry matches the query.
 pub fn is_wanted(wanted: &Wanted<'_>, entry: &KeytabEntry) -> bool
     ensures { result ≡ is_wanted (wanted_view wanted.now) entry.now }
 {

@@ -16,7 +16,7 @@ use krb_messages::PrincipalName;
 use sspi_core::Secret;
 use std::alloc::Global;
 
-/// Adds the name of the entry, where it is of the realm and new.
+/// Adds the name of the entry if it is of the realm and new.
 fn add_name<'a>(
     names: &mut IndexSet<&'a Items<Name>>,
     realm: &Name,
@@ -30,7 +30,7 @@ fn add_name<'a>(
     Ok(())
 }
 
-/// Each name of the realm once, in the order in which it first stands.
+/// Returns each name of the realm once, in the order of their first entries.
 fn names_of<'a>(
     alloc: Global,
     realm: &Name,
@@ -45,7 +45,7 @@ fn names_of<'a>(
     Ok(names)
 }
 
-/// A name of type 2 (RFC 4120, section 6.2) with these components.
+/// Returns a name of type 2 (RFC 4120, section 6.2) with these components.
 fn service_named(alloc: Global, components: &Items<Name>) -> Result<PrincipalName, OutOfMemory>
     ensures { IfOk result (λ name. name ≡ service_named components.now) }
 {
@@ -103,7 +103,7 @@ fn push_named<'a>(
     Ok(())
 }
 
-/// Puts the keys of the realm behind those that are there.
+/// Appends the keys of the realm to the existing ones.
 pub fn push_keys(
     alloc: Global,
     out: &mut Vec<(PrincipalName, Secret<Octets>)>,
@@ -117,7 +117,7 @@ pub fn push_keys(
     push_named(alloc, out, &keys, names.as_slice())
 }
 
-/// The keys of the realm as further keys of an acceptor's properties, behind those that are there.
+/// Appends the keys of the realm to the further keys of an acceptor's properties, and returns their number.
 pub fn install(
     alloc: Global,
     realm: &Name,

@@ -24,8 +24,8 @@ pub struct Keytab {
 }
 
 impl Keytab {
-    /// The entries that a file of the format 0502 has. Holes are passed over, and so is what stands behind an entry's
-    /// version. The first fault from the front is told, with its place.
+    /// Reads the entries of a file of the format 0502. Passes over holes, and over what follows an entry's version. Fails with the
+    /// first fault from the front, with its place.
     pub fn read(alloc: Global, octets: &[u8]) -> Result<Keytab, KeytabError>
         ensures found { IfOk result (λ keytab. Spells keytab.entries octets.now) }
         ensures refused { IfErr result (λ error. IsFault error octets.now) }
@@ -39,8 +39,8 @@ impl Keytab {
         })
     }
 
-    /// Whether each entry can be written: each length and each count of components is below 2^16, no version is 0, and each
-    /// entry takes less than 2^31 octets.
+    /// Returns whether each entry can be written: each length and each count of components is below 2^16, no version is 0, and
+    /// each entry is shorter than 2^31 bytes.
     pub fn is_writable(&self) -> bool
         ensures { result ≡ can_all_be_written self.now.entries }
     {
@@ -50,7 +50,7 @@ impl Keytab {
             .all(|entry| can_be_written(entry))
     }
 
-    /// The file with these entries and no holes. Each version stands in one octet, modulo 256, and whole in four.
+    /// Returns the file with these entries and no holes. Each version is in one byte, modulo 256, and whole in four.
     pub fn write(&self, alloc: Global) -> Result<Octets, OutOfMemory>
         requires { can_all_be_written self.now.entries ≡ true }
         ensures { IfOk result (λ octets. octets ≡ written self.now.entries) }
@@ -58,7 +58,7 @@ impl Keytab {
         write_entries(alloc, self.entries.as_slice())
     }
 
-    /// The entry of this realm, these components, this type and, where it is given, this version, compared octet for octet:
+    /// Returns the entry of this realm, these components, this type and, if it is given, this version, compared byte for byte:
     /// of several the one of the greatest version, of equals the last.
     pub fn find(
         &self,
@@ -87,8 +87,8 @@ impl Keytab {
         )
     }
 
-    /// The services of this realm that have a key, in the order in which they first stand, each as a name of type 2: one of
-    /// type 18 with 32 octets, else one of type 17 with 16 octets, of the greatest version, of equals the last.
+    /// Returns the services of this realm that have a key, in the order of their first entries, each as a name of type 2 with its
+    /// key: one of type 18 with 32 bytes, otherwise one of type 17 with 16 bytes, of the greatest version, of equals the last.
     pub fn service_keys(
         &self,
         alloc: Global,
@@ -101,8 +101,8 @@ impl Keytab {
         Ok(Items::new(keys))
     }
 
-    /// Puts the keys of `service_keys` behind the further keys of an acceptor, and answers how many they are; the number stands
-    /// still at 2^32 - 1. If memory runs out the properties are as before. The keys that are there are copied once.
+    /// Appends the keys of `service_keys` to the further keys of an acceptor, and returns how many they are, at most 2^32 - 1. If
+    /// memory runs out the properties are unchanged. The existing keys are copied once.
     pub fn install(
         &self,
         alloc: Global,

@@ -17,18 +17,18 @@ pub fn files_are_read_one_way()
     ensures place { (octets : List ℕ) (one other : ℕ) → All (λ octet. octet < 256) octets → IsBrokenAt one octets → IsBrokenAt other octets → one ≡ other }
 {}
 
-/// What is written of entries, whose fields have their ranges, is a file with these entries, so it is read back.
+/// The written form of entries, whose fields have their ranges, is a file with these entries, so it is read back.
 pub fn written_files_are_read()
     ensures { (entries : List KeytabEntry) → AllByRecursion Fits entries → can_all_be_written entries ≡ true → Spells entries (written entries) }
 {}
 
 /// The greatest of the entries that pass a test is meant so: it passes the test, none before it is of a greater version, and
-/// each behind it is of a lower one; and there is none only where no entry passes.
+/// each after it is of a lower one; and there is none only if no entry passes.
 pub fn the_greatest_is_found()
     ensures { (passes : KeytabEntry → Bool) (entries : List KeytabEntry) → FindsGreatest passes entries (greatest passes entries) }
 {}
 
-/// Where an acceptor has no key, after the keys of a realm are installed its key for a name is the keytab's, or none.
+/// If an acceptor has no key, after the keys of a realm are installed its key for a name is the keytab's, or none.
 pub fn installed_keys_are_found()
     ensures { (realm : List ℕ) (entries : List KeytabEntry) (components : List (List ℕ)) (server : ServerProperties) → server.ticket_decryption_key ≡ None
         → server.additional_service_keys ≡ [] → service_key (with_keys server (keys_of realm entries)) components ≡ key_for entries realm components }

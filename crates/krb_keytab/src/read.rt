@@ -47,7 +47,7 @@ fn octet_at(octets: &[u8]) -> Result<(u8, &[u8]), Fault>
     }
 }
 
-/// So many octets, and what follows them.
+/// Returns this number of bytes, and what follows them.
 fn cut(octets: &[u8], size: usize) -> Result<(&[u8], &[u8]), Fault>
     ensures { Reads (λ x. (x.0.now, x.1.now)) result (cut size octets.now) }
 {
@@ -57,7 +57,7 @@ fn cut(octets: &[u8], size: usize) -> Result<(&[u8], &[u8]), Fault>
     Ok(octets.split_at(size))
 }
 
-/// Octets behind their length of two octets.
+/// Returns the bytes after their length of two bytes, and what follows them.
 #[tactic(auto, unfolding(crate::specs::Reading::counted_at))]
 fn counted_at(octets: &[u8]) -> Result<(&[u8], &[u8]), Fault>
     ensures { Reads (λ x. (x.0.now, x.1.now)) result (counted_at octets.now) }
@@ -78,7 +78,7 @@ fn part_at(alloc: Global, octets: &[u8]) -> Result<(Name, &[u8]), Fault>
     }
 }
 
-/// So many components.
+/// Reads this number of components.
 fn parts_at(alloc: Global, count: u16, octets: &[u8]) -> Result<(Items<Name>, &[u8]), Fault>
     ensures { Reads (λ x. (x.0, x.1.now)) result (parts_at count octets.now) }
 {
@@ -92,7 +92,7 @@ fn parts_at(alloc: Global, count: u16, octets: &[u8]) -> Result<(Items<Name>, &[
     Ok((Items::new(parts), rest))
 }
 
-/// The version of an entry, by its single octet and by what stands behind its key.
+/// Returns the version of an entry, from its single byte and from what follows its key.
 fn version(short: u8, behind: &[u8]) -> u32
     ensures { result ≡ version_of short behind.now }
 {
@@ -103,7 +103,7 @@ fn version(short: u8, behind: &[u8]) -> u32
     if long == 0 { u32::from(short) } else { long }
 }
 
-/// What stands behind the names of an entry.
+/// The fields after the names of an entry.
 #[derive(Clone, Copy)]
 pub struct Tail<'a> {
     name_type: u32,
@@ -152,12 +152,12 @@ fn entry_in(alloc: Global, octets: &[u8]) -> Result<KeytabEntry, Fault>
     })
 }
 
-/// What stands at the front of a file.
+/// The front of a file.
 #[derive(Drop)]
 pub enum Next<'a> {
     /// The file ends there.
     End,
-    /// An entry or, where it brings none, a hole; and what follows it.
+    /// An entry, or None for a hole; and what follows it.
     Item(Option<KeytabEntry>, &'a [u8]),
 }
 
@@ -211,7 +211,7 @@ fn push_some(entries: &mut Vec<KeytabEntry>, entry: Option<KeytabEntry>) -> Resu
     Ok(())
 }
 
-/// Takes the item at the front, which stands at this place, and answers what follows it; None where the file ends.
+/// Takes the item at the front, which is at this place, and returns what follows it; None if the file ends.
 fn take_item<'a>(
     alloc: Global,
     entries: &mut Vec<KeytabEntry>,
@@ -231,7 +231,7 @@ fn take_item<'a>(
     }
 }
 
-/// The entries of a file, from behind its version on.
+/// Reads the entries of a file, from after its version on.
 pub fn read_items(alloc: Global, body: &[u8]) -> Result<Vec<KeytabEntry>, KeytabError>
     ensures found { IfOk result (λ entries. Spells entries.items (5 ∷ 2 ∷ body.now)) }
     ensures refused { IfErr result (λ error. IsFault error (5 ∷ 2 ∷ body.now)) }

@@ -23,7 +23,7 @@ pub struct RealmKeys<'a> {
     aes128: ByName<'a>,
 }
 
-/// Whether the entry has a key of the suite in the realm.
+/// Returns whether the entry has a key of the suite in the realm.
 fn is_of_suite(realm: &Name, suite: CipherSuite, entry: &KeytabEntry) -> bool
     ensures { result ≡ is_wanted (asked realm.now suite entry.now.components) entry.now }
 {
@@ -39,7 +39,7 @@ fn is_of_suite(realm: &Name, suite: CipherSuite, entry: &KeytabEntry) -> bool
     )
 }
 
-/// Puts the entry at its name, where it has a key of the suite in the realm and none of a greater version is there.
+/// Puts the entry at its name if it has a key of the suite in the realm and no entry of a greater version is there.
 fn keep<'a>(
     found: &mut ByName<'a>,
     realm: &Name,
@@ -81,7 +81,7 @@ fn key_in<'a>(found: &ByName<'a>, components: &'a Items<Name>) -> Option<&'a Sec
 }
 
 impl<'a> RealmKeys<'a> {
-    /// Those of these entries.
+    /// Returns the keys of these entries.
     pub fn new(
         alloc: Global,
         realm: &Name,
@@ -94,7 +94,7 @@ impl<'a> RealmKeys<'a> {
         Ok(RealmKeys { aes256, aes128 })
     }
 
-    /// The key of AES-256 at a name, else the one of AES-128.
+    /// Returns the key of AES-256 at a name, otherwise the one of AES-128.
     pub fn key(&self, components: &'a Items<Name>) -> Option<&'a Secret<Octets>>
         ensures { option_copied result ≡ key_at self.now components.entry }
     {

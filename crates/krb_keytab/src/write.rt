@@ -24,7 +24,7 @@ fn put_u32(out: &mut Vec<u8>, number: u32) -> Result<(), OutOfMemory>
     Ok(())
 }
 
-/// Octets behind their length.
+/// Appends bytes after their length.
 fn put_counted(out: &mut Vec<u8>, octets: &[u8]) -> Result<(), OutOfMemory>
     requires { length octets.now < 2 ^ 16 }
     ensures { OnOk result (out.new.items ≡ out.old.items ++ counted octets.now) }
@@ -44,7 +44,7 @@ fn put_parts(out: &mut Vec<u8>, parts: &[Name]) -> Result<(), OutOfMemory>
     Ok(())
 }
 
-/// The names of an entry.
+/// Appends the names of an entry.
 fn put_names(out: &mut Vec<u8>, entry: &KeytabEntry) -> Result<(), OutOfMemory>
     requires { has_short_parts entry.now ≡ true }
     ensures { OnOk result (out.new.items ≡ out.old.items ++ names_octets entry.now) }
@@ -54,7 +54,7 @@ fn put_names(out: &mut Vec<u8>, entry: &KeytabEntry) -> Result<(), OutOfMemory>
     put_parts(out, entry.components.as_slice())
 }
 
-/// What stands behind the names of an entry.
+/// Appends the fields after the names of an entry.
 fn put_tail(out: &mut Vec<u8>, entry: &KeytabEntry) -> Result<(), OutOfMemory>
     requires { has_short_parts entry.now ≡ true }
     ensures { OnOk result (out.new.items ≡ out.old.items ++ tail_octets entry.now) }
@@ -84,7 +84,7 @@ fn entry_octets(alloc: Global, entry: &KeytabEntry) -> Result<Octets, OutOfMemor
     Ok(Octets::new(out))
 }
 
-/// An entry behind its size.
+/// Appends an entry after its size.
 fn put_item(alloc: Global, out: &mut Vec<u8>, entry: &KeytabEntry) -> Result<(), OutOfMemory>
     requires { can_be_written entry.now ≡ true }
     ensures { OnOk result (out.new.items ≡ out.old.items ++ written_item entry.now) }
@@ -113,7 +113,7 @@ fn are_short(parts: &[Name]) -> bool
     parts.iter().all(|part| is_short_name(part))
 }
 
-/// How many octets components take, each behind its length.
+/// Returns the number of bytes of components, each after its length.
 fn sizes(parts: &[Name]) -> usize
     requires short { list_all is_short parts.now ≡ true }
     requires count { length parts.now < 2 ^ 16 }
@@ -145,7 +145,7 @@ fn size_of(entry: &KeytabEntry) -> usize
     ends + sizes(entry.components.as_slice())
 }
 
-/// Whether an entry can be written.
+/// Returns whether an entry can be written.
 pub fn can_be_written(entry: &KeytabEntry) -> bool
     ensures { result ≡ can_be_written entry.now }
 {

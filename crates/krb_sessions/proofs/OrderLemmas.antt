@@ -1,4 +1,4 @@
--- What is known of tokens that were taken, and the checks of their order after those of their context.
+-- Facts about tokens that were accepted, and the checks of their order after those of their context.
 use Rattle.std.proofs.Common.{◌≡◌, ℕ, ◌≤◌, true, List, length, Ok, Err, refl, sym, subst}
 use Rattle.sspi_core.specs.declared.cause.Cause.{Cause}
 use Rattle.sspi_core.specs.declared.cause.Cause.TheVariants.{Number}

@@ -1,4 +1,4 @@
--- What a session hands out, and how it goes into a caller's room.
+-- The octets that a session returns, and how they are put into a caller's buffer.
 use Rattle.std.specs.Prelude.{◌≡◌, ℕ, ◌+◌, ◌<◌, List, [], ◌∷◌, ◌++◌, length, drop, Some, None, Result, Ok}
 use Rattle.krb_context.specs.declared.context.Kerberos.{Kerberos}
 use Rattle.krb_context.specs.Contexts.{next_number}
@@ -18,21 +18,21 @@ use Rattle.sspi_core.specs.declared.error.Place.{Place}
 use Rattle.sspi_core.specs.Buffer.{Buffer, no_flags}
 use Rattle.sspi_core.specs.Usernames.{UserName, UserPrincipal, DownLevel, backslash, upn_text}
 
--- octets of this kind stand at the front of the room, and so many they are
+-- octets of this kind are at the front of the buffer, and this is their number
 pub record Delivers (gives : List ℕ → Type 0) (old : List ℕ) (count : ℕ) (new : List ℕ) : Type 0 where
   pub octets : List ℕ
   pub given : gives octets
   pub counted : count ≡ length octets
   pub put : new ≡ octets ++ drop (length octets) old
 
--- octets of this kind are so many, and the room is shorter
+-- octets of this kind have this number, and the buffer is shorter
 pub record IsShort (gives : List ℕ → Type 0) (room count : ℕ) : Type 0 where
   pub octets : List ℕ
   pub given : gives octets
   pub counted : count ≡ length octets
   pub short : room < count
 
--- the checks refuse, or the room is too short for what is given
+-- the checks refuse, or the buffer is too short for the octets
 abbrev pub Faults : {A : Type 0} → Place → (Result A Cause → Type 0) → (List ℕ → Type 0) → ℕ → Fault → Type 0
 Faults place checks gives room (Refused error) = Refuses place checks error
 Faults place checks gives room (Room count) = IsShort gives room count
@@ -59,22 +59,22 @@ whole_message sealed =
     record { kind = Stream; flags = no_flags; octets = sealed; limit = length sealed } ∷
     record { kind = Data; flags = no_flags; octets = []; limit = 0 } ∷ []
 
--- a buffer for a token, with room for all that is sealed beside the text, and the text
+-- a buffer for a token, with room for all that is encrypted besides the text, and the text
 abbrev pub text_message : ℕ → List ℕ → List Buffer
 text_message filler text =
     record { kind = TokenType; flags = no_flags; octets = []; limit = 60 + filler } ∷
     record { kind = Data; flags = no_flags; octets = text; limit = length text } ∷ []
 
--- a message that the context seals, as it goes out
+-- a message that the context encrypts, as it is sent
 pub record IsWrapped (context : Kerberos) (confounder text octets : List ℕ) : Type 0 where
   pub made : List Buffer
   pub wraps : Wraps context confounder (text_message context.encryption_params.ec text) (Ok made)
   pub joined : octets ≡ part_octets Token made ++ part_octets Plain made
 
--- the context behind a message or a MIC token that it made
+-- the context after it made a message or a MIC token
 abbrev pub after_making : Kerberos → Kerberos
 after_making context = record context { seq_number = next_number context.seq_number }
 
--- the context behind a message that it opened
+-- the context after it decrypted a message
 abbrev pub after_opening : List ℕ → Kerberos → Kerberos
 after_opening sealed context = record context { window = noted context.window (message_number (whole_message sealed)) }

@@ -56,7 +56,7 @@ taken sealed session = record session { connection = after_opening sealed sessio
 abbrev pub verified : List ℕ → Session → Session
 verified mic session = record session { order = order_after (token_number mic) session.order }
 
--- a count from the client's first number, which an acceptor knows, and else from the first message that opens
+-- a count from the client's first number, which an acceptor knows, otherwise from the first message that decrypts
 abbrev pub order_from : Option ℕ → Order
 order_from (Some number) = Next number
 order_from None = FromFirst

@@ -2,7 +2,7 @@
 use Rattle.std.specs.Prelude.{ℕ, List, [], ◌∷◌, ◌++◌, Option, Some, None, ◌==◌, ◌||◌, if◌then◌else◌}
 use Rattle.std.specs.List.{flat_map}
 
--- what stands behind the `\` for an octet that is quoted: `/`, `@` and `\` themselves, and a letter for newline, tab, backspace and null
+-- the octet after the `\` for an octet that is quoted: `/`, `@` and `\` themselves, and a letter for newline, tab, backspace and null
 abbrev pub quote : ℕ → Option ℕ
 quote octet =
     if octet == 0x2f || octet == 0x40 || octet == 0x5c then Some octet

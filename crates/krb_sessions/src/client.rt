@@ -1,4 +1,4 @@
-//! Who was admitted, as the ticket says it.
+//! The client that was admitted, as its ticket names it.
 
 ghost use Rattle.std.specs.Prelude.{◌≡◌, ◌++◌, ◌∷◌, IfOk, OnOk};
 ghost use Rattle.std.specs.List.{flat_map};
@@ -8,7 +8,7 @@ use krb_der::{Bits, Name, Octets, OutOfMemory, Time};
 use krb_messages::{AuthorizationData, PrincipalName};
 use std::alloc::Global;
 
-/// Who a client is: what the ticket says of it, which a KDC sealed under the service's key, and what its own authenticator says.
+/// A client: what the ticket says of it, which a KDC encrypted under the service's key, and what its own authenticator says.
 #[derive(Drop)]
 pub struct Client {
     /// The name, whole: its type and all its components.
@@ -18,29 +18,30 @@ pub struct Client {
     pub flags: Bits,
     /// When the client was first authenticated.
     pub authtime: Time,
-    /// From when the ticket is valid, where that is not `authtime`.
+    /// From when the ticket is valid, if that is not `authtime`.
     pub starttime: Option<Time>,
     /// Until when it is valid.
     pub endtime: Time,
     /// Until when it may be renewed.
     pub renew_till: Option<Time>,
-    /// What the KDC, or the client's own restrictions, say of the ticket (RFC 4120, section 5.2.6). No check here reads it.
+    /// The statements of the KDC, or the client's own restrictions, on the ticket (RFC 4120, section 5.2.6). No check here reads them.
     pub authorization_data: Option<AuthorizationData>,
-    /// The GSS flags that the client asked for, as numbers of RFC 2744 (RFC 4121, section 4.1.1): None where its checksum has none.
+    /// The GSS flags that the client asked for, as numbers of RFC 2744 (RFC 4121, section 4.1.1): None if its checksum has none.
     pub gss_flags: Option<u32>,
-    /// The MD5 of the bindings that it gave of its channel, 16 octets (RFC 4121, section 4.1.1.2): all zeros where it gave none, and
-    /// no octets where its checksum has no room for them. It is compared with those of the caller only where these are handed in.
+    /// The MD5 of the channel bindings that the client sent, 16 bytes (RFC 4121, section 4.1.1.2): all zeros if it sent none, and no
+    /// bytes if its checksum has no room for them. It is compared with the caller's bindings only if the caller gives some.
     pub channel_hash: Octets,
-    /// The last twelve octets of the sealed authenticator. Two log-ins never share them but by chance, one in 2^96.
+    /// The last twelve bytes of the encrypted authenticator. Two log-ins share them only by chance, one in 2^96.
     pub tag: Octets,
-    /// The number of its first message: the low 32 bits of its authenticator's, and 0 where that has none (RFC 4120, section 5.5.1).
+    /// The number of the client's first message: the low 32 bits of its authenticator's, and 0 if that has none (RFC 4120, section
+    /// 5.5.1).
     pub first_number: u32,
-    /// The KRB-CRED by which it hands on a ticket of its own (RFC 4121, section 4.1.1): no octets where it asked for no delegation, or its
-    /// checksum has no whole one. It is not opened here.
+    /// The KRB-CRED with which the client delegates a ticket of its own (RFC 4121, section 4.1.1): no bytes if it asked for no
+    /// delegation, or its checksum has no whole one. It is not decrypted here.
     pub delegation: Octets,
 }
 
-/// What stands behind the `\` for an octet that is quoted.
+/// Returns the byte that follows the `\` for a quoted byte.
 fn quote(octet: u8) -> Option<u8>
     ensures { result ≡ quote octet }
 {
@@ -84,7 +85,7 @@ fn push_part(text: &mut Vec<u8>, part: &[u8]) -> Result<(), OutOfMemory>
     Ok(())
 }
 
-/// A mark, and a component or a realm behind it.
+/// Appends a mark, and after it a component or a realm.
 fn push_behind(text: &mut Vec<u8>, mark: u8, part: &[u8]) -> Result<(), OutOfMemory>
     ensures { OnOk result (text.new.items ≡ text.old.items ++ mark ∷ part_text part.now) }
 {
@@ -113,8 +114,8 @@ fn push_components(text: &mut Vec<u8>, parts: &[Name]) -> Result<(), OutOfMemory
     }
 }
 
-/// A whole name as text, as `alice/admin@EXAMPLE.COM`: a `/` between two components and a `@` before the realm, with a `\`
-/// before those of these marks that stand in a component or the realm (RFC 1964, section 2.1.1).
+/// Returns a whole name as text, as `alice/admin@EXAMPLE.COM`: a `/` between two components and a `@` before the realm, with a `\`
+/// before each of these marks that is in a component or the realm (RFC 1964, section 2.1.1).
 pub fn principal(alloc: Global, name: &PrincipalName, realm: &Name) -> Result<Octets, OutOfMemory>
     ensures { IfOk result (λ text. text ≡ principal_text name.now.name_string realm.now) }
 {
@@ -125,7 +126,7 @@ pub fn principal(alloc: Global, name: &PrincipalName, realm: &Name) -> Result<Oc
 }
 
 impl Client {
-    /// Its whole name as text, as [`principal`](crate::principal) writes it.
+    /// Returns the client's whole name as text, as [`principal`](crate::principal) writes it.
     pub fn principal(&self, alloc: Global) -> Result<Octets, OutOfMemory>
         ensures { IfOk result (λ text. text ≡ principal_text self.now.name.name_string self.now.realm) }
     {

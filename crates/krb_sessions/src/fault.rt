@@ -1,16 +1,16 @@
-//! Why octets are not handed out.
+//! Why a call returns no bytes.
 
 ghost use Rattle.std.specs.Prelude.{◌≡◌};
 
 use krb_der::OutOfMemory;
 use sspi_core::Error;
 
-/// Why a call that hands out octets does not.
+/// Why a call that returns bytes failed.
 #[derive(Clone, Copy, Debug, PartialEq, Eq)]
 pub enum Fault {
-    /// It is refused.
+    /// The checks of the call failed.
     Refused(Error),
-    /// The octets are so many, and the room is shorter.
+    /// The caller's buffer is shorter than the bytes, whose number this is.
     Room(usize),
 }
 

@@ -1,7 +1,7 @@
 //! A connection whose exchange is over, and its messages, for a program that keeps them.
 //!
-//! A [`Session`] knows who the peer is, and seals and opens messages. A call that hands out octets takes the room for them. Where
-//! the room is too short it says how long the octets are, and nothing is changed: the call can be made again.
+//! A [`Session`] knows who the peer is, and encrypts and decrypts messages. A call that returns bytes takes the buffer for them.
+//! If the buffer is too short the call fails with the number of the bytes, and nothing is changed: the call can be repeated.
 //!
 //! ```text
 //! let count = session.answer(&mut room)?; // goes back to the client

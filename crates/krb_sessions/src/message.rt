@@ -1,4 +1,4 @@
-//! A message as its context takes it, and what is made of one.
+//! A message in the form that its context takes, and the results of its calls.
 
 ghost use Rattle.std.specs.Prelude.{◌≡◌, ◌≤◌, length, IfOk, IfErr, OnOk, OnErr, Ok, Err};
 ghost use Rattle.sspi_core.specs.declared.error.Place.TheVariants as places;
@@ -20,7 +20,7 @@ use krb_der::{Items, Octets};
 use sspi_core::{Error, Message, Part, SecurityBufferRef};
 use std::alloc::Global;
 
-/// A message that came whole, and an empty buffer for its text.
+/// Returns a message that came whole, and an empty buffer for its text.
 fn whole_message(alloc: Global, sealed: &[u8]) -> Result<Message, Error>
     ensures whole { IfOk result (λ message. message ≡ whole_message sealed.now) }
     ensures memory { IfErr result (λ error. error ≡ error_of causes.Memory) }
@@ -33,7 +33,7 @@ fn whole_message(alloc: Global, sealed: &[u8]) -> Result<Message, Error>
     Message::new(Items::new(buffers))
 }
 
-/// A text to be sealed, and a buffer with room for its token.
+/// Returns a text to be encrypted, and a buffer with room for its token.
 fn text_message(alloc: Global, filler: u16, text: &[u8]) -> Result<Message, Error>
     ensures whole { IfOk result (λ message. message ≡ text_message filler text.now) }
     ensures memory { IfErr result (λ error. error ≡ error_of causes.Memory) }
@@ -55,7 +55,7 @@ pub(crate) fn part_octets(message: &Message, part: Part) -> &[u8]
     }
 }
 
-/// Seals a text into a message. A refusal leaves the context.
+/// Encrypts a text into a message. If that fails the context is unchanged.
 pub(crate) fn sealed_message(
     alloc: Global,
     context: &mut Kerberos,
@@ -72,7 +72,7 @@ pub(crate) fn sealed_message(
     Ok(message)
 }
 
-/// Opens a message that came whole. A refusal leaves the context.
+/// Decrypts a message that came whole. If that fails the context is unchanged.
 fn opened_message(alloc: Global, context: &mut Kerberos, sealed: &[u8]) -> Result<Message, Error>
     ensures opened { IfOk result (λ message. Unwraps context.old (whole_message sealed.now) (Ok (part_octets parts.Plain message))) }
     ensures long { OnOk result (16 ≤ length sealed.now) }
@@ -85,7 +85,7 @@ fn opened_message(alloc: Global, context: &mut Kerberos, sealed: &[u8]) -> Resul
     Ok(message)
 }
 
-/// Opens a message that came whole, where it is the next one. A refusal leaves the context and the order.
+/// Decrypts a message that came whole, if it is the next one. If that fails the context and the order are unchanged.
 pub fn opened_in_order(
     alloc: Global,
     context: &mut Kerberos,

@@ -8,7 +8,7 @@ use krb_der::{Octets, OutOfMemory};
 use sspi_core::{Username, UsernameParts};
 use std::alloc::Global;
 
-/// `DOMAIN\account`.
+/// Returns `DOMAIN\account`.
 fn down_level(alloc: Global, domain: &str, account: &str) -> Result<Octets, OutOfMemory>
     ensures { IfOk result (λ text. text ≡ domain.now ++ backslash ∷ account.now) }
 {
@@ -18,7 +18,7 @@ fn down_level(alloc: Global, domain: &str, account: &str) -> Result<Octets, OutO
     Ok(Octets::new(text))
 }
 
-/// The name as text in UTF-8: `account@suffix`, `DOMAIN\account`, or an account alone.
+/// Returns the name as text in UTF-8: `account@suffix`, `DOMAIN\account`, or an account alone.
 pub(crate) fn name_text(alloc: Global, name: &Username) -> Result<Octets, OutOfMemory>
     ensures { IfOk result (λ text. text ≡ name_text name.now) }
 {

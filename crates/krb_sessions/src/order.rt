@@ -7,21 +7,21 @@ ghost use Rattle.sspi_core.specs.declared.cause.Cause.TheVariants as causes;
 
 use sspi_core::Cause;
 
-/// Which of a peer's messages is taken next (RFC 2743, section 1.2.3). Sealed, clear and MIC tokens have numbers of one count (RFC 4121,
-/// section 4.2.6). It goes round at 2^32: a number is the low four octets of `SND_SEQ`, since peers differ in what they write before
-/// them.
+/// Which of a peer's messages is accepted next (RFC 2743, section 1.2.3). Encrypted, clear and MIC tokens have numbers of one count
+/// (RFC 4121, section 4.2.6). The count wraps at 2^32: a number is the low four bytes of `SND_SEQ`, since peers differ in the bytes
+/// that they write before them.
 #[derive(Clone, Copy, Debug, PartialEq, Eq)]
 pub enum Order {
-    /// Messages are taken in any order.
+    /// Messages are accepted in any order.
     Any,
-    /// The first message that opens sets the count. Messages before it may have been dropped.
+    /// The first message that decrypts sets the count. Messages before it may have been dropped.
     FromFirst,
-    /// Only the message of this number is taken.
+    /// Only the message of this number is accepted.
     Next(u32),
 }
 
 impl Order {
-    /// Whether a message of this number is taken.
+    /// Returns whether a message of this number is accepted.
     pub fn awaits(self, number: u32) -> bool
         ensures { result ≡ awaits self number }
     {
@@ -31,7 +31,7 @@ impl Order {
         }
     }
 
-    /// The order after a message of this number was taken.
+    /// Returns the order after a message of this number was accepted.
     pub fn after(self, number: u32) -> Order
         ensures { result ≡ order_after number self }
     {
@@ -41,7 +41,7 @@ impl Order {
         }
     }
 
-    /// Takes a message of this number, or refuses it.
+    /// Accepts a message of this number, or fails with `Number`.
     pub(crate) fn take(&mut self, number: u32) -> Result<(), Cause>
         ensures awaited { Holds causes.Number (awaits self.old number) result }
         ensures after { OnOk result (self.new ≡ order_after number self.old) }
@@ -55,7 +55,7 @@ impl Order {
     }
 }
 
-/// The number in the header of a token.
+/// Returns the number in the header of a token.
 pub(crate) fn token_number(token: &[u8]) -> u32
     requires { 16 ≤ length token.now }
     ensures { result ≡ token_number token.now }

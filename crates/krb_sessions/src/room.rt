@@ -1,11 +1,11 @@
-//! Octets at the front of a caller's room.
+//! Bytes at the front of a caller's buffer.
 
 ghost use Rattle.std.specs.Prelude.{◌≡◌, ◌<◌, ◌++◌, length, drop, IfOk, IfErr, OnOk, OnErr};
 ghost use Rattle.krb_sessions.specs.declared.fault.Fault.TheVariants as faults;
 
 use crate::fault::Fault;
 
-/// Puts the octets at the front of the room, and tells how many they are.
+/// Puts the bytes at the front of the buffer, and returns their number.
 pub fn put(out: &mut [u8], octets: &[u8]) -> Result<usize, Fault>
     ensures count { IfOk result (λ count. count ≡ length octets.now) }
     ensures put { OnOk result (out.new ≡ octets.now ++ drop (length octets.now) out.old) }
@@ -21,7 +21,7 @@ pub fn put(out: &mut [u8], octets: &[u8]) -> Result<usize, Fault>
     Ok(count)
 }
 
-/// Puts both, one behind the other, at the front of the room.
+/// Puts both, one after the other, at the front of the buffer.
 pub(crate) fn put_both(out: &mut [u8], head: &[u8], tail: &[u8]) -> Result<usize, Fault>
     ensures count { IfOk result (λ count. count ≡ length (head.now ++ tail.now)) }
     ensures put { OnOk result (out.new ≡ (head.now ++ tail.now) ++ drop (length (head.now ++ tail.now)) out.old) }

@@ -28,17 +28,17 @@ use std::alloc::Global;
 /// A client's connection, from its first token on.
 #[derive(Drop)]
 pub struct Session {
-    /// What goes back to the client; no octets where it asked for nothing.
+    /// The reply to the client; no bytes if it did not ask for mutual authentication.
     pub answer: Octets,
     pub connection: Kerberos,
-    /// Who the client is. An acceptor's session has it; an initiator has no client.
+    /// The client. An acceptor's session has it; an initiator has no client.
     pub client: Option<Box<Client>>,
-    /// Which of the peer's messages is taken next. A new session takes them in any order.
+    /// Which of the peer's messages is accepted next. A new session accepts them in any order.
     pub order: Order,
 }
 
 impl Session {
-    /// What goes back to the client: an AP-REP where it asked for mutual authentication, and else no octets.
+    /// Puts the reply to the client into `out`: an AP-REP if it asked for mutual authentication, otherwise no bytes.
     pub fn answer(&self, out: &mut [u8]) -> Result<usize, Fault>
         ensures gives { IfOk result (λ count. Delivers (λ octets. octets ≡ self.now.answer) out.old count out.new) }
         ensures short { IfErr result (Faults places.Elsewhere (λ answer. answer ≡ Ok self.now.answer) (λ octets. octets ≡ self.now.answer) (length out.old)) }
@@ -50,11 +50,11 @@ impl Session {
         }
     }
 
-    /// A short name of the client for a local account, in UTF-8, where it has one. **Give rights by the whole name**:
-    /// [`Client::principal`](crate::Client::principal). Under the rules of the RFCs there is a short name only for a client whose name
-    /// is of type 1 and of one component: `alice@example.com`, the component and the realm in lower case, for `alice@EXAMPLE.COM`. So
-    /// it is none of `alice/admin`, of a host, or of an enterprise name; they are refused as NoIdentity. The realm is any that the
-    /// ticket names: compare it with those that may come.
+    /// Puts a short name of the client for a local account, in UTF-8, into `out`, if it has one. **Give rights by the whole name**:
+    /// [`Client::principal`](crate::Client::principal). Under the rules of the RFCs there is a short name only for a client whose
+    /// name is of type 1 and of one component: `alice@example.com`, the component and the realm in lower case, for
+    /// `alice@EXAMPLE.COM`. So `alice/admin`, a host, or an enterprise name has none; the call fails with `NoIdentity`. The realm is
+    /// any that the ticket names: compare it with the allowed realms.
     pub fn local_name(&self, alloc: Global, out: &mut [u8]) -> Result<usize, Fault>
         ensures gives { IfOk result (λ count. Delivers (IsNamed self.now.connection) out.old count out.new) }
         ensures refused { IfErr result (Faults places.Query (λ answer. answer ≡ name_of self.now.connection) (IsNamed self.now.connection) (length out.old)) }
@@ -68,8 +68,8 @@ impl Session {
         }
     }
 
-    /// The key of the session's messages: the one that an end chose, and else the ticket's. Refused as OutOfSequence Sequence before
-    /// there is one.
+    /// Puts the key of the session's messages into `out`: the subkey that an end chose, otherwise the ticket's session key. Fails with
+    /// OutOfSequence `Sequence` before there is a key.
     pub fn key(&self, out: &mut [u8]) -> Result<usize, Fault>
         ensures gives { IfOk result (λ count. Delivers (IsKey self.now.connection) out.old count out.new) }
         ensures refused { IfErr result (Faults places.Elsewhere (Takes causes.Sequence (key_of self.now.connection.encryption_params))
@@ -85,7 +85,7 @@ impl Session {
         }
     }
 
-    /// The encryption type of that key: 17 or 18 (RFC 3962, section 7).
+    /// Returns the encryption type of that key: 17 or 18 (RFC 3962, section 7).
     pub fn key_type(&self) -> u8
         ensures { result ≡ suite_number (suite_of self.now.connection.encryption_params) }
     {
@@ -99,7 +99,7 @@ impl Session {
         self.connection.rules = rules;
     }
 
-    /// Seals a text into a message for the client. The confounder is 16 random octets.
+    /// Encrypts a text into a message for the peer. The confounder is 16 random bytes.
     pub fn wrap(
         &mut self,
         alloc: Global,
@@ -130,7 +130,7 @@ impl Session {
         }
     }
 
-    /// A message for the client with a text in the clear and its checksum.
+    /// Puts a message for the peer with a text in the clear and its checksum into `out`.
     pub fn wrap_in_clear(
         &mut self,
         alloc: Global,
@@ -155,7 +155,7 @@ impl Session {
         }
     }
 
-    /// The order that `set_in_order` sets: a SASL end that is made of this session's connection goes by it.
+    /// Returns the order that `set_in_order` sets: a SASL end that is made of this session's connection has this order.
     pub fn in_order(&self) -> Order
         ensures { result ≡ order_asked self.now }
     {
@@ -166,24 +166,25 @@ impl Session {
         }
     }
 
-    /// Takes the peer's messages from now on only in the order in which they were sent (RFC 2743, section 1.2.3): none that was dropped,
-    /// exchanged or repeated is passed over. An acceptor's session begins with the first number of the client's authenticator, so
-    /// call it before the first message. An initiator's begins with the first message that opens. A count that has begun goes on.
+    /// Accepts the peer's messages from now on only in the order in which they were sent (RFC 2743, section 1.2.3): a dropped,
+    /// exchanged or repeated message is not passed over. An acceptor's session begins with the first number of the client's
+    /// authenticator, so call it before the first message. An initiator's begins with the first message that decrypts. A count that
+    /// has begun goes on.
     pub fn set_in_order(&mut self)
         ensures { self.new ≡ record self.old { order = order_asked self.old } }
     {
         self.order = self.in_order();
     }
 
-    /// Takes the peer's messages in any order from now on, each sealed or clear one once.
+    /// Accepts the peer's messages in any order from now on, each encrypted or clear one once.
     pub fn set_any_order(&mut self)
         ensures { self.new ≡ record self.old { order = orders.Any } }
     {
         self.order = Order::Any;
     }
 
-    /// Opens a message of the client, where it is the next one. Each message is opened once. Where messages are taken in order, any
-    /// other is refused as InvalidToken Number, after all other checks.
+    /// Decrypts a message of the peer, if it is the next one. Each message is decrypted once. If messages are accepted in order, fails
+    /// with InvalidToken `Number` for any other message, after all other checks.
     pub fn unwrap(&mut self, alloc: Global, sealed: &[u8], out: &mut [u8]) -> Result<usize, Fault>
         ensures gives { IfOk result (λ count. Delivers (λ text. UnwrapsInOrder self.old.order self.old.connection sealed.now (Ok text)) out.old count out.new) }
         ensures after { OnOk result (self.new ≡ taken sealed.now self.old) }
@@ -205,7 +206,7 @@ impl Session {
         }
     }
 
-    /// A MIC token of 28 octets over a payload.
+    /// Puts a MIC token of 28 bytes over a payload into `out`.
     pub fn mic(&mut self, alloc: Global, payload: &[u8], out: &mut [u8]) -> Result<usize, Fault>
         ensures gives { IfOk result (λ count. Delivers (λ token. MakesMic self.old.connection payload.now (Ok token)) out.old count out.new) }
         ensures after { OnOk result (self.new ≡ record self.old { connection = after_making self.old.connection }) }
@@ -225,8 +226,8 @@ impl Session {
         }
     }
 
-    /// Ok exactly where the token is a MIC token of the client over this payload and, where messages are taken in order, the next token.
-    /// In any order its number is not looked at: the same token verifies again.
+    /// Returns Ok exactly if the token is a MIC token of the peer over this payload and, if messages are accepted in order, the next
+    /// token. In any order its number is not checked: the same token verifies again.
     pub fn verify(&mut self, mic: &[u8], payload: &[u8]) -> Result<(), Error>
         ensures verified { OnOk result (VerifiesInOrder self.old.order self.old.connection mic.now payload.now (Ok tt)) }
         ensures after { OnOk result (self.new ≡ verified mic.now self.old) }
