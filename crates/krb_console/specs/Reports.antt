@@ -1,10 +1,10 @@
--- What is said on standard error of how a run ended: one line, or nothing where the whole input was answered.
+-- The report on standard error of how a run ended: one line, or nothing if the whole input was answered.
 use Rattle.std.specs.Prelude.{ℕ, List, [], ◌++◌, codes}
 use Rattle.std.specs.Fmt.{decimal}
 use Rattle.krb_text.specs.declared.status.Status.{Status}
 use Rattle.krb_text.specs.declared.status.Status.TheVariants.{Done, BadWords, BadLine, ReadFault, WriteFault, OutOfMemory, TooLong}
 
--- behind so many lines that were read, and so many that were written, and what the system says of the call that failed
+-- the report after `read` lines were read and `written` lines were written, with the system's text for the call that failed
 abbrev pub report_of : Status → ℕ → ℕ → List ℕ → List ℕ
 report_of Done read written cause = []
 report_of BadWords read written cause =

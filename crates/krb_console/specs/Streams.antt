@@ -4,16 +4,16 @@ use Rattle.memchr.specs.Find.{is_byte, places}
 use Rattle.std.specs.declared.io.ErrorKind.{ErrorKind}
 use Rattle.std.specs.declared.io.ErrorKind.TheVariants.{Interrupted, WouldBlock}
 
--- what is no fault: a signal came, or there is nothing yet and no room yet
+-- an error that is no fault: a signal came, or there is nothing yet and no room yet
 abbrev pub passes : ErrorKind → Bool
 passes Interrupted = true
 passes WouldBlock = true
 passes _ = false
 
--- how many line ends there are
+-- how many line ends the octets have
 abbrev pub lines_in : List ℕ → ℕ
 lines_in octets = length (places (is_byte 10) octets)
 
--- a count with those of some octets, up to the end of its type
+-- a count of line ends with those of more octets, up to the maximum of its type
 abbrev pub more_lines : ℕ → List ℕ → ℕ
 more_lines lines octets = min (lines + lines_in octets) (2 ^ 64 - 1)

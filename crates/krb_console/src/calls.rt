@@ -1,4 +1,4 @@
-//! Calls of std's readers and writers that are tried again where they were interrupted or would block.
+//! Calls of std's readers and writers that are tried again if they were interrupted or would block.
 
 ghost use Rattle.std.specs.Prelude.{◌≡◌, ◌<◌, IfOk, IfErr, false, length};
 ghost use Rattle.std.specs.Io.{ReadsAtMost, WritesAtMost};
@@ -10,24 +10,24 @@ use memchr::memchr_iter;
 use std::io::{Error, ErrorKind, Read, Result, Write};
 use std::time::{Clock, Duration};
 
-/// How many milliseconds lie between two tries.
+/// The time between two tries, in milliseconds.
 const PAUSE: u64 = 5;
 
-/// Whether an error is no fault: a signal came (`EINTR`), or there is nothing yet and no room yet (`EAGAIN`).
+/// Returns whether an error is no fault: a signal came (`EINTR`), or there is nothing yet and no room yet (`EAGAIN`).
 fn passes(error: &Error) -> bool
     ensures { result ≡ passes (error_kind error.now) }
 {
     matches!(error.kind(), ErrorKind::Interrupted | ErrorKind::WouldBlock)
 }
 
-/// How many line ends (0A) there are.
+/// Returns how many line ends (0A) the octets have.
 pub fn lines_in(octets: &[u8]) -> usize
     ensures { result ≡ lines_in octets.now }
 {
     memchr_iter(b'\n', octets).count()
 }
 
-/// One read, tried again until it gives octets, the end, or a fault.
+/// Reads once, and tries again until the read returns bytes, the end, or a fault.
 pub fn read_patiently<R: Read, C: Clock>(
     reader: &mut R,
     clock: &C,
@@ -47,7 +47,7 @@ pub fn read_patiently<R: Read, C: Clock>(
     Err(Error::from(ErrorKind::TimedOut))
 }
 
-/// One write, tried again until it takes octets or fails. One that takes nothing of a piece is a fault.
+/// Writes once, and tries again until the write takes bytes or fails. A write that takes nothing of a piece is a fault.
 pub fn write_patiently<W: Write, C: Clock>(writer: &mut W, clock: &C, piece: &[u8]) -> Result<usize>
     ensures bound { WritesAtMost result piece.now }
     ensures moves { IfOk result (λ count. 0 < length piece.now → 0 < count) }

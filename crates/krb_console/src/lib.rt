@@ -1,6 +1,6 @@
-//! The program's ends towards a person: standard streams that wait and count lines, and what is said of how a run ended.
+//! The program's console: standard streams that wait and count lines, and the report of how a run ended.
 //!
-//! [`PatientSource`] and [`PatientSink`] are a source and a sink over std's readers and writers. Where a call was interrupted, or
+//! [`PatientSource`] and [`PatientSink`] are a source and a sink over std's readers and writers. If a call was interrupted, or
 //! would block, they wait and try again, and they count the line ends that went through them. [`report`] makes the one line that
 //! the program writes on standard error.
 //!

@@ -1,4 +1,4 @@
-//! What is said on standard error of how a run ended.
+//! The report on standard error of how a run ended.
 
 ghost use Rattle.std.specs.Prelude.{◌≡◌, IfOk, string_bytes};
 ghost use Rattle.krb_console.specs.Reports.{report_of};
@@ -7,10 +7,10 @@ use krb_text::Status;
 use std::alloc::{AllocError, Global};
 use std::io::Error;
 
-/// What is said where memory ran out.
+/// The report if memory ran out.
 pub const NO_MEMORY: &str = "krb_run: memory ran out\n";
 
-/// What the system says of an error; nothing where there is none.
+/// Returns the system's text for an error; an empty text if there is none.
 pub fn cause_of(alloc: Global, error: Option<Error>) -> Result<String, AllocError> {
     match error {
         Some(error) => format!(in alloc; "{error}"),
@@ -18,8 +18,8 @@ pub fn cause_of(alloc: Global, error: Option<Error>) -> Result<String, AllocErro
     }
 }
 
-/// One line that says why a run did not answer its whole input, and no text where it did. `read` and `written` are the lines that
-/// were read and written whole, and `cause` is what the system says of a read or a write that failed.
+/// Returns one line with the reason why a run did not answer its whole input, and no text if it did. `read` and `written` are the
+/// numbers of lines that were read and written whole, and `cause` is the system's text for a read or a write that failed.
 pub fn report(
     alloc: Global,
     status: Status,

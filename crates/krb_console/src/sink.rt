@@ -1,4 +1,4 @@
-//! What the program writes.
+//! The output of the program.
 
 use crate::calls::{lines_in, write_patiently};
 use krb_text::{Failed, Sink};
@@ -19,7 +19,7 @@ pub struct PatientSink<W: Write, C: Clock> {
 impl<W: Write, C: Clock> PatientSink<W, C> {
     ghost use Rattle.std.specs.Prelude.{◌≡◌};
 
-    /// A sink that hands on to the writer. Nothing is written yet.
+    /// Returns a sink that writes to the writer. Nothing is written yet.
     pub fn new(writer: W, clock: C) -> Self
         ensures taken { ⟦<PatientSink<W, C> as Sink>⟧.taken result ≡ W.contents writer }
         ensures lines { result.lines ≡ 0 }
@@ -33,14 +33,14 @@ impl<W: Write, C: Clock> PatientSink<W, C> {
         }
     }
 
-    /// How many line ends (0A) were written.
+    /// Returns how many line ends (0A) were written.
     pub fn lines(&self) -> u64
         ensures { result ≡ self.now.lines }
     {
         self.lines
     }
 
-    /// The error of the last write that failed.
+    /// Returns the error of the last write that failed.
     pub fn error(&self) -> Option<Error> {
         self.error
     }

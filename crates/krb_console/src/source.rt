@@ -1,4 +1,4 @@
-//! What the program reads.
+//! The input of the program.
 
 use crate::calls::{lines_in, read_patiently};
 use krb_text::{Failed, Source};
@@ -19,7 +19,7 @@ pub struct PatientSource<R: Read, C: Clock> {
 impl<R: Read, C: Clock> PatientSource<R, C> {
     ghost use Rattle.std.specs.Prelude.{◌≡◌};
 
-    /// A source of what the reader gives. Nothing is read yet.
+    /// Returns a source of what the reader returns. Nothing is read yet.
     pub fn new(reader: R, clock: C) -> Self
         ensures left { ⟦<PatientSource<R, C> as Source>⟧.left result ≡ R.remaining reader }
         ensures lines { result.lines ≡ 0 }
@@ -33,14 +33,14 @@ impl<R: Read, C: Clock> PatientSource<R, C> {
         }
     }
 
-    /// How many line ends (0A) were read.
+    /// Returns how many line ends (0A) were read.
     pub fn lines(&self) -> u64
         ensures { result ≡ self.now.lines }
     {
         self.lines
     }
 
-    /// The error of the last read that failed.
+    /// Returns the error of the last read that failed.
     pub fn error(&self) -> Option<Error> {
         self.error
     }

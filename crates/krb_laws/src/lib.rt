@@ -4,14 +4,14 @@
 //! of ends and every input. The program `krb_run` does not wait for their proofs.
 #![tactic(auto)]
 
-// What a service answers to events, over any gate and over a replay book.
+// The replies of a service to events, over any gate and over a replay book.
 pub use krb_machine::laws::{
     admitted_exactly_where, books_admit_a_record_once, completeness, completeness_over_a_book,
     gates_refuse_by_the_clock, messages_follow_the_lists, one_outcome, one_reply,
     one_reply_an_event, one_text, records_are_left_once, runs_never_forget,
 };
 
-// How an input is answered, on one thread and on two.
+// The text that answers an input, on one thread and on two.
 pub use krb_laws_journal::laws::texts_tell_the_journal;
 pub use krb_machine::laws::inputs_are_answered;
 pub use krb_text::laws::cutters_hold_nothing_else;
@@ -26,13 +26,13 @@ pub use krb_laws_ends::laws::{
     messages_open_where_others_are_lost, runs_have_one_end,
 };
 
-// The same over services, event by event.
+// An initiator and an acceptor over services, event by event.
 pub use krb_laws_service::laws::{
     both_ends_reach_one_context_by_events, established_connections_understand_each_other,
     events_leave_other_connections, one_list_of_events_brings_both_to_one_context,
 };
 
-// Where the session keys of initiators come from.
+// The origin of the session keys of initiators.
 pub use krb_laws_origin::laws::{
     declared_initiators_have_keys_by_their_replies, session_keys_come_from_credentials,
 };

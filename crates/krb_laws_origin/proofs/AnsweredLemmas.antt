@@ -14,7 +14,7 @@ use Rattle.krb_ap.specs.declared.initiator.Initiator.{Initiator}
 use Rattle.krb_initiator.specs.InitSteps.{HearsAnswer}
 use Rattle.krb_initiator.specs.declared.seeker.InitPhase.{InitPhase}
 
--- established, with the key of the exchange
+-- the end of an exchange: established, with the key of the exchange
 pub record IsEnd (initiator : Initiator) (done : InitDone) : Type 0 where
   pub state : done.change.state ≡ Final
   pub key : done.change.encryption_params.session_key ≡ initiator.params.session_key

@@ -1,4 +1,4 @@
--- What an initiator begins is for its own context and credentials.
+-- An initiation is for the initiator's own context and credentials.
 use Rattle.std.proofs.Common.{◌≡◌, Bool, true, false, Some, Ok, refl, sym, ap, ◌∙◌, subst}
 use Rattle.sspi_core.proofs.Chain.{passed, gave, took}
 use Rattle.krb_context.specs.declared.context.Kerberos.{Kerberos}
@@ -10,7 +10,7 @@ use Rattle.krb_initiator.specs.declared.seeker.Initiation.{Initiation}
 use Rattle.krb_initiator.specs.declared.seeker.Initiation.TheVariants.{Requests, Seeks, Hears}
 use Rattle.krb_initiator.specs.Beginnings.{identity_of, NamesIdentity, Identifies, SeeksTicket, RequestsTgt, BeginsNew, BeginsIn, BeginsInitiation}
 
--- it keeps the context's keys, or fetches a ticket for its caller's credentials, with what the context is allowed
+-- an initiation keeps the context's keys, or fetches a ticket for its caller's credentials, by the context's rules
 abbrev pub IsFor : Kerberos → InitOptions → Initiation → Type 0
 IsFor context options (Requests initiator token) = initiator.params ≡ context.encryption_params
 IsFor context options (Seeks seeker) = (options.credentials ≡ Some seeker.asker.credentials) × (seeker.asker.rules ≡ context.rules)

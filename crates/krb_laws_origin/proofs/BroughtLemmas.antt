@@ -1,4 +1,4 @@
--- What events bring, one event more.
+-- The replies that events bring, with one more event.
 use Rattle.std.proofs.Common.{◌≡◌, ℕ, List, [], ◌∷◌, ◌++◌, Option, Result, Ok, refl, sym, ap, ◌∙◌, append_assoc}
 use Rattle.std.proofs.lemmas.List.{append-nil, map-append}
 use Rattle.sspi_core.specs.declared.identity.CredentialsBuffers.{CredentialsBuffers}
@@ -6,11 +6,11 @@ use Rattle.sspi_generator.specs.declared.network.NetFault.{NetFault}
 use Rattle.krb_script.specs.declared.item.Event.{Event}
 use Rattle.krb_laws_origin.specs.Origins.{answer_to, answers_to, handed, AreBrought, HasOrigin}
 
--- one reply more, as the network hands them
+-- one more reply, as the network brings it
 pub handed_next : (replies : List (List ℕ)) (octets : List ℕ) → handed replies ++ (Ok octets ∷ []) ≡ handed (replies ++ (octets ∷ []))
 handed_next replies octets = sym (map-append (λ octets. Ok octets) replies (octets ∷ []))
 
--- what is brought stays brought
+-- replies that events brought are also brought by more events
 module _ (id : ℕ) (events more : List Event) where
   brought_before : (replies : List (List ℕ)) → AreBrought id replies events → AreBrought id replies (events ++ more)
   brought_before replies h = record {
@@ -32,7 +32,7 @@ pub record AreComing (id : ℕ) (replies : List (List ℕ)) (events : List Event
   pub brought : answers_to id during ≡ handed replies
 
 module _ (id : ℕ) where
-  -- it begins behind all events
+  -- a stretch begins after all events
   pub none_coming : (events : List Event) → AreComing id [] events
   none_coming events = record { earlier = events; during = []; are = sym (append-nil events); brought = refl }
 
@@ -57,7 +57,7 @@ module _ (id : ℕ) where
       brought = more_brought ∙ ap (λ (a : List (Result (List ℕ) NetFault)). handed replies ++ a) quiet ∙ append-nil (handed replies);
     }
 
-    -- one that brings one reply more
+    -- an event that brings one more reply
     pub coming_next : (octets : List ℕ) → answer_to id event ≡ Ok octets ∷ [] → AreComing id (replies ++ octets ∷ []) (events ++ event ∷ [])
     coming_next octets is = record {
       earlier = coming.earlier;
@@ -66,7 +66,7 @@ module _ (id : ℕ) where
       brought = more_brought ∙ ap (λ (a : List (Result (List ℕ) NetFault)). handed replies ++ a) is ∙ handed_next replies octets;
     }
 
-  -- it may end there
+  -- a stretch may end at the last event
   pub coming_brought : (replies : List (List ℕ)) (events : List Event) → AreComing id replies events → AreBrought id replies events
   coming_brought replies events h =
       record { earlier = h.earlier; during = h.during; later = []; are = h.are ∙ sym (append-nil (h.earlier ++ h.during)); brought = h.brought }

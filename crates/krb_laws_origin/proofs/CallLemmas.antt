@@ -1,4 +1,4 @@
--- A call at an initiator keeps what is known of it: no call touches its state, its role, its identity and its session key.
+-- The facts about an initiator are kept by a call: no call changes its state, its role, its identity and its session key.
 use Rattle.std.proofs.Common.{◌≡◌, ℕ, List, Option, None, Result, Ok, Err, refl, ap, ◌∙◌}
 use Rattle.krb_context.specs.declared.context.Kerberos.{Kerberos}
 use Rattle.krb_script.specs.declared.input.Input.{Input}
@@ -21,7 +21,7 @@ pub record Keeps (before after : Kerberos) : Type 0 where
   pub key : after.encryption_params.session_key ≡ before.encryption_params.session_key
   pub shown_at : after.asked_at ≡ before.asked_at
 
--- a context that is made of another, and has these of it
+-- a context that is made from another, and keeps these parts of it
 keeps_by : (before after made : Kerberos) → after ≡ made → Keeps before made → Keeps before after
 keeps_by before after made is h = record {
   state = ap (λ (c : Kerberos). c.state) is ∙ h.state;

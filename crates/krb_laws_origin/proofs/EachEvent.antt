@@ -1,5 +1,5 @@
--- What holds of an initiator behind some events holds behind one event more, whichever connection that is for, and so behind each list of
--- events: wherever each kind of event keeps it at its own connection.
+-- A fact about an initiator after some events also holds after one more event, whichever connection that event is for, and so after
+-- each list of events: if each kind of event at the initiator's own connection keeps the fact.
 use Rattle.std.proofs.Common.{◌≡◌, ℕ, inl, inr, Bool, true, false, List, [], ◌∷◌, ◌++◌, Option, Some, None, Result, Ok, Err, refl, sym, ap, ◌∙◌, subst, append_assoc}
 use Rattle.std.specs.Prelude.{◌==◌, ◌⊎◌, nat_le, if◌then◌else◌, is_some}
 use Rattle.std.specs.Ordering.{nat_cmp}
@@ -69,25 +69,25 @@ module _ (id : ℕ) (event : Event) where
   refused_quiet connection here (inl free) = inl free
   refused_quiet connection here (inr late) = inr (too_late here late)
 
--- what is to be known of it: each kind of event keeps it
+-- a fact about the initiator, which each kind of event keeps
 pub record AreKept (id : ℕ) (Stands : List Event → Connection → Type 0) : Type 0 where
-  -- an initiator's
+  -- the connection is an initiator's
   pub role : (events : List Event) (connection : Connection) → Stands events connection → connection.context.server ≡ None
-  -- one event more, that brings it nothing, or finds it awaiting nothing
+  -- one more event, which brings the connection nothing, or finds that it awaits no KDC
   pub before : (events : List Event) (event : Event) (connection : Connection) → IsQuiet id event connection.exchange → Stands events connection → Stands (events ++ event ∷ []) connection
   -- a call
   pub called : (events : List Event) (event : Event) (connection : Connection) (reply : Reply) (context : Kerberos) → connection.exchange ≡ None → answer_of event.input ≡ None
       → Calls event.input connection.context event.random reply context → Stands events connection → Stands (events ++ event ∷ []) (record connection { context = context })
-  -- what the network brings
+  -- an answer of the network
   pub resumed : (events : List Event) (event : Event) → event.connection ≡ id → nat_le event.moment last_moment ≡ true → (connection : Connection) (run : Run) (answer : Result (List ℕ) NetFault) (reply : Reply) (next : Connection)
       → connection.exchange ≡ Some run → answer_of event.input ≡ Some answer → GoesOn connection run answer (draw_of event) reply next → Stands events connection → Stands (events ++ event ∷ []) next
-  -- it begins, or hears its peer
+  -- the initiator begins, or takes a token of its peer
   pub undertaken : (events : List Event) (event : Event) → event.connection ≡ id → nat_le event.moment last_moment ≡ true → (env : Env) (connection : Connection) (token : List ℕ) (reply : Reply) (next : Connection)
       → connection.exchange ≡ None → token_heard connection.context.state event.input ≡ Ok token → answer_of event.input ≡ None
       → Undertakes connection (options_of connection env event.flags token) (draw_of event) reply next → Stands events connection → Stands (events ++ event ∷ []) next
 
 module _ (id : ℕ) (Stands : List Event → Connection → Type 0) (kept : AreKept id Stands) where
-  -- it stands at the number
+  -- the connection is at the number, and the fact holds for it
   pub record Known (events : List Event) (connections : List (ℕ × Connection)) : Type 0 where
     pub connection : Connection
     pub there : at_id id connections ≡ Some connection
@@ -100,7 +100,7 @@ module _ (id : ℕ) (Stands : List Event → Connection → Type 0) (kept : AreK
     abbrev put : List (ℕ × Connection) → Connection → List (ℕ × Connection)
     put connections next = set_value (is_at (nat_cmp event.connection)) connections next
 
-    -- one connection is set, the event's own: it is the initiator, or another
+    -- one connection is set, the event's own: that of the initiator, or another
     put_known : (connections : List (ℕ × Connection)) (connection next : Connection) (same : Bool) → (event.connection == id) ≡ same → at_id event.connection connections ≡ Some connection
         → (event.connection ≡ id → Stands events connection → Stands now next) → Known events connections → Known now (put connections next)
     put_known connections connection next true e there keeps known =
@@ -123,7 +123,7 @@ module _ (id : ℕ) (Stands : List Event → Connection → Type 0) (kept : AreK
     put_there connections after connection next is there keeps known =
         subst (λ (c : List (ℕ × Connection)). Known now c) (sym is) (put_known connections connection next (event.connection == id) refl there keeps known)
 
-    -- none is set: the event finds the initiator quiet, if it is for it
+    -- no connection is set: the event finds the initiator quiet, if it is for the initiator
     same_by : {G : Type 0} (state : State G) (same : Bool) → (event.connection == id) ≡ same
         → ((connection : Connection) → (event.connection == id) ≡ true → at_id event.connection state.connections ≡ Some connection → IsQuiet id event connection.exchange)
         → Known events state.connections → Known now state.connections
@@ -201,13 +201,13 @@ module _ (id : ℕ) (Stands : List Event → Connection → Type 0) (kept : AreK
         let next : Known (past ++ event ∷ []) runs.0.connections = step_known past event state runs.0 reply known admits runs.1 in
         subst (λ (e : List Event). Known e after.connections) (append_assoc past (event ∷ []) events) (run_known events replies (past ++ event ∷ []) runs.0 after next runs.2)
 
-    -- behind a whole run, where it held at its start
+    -- after a whole run, if the fact held at its start
     pub held_behind : (before after : State G) (events : List Event) (replies : List Reply) (first : Connection) → Runs admits before events replies after → at_id id before.connections ≡ Some first
         → Stands [] first → Known events after.connections
     held_behind before after events replies first runs there stands =
         run_known events replies [] before after (record { connection = first; there = there; stands = stands }) runs
 
-  -- at what stands there then
+  -- the fact holds for the connection at the number then
   pub stands_last : (events : List Event) (connections : List (ℕ × Connection)) (last : Connection) → Known events connections → at_id id connections ≡ Some last → Stands events last
   stands_last events connections last known there =
       subst (λ (c : Connection). Stands events c) (same_connection known.connection last (at_id id connections) known.there there) known.stands

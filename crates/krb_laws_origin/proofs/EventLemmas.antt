@@ -1,4 +1,4 @@
--- Where the session key of an initiator comes from is known behind each event, and so behind each list of events.
+-- The origin of the session key of an initiator is known after each event, and so after each list of events.
 use Rattle.std.proofs.Common.{◌≡◌, ℕ, List, [], ◌∷◌, ◌++◌, Option, Some, refl, subst}
 use Rattle.std.specs.Prelude.{IfSome}
 use Rattle.krb_replay.specs.declared.ask.Ask.{Ask}

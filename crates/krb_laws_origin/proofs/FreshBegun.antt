@@ -1,4 +1,4 @@
--- What an initiator begins, as far as it matters for the freshness of its replies.
+-- The initiation of an initiator, as far as it matters for the freshness of its replies.
 use Rattle.std.proofs.Common.{◌≡◌, ℕ, Bool, true, false, List, Some, Ok, refl, sym, ap, ◌∙◌, subst}
 use Rattle.sspi_core.proofs.Chain.{passed, gave, took}
 use Rattle.krb_context.specs.declared.context.Kerberos.{Kerberos}
@@ -22,12 +22,12 @@ pub record IsSought (context : Kerberos) (options : InitOptions) (seeker : Seeke
   pub target : options.target ≡ Some seeker.wanted.target
   pub flags : seeker.errand.initiator.flags ≡ options.flags
 
--- the service's own ticket is asked for, and the keys stay
+-- the service's own ticket is asked for, and the keys are unchanged
 pub record IsRequested (context : Kerberos) (initiator : Initiator) : Type 0 where
   pub state : is_before context.state ≡ true
   pub params : initiator.params ≡ context.encryption_params
 
--- the service is heard, behind the ticket
+-- the service's answer is taken, after the ticket was shown
 pub record IsHeard (context : Kerberos) (options : InitOptions) (initiator : Initiator) (token : List ℕ) : Type 0 where
   pub state : context.state ≡ ApExchange
   pub is : initiator ≡ initiator_of context context.krb5_user_to_user options.flags

@@ -1,4 +1,4 @@
--- Log-ins are fresh behind each list of events.
+-- Log-ins are fresh after each list of events.
 use Rattle.std.proofs.Common.{◌≡◌, ℕ, true, List, Some, subst}
 use Rattle.krb_context.specs.Rules.{has_rule, fresh_replies}
 use Rattle.krb_context.specs.declared.state.KerberosState.{KerberosState}

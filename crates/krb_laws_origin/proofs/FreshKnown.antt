@@ -1,4 +1,4 @@
--- What is known of an initiator that takes fresh replies alone, behind the events of a run.
+-- The facts about an initiator that takes only fresh replies, after the events of a run.
 use Rattle.std.proofs.Common.{◌≡◌, ℕ, inl, inr, true, List, [], ◌∷◌, ◌++◌, map, Option, Some, None, Result, refl, sym, ap, ◌∙◌, subst, append_assoc}
 use Rattle.std.specs.Prelude.{IfSome}
 use Rattle.std.proofs.lemmas.List.{append-nil}
@@ -31,7 +31,7 @@ pub record IsComing (id : ℕ) (start : Event) (arrivals : List Arrival) (events
   pub brought : arrivals_in id during ≡ arrivals
 
 module _ (id : ℕ) where
-  -- it begins with the last event
+  -- a stretch begins with the last event
   pub coming_first : (events : List Event) (start : Event) → is_heard id start ≡ true → IsComing id start [] (events ++ start ∷ [])
   coming_first events start heard = record { earlier = events; during = []; are = refl; is_for = heard; brought = refl }
 
@@ -40,7 +40,7 @@ module _ (id : ℕ) where
   arrivals_more (first ∷ events) event =
       ap (λ (a : List Arrival). arrivals_by id first ++ a) (arrivals_more events event) ∙ sym (append_assoc (arrivals_by id first) (arrivals_in id events) (arrivals_by id event))
 
-  -- it goes on with what the next event brings
+  -- a stretch goes on with the replies that the next event brings
   pub coming_on : (start : Event) (arrivals more : List Arrival) (events : List Event) (event : Event) → arrivals_by id event ≡ more → IsComing id start arrivals events
       → IsComing id start (arrivals ++ more) (events ++ event ∷ [])
   coming_on start arrivals more events event brings coming = record {
@@ -56,7 +56,7 @@ module _ (id : ℕ) where
       subst (λ (a : List Arrival). IsComing id start a (events ++ event ∷ [])) (append-nil arrivals)
       (coming_on start arrivals [] events event (ap (λ (r : List (Result (List ℕ) NetFault)). map (arrival_at event) r) quiet) coming)
 
-  -- it may end there
+  -- a stretch may end at the last event
   pub coming_over : (start : Event) (arrivals : List Arrival) (events : List Event) → IsComing id start arrivals events → IsExchange id start arrivals events
   coming_over start arrivals events coming = record {
     earlier = coming.earlier;
@@ -67,7 +67,7 @@ module _ (id : ℕ) where
     brought = coming.brought;
   }
 
--- ---- what is known
+-- ---- the facts
 
 -- the run fetches a ticket for this connection, and each reply that led it so far came by these events and answers its request
 pub record IsFetchingFresh (first : Connection) (id : ℕ) (events : List Event) (run : InitRun) : Type 0 where
@@ -83,7 +83,7 @@ abbrev pub IsUnderWay : Connection → ℕ → List Event → Run → Type 0
 IsUnderWay first id events (Accepts run) = ⊥
 IsUnderWay first id events (Initiates run) = IsFetchingFresh first id events run
 
--- in each state, of a session key and of the moment of an authenticator
+-- the facts in each state about the session key and the moment of an authenticator
 abbrev pub IsAtStage : Connection → ℕ → List Event → KerberosState → Option (List ℕ) → Option ℕ → Type 0
 IsAtStage first id events TgtExchange key shown_at = key ≡ None
 IsAtStage first id events Preauthentication key shown_at = key ≡ None
@@ -93,7 +93,7 @@ IsAtStage first id events Final key shown_at = IsEstablished first id events key
 abbrev pub StageOf : Connection → ℕ → List Event → Kerberos → Type 0
 StageOf first id events context = IsAtStage first id events context.state context.encryption_params.session_key context.asked_at
 
--- what no exchange changes
+-- the parts that no exchange changes
 pub record IsStill (first connection : Connection) : Type 0 where
   pub role : connection.context.server ≡ None
   pub identity : connection.context.auth_identity ≡ first.context.auth_identity
@@ -106,7 +106,7 @@ pub record StandsFresh (first : Connection) (id : ℕ) (events : List Event) (co
   pub stage : StageOf first id events connection.context
   pub exchange : IfSome connection.exchange (λ run. IsUnderWay first id events run)
 
--- ---- one event more
+-- ---- one more event
 
 module _ (first : Connection) (id : ℕ) (events : List Event) (event : Event) where
   abbrev now : List Event
@@ -193,7 +193,7 @@ module _ (first : Connection) (id : ℕ) (events : List Event) (event : Event) w
   pub fresh_before : (connection : Connection) → IsQuiet id event connection.exchange → StandsFresh first id events connection → StandsFresh first id now connection
   fresh_before connection quiet h = record { still = h.still; stage = stage_before connection.context h.stage; exchange = way_before connection.exchange quiet h.exchange }
 
--- ---- at its own events
+-- ---- the initiator's own events
 
 module _ (first : Connection) (id : ℕ) (events : List Event) (connection : Connection) (still : IsStill first connection) where
   pub fresh_free : StageOf first id events connection.context → StandsFresh first id events (record connection { exchange = None })
@@ -204,12 +204,12 @@ module _ (first : Connection) (id : ℕ) (events : List Event) (connection : Con
   fresh_waiting run stage fetching =
       record { still = record { role = still.role; identity = still.identity; config = still.config; rules = still.rules; target = still.target }; stage = stage; exchange = fetching }
 
-  -- a connection that awaits nothing stays as it is
+  -- a connection that awaits no KDC is unchanged
   pub fresh_still : StageOf first id events connection.context → connection.exchange ≡ None → StandsFresh first id events connection
   fresh_still stage free =
       record { still = still; stage = stage; exchange = subst (λ (r : Option Run). IfSome r (λ run. IsUnderWay first id events run)) (sym free) tt }
 
--- before its events
+-- an initiator before its events
 key_before_start : (first : Connection) (id : ℕ) (state : KerberosState) (key : Option (List ℕ)) (shown_at : Option ℕ) → is_before state ≡ true → key ≡ None → IsAtStage first id [] state key shown_at
 key_before_start first id TgtExchange key shown_at e none = none
 key_before_start first id Preauthentication key shown_at e none = none

@@ -1,4 +1,4 @@
--- How an initiator that takes fresh replies alone comes from one state to the next.
+-- The state changes of an initiator that takes only fresh replies.
 use Rattle.std.proofs.Common.{◌≡◌, ℕ, Bool, true, false, List, Option, Some, None, Result, Ok, Err, refl, sym, ap, ◌∙◌, subst}
 use Rattle.std.specs.Prelude.{◌==◌, bit_or, not, option_map, if◌then◌else◌}
 use Rattle.std.proofs.lemmas.Bool.{and_right, true≢false}
@@ -27,7 +27,7 @@ use Rattle.krb_laws_origin.proofs.FreshKnown.{IsAtStage, IsStill, StandsFresh}
 
 -- ---- mutual authentication
 
--- user-to-user leaves that flag
+-- user-to-user leaves the flag of mutual authentication
 asks_mutual : (initiator : Initiator) → has_flag initiator.flags.0 mutual_auth ≡ true → has_flag (exchange_flags initiator) mutual_auth ≡ true
 asks_mutual initiator h = by_ticket initiator.user_to_user
   where
@@ -35,14 +35,14 @@ asks_mutual initiator h = by_ticket initiator.user_to_user
     by_ticket true = ap (λ (n : ℕ). n == mutual_auth) (and_or_apart mutual_auth initiator.flags.0 use_session_key refl) ∙ h
     by_ticket false = h
 
--- where it is asked for, an answer is awaited
+-- if mutual authentication is asked for, an answer is awaited
 not_one_way : (initiator : Initiator) → has_flag initiator.flags.0 mutual_auth ≡ true → is_one_way initiator ≡ false
 not_one_way initiator h = and_right (has_rule initiator.rules one_way_is_settled) (not (has_flag (exchange_flags initiator) mutual_auth)) (ap not (asks_mutual initiator h))
 
 -- ---- the end of an exchange
 
 module _ (first : Connection) (id : ℕ) (events : List Event) where
-  -- a change that leads to such a stage
+  -- a change that leads to a stage
   pub fresh_settled : (connection : Connection) (change : ContextChange) → IsStill first connection → IsAtStage first id events change.state change.encryption_params.session_key change.asked_at
       → StandsFresh first id events (record connection { context = settled connection.context change; exchange = None })
   fresh_settled connection change still stage = record {
@@ -61,7 +61,7 @@ module _ (first : Connection) (id : ℕ) (events : List Event) where
     fresh_key : (key : Option (List ℕ)) (shown_at : Option ℕ) → key ≡ Some octets → shown_at ≡ Some moment → HasFreshKey first id events key shown_at
     fresh_key key shown_at is shown = record { octets = octets; has_key = is; moment = moment; was_shown = shown; log_in = log_in }
 
-    -- behind the ticket, whether or not an answer is awaited
+    -- after the ticket was shown, whether or not an answer is awaited
     at_shown : (one_way : Bool) → is_one_way log_in.seeker.errand.initiator ≡ one_way → (key : Option (List ℕ)) (shown_at : Option ℕ) → key ≡ Some octets → shown_at ≡ Some moment
         → IsAtStage first id events (if one_way then Final else ApExchange) key shown_at
     unfolding fresh_key
@@ -79,7 +79,7 @@ module _ (first : Connection) (id : ℕ) (events : List Event) where
         (subst (λ (s : KerberosState). IsAtStage first id events s done.change.encryption_params.session_key done.change.asked_at) (sym state)
         (at_shown (is_one_way log_in.seeker.errand.initiator) refl done.change.encryption_params.session_key done.change.asked_at is shown))
 
-  -- ---- what a stage tells
+  -- ---- the facts of a stage
 
   pub key_none : (state : KerberosState) (key : Option (List ℕ)) (shown_at : Option ℕ) → is_before state ≡ true → IsAtStage first id events state key shown_at → key ≡ None
   key_none TgtExchange key shown_at e h = h
@@ -90,7 +90,7 @@ module _ (first : Connection) (id : ℕ) (events : List Event) where
   pub key_awaiting : (state : KerberosState) (key : Option (List ℕ)) (shown_at : Option ℕ) → state ≡ ApExchange → IsAtStage first id events state key shown_at → HasFreshKey first id events key shown_at
   key_awaiting state key shown_at e h = subst (λ (s : KerberosState). IsAtStage first id events s key shown_at) e h
 
-  -- a session key is there behind the ticket alone
+  -- there is a session key only after the ticket
   pub key_there : (state : KerberosState) (key : Option (List ℕ)) (shown_at : Option ℕ) (octets : List ℕ) → key ≡ Some octets → IsAtStage first id events state key shown_at → HasFreshKey first id events key shown_at
   key_there TgtExchange key shown_at octets is h = let e : None ≡ Some octets = sym h ∙ is in absurd cc
   key_there Preauthentication key shown_at octets is h = let e : None ≡ Some octets = sym h ∙ is in absurd cc

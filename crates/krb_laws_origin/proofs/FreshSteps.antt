@@ -1,4 +1,4 @@
--- An event at its own connection keeps what is known of an initiator that takes fresh replies alone.
+-- The facts about an initiator that takes only fresh replies are kept by an event at its own connection.
 use Rattle.std.proofs.Common.{◌≡◌, ℕ, true, List, [], ◌∷◌, ◌++◌, map, Option, Some, None, Result, Ok, Err, refl, sym, ap, ◌∙◌, subst}
 use Rattle.std.specs.Prelude.{IfSome, nat_le}
 use Rattle.std.proofs.lemmas.Bool.{eq-eqb}
@@ -85,13 +85,13 @@ module _ (first : Connection) (id : ℕ) (events : List Event) (event : Event) (
         exchange = subst (λ (r : Option Run). IfSome r (λ run. IsUnderWay first id now run)) (sym free) tt;
       }
 
-  -- ---- at its own events
+  -- ---- the initiator's own events
 
   module _ (here : event.connection ≡ id) (in_range : nat_le event.moment last_moment ≡ true) where
     is_for : is_heard id event ≡ true
     is_for = rw (eq-eqb event.connection id here, in_range) refl
 
-    -- ---- what the network brings
+    -- ---- an answer of the network
 
     module _ (rule : has_rule first.context.rules fresh_replies ≡ true) (old : InitRun) (fetching : IsFetchingFresh first id events old) (brought : Result (List ℕ) NetFault) (is : answer_of event.input ≡ Some brought) where
       abbrev arrivals : List Arrival
@@ -167,7 +167,7 @@ module _ (first : Connection) (id : ℕ) (events : List Event) (event : Event) (
         let way : IsUnderWay first id events run = subst (λ (r : Option Run). IfSome r (λ run. IsUnderWay first id events run)) waits stands.exchange in
         goes_by rule run brought reply next way is h
 
-    -- ---- what it begins, and hears of its peer
+    -- ---- an event of the exchange with the peer
 
     module _ (env : Env) (token : List ℕ) (free : connection.exchange ≡ None) (heard_is : token_heard connection.context.state event.input ≡ Ok token) where
       abbrev options : InitOptions
@@ -176,7 +176,7 @@ module _ (first : Connection) (id : ℕ) (events : List Event) (event : Event) (
       abbrev hearer : Initiator
       hearer = initiator_of connection.context connection.context.krb5_user_to_user event.flags
 
-      -- it hears the service
+      -- the initiator takes the service's answer
       same_octets : (x y : List ℕ) (o : Option (List ℕ)) → o ≡ Some x → o ≡ Some y → x ≡ y
       same_octets x y o p q = let e : Some x ≡ Some y = sym p ∙ q in cc
 
@@ -224,7 +224,7 @@ module _ (first : Connection) (id : ℕ) (events : List Event) (event : Event) (
       hears_lands later (Ok (Ends done)) next awaits h l = subst Holds (sym l) (fresh_settled first id now connection done.change stands.still (hears_settled done awaits h))
       hears_lands later (Err cause) next awaits h l = subst Holds (sym l) (fresh_free first id now connection stands.still stage_now)
 
-      -- it asks the service for its own ticket
+      -- the initiator asks the service for the service's own ticket
       requests_lands : (initiator : Initiator) (request : List ℕ) (later : InitRun) (answer : Answer) (next : Connection) → IsRequested connection.context initiator → answer ≡ Ok (Ends (requested initiator request))
           → Lands connection later answer next → Holds next
       requests_lands initiator request later answer next is given l =
@@ -233,7 +233,7 @@ module _ (first : Connection) (id : ℕ) (events : List Event) (event : Event) (
           subst Holds (sym (subst (λ (a : Answer). Lands connection later a next) given l))
           (fresh_settled first id now connection (requested initiator request).change stands.still (ap (λ p. p.session_key) is.params ∙ none))
 
-      -- it fetches a ticket
+      -- the initiator fetches a ticket
       seeks_for : (seeker : Seeker) → IsSought connection.context options seeker → SeeksFor first event seeker
       seeks_for seeker sought = record {
         identity = sym stands.still.identity ∙ sought.credentials;

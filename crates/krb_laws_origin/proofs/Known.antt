@@ -1,4 +1,4 @@
--- What is known of an initiator behind the events of a run.
+-- The facts about an initiator after the events of a run.
 use Rattle.std.proofs.Common.{◌≡◌, ℕ, inl, inr, List, [], ◌∷◌, ◌++◌, Option, Some, None, refl, sym, ap, ◌∙◌, subst}
 use Rattle.std.specs.Prelude.{◌⊎◌, IfSome, option_map}
 use Rattle.krb_context.specs.Rules.{no_rules}
@@ -18,7 +18,7 @@ use Rattle.krb_laws_origin.specs.Origins.{answer_to, HasOrigin, IsKeyless}
 use Rattle.krb_laws_origin.proofs.BroughtLemmas.{origin_before, AreComing, coming_still}
 use Rattle.krb_laws_origin.proofs.PhaseLemmas.{Led}
 
--- the run fetches a ticket for who has this identity, and the replies that led it so far came by these events
+-- the run fetches a ticket for this identity, and the replies that led it so far came by these events
 pub record IsFetching (identity : Option CredentialsBuffers) (id : ℕ) (events : List Event) (run : InitRun) : Type 0 where
   pub seeker : Seeker
   pub seeks : run.initiation ≡ Seeks seeker
@@ -32,31 +32,31 @@ abbrev pub IsUnderWay : Option CredentialsBuffers → ℕ → List Event → Run
 IsUnderWay identity id events (Accepts run) = ⊥
 IsUnderWay identity id events (Initiates run) = IsFetching identity id events run
 
--- an initiator that speaks for this identity, whose session key, if it has one, has its origin in these events
+-- an initiator of this identity, whose session key, if it has one, has its origin in these events
 pub record Speaks (identity : Option CredentialsBuffers) (id : ℕ) (events : List Event) (connection : Connection) : Type 0 where
   pub role : connection.context.server ≡ None
   pub identity_is : connection.context.auth_identity ≡ identity
   pub none_set : connection.context.rules ≡ no_rules
   pub key : IfSome connection.context.encryption_params.session_key (λ key. HasOrigin identity id events key)
 
--- and whose exchange, if it awaits a KDC, is under way
+-- an initiator of this identity, whose exchange, if it awaits a KDC, is under way
 pub record Stands (identity : Option CredentialsBuffers) (id : ℕ) (events : List Event) (connection : Connection) : Type 0 where
   pub speaks : Speaks identity id events connection
   pub exchange : IfSome connection.exchange (λ run. IsUnderWay identity id events run)
 
--- the connection awaits nothing, or the event brings it nothing
+-- the connection awaits no KDC, or the event brings it nothing
 abbrev pub IsQuiet : ℕ → Event → Option Run → Type 0
 IsQuiet id event exchange = (exchange ≡ None) ⊎ (answer_to id event ≡ [])
 
 module _ (identity : Option CredentialsBuffers) (id : ℕ) where
-  -- it awaits nothing
+  -- the connection awaits no KDC
   free_way : (events : List Event) (exchange : Option Run) → exchange ≡ None → IfSome exchange (λ run. IsUnderWay identity id events run)
   free_way events exchange e = subst (λ (r : Option Run). IfSome r (λ run. IsUnderWay identity id events run)) (sym e) tt
 
   pub stands_still : (events : List Event) (connection : Connection) → Speaks identity id events connection → connection.exchange ≡ None → Stands identity id events connection
   stands_still events connection speaks free = record { speaks = speaks; exchange = free_way events connection.exchange free }
 
-  -- one event more
+  -- one more event
   module _ (events : List Event) (event : Event) where
     abbrev now : List Event
     now = events ++ event ∷ []
@@ -75,20 +75,20 @@ module _ (identity : Option CredentialsBuffers) (id : ℕ) where
     way_before (Some (Initiates run)) (inr quiet) h =
         record { seeker = h.seeker; seeks = h.seeks; speaks = h.speaks; none_set = h.none_set; replies = h.replies; coming = coming_still id h.replies events event h.coming quiet; led = h.led }
 
-    -- that brings it nothing, or finds it awaiting nothing
+    -- the event brings the connection nothing, or finds that it awaits no KDC
     pub stands_before : (connection : Connection) → IsQuiet id event connection.exchange → Stands identity id events connection → Stands identity id now connection
     stands_before connection quiet h = record { speaks = speaks_before connection h.speaks; exchange = way_before connection.exchange quiet h.exchange }
 
   module _ (events : List Event) (connection : Connection) (speaks : Speaks identity id events connection) where
-    -- an exchange that is refused is over, and the context stays
+    -- an exchange that is refused is over, and the context is unchanged
     pub stands_free : Stands identity id events (record connection { exchange = None })
     stands_free = record { speaks = record { role = speaks.role; identity_is = speaks.identity_is; none_set = speaks.none_set; key = speaks.key }; exchange = tt }
 
-    -- one that waits goes on
+    -- an exchange that waits goes on
     pub stands_waiting : (run : InitRun) → IsFetching identity id events run → Stands identity id events (record connection { exchange = Some (Initiates run) })
     stands_waiting run fetching = record { speaks = record { role = speaks.role; identity_is = speaks.identity_is; none_set = speaks.none_set; key = speaks.key }; exchange = fetching }
 
-    -- the end of one makes a change, whose key is to have its origin
+    -- the end of an exchange makes a change, whose key is to have its origin
     pub stands_settled : (change : ContextChange) → IfSome change.encryption_params.session_key (λ key. HasOrigin identity id events key)
         → Stands identity id events (record connection { context = settled connection.context change; exchange = None })
     stands_settled change key = record {
@@ -104,7 +104,7 @@ module _ (identity : Option CredentialsBuffers) (id : ℕ) where
         → Stands identity id events (record connection { context = settled connection.context change; exchange = None })
     stands_kept change same = stands_settled change (with_same connection.context.encryption_params.session_key change.encryption_params.session_key same speaks.key)
 
-    -- a context that keeps role, identity and key, where nothing is awaited
+    -- a context that keeps role, identity and key, if no KDC is awaited
     pub stands_beside : (context : Kerberos) → connection.exchange ≡ None → context.server ≡ connection.context.server → context.auth_identity ≡ connection.context.auth_identity
         → context.rules ≡ connection.context.rules → context.encryption_params.session_key ≡ connection.context.encryption_params.session_key → Stands identity id events (record connection { context = context })
     stands_beside context free role same set key = record {
@@ -117,7 +117,7 @@ module _ (identity : Option CredentialsBuffers) (id : ℕ) where
       exchange = free_way events connection.exchange free;
     }
 
--- without events it has neither key nor exchange
+-- without events the initiator has neither key nor exchange
 pub stands_first : (id : ℕ) (connection : Connection) → IsKeyless connection → Stands connection.context.auth_identity id [] connection
 stands_first id connection keyless =
     let identity : Option CredentialsBuffers = connection.context.auth_identity in

@@ -1,4 +1,4 @@
--- The key that an initiation ends with has its origin in the replies that led to it.
+-- The key at the end of an initiation has its origin in the replies that led to it.
 use Rattle.std.proofs.Common.{◌≡◌, ℕ, ◌+◌, true, false, List, [], ◌∷◌, ◌++◌, length, Some, None, Result, Ok, refl, sym, ap, ◌∙◌, subst, arith, length-append}
 use Rattle.std.specs.Prelude.{is_some}
 use Rattle.std.proofs.lemmas.List.{length-map}
@@ -18,7 +18,7 @@ use Rattle.krb_laws_origin.proofs.PhaseLemmas.{LedToEnd, granted_length}
 abbrev Answer : Type 0
 Answer = Result (List ℕ) NetFault
 
--- the replies of a chain are handed octets
+-- the replies of a chain are octets that the network brought
 pub record AreHanded (replies : List (List ℕ)) (error first : Answer) (rest : List Answer) : Type 0 where
   pub error_octets : List ℕ
   pub first_octets : List ℕ
@@ -34,7 +34,7 @@ are_handed (x ∷ []) error first rest e = absurd cc
 are_handed (x ∷ y ∷ replies) error first rest e =
     record { error_octets = x; first_octets = y; rest_octets = replies; are = refl; error_is = cc; first_is = cc; rest_is = cc }
 
--- the key that it ends with
+-- the key at the end of an initiation
 pub record EndsWith (seeker : Seeker) (replies : List (List ℕ)) (done : InitDone) : Type 0 where
   pub key : List ℕ
   pub key_is : done.change.encryption_params.session_key ≡ Some key
@@ -56,7 +56,7 @@ came_error seeker [] salt set h = let may : false ≡ true = sym (ap (λ (o : Ru
 came_error seeker (error ∷ []) salt set h = record { error = error; are = refl; names = h }
 came_error seeker (error ∷ (more ∷ rest)) salt set h = absurd h
 
--- without rules, a ticket that refers nowhere is told by its clear name
+-- without rules, a ticket that is no referral is recognized by its clear-text name
 no_referral : (rules : Rules) (target : List ℕ) (facts : ReplyFacts) (rep : TgsRep) → rules ≡ no_rules → referral_of rules target facts rep.0 ≡ None → is_referral rep ≡ false
 no_referral rules target facts rep set none = ap is_some (subst (λ (o : Rules). referral_of o target facts rep.0 ≡ None) set none)
 

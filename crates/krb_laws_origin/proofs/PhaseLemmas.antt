@@ -1,4 +1,4 @@
--- What is known of an initiation after its replies: how far they led it, by no more than nine referrals, and to which key at its end.
+-- An initiation after its replies: the phase to which they led it, by no more than nine referrals, and the key at its end.
 use Rattle.std.proofs.Common.{◌≡◌, inl, inr, ℕ, ◌+◌, ◌<◌, ◌≤◌, suc, Bool, true, false, List, [], ◌∷◌, ◌++◌, length, Option, Some, None, Result, Ok, Err, refl, sym, ap, subst, arith, lit≤, length-append}
 use Rattle.std.specs.Prelude.{◌⊎◌, nat_lt}
 use Rattle.std.proofs.lemmas.Bool.{ltb-true}
@@ -65,7 +65,7 @@ first_few seeker draw request phase h =
 pub led_first : (seeker : Seeker) (draw : Draw) (request : NetworkRequest) (phase : InitPhase) → StartsNew (Seeks seeker) draw (Ok (Asks request phase)) → Led seeker [] phase
 led_first seeker draw request phase h = record { came = begins seeker draw request phase h; few = first_few seeker draw request phase h }
 
--- the start of one that fetches a ticket does not end
+-- an initiation that fetches a ticket does not end at its start
 pub starts_not_ended : (seeker : Seeker) (draw : Draw) (done : InitDone) → StartsNew (Seeks seeker) draw (Ok (Ends done)) → ⊥
 starts_not_ended seeker draw done h = let first = asked_first InAsExchange seeker.asker (body_of seeker draw) (Ends done) h in let f = first.is in absurd cc
 
@@ -195,7 +195,7 @@ so_far_short seeker replies (InAsExchange (AwaitsAsRep sealed)) reply draw answe
 so_far_short seeker replies (AwaitsTgsRep leg) reply draw answer came few h = with_key_short seeker replies leg came few
 so_far_short seeker replies Over reply draw answer came few h = absurd h
 
--- these replies, twelve at the most, led it to its end
+-- these replies, at most twelve, led an initiation to its end
 pub record LedToEnd (seeker : Seeker) (replies : List (List ℕ)) (done : InitDone) : Type 0 where
   pub session : IsSession seeker (handed replies) done
   pub few : length replies ≤ 12

@@ -1,4 +1,4 @@
--- What stands at a number behind an event, and what the first checks of an event found.
+-- The connection at a number after an event, and the connection that the first checks of an event found.
 use Rattle.std.proofs.Common.{◌≡◌, ℕ, inl, inr, Bool, true, false, cond, List, [], ◌∷◌, Option, Some, None, Result, Ok, Err, refl, sym, ap, ◌∙◌, subst}
 use Rattle.std.specs.Prelude.{◌==◌, ◌⊎◌, not, nat_le, is_some}
 use Rattle.std.specs.Ordering.{nat_cmp}
@@ -50,7 +50,7 @@ tests_apart : (at id : ℕ) → (at == id) ≡ false → (k : ℕ) → is_at (na
 tests_apart at id differs k is =
     unsigned_tied id k ∙ other_apart at id k (id == k) differs (eqb-true at k (sym (unsigned_tied at k) ∙ is)) refl
 
--- the number whose connection is set has the new one, and every other number has what it had
+-- the number whose connection is set has the new connection, and every other number keeps its own
 pub placed : (connections : List (ℕ × Connection)) (id : ℕ) (old next : Connection) → at_id id connections ≡ Some old → at_id id (set_value (is_at (nat_cmp id)) connections next) ≡ Some next
 placed connections id old next e = set_there (is_at (nat_cmp id)) connections old next e
 
@@ -58,7 +58,7 @@ pub placed_apart : (connections : List (ℕ × Connection)) (at id : ℕ) (next 
     → at_id id (set_value (is_at (nat_cmp at)) connections next) ≡ at_id id connections
 placed_apart connections at id next differs = set_apart (is_at (nat_cmp at)) (is_at (nat_cmp id)) (tests_apart at id differs) connections next
 
--- ---- what checks found
+-- ---- the results of checks
 
 pub some_same : (x y : Connection) → Some x ≡ Some y → x ≡ y
 some_same x y e = cc
@@ -66,7 +66,7 @@ some_same x y e = cc
 same_ok : {A : Type 0} (x y : A) → ◌≡◌ {A = Result A Cause} (Ok x) (Ok y) → x ≡ y
 same_ok x y e = cc
 
--- checks that let something through found something first
+-- checks that pass found a value first
 record Bound {A B : Type 0} (first : Result A Cause) (next : A → Result B Cause) (b : B) : Type 0 where
   found : A
   first_is : first ≡ Ok found
@@ -88,13 +88,13 @@ waits_not : {A : Type 0} (o : Option A) → not (is_some o) ≡ true → o ≡ N
 waits_not None e = refl
 waits_not (Some x) e = absurd (true≢false (sym e))
 
--- the first checks of an event found the connection that stands at its number,
+-- the connection that the first checks of an event found is the one at its number
 pub called_there : (connections : List (ℕ × Connection)) (event : Event) (connection : Connection) → called connections event ≡ Ok connection → at_id event.connection connections ≡ Some connection
 called_there connections event connection e =
     let in_range = bound (check causes.Moment (nat_le event.moment last_moment)) (λ u. ok_or causes.Connection (at_id event.connection connections)) connection e in
     taken causes.Connection (at_id event.connection connections) connection in_range.next_is
 
--- which awaits nothing, at a call or where the peer is heard,
+-- the connection awaits no KDC, at a call or an event of the exchange with the peer
 pub record IsReady (connections : List (ℕ × Connection)) (event : Event) (connection : Connection) : Type 0 where
   pub there : at_id event.connection connections ≡ Some connection
   pub free : connection.exchange ≡ None
@@ -124,7 +124,7 @@ ready_in_range : (connections : List (ℕ × Connection)) (event : Event) (conne
 ready_in_range connections event connection e =
     let calls = bound (called connections event) freed connection e in called_in_range connections event calls.found calls.first_is
 
--- at a moment in range, and for which it is the time, where the peer is heard,
+-- the moment is in range and the state allows the event, at an event of the exchange with the peer
 pub record IsHearing (connections : List (ℕ × Connection)) (event : Event) (connection : Connection) (token : List ℕ) : Type 0 where
   pub there : at_id event.connection connections ≡ Some connection
   pub free : connection.exchange ≡ None
@@ -145,7 +145,7 @@ hearing_there connections event found e =
 abbrev pub judges : Option (List ℕ) → Connection → Result (Connection × List ℕ) Cause
 judges brought connection = check causes.Sequence (is_acceptor connection.context) >>= (λ u. ok_or causes.Sequence brought >>= (λ token. Ok (connection, token)))
 
--- and which is an acceptor's, where a token is judged,
+-- the connection is an acceptor's, if a token is judged
 pub record IsJudging (connections : List (ℕ × Connection)) (event : Event) (connection : Connection) : Type 0 where
   pub there : at_id event.connection connections ≡ Some connection
   pub judging : is_acceptor connection.context ≡ true
@@ -160,7 +160,7 @@ reached_there connections event found e =
     subst (λ (c : Connection). IsJudging connections event c) is
     (record { there = (ready_there connections event here is_ready.first_is).there; judging = allowed causes.Sequence (is_acceptor here.context) judging.found judging.first_is })
 
--- or which awaits what the network brings, at a moment in range
+-- the connection awaits the answer of the network, at a moment in range
 pub record IsAwaiting (connections : List (ℕ × Connection)) (event : Event) (connection : Connection) (run : Run) : Type 0 where
   pub there : at_id event.connection connections ≡ Some connection
   pub in_range : nat_le event.moment last_moment ≡ true
@@ -184,7 +184,7 @@ awaited_there connections event found e =
     } in
     subst (λ (f : Connection × Run). IsAwaiting connections event f.0 f.1) is here
 
--- where they refuse what the network brings, the connection awaits nothing, or the moment is out of range
+-- if the first checks refuse an answer of the network, the connection awaits no KDC, or the moment is out of range
 not_waiting : (connection : Connection) (exchange : Option Run) (cause : Cause) → waits_for connection exchange ≡ Err cause → exchange ≡ None
 not_waiting connection None cause e = refl
 not_waiting connection (Some run) cause e = absurd cc

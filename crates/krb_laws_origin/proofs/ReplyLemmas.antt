@@ -1,4 +1,4 @@
--- An event that brings an initiator what a KDC answers keeps what is known of it.
+-- The facts about an initiator are kept by an event that brings it the answer of a KDC.
 use Rattle.std.proofs.Common.{◌≡◌, ℕ, true, List, [], ◌∷◌, ◌++◌, Option, Some, Result, Ok, Err, refl, sym, ◌∙◌, subst}
 use Rattle.std.specs.Prelude.{IfSome, nat_le}
 use Rattle.std.proofs.lemmas.Bool.{eq-eqb}
@@ -25,7 +25,7 @@ use Rattle.krb_laws_origin.proofs.LeadLemmas.{EndsWith, ends_with}
 use Rattle.krb_laws_origin.proofs.PhaseLemmas.{Led, led_next, led_to_end, faults_lead_nowhere}
 use Rattle.krb_laws_origin.proofs.TurnLemmas.{Answer, gone_on, Lands, lands}
 
--- what comes at a moment in range
+-- an answer at a moment in range
 pub come : (id : ℕ) (event : Event) (answer : Result (List ℕ) NetFault) → event.connection ≡ id → nat_le event.moment last_moment ≡ true → answer_of event.input ≡ Some answer → answer_to id event ≡ answer ∷ []
 come id event answer here in_range is = rw (eq-eqb event.connection id here, in_range, is) refl
 

@@ -1,4 +1,4 @@
--- An event at which an initiator begins, or hears its peer, keeps what is known of it.
+-- The facts about an initiator are kept by an event at which it begins, or takes a token of its peer.
 use Rattle.std.proofs.Common.{◌≡◌, ℕ, List, [], Option, Some, None, Result, Ok, Err, refl, sym, ap, ◌∙◌, subst}
 use Rattle.krb_context.specs.Rules.{no_rules}
 use Rattle.krb_as.specs.declared.turn.Turn.TheVariants.{Asks, Ends}
@@ -38,7 +38,7 @@ module _ (identity : Option CredentialsBuffers) (id : ℕ) (events : List Event)
   abbrev Gone : InitRun → Connection → Answer → Type 0
   Gone later next a = Lands connection later a next
 
-  -- it hears the service
+  -- the initiator takes the service's answer
   hears_lands : (initiator : Initiator) (token : List ℕ) (draw : Draw) (later : InitRun) (answer : Answer) (next : Connection) → initiator.params ≡ connection.context.encryption_params
       → HearsAnswer initiator token draw answer → Lands connection later answer next → Holds next
   hears_lands initiator token draw later (Ok (Asks request phase)) next same h l = let e = (hears_ends initiator token draw (Asks request phase) h).1 in absurd cc
@@ -46,13 +46,13 @@ module _ (identity : Option CredentialsBuffers) (id : ℕ) (events : List Event)
       subst Holds (sym l) (stands_kept identity id events connection speaks done.change ((hears_end initiator token draw done h).key ∙ ap (λ p. p.session_key) same))
   hears_lands initiator token draw later (Err cause) next same h l = subst Holds (sym l) (stands_free identity id events connection speaks)
 
-  -- it asks the service for its own ticket
+  -- the initiator asks the service for the service's own ticket
   requests_lands : (initiator : Initiator) (token : List ℕ) (later : InitRun) (answer : Answer) (next : Connection) → initiator.params ≡ connection.context.encryption_params
       → answer ≡ Ok (Ends (requested initiator token)) → Lands connection later answer next → Holds next
   requests_lands initiator token later answer next same is l =
       subst Holds (sym (subst (Gone later next) is l)) (stands_kept identity id events connection speaks (requested initiator token).change (ap (λ p. p.session_key) same))
 
-  -- it fetches a ticket
+  -- the initiator fetches a ticket
   seeks_lands : (seeker : Seeker) (draw : Draw) (later : InitRun) (answer : Answer) (next : Connection) → identity ≡ Some seeker.asker.credentials → seeker.asker.rules ≡ no_rules → later.initiation ≡ Seeks seeker
       → StartsNew (Seeks seeker) draw answer → Lands connection later answer next → Holds next
   seeks_lands seeker draw later (Ok (Asks request phase)) next for_it set seeks h l =

@@ -1,4 +1,4 @@
--- What a step of an initiator's run makes of its connection.
+-- The connection after a step of an initiator's run.
 use Rattle.std.proofs.Common.{◌≡◌, ℕ, List, Some, None, Result, Ok, Err, subst}
 use Rattle.krb_as.specs.Turns.{Turns, state_of, phase_of}
 use Rattle.krb_as.specs.declared.done.InitDone.{InitDone}
@@ -33,7 +33,7 @@ State = GeneratorState NetworkRequest (Result InitDone Error)
 abbrev pub Answer : Type 0
 Answer = Result (Turn InitPhase InitDone) Cause
 
--- a step wanted no memory
+-- a step did not run out of memory
 same_error : (d e : Error) → ◌≡◌ {A = State} (Completed (Err d)) (Completed (Err e)) → d ≡ e
 same_error d e h = cc
 
@@ -42,7 +42,7 @@ fed (Suspended request) later step h e = absurd cc
 fed (Completed (Ok done)) later step h e = absurd cc
 fed (Completed (Err error)) later step h e = h.1 (same_error error (error_of Memory) e)
 
--- so it is what the checks answered, and what is to be done stays
+-- a step follows from the answer of the checks, and the run's initiation is unchanged
 pub record Turned (old : InitRun) (checks : Answer → Type 0) (step : Step) : Type 0 where
   pub later : InitRun
   pub stays : later.initiation ≡ old.initiation
@@ -71,7 +71,7 @@ begun old draw step h = started old draw h.state h.later step h.starts h.leads
 pub gone_on : (old : InitRun) (brought : Result (List ℕ) NetFault) (draw : Draw) (step : Step) → GoesOn (Initiates old) brought draw step → Turned old (Next old.initiation old.phase brought draw) step
 gone_on old brought draw step h = resumed old brought draw h.state h.later step h.resumes h.leads
 
--- the connection then: it waits again, or takes the change, or is free
+-- the connection after a step: it waits again, or takes the change, or is free
 abbrev pub Lands : Connection → InitRun → Answer → Connection → Type 0
 Lands connection later (Ok (Asks request phase)) next = (later.phase ≡ phase) × (next ≡ record connection { exchange = Some (Initiates later) })
 Lands connection later (Ok (Ends done)) next = next ≡ record connection { context = settled connection.context done.change; exchange = None }

@@ -1,5 +1,5 @@
--- That an initiator's log-in is fresh: its session key comes from replies of KDCs to the requests of this very exchange (RFC 4120, sections
--- 3.1.5 and 3.3.4), and the service answers the very authenticator that was shown (section 3.2.5). Events bring all of them.
+-- The freshness of an initiator's log-in: its session key comes from replies of KDCs to the requests of this very exchange (RFC 4120,
+-- sections 3.1.5 and 3.3.4), and the service answers the very authenticator that was shown (section 3.2.5). Events bring all of them.
 use Rattle.std.specs.Prelude.{◌≡◌, ℕ, true, List, [], ◌∷◌, ◌++◌, map, Option, Some, None, Result, Ok}
 use Rattle.krb_crypto.specs.declared.suite.CipherSuite.{CipherSuite}
 use Rattle.krb_messages.specs.declared.ap_rep.ApRep.{ApRep}
@@ -25,8 +25,8 @@ use Rattle.krb_machine.specs.Policy.{draw_of}
 use Rattle.krb_machine.specs.declared.connection.Connection.{Connection}
 use Rattle.krb_laws_origin.specs.Origins.{is_heard, answer_to}
 
--- what the network brings the connection by an event, with the moment of the event and the random octets that it draws; and by events, in
--- their order
+-- the answer of the network that an event brings to the connection, with the moment of the event and the random octets that it draws;
+-- and the answers that events bring, in their order
 abbrev pub arrival_at : Event → Result (List ℕ) NetFault → Arrival
 arrival_at event reply = record { reply = reply; draw = draw_of event }
 
@@ -56,10 +56,11 @@ pub record SeeksFor (connection : Connection) (start : Event) (seeker : Seeker) 
   pub target : connection.target ≡ Some seeker.wanted.target
   pub flags : seeker.errand.initiator.flags ≡ start.flags
 
--- a session key comes from an exchange that one of these events began: from replies that events brought in a stretch right after it, each of
--- which answers the request that the exchange made at the reply before it. The AS-REP has the nonce that the first event drew (RFC 4120,
--- section 3.1.5), each TGS-REP that of the event that brought the reply before it (section 3.3.4); the last ticket is for the target, by
--- what is sealed in it. With that ticket the initiator shows an authenticator of the moment of the last event
+-- a session key comes from an exchange that one of these events began: from replies that events brought in a stretch right after it,
+-- each of which answers the request that the exchange made at the reply before it. The AS-REP has the nonce that the first event drew
+-- (RFC 4120, section 3.1.5), each TGS-REP that of the event that brought the reply before it (section 3.3.4); the last ticket is for
+-- the target, by the encrypted part of its TGS-REP. With that ticket the initiator shows an authenticator of the moment of the last
+-- event
 pub record IsFreshLogIn (first : Connection) (id : ℕ) (events : List Event) (key : List ℕ) (shown_at : ℕ) : Type 0 where
   pub start : Event
   pub seeker : Seeker
@@ -82,8 +83,8 @@ pub record HasFreshKey (first : Connection) (id : ℕ) (events : List Event) (ke
   pub was_shown : shown_at ≡ Some moment
   pub log_in : IsFreshLogIn first id events octets moment
 
--- after that exchange, of this start and these replies, one of the events brings the connection a token: an AP-REP that is sealed under this
--- key, and has the time of an authenticator of this moment, by the values of both its fields (RFC 4120, section 3.2.5)
+-- after that exchange, with this start and these replies, one of the events brings the connection a token: an AP-REP that is encrypted
+-- under this key, and has the time of an authenticator of this moment, by the values of both its fields (RFC 4120, section 3.2.5)
 pub record IsAnswered (id : ℕ) (start : Event) (arrivals : List Arrival) (events : List Event) (key : List ℕ) (moment : ℕ) : Type 0 where
   pub earlier : List Event
   pub event : Event
@@ -100,14 +101,14 @@ pub record IsAnswered (id : ℕ) (start : Event) (arrivals : List Arrival) (even
   pub opened : OpensApRep suite key message (Ok part)
   pub time : is_time_of part moment ≡ true
 
--- the exchange with the service is over: the session key is fresh, and where its start asked for mutual authentication, and the rules ask
--- that answers be those to the authenticator, such an AP-REP came
+-- the exchange with the service is over: the session key is fresh, and if its start asked for mutual authentication, and the rules
+-- demand an answer to the initiator's own authenticator, such an AP-REP came
 pub record IsEstablished (first : Connection) (id : ℕ) (events : List Event) (key : Option (List ℕ)) (shown_at : Option ℕ) : Type 0 where
   pub fresh : HasFreshKey first id events key shown_at
   pub answered : has_rule first.context.rules answers_its_authenticator ≡ true → has_flag fresh.log_in.start.flags.0 mutual_auth ≡ true
       → IsAnswered id fresh.log_in.start fresh.log_in.arrivals events fresh.octets fresh.moment
 
--- an initiator that is to begin: it has no session key, awaits no KDC, and takes no reply but one to its own request
+-- an initiator that is to begin: it has no session key, awaits no KDC, and takes only replies to its own requests
 pub record IsToBegin (connection : Connection) : Type 0 where
   pub role : connection.context.server ≡ None
   pub state : is_before connection.context.state ≡ true

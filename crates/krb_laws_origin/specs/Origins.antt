@@ -1,5 +1,5 @@
--- Where the session key of an initiator comes from: replies of KDCs lead to it from its credentials (RFC 4120, sections 3.1.5 and
--- 3.3.4), and events brought them.
+-- The origin of the session key of an initiator: replies of KDCs lead to it from the initiator's credentials (RFC 4120, sections 3.1.5
+-- and 3.3.4), and events brought these replies.
 use Rattle.std.specs.Prelude.{◌≡◌, ℕ, ◌≤◌, ◌==◌, nat_le, Bool, true, false, ◌&&◌, if◌then◌else◌, List, [], ◌∷◌, ◌++◌, length, map, Option, Some, None, Result, Ok}
 use Rattle.std.specs.List.{list_all}
 use Rattle.std.specs.Option.{option_to_list}
@@ -24,7 +24,7 @@ use Rattle.krb_machine.specs.declared.connection.Connection.{Connection}
 abbrev pub is_heard : ℕ → Event → Bool
 is_heard id event = (event.connection == id) && nat_le event.moment last_moment
 
--- what the network brings it by an event: a KDC's reply, or that there is none; and by events, in their order
+-- the answer of the network that an event brings to the connection: a KDC's reply, or a fault; and the answers of events, in order
 abbrev pub answer_to : ℕ → Event → List (Result (List ℕ) NetFault)
 answer_to id event = if is_heard id event then option_to_list (answer_of event.input) else []
 
@@ -36,7 +36,7 @@ answers_to id (event ∷ events) = answer_to id event ++ answers_to id events
 abbrev pub handed : List (List ℕ) → List (Result (List ℕ) NetFault)
 handed replies = map (λ octets. Ok octets) replies
 
--- in some stretch of the events the network brings it these replies, in their order, and nothing else
+-- in some stretch of the events the network brings the connection these replies, in their order, and nothing else
 pub record AreBrought (id : ℕ) (replies : List (List ℕ)) (events : List Event) : Type 0 where
   pub earlier : List Event
   pub during : List Event
@@ -49,9 +49,9 @@ pub record LeavesSalt (credentials : CredentialsBuffers) (error salt : List ℕ)
   pub protocol : NetworkProtocol
   pub named : LeavesFirst protocol (default_salt credentials) (Ok error) salt
 
--- replies lead from credentials to a key: an error; an AS-REP, sealed under the key of the credentials, with the salt that it tells or
--- else that of the error; and one to ten TGS-REPs, each sealed under the key that the reply before it brought, all of them referrals but
--- the last. The key is the one that the last brought, and all are of the suite that the AS-REP tells
+-- replies lead from credentials to a key: an error; an AS-REP, encrypted under the key of the credentials, with the salt that the
+-- AS-REP has, otherwise that of the error; and one to ten TGS-REPs, each encrypted under the key that the reply before it brought, all
+-- of them referrals but the last. The key is the one that the last brought, and all are of the suite that the AS-REP names
 pub record LeadTo (credentials : CredentialsBuffers) (replies : List (List ℕ)) (key : List ℕ) : Type 0 where
   pub error : List ℕ
   pub first : List ℕ
@@ -71,7 +71,7 @@ pub record LeadTo (credentials : CredentialsBuffers) (replies : List (List ℕ))
   pub facts : ReplyFacts
   pub chain : IsChain no_rules credentials salt as_rep (referrals ++ last ∷ []) (record { suite = suite; key = key; facts = facts })
 
--- who has this identity has credentials, and from them replies that these events brought lead to the key
+-- this identity has credentials, and replies that these events brought lead from them to the key
 pub record HasOrigin (identity : Option CredentialsBuffers) (id : ℕ) (events : List Event) (key : List ℕ) : Type 0 where
   pub credentials : CredentialsBuffers
   pub has : identity ≡ Some credentials
@@ -79,14 +79,14 @@ pub record HasOrigin (identity : Option CredentialsBuffers) (id : ℕ) (events :
   pub brought : AreBrought id replies events
   pub lead : LeadTo credentials replies key
 
--- an initiator without a session key that awaits no KDC, and goes by no rules
+-- an initiator without a session key that awaits no KDC, and has no rules
 pub record IsKeyless (connection : Connection) : Type 0 where
   pub role : connection.context.server ≡ None
   pub none_set : connection.context.rules ≡ no_rules
   pub key : connection.context.encryption_params.session_key ≡ None
   pub free : connection.exchange ≡ None
 
--- an initiator still, which speaks for the same
+-- an initiator still, with the same identity
 pub record IsSameInitiator (before after : Connection) : Type 0 where
   pub role : after.context.server ≡ None
   pub identity : after.context.auth_identity ≡ before.context.auth_identity

@@ -15,9 +15,9 @@ ghost use Rattle.krb_laws_origin.specs.Freshness.{IsToBegin, HasFreshKey, IsEsta
 
 use krb_replay::ReplayGate;
 
-/// Over every list of events, and whatever the gate: an initiator that had no session key, and awaited no KDC, has one afterwards
-/// only where a chain of replies that its own events brought leads to it from its credentials. And it is still there, an initiator
-/// that speaks for the same.
+/// Over every list of events, and over any gate: an initiator that had no session key, and awaited no KDC, has one afterwards
+/// only if a chain of replies that its own events brought leads to it from its credentials. And the connection is still there, an
+/// initiator with the same identity.
 pub fn session_keys_come_from_credentials<G: ReplayGate>()
     ensures origin { (before after : State G) (events : List Event) (replies : List Reply) (id : ℕ) (first last : Connection)
         (key : List ℕ)
@@ -29,11 +29,12 @@ pub fn session_keys_come_from_credentials<G: ReplayGate>()
         → (last : Connection) × (at_id id after.connections ≡ Some last) × IsSameInitiator first last }
 {}
 
-/// Over every list of events, whatever the gate, and whatever KDCs and peers say: an initiator that is to begin, and whose rules have
-/// `FRESH_REPLIES`, has a session key afterwards only by replies that its own events brought, each of which answers the request that this
-/// very exchange made. The AS-REP has the nonce that was drawn by the event that began the exchange, and each TGS-REP the one that was
-/// drawn by the event that brought the reply before it. And where its rules have `ANSWERS_ITS_AUTHENTICATOR`, and mutual authentication
-/// was asked for, it is established only by an AP-REP, sealed under that session key, with the time of its own authenticator.
+/// Over every list of events, over any gate, and whatever KDCs and peers send: an initiator that is to begin, and whose rules have
+/// `FRESH_REPLIES`, has a session key afterwards only by replies that its own events brought, each of which answers the request that
+/// this very exchange made. The AS-REP has the nonce that was drawn by the event that began the exchange, and each TGS-REP the one
+/// that was drawn by the event that brought the reply before it. And if its rules have `ANSWERS_ITS_AUTHENTICATOR`, and mutual
+/// authentication was asked for, the initiator is established only by an AP-REP, encrypted under that session key, with the time of
+/// its own authenticator.
 pub fn log_ins_are_fresh<G: ReplayGate>()
     ensures fresh { (before after : State G) (events : List Event) (replies : List Reply) (id : ℕ) (first last : Connection)
         (key : List ℕ)
@@ -50,7 +51,7 @@ pub fn log_ins_are_fresh<G: ReplayGate>()
 {}
 
 /// Over every input: each initiator that its lines declare begins without a session key and awaits no KDC; and after the events that
-/// are answered it has a session key only where a chain of replies that these events brought leads to it from its credentials.
+/// are answered it has a session key only if a chain of replies that these events brought leads to it from its credentials.
 pub fn declared_initiators_have_keys_by_their_replies()
     ensures keyless { (setup : Setup) (id : ℕ) (first : Connection) → at_id id (connections_of setup) ≡ Some first
         → first.context.server ≡ None → IsKeyless first }

@@ -1,4 +1,4 @@
--- An event admits its peer exactly where it is admissible.
+-- An event admits its peer exactly if it is admissible.
 use Rattle.std.proofs.Common.{◌≡◌, ◌↔◌, ℕ, ◌≤◌, ◌^◌, ◌==◌, nat_le, Bool, true, false, List, [], ◌∷◌, length, Option, Some, None, Result, Ok, Err, refl, sym, ap, ◌∙◌, subst, arith}
 use Rattle.std.specs.Prelude.{if◌then◌else◌}
 use Rattle.std.specs.Ordering.{nat_cmp}
@@ -89,13 +89,13 @@ data_suite {A} layout key usage part x h =
     let e : x ≡ (a.found, b.found) = same_ok _ _ b.rest.is in
     taken _ _ _ a.held ∙ ap (λ (y : CipherSuite × A). Some y.0) (sym e)
 
--- what was opened was encrypted so
+-- data that were decrypted were encrypted under the key
 encryption : {A : Type 0} (layout : Layout A) (key : List ℕ) (usage : ℕ) (part : EncryptedData) (x : CipherSuite × A) → OpensData layout key usage part (Ok x) → IsEncryptionOf layout x.0 key usage x.1 part
 encryption layout key usage part x h =
     let o = opened layout key usage part x h in
     record { suite_is = data_suite layout key usage part x h; key_fits = o.fits; plain = o.plain; read = o.read; sealed = o.sealed }
 
--- and what was encrypted so is opened
+-- data that are encrypted under the key are decrypted
 opens : {A : Type 0} (layout : Layout A) (suite : CipherSuite) (key : List ℕ) (usage : ℕ) (value : A) (part : EncryptedData) → IsEncryptionOf layout suite key usage value part → OpensData layout key usage part (Ok (suite, value))
 unfolding OpensData OpensSealed Unseals
 opens layout suite key usage value part is =
@@ -184,7 +184,7 @@ genuine_requests rules server dce token request g =
     (follows _ _ tt _ (holds_true Names (is_same_client rules request.part request.authenticator) g.same_client) (gives (request.suite, request.authenticator))))
     (gives request)))
 
--- ---- what the rules ask of it
+-- ---- the demands of the rules on a request
 
 allowed_found : (context : Kerberos) (request : Request) (u : Unit {0}) → Allows context request (Ok u) → IsAllowed context request
 unfolding Allows
@@ -202,7 +202,7 @@ allows_it context request a =
     (follows _ _ tt _ (holds_true Checksum (tells_bindings (channel_held context) request.authenticator.cksum) a.told)
     (holds_true Bindings (is_bound (channel_held context) request.authenticator.cksum) a.bound)))
 
--- ---- where such a request may come
+-- ---- the state in which a request is accepted
 
 record Waiting (context : Kerberos) (dce : Bool) (token : List ℕ) (request : Request) : Type 0 where
   waits : is_waiting context.state ≡ true
@@ -230,7 +230,7 @@ begins_there context dce token request w =
     (follows _ _ request _ (genuine_requests context.rules w.server dce token request w.genuine)
     (follows _ _ tt _ (allows_it context request w.allowed) (gives request))))
 
--- ---- what is in order
+-- ---- requests in order
 
 in_order_found : (context : Kerberos) (dce : Bool) (draw : Draw) (request : Request) (admission : Admission) → FinishesAdmission context dce draw request (Ok admission) → IsInOrder context.rules request
 unfolding FinishesAdmission Completes
@@ -251,7 +251,7 @@ finishes_there context dce draw request o =
     (follows _ _ tt _ (holds_true SubKey (has_good_subkey request) o.subkey) (gives (user_at context request)))))
     (gives (admission_of dce context.krb5_user_to_user context.seq_number draw request (user_at context request)))
 
--- ---- what is answered
+-- ---- the reply
 
 reply_by : (asked dce user_to_user : Bool) (number : ℕ) (draw : Draw) (request : Request) (client : Option UserName)
     → reply_of (Ok (answer_for (if asked then mutual_admission dce user_to_user number draw request client else one_way_admission number request client)))
@@ -277,7 +277,7 @@ judged_there : (server : Kerberos) (dce : Bool) (token : List ℕ) (draw : Draw)
 unfolding DecidesAdmission
 judged_there server dce token draw request admission begun finished = follows _ _ request _ begun (follows _ _ tt _ (record { is = refl }) finished)
 
--- an admissible event is answered so
+-- the reply to an admissible event
 pub admissible-answered : (skew : ℕ) (state after : State History) (event : Event) (reply : Reply) → Steps (Remembers skew) state event reply after → (a : IsAdmissible skew state event) → reply ≡ reply_to a
 admissible-answered skew state after event reply step a =
     let dce = asks_dce_style (server_flags event.flags) in
@@ -288,7 +288,7 @@ admissible-answered skew state after event reply step a =
     passing-done skew state after event reply a.connection a.token a.request admission step a.reaches begun a.verdict (finishes_there context dce draw a.request a.in_order)
     ∙ reply_is dce context.krb5_user_to_user context.seq_number draw a.request (user_at context a.request)
 
--- and makes this of the service
+-- the service after an admissible event
 pub admissible-made : (skew : ℕ) (state after : State History) (event : Event) (reply : Reply) → Steps (Remembers skew) state event reply after → (a : IsAdmissible skew state event) → after ≡ service_behind a
 admissible-made skew state after event reply step a =
     let dce = asks_dce_style (server_flags event.flags) in
@@ -308,7 +308,7 @@ admissible-made skew state after event reply step a =
     let put : Connection → List (ℕ × Connection) = λ next. set_value (is_at (nat_cmp event.connection)) state.connections next in
     same_state after (service_behind a) (j.connections ∙ ap put settles.1 ∙ ap (λ (k : Kerberos). put (record a.connection { context = k })) done.1) j.env asked.1
 
--- ---- and no other event admits its peer
+-- ---- no other event admits its peer
 
 admitted_is : (verdict : Verdict) → is_admitted verdict ≡ true → verdict ≡ Admitted
 admitted_is Admitted e = refl
@@ -317,7 +317,7 @@ admitted_is verdicts.NotYet e = absurd (cc)
 admitted_is verdicts.Expired e = absurd (cc)
 admitted_is verdicts.Replayed e = absurd (cc)
 
--- what an admission was judged by
+-- the grounds on which an admission was judged
 record Passing (skew moment : ℕ) (h : History) (context : Kerberos) (dce : Bool) (token : List ℕ) : Type 0 where
   request : Request
   waiting : Waiting context dce token request
@@ -399,7 +399,7 @@ admitted-exactly skew state after event reply step = (
       ∙ admits_it (asks_dce_style (server_flags event.flags)) a.connection.context.krb5_user_to_user a.connection.context.seq_number (draw_of event) a.request,
 )
 
--- the same over a replay book
+-- over a replay book, an event admits its peer exactly if it is admissible
 pub book-admitted-exactly : (before after : State Book) (h : History) (event : Event) (reply : Reply) → StandsFor before.gate h → Steps (Follows StandsFor) before event reply after
     → (admits_peer reply ≡ true) ↔ IsAdmissible before.gate.skew (with_gate before h) event
 book-admitted-exactly before after h event reply stands step =

@@ -1,4 +1,4 @@
--- What holds of a service over a replay book, since it answers as the one over the gate that never forgets.
+-- A service over a replay book: facts that follow since it answers as the one over the gate that never forgets.
 use Rattle.std.proofs.Common.{◌≡◌, ℕ, List, ◌++◌, Ok, refl, subst}
 use Rattle.krb_replay.specs.Book.{Book, Follows, StandsFor}
 use Rattle.krb_replay.specs.History.{History, verdict_of}

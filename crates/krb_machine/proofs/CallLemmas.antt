@@ -32,19 +32,19 @@ use Rattle.krb_machine.specs.declared.reply.Reply.{Reply}
 same_ok : {A : Type 0} (x y : A) → ◌≡◌ {A = Result A Cause} (Ok x) (Ok y) → x ≡ y
 same_ok x y e = cc
 
--- a check that passes hands on what was there
+-- a check that passes leaves the connection
 passes_on : (connection c : Connection) (checked : Result (Unit {0}) Cause) → (checked >>= (λ u. Ok connection)) ≡ Ok c → connection ≡ c
 passes_on connection c (Ok u) e = same_ok connection c e
 passes_on connection c (Err cause) e = absurd (cc)
 
--- what the checks found stands at the number
+-- the connection that the checks found is the one at the number
 stands_by : (in_range : Result (Unit {0}) Cause) (found : Option Connection) (c : Connection)
     → (in_range >>= (λ u. ok_or causes.Connection found) >>= (λ connection. check causes.Sequence (not (awaits connection)) >>= (λ u. Ok connection))) ≡ Ok c → found ≡ Some c
 stands_by (Ok u) (Some connection) c e = ap Some (passes_on connection c (check causes.Sequence (not (awaits connection))) e)
 stands_by (Ok u) None c e = absurd (cc)
 stands_by (Err cause) found c e = absurd (cc)
 
--- behind the checks of the connection: the token, and what goes with it
+-- after the checks of the connection: the token, with the connection
 abbrev with_token : Connection → Option (List ℕ) → Result (Unit {0}) Cause → Result (Connection × List ℕ) Cause
 with_token connection token built = built >>= (λ u. ok_or causes.Sequence token >>= (λ t. Ok (connection, t)))
 
@@ -69,7 +69,7 @@ no_call (inputs.Unwrap message) found x e = absurd (nothing_follows found x e)
 no_call (inputs.MakeMic payload) found x e = absurd (nothing_follows found x e)
 no_call (inputs.VerifyMic token payload) found x e = absurd (nothing_follows found x e)
 
--- what reaches an acceptor's checks comes at an acceptor,
+-- an event that reaches an acceptor's checks is one at an acceptor
 not_none : {S : Type 0} (o : Option S) → is_some o ≡ true → is_none o ≡ false
 not_none None e = absurd (cc)
 not_none (Some x) e = refl
@@ -90,13 +90,13 @@ reached-acceptor connections event connection token e =
     judged_at (at_id event.connection connections) (ready connections event) (input_token event.input) (connection, token)
     (λ c is. stands_by (check causes.Moment (nat_le event.moment last_moment)) (at_id event.connection connections) c is) e
 
--- and is no call, and nothing that the network brings
+-- an event that reaches an acceptor's checks is no call, and no answer of the network
 pub reached-no_call : (connections : List (ℕ × Connection)) (event : Event) (connection : Connection) (token : List ℕ) → reached connections event ≡ Ok (connection, token)
     → (is_call event.input ≡ false) × (answer_of event.input ≡ None)
 reached-no_call connections event connection token e = no_call event.input (ready connections event) (connection, token) e
 
 module _ {G : Type 0} (admits : G → Ask → Verdict → G → Type 0) where
-  -- so it is answered as a token is
+  -- an event that reaches an acceptor's checks is answered as a token
   pub token-step : (state : State G) (event : Event) (connection : Connection) (token : List ℕ) (reply : Reply) (after : State G)
       → reached state.connections event ≡ Ok (connection, token) → Steps admits state event reply after → Judges admits state event connection token reply after
   token-step state event connection token reply after e step =

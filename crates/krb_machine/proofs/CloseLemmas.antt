@@ -27,7 +27,7 @@ use Rattle.krb_machine.proofs.GrowthLemmas.{Grows, Grows-length, read-grows}
 use Rattle.krb_machine.proofs.ProgressLemmas.{line-refused, before-answered, all-answered, first-answered}
 use Rattle.krb_machine.proofs.ReadingLemmas.{read-short, read-long, Reached, run-reaches, input-reaches, reading-from}
 
--- the last line of a whole input, and the run behind it
+-- the last line of a whole input, and the run that leads to it
 pub record EndsWith (progress : Progress) (so_far : Declared) (n : ℕ) (replies : List Reply) : Type 0 where
   pub after : State History
   pub answered : Answered so_far (replies_text replies) replies after
@@ -67,7 +67,7 @@ ends_by progress so_far replies admitted (inr m) = ends_amid progress so_far rep
 pub ends_with : (progress : Progress) (so_far : Declared) (replies : List Reply) → Follows progress so_far replies → EndsWith progress so_far (progress.lines + 1) replies
 ends_with progress so_far replies f = ends_by progress so_far replies f.admitted f.state
 
--- a text that ends where the reading does
+-- a text that ends at the end of the reading
 ended_text : (input text front line : List ℕ) (so_far : Declared) (n : ℕ) (stop : Stop) (replies : List Reply) (after : State History) → reading_of input ≡ record { so_far = so_far; number = n; stop = stop }
     → Answered so_far (replies_text replies) replies after → front ≡ replies_text replies → line ≡ last_line stop n so_far.setup replies after.gate → text ≡ front ++ line → IsText input text
 ended_text input text front line so_far n stop replies after is answered front_is line_is text_is =
@@ -193,7 +193,7 @@ map_some : (P Q : List ℕ → Type 0) (o : Option (List ℕ)) → ((x : List �
 map_some P Q None f p = tt
 map_some P Q (Some x) f p = f x p
 
--- what the lines say, taken one after another, is what the input says as a whole
+-- the text for the lines, taken one after another, is the text for the whole input
 pub serves-read : (left b before after : Option (List ℕ)) (session : Progress) (status : Status) → session ≡ new_progress → AnswersLines line_rules session left b before after status
     → Serves left b before after status
 serves-read left b before after session status is answers =

@@ -1,4 +1,4 @@
--- What a whole answer to the demonstration's input counts.
+-- The counts of a whole answer to the demonstration's input.
 use Rattle.std.proofs.Common.{◌≡◌, ℕ, ◌+◌, List, [], Option, Some, ap, ◌∙◌, subst}
 use Rattle.krb_demo.specs.Input.{demonstration}
 use Rattle.krb_lines.specs.Halts.{Halts}

@@ -45,7 +45,7 @@ leads_not connection (Asks request run) reply next h done = let z = ap admits_pe
 leads_not connection (Ends value) reply next h done = let z = ap admits_peer (sym h.0) ∙ done in absurd (cc)
 leads_not connection (Refuses error) reply next h done = let z = ap admits_peer (sym h.0) ∙ done in absurd (cc)
 
--- who is admitted was answered so
+-- a reply that admits its peer is that of an accepted answer
 pub record Admitted (answer : Result Accepted Cause) (reply : Reply) : Type 0 where
   pub accepted : Answer
   pub answer_is : answer ≡ Ok (accepted_as accepted)
@@ -57,7 +57,7 @@ settles_admitted draw connection (Ok (taken.Done status token admits)) reply nex
 settles_admitted draw connection (Ok (taken.Run run)) reply next h done = absurd (leads_not connection h.step reply next h.leads done)
 settles_admitted draw connection (Err cause) reply next h done = let z = ap admits_peer (sym h.0) ∙ done in absurd (cc)
 
--- an answer that is told
+-- the reply to an answer that begins no exchange
 pub settles_done : (draw : Draw) (connection : Connection) (accepted : Answer) (reply : Reply) (next : Connection) → Settles draw connection (told Elsewhere (Ok (accepted_as accepted))) reply next
     → reply ≡ reply_of (Ok accepted)
 settles_done draw connection accepted reply next h = h.0
@@ -108,7 +108,7 @@ settles_once draw connection (Ok (taken.Done status token admits)) r s a b h k =
 settles_once draw connection (Ok (taken.Run run)) r s a b h k = opens_once connection (Accepts run.value) draw r s a b h k
 settles_once draw connection (Err error) r s a b h k = (h.0 ∙ sym k.0, h.1 ∙ sym k.1)
 
--- wherever its run is on the heap
+-- the reply does not depend on the place of a run on the heap
 pub settles_same : (draw : Draw) (connection : Connection) (answer other : Result Accepted Cause) (reply : Reply) (next : Connection) → IsSameAnswer answer other
     → Settles draw connection (told Elsewhere other) reply next → Settles draw connection (told Elsewhere answer) reply next
 settles_same draw connection (Ok (taken.Done status token admits)) (Ok other) reply next same h =
@@ -134,7 +134,7 @@ module _ {G : Type 0} (admits : G → Ask → Verdict → G → Type 0) (is_same
   run_leaves (Some tgt_req) answer run is made = (made.1, subst (λ (g : G). is_same old g) (sym made.2) (same old))
   run_leaves None answer run is made = absurd (no_run_judged made.judged run (sym is ∙ made.answer_is))
 
-  -- where memory runs out behind an acceptor's answer, context and gate are as before
+  -- if memory runs out after an acceptor's answer, context and gate are as before
   pub stopped_leaves : (result : Result Accepted Error) → StopsAt result
       → ((result ≡ Err (error_of Memory) → ⊥) → (answer : Result Accepted Cause) × (result ≡ told Elsewhere answer) × AcceptsWhole admits server dce token env draw old answer server' new)
       → (result ≡ Err (error_of Memory) → (server' ≡ server) × is_same old new) → (server' ≡ server) × is_same old new
@@ -151,7 +151,7 @@ module _ {G : Type 0} where
       ∙ ap (λ (e : Env). record { connections = b.connections; env = e; gate = a.gate }) env
       ∙ ap (λ (g : G). record { connections = b.connections; env = b.env; gate = g }) gate
 
-  -- what the network brings leaves the gate and the environment
+  -- an answer of the network leaves the gate and the environment
   pub answer-gate : (state : State G) (event : Event) (found : Result (Connection × Run) Cause) (answer : Result (List ℕ) NetFault) (reply : Reply) (after : State G) → TakesAnswer state event found answer reply after
       → after.gate ≡ state.gate
   answer-gate state event (Ok found) answer reply after h = h.gate

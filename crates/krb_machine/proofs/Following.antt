@@ -1,4 +1,4 @@
--- A session against what the lines so far declare.
+-- A session against the declarations of the lines so far.
 use Rattle.std.specs.Prelude.{◌≡◌, ◌<◌, List, [], Some, None, length, is_some, true, ◌⊎◌}
 use Rattle.krb_script.specs.Script.{Declared}
 use Rattle.krb_replay.specs.Book.{Book, StandsFor}
@@ -16,7 +16,7 @@ pub record IsBefore (progress : Progress) (so_far : Declared) (replies : List Re
   pub events : so_far.events ≡ []
   pub none : replies ≡ []
 
--- the service has answered the events, as the one that never forgets does, and its book stands for the history
+-- the service has answered the events as the one that never forgets does, and its book represents the history
 pub record IsAmid (progress : Progress) (so_far : Declared) (replies : List Reply) : Type 0 where
   pub after : State Book
   pub history : History
@@ -27,7 +27,7 @@ pub record IsAmid (progress : Progress) (so_far : Declared) (replies : List Repl
   pub stands : StandsFor after.gate history
   pub own_skew : after.gate.skew ≡ skew_of so_far.setup
 
--- a session knows what the lines so far declare, and has answered their events with these replies
+-- a session knows the declarations of the lines so far, and has answered their events with these replies
 pub record Follows (progress : Progress) (so_far : Declared) (replies : List Reply) : Type 0 where
   pub answered : progress.answered ≡ length so_far.events
   pub admitted : progress.admitted ≡ admissions replies

@@ -1,4 +1,4 @@
--- What holds of a service over any gate, from what every gate owes alone.
+-- A service over any gate: facts that follow from the obligations of every gate alone.
 use Rattle.std.proofs.Common.{◌≡◌, ℕ, Bool, true, false, List, [], ◌∷◌, Option, Some, None, MatchOption, Result, Ok, Err, refl, ap, sym, ◌∙◌, subst}
 use Rattle.krb_context.specs.declared.context.Kerberos.{Kerberos}
 use Rattle.krb_context.specs.declared.rules.Rules.{Rules}
@@ -35,7 +35,7 @@ use Rattle.krb_machine.proofs.CallLemmas.{call-gate, token-step}
 use Rattle.krb_machine.proofs.ExchangeLemmas.{settles_admitted, settles_refused, answer-gate, turn-gate}
 use Rattle.krb_machine.proofs.LeftLemmas.{made_admission, judged-other, passed_admitted}
 
--- what passes is admitted by the gate
+-- a request that passes is admitted by the gate
 admitted_by : (server : Kerberos) (dce : Bool) (token : List ℕ) (draw : Draw) (verdict : Verdict) (request : Request) (admission : Admission) → BeginsAdmission server dce token (Ok request)
     → DecidesAdmission server dce token draw verdict (Ok admission) → is_admitted verdict ≡ true
 unfolding DecidesAdmission
@@ -45,7 +45,7 @@ admitted_by server dce token draw verdict request admission begun judged =
     let passed : (Passes (refusal verdict) >> FinishesAdmission server dce draw request) (Ok admission) = subst R same judged.rest in
     passed_admitted verdict passed.middle _ admission passed.held.is passed.rest
 
--- what the gate refuses is refused so
+-- a request that the gate refuses is refused for the gate's cause
 refused_by : (server : Kerberos) (dce : Bool) (token : List ℕ) (draw : Draw) (verdict : Verdict) (request : Request) (cause : Cause) → BeginsAdmission server dce token (Ok request) → refusal verdict ≡ Some cause
     → DecidesAdmission server dce token draw verdict (Err cause)
 unfolding DecidesAdmission
@@ -92,7 +92,7 @@ module _ {G : Type 0} (admits : G → Ask → Verdict → G → Type 0) (skew : 
   run_skew state after (event ∷ events) (reply ∷ replies) runs =
       run_skew runs.0 after events replies runs.2 ∙ step_skew (is_call event.input) state runs.0 event reply runs.1
 
--- a gate's verdicts are the clock's where the clock refuses
+-- a gate's verdicts are the clock's if the clock refuses
 module _ {G : Type 0} (admits : G → Ask → Verdict → G → Type 0) (skew moment : G → ℕ) (judged : (old new : G) (ask : Ask) (verdict : Verdict) → admits old ask verdict new → IsJudged (skew old) (moment new) ask verdict) where
   -- a request that reaches the gate is judged by it
   record GateJudges (state after : State G) (event : Event) (reply : Reply) (request : Request) (connection : Connection) (token : List ℕ) : Type 0 where
@@ -109,7 +109,7 @@ module _ {G : Type 0} (admits : G → Ask → Verdict → G → Type 0) (skew mo
       let A : Result Request Cause → Type 0 = λ r. Asks admits b.connection.context.rules event.moment state.gate r other.accepts.verdict after.gate in
       record { judges = j; other = other; verdict = judged state.gate after.gate (ask_of b.connection.context.rules request event.moment) other.accepts.verdict (subst A same other.accepts.gate) }
 
-  -- what admits its peer was in time
+  -- an event that admits its peer was in time
   pub done_in_time : (state after : State G) (event : Event) (reply : Reply) (request : Request) → Steps admits state event reply after → (b : Brings state.connections event request) → admits_peer reply ≡ true
       → clock_refusal (skew state.gate) (moment after.gate) (ask_of b.connection.context.rules request event.moment) ≡ None
   done_in_time state after event reply request step b done =
@@ -123,7 +123,7 @@ module _ {G : Type 0} (admits : G → Ask → Verdict → G → Type 0) (skew mo
       admitted_in_time (skew state.gate) (moment after.gate) (ask_of server.rules request event.moment) other.accepts.verdict g.verdict
       (admitted_by server dce b.token (draw_of event) other.accepts.verdict request a.0 b.begun (subst J a.1 other.accepts.judged))
 
-  -- what the clock refuses is refused so
+  -- a request that the clock refuses is refused for the clock's cause
   pub clock_refuses : (state after : State G) (event : Event) (reply : Reply) (request : Request) (v : Verdict) (cause : Cause) → Steps admits state event reply after → (b : Brings state.connections event request)
       → clock_refusal (skew state.gate) (moment after.gate) (ask_of b.connection.context.rules request event.moment) ≡ Some v → refusal v ≡ Some cause → reply ≡ reply_of (Err cause)
   clock_refuses state after event reply request v cause step b clock is =

@@ -1,4 +1,4 @@
--- What is declared grows from line to line.
+-- The declarations grow from line to line.
 use Rattle.std.proofs.Common.{◌≡◌, ℕ, ◌+◌, ◌≤◌, ◌⊎◌, inl, inr, Bool, true, false, List, [], ◌∷◌, ◌++◌, length, length-append, Option, Some, None, is_some, refl, ap, sym, ◌∙◌, subst, append_assoc, arith}
 use Rattle.std.specs.Prelude.{if◌then◌else◌}
 use Rattle.std.proofs.lemmas.List.{append-nil}
@@ -12,7 +12,7 @@ use Rattle.krb_script.specs.declared.item.Item.TheVariants.{Declaration as Decla
 use Rattle.krb_script.specs.declared.declaration.Declaration.{Declaration}
 use Rattle.krb_script.specs.declared.item.Event.{Event}
 
--- events are added behind the others, or there was none yet
+-- events are added after the others, or there was none yet
 abbrev pub Grows : Declared → Declared → Type 0
 Grows so_far next = (so_far.events ≡ []) ⊎ ((next.setup ≡ so_far.setup) × ((more : List Event) × (next.events ≡ so_far.events ++ more)))
 
@@ -56,7 +56,7 @@ line_grows : (so_far next : Declared) (line : List ℕ) (t : Bool) → (if t the
 line_grows so_far next line true e = grows_to so_far so_far next (cc) (Grows-refl so_far)
 line_grows so_far next line false e = content_grows so_far next (item_of line) e
 
--- one line more
+-- one more line
 pub declare-grows : (so_far next : Declared) (line : List ℕ) → declare_line so_far line ≡ Some next → Grows so_far next
 declare-grows so_far next line e = line_grows so_far next line (is_skipped line) e
 
@@ -69,7 +69,7 @@ grows_on : (so_far : Declared) (o : Option Declared) (later : Declared → Readi
 grows_on so_far None later here h l = h
 grows_on so_far (Some next) later here h l = l next refl
 
--- what further lines declare is more than what is declared so far
+-- further lines add to the declarations so far
 pub read-grows : (total at n : ℕ) (so_far : Declared) (input_lines : List (List ℕ)) → Grows so_far (read_lines total at n so_far input_lines).so_far
 read-grows total at n so_far [] = Grows-refl so_far
 read-grows total at n so_far (line ∷ rest) =

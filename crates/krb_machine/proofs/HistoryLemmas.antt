@@ -27,7 +27,7 @@ use Rattle.krb_machine.specs.MessageCalls.{is_call}
 use Rattle.krb_machine.proofs.CallLemmas.{call-gate}
 use Rattle.krb_machine.proofs.ExchangeLemmas.{answer-gate, turn-gate}
 
--- a book of this skew that stands for the history
+-- a book of this skew that represents the history
 record Keeps (skew : ℕ) (book : Book) (h : History) : Type 0 where
   stands : StandsFor book h
   own_skew : book.skew ≡ skew
@@ -50,7 +50,7 @@ asks_remembered skew rules moment old h (Err cause) verdict new k same =
       record { stands = subst S (sym same) k.stands; own_skew = ap (λ (b : Book). b.skew) same ∙ k.own_skew },
     )
 
--- a token over the book is one over the gate that never forgets, and leaves the same record
+-- a token over the book is answered as one over the gate that never forgets, and leaves the same record
 record MadeRemembered (skew : ℕ) (server : Kerberos) (dce : Bool) (token : List ℕ) (env : Env) (draw : Draw) (old new : Book) (h : History) (found : Option TgtReq) (answer : Result Accepted Cause) (server' : Kerberos) (m : AcceptsToken (Follows StandsFor) server dce token env draw old found answer server' new) : Type 0 where
   after : History
   made : AcceptsToken (Remembers skew) server dce token env draw h found answer server' after
@@ -83,7 +83,7 @@ made_remembered skew server dce token env draw old new h None answer server' k m
       left = refl;
     }
 
--- an event over the book is one over the gate that never forgets, and leaves the same record
+-- an event over the book is answered as one over the gate that never forgets, and leaves the same record
 record BehindRemembered (skew : ℕ) (before next : State Book) (h : History) (event : Event) (found : Result (Connection × List ℕ) Cause) (reply : Reply) (b : Behind (Follows StandsFor) before event found reply next) : Type 0 where
   after : History
   behind : Behind (Remembers skew) (with_gate before h) event found reply (with_gate next after)
@@ -120,7 +120,7 @@ pub record Remembered (skew : ℕ) (before : State Book) (h : History) (event : 
   pub own_skew : next.gate.skew ≡ skew
   pub left : record_left (Remembers skew) (with_gate before h) event reply (with_gate next after) steps ≡ record_left (Follows StandsFor) before event reply next s
 
--- the same, where it is told whether the event is a call
+-- one event, answered over a book, if `b` says whether the event is a call
 record RememberedBy (skew : ℕ) (before : State Book) (h : History) (event : Event) (reply : Reply) (next : State Book) (b : Bool) (s : StepsBy (Follows StandsFor) b before event reply next) : Type 0 where
   after : History
   steps : StepsBy (Remembers skew) b (with_gate before h) event reply (with_gate next after)

@@ -1,4 +1,4 @@
--- What the events of a run leave in the gate that never forgets, and when an event admits its peer.
+-- The records that the events of a run leave in the gate that never forgets, and the events that admit their peer.
 use Rattle.std.proofs.Common.{◌≡◌, ℕ, Bool, true, false, List, [], ◌∷◌, ◌++◌, length, Option, Some, None, Result, Ok, Err, refl, sym, ap, ◌∙◌, subst, append_assoc}
 use Rattle.std.specs.Prelude.{if◌then◌else◌}
 use Rattle.std.proofs.lemmas.List.{append-nil}
@@ -123,7 +123,7 @@ left-once skew state after (event ∷ events) (reply ∷ replies) runs distinct 
     let rest = records_left (Remembers skew) runs.0 events replies after runs.2 in
     subst IsDistinct (ap (λ l. l ++ rest) one.is ∙ append_assoc state.gate.admitted left rest) (left-once skew runs.0 after events replies runs.2 one.distinct)
 
--- what passes behind the gate was admitted by it
+-- an admission after the gate was admitted by the gate
 pub passed_admitted : (verdict : Verdict) (middle : Result (Unit {0}) Cause) (next : Unit {0} → Result Admission Cause → Type 0) (admission : Admission) → middle ≡ err_of (refusal verdict) → Goes next middle (Ok admission)
     → is_admitted verdict ≡ true
 passed_admitted Admitted middle next admission is goes = refl
@@ -153,7 +153,7 @@ goes_left server dce token draw verdict (Err cause) admission begun judged =
     let refused : ◌≡◌ {A = Result Admission Cause} (Ok admission) (Err cause) = subst R same judged.rest in
     absurd (cc)
 
--- the last word admits nobody
+-- the third leg admits nobody
 closed_not : (server : Kerberos) (outcome : Result (Unit {0}) Cause) (answer : Result Answer Cause) (after : Kerberos) → Closes server outcome answer after → admits_peer (reply_of answer) ≡ true → ⊥
 closed_not server (Ok _) answer after closes done = let z = ap (λ a. admits_peer (reply_of a)) (sym closes.0) ∙ done in absurd cc
 closed_not server (Err cause) answer after closes done = let z = ap (λ a. admits_peer (reply_of a)) (sym closes.0) ∙ done in absurd cc
@@ -169,19 +169,19 @@ ends_left : (last : Bool) (server : Kerberos) (token : List ℕ) (outcome : Resu
 ends_left true server token outcome answer after concludes done = absurd (closed_not server concludes.outcome answer after concludes.closes done)
 ends_left false server token outcome answer after made done = made_left server outcome answer after made done
 
--- the answer that is told
+-- the answer that is reported
 answer_in : Answer → Accepted → Answer
 answer_in other (taken.Done status token admits) = record { status = status; token = token; admits = admits }
 answer_in other (taken.Run run) = other
 
--- what is answered Ok was judged so
+-- an answer of Ok was judged Ok
 judged_ok : (judged : Result Answer Cause) (accepted : Answer) → ◌≡◌ {A = Result Accepted Cause} (Ok (accepted_as accepted)) (answered_as judged) → judged ≡ Ok accepted
 unfolding answer_in
 judged_ok (Ok judged) accepted e = let same : accepted_as accepted ≡ accepted_as judged = cc in ap Ok (sym (ap (answer_in judged) same))
 judged_ok (Err cause) accepted e = absurd (cc)
 
 module _ {G : Type 0} (admits : G → Ask → Verdict → G → Type 0) where
-  -- what is answered so admits by an admission, which leaves a record
+  -- an answer that admits its peer does so by an admission, which leaves a record
   pub made_admission : (server : Kerberos) (dce : Bool) (token : List ℕ) (draw : Draw) (old new : G) (answer : Result Accepted Cause) (server' : Kerberos) (other : JudgesOther admits server dce token draw old answer server' new) (accepted : Answer)
       → answer ≡ Ok (accepted_as accepted) → admits_peer (reply_of (Ok accepted)) ≡ true → (admission : Admission) × (other.accepts.outcome ≡ Ok admission)
   made_admission server dce token draw old new answer server' other accepted is done =
@@ -229,7 +229,7 @@ module _ {G : Type 0} (admits : G → Ask → Verdict → G → Type 0) where
   pub done-left : (state after : State G) (event : Event) (reply : Reply) (step : Steps admits state event reply after) → admits_peer reply ≡ true → length (record_left admits state event reply after step) ≡ 1
   done-left state after event reply step done = done_by (is_call event.input) state after event reply step done
 
-  -- where an AP-REQ comes to the gate, the token was judged as one
+  -- if an AP-REQ reaches the gate, the token was judged as an AP-REQ
   pub judged-other : (state after : State G) (event : Event) (reply : Reply) (connection : Connection) (token : List ℕ) (request : Request) (j : Judges admits state event connection token reply after)
       → BeginsAdmission connection.context (asks_dce_style (server_flags event.flags)) token (Ok request)
       → JudgesOther admits connection.context (asks_dce_style (server_flags event.flags)) token (draw_of event) state.gate j.answer j.server after.gate

@@ -1,4 +1,4 @@
--- What calls at a context make, from what the context's own clauses say.
+-- The results of calls at a context, from the context's own clauses.
 use Rattle.std.proofs.Common.{◌≡◌, ℕ, List, take, Err, ap, ◌∙◌}
 use Rattle.sspi_core.specs.Buffer.{Buffer}
 use Rattle.sspi_core.specs.Kinds.{error_of}
@@ -12,7 +12,7 @@ use Rattle.krb_machine.specs.MessageCalls.{Seals}
 use Rattle.krb_machine.specs.declared.reply.Reply.{Reply}
 use Rattle.krb_machine.specs.declared.reply.Reply.TheVariants.{Refused}
 
--- sealing is refused
+-- encryption is refused
 pub seals-refused : (context : Kerberos) (random : List ℕ) (message : List Buffer) (error : Error) (reply : Reply) (after : Kerberos)
     → Refuses Elsewhere (Wraps context (take 16 random) message) error → (error ≡ error_of Memory → ⊥) → reply ≡ Refused error → after ≡ context
     → Seals context random message reply after

@@ -29,11 +29,11 @@ use Rattle.krb_machine.specs.declared.run.Run.TheVariants.{Accepts, Initiates}
 abbrev State : Type 0
 State = GeneratorState NetworkRequest (Result InitDone Error)
 
--- memory is there
+-- memory did not run out
 abbrev IsFed : State → Type 0
 IsFed state = state ≡ Completed (Err (error_of Memory)) → ⊥
 
--- where memory is there, checks of one answer lead to one state and one phase
+-- if memory did not run out, checks of one answer lead to one state and one phase
 turns_once : {P : Type 0} (over : P) (checks : Result (Turn P InitDone) Cause → Type 0) (s t : State) (p q : P) → Once checks → IsFed s → IsFed t → Turns over checks s p → Turns over checks t q → (s ≡ t) × (p ≡ q)
 turns_once over checks s t p q one fed also h k =
     let x = h.so fed in
@@ -41,7 +41,7 @@ turns_once over checks s t p q one fed also h k =
     let same = one.same x.0 y.0 x.1 y.1 in
     (x.2 ∙ ap state_of same ∙ sym y.2, x.3 ∙ ap (phase_of over) same ∙ sym y.3)
 
--- a run is who asks, or what is to be done, and how far it has come
+-- a run of an acceptor is determined by its acceptor and its phase
 same_acceptance : (x y : AcceptRun) → x.acceptor ≡ y.acceptor → x.phase ≡ y.phase → x ≡ y
 same_acceptance x y a p = ap (λ z. record { alloc = x.alloc; acceptor = z; phase = x.phase }) a ∙ ap (λ z. record { alloc = x.alloc; acceptor = y.acceptor; phase = z }) p
 
@@ -70,7 +70,7 @@ resumes_once (Initiates run) answer draw s t (Initiates x) (Initiates y) fed als
     let both = turns_once _ _ s t x.phase y.phase (initiations.next_once run.initiation run.phase answer draw) fed also h.turn k.turn in
     (both.0, ap Initiates (initiations.same_run x y (h.stays ∙ sym k.stays) both.1))
 
--- what a step leads to wanted no memory
+-- a state that leads to a step is not that of missing memory
 same_error : (d e : Error) → ◌≡◌ {A = State} (Completed (Err d)) (Completed (Err e)) → d ≡ e
 same_error d e h = cc
 
@@ -79,7 +79,7 @@ is_fed (Suspended request) later step h e = absurd cc
 is_fed (Completed (Ok done)) later step h e = absurd cc
 is_fed (Completed (Err error)) later step h e = h.1 (same_error error (error_of Memory) e)
 
--- and is one
+-- a state and a run lead to one step
 is_step_once : (state : State) (later : Run) (r s : Step) → IsStep state later r → IsStep state later s → r ≡ s
 is_step_once (Suspended request) later r s h k = h ∙ sym k
 is_step_once (Completed (Ok done)) later r s h k = h ∙ sym k
@@ -100,6 +100,6 @@ one_going_on run answer draw r s h k =
     let also = is_fed k.state k.later s k.leads in
     steps_once h.state k.state h.later k.later r s (resumes_once run answer draw h.state k.state h.later k.later fed also h.resumes k.resumes) h.leads k.leads
 
--- what an initiator begins
+-- an initiator begins at most one initiation
 pub one_initiation : (context : Kerberos) (options : InitOptions) (r s : Result Initiation Cause) → BeginsInitiation context options r → BeginsInitiation context options s → r ≡ s
 one_initiation context options r s h k = (initiations.begins_once context options).same r s h k

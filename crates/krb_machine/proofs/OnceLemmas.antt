@@ -35,7 +35,7 @@ use Rattle.krb_machine.specs.Described.{Remembers, skew_of, service_of}
 use Rattle.krb_machine.specs.Reply.{replies_text}
 use Rattle.krb_machine.specs.Text.{IsText, last_line}
 
--- where the checks before the gate refuse, the verdict does not matter
+-- if the checks before the gate refuse, the verdict does not matter
 pub judged_refused : (server : Kerberos) (dce : Bool) (token : List ℕ) (draw : Draw) (verdict : Verdict) (cause : Cause) (outcome : Result Admission Cause) → BeginsAdmission server dce token (Err cause)
     → DecidesAdmission server dce token draw verdict outcome → outcome ≡ Err cause
 unfolding DecidesAdmission

@@ -1,4 +1,4 @@
--- Each event keeps the lists of places for which the windows of the connections stand.
+-- Each event keeps the lists of places that the windows of the connections represent.
 use Rattle.std.proofs.Common.{◌≡◌, ℕ, ◌^◌, ◌<◌, not, Bool, true, false, List, [], ◌∷◌, Option, Some, None, Result, Ok, Err, inl, inr, refl, sym, ap, ◌∙◌, subst}
 use Rattle.std.specs.Prelude.{◌==◌, ℤ, pos, ◌-ℤ◌, int_lt, nat_le, is_some, ◌||◌, if◌then◌else◌}
 use Rattle.std.specs.Cmp.{int_eq_equiv}
@@ -73,7 +73,7 @@ settles_window draw connection (Ok (taken.Done status token admits)) reply next 
 settles_window draw connection (Ok (taken.Run run)) reply next h = leads_window connection h.step reply next h.leads
 settles_window draw connection (Err error) reply next h = ap window_of h.1
 
--- who admits a client, or hears its last word, has the window that it had
+-- an acceptor that admits a client, or takes the third leg, keeps its window
 admitted_window : (server : Kerberos) (admission : Admission) → (admitted server admission).window ≡ server.window
 unfolding admitted
 admitted_window server admission = refl
@@ -99,7 +99,7 @@ made_window admits server dce token env draw old None answer after new h =
 
 -- ---- calls
 
--- what a call says by its connection's list, and the list for which the window stands then
+-- the reply to a call by its connection's list, and the list that the window represents then
 record Keeps (places : List ℤ) (input : Input) (reply : Reply) (window : Window) : Type 0 where
   judged : IsJudgedBy places input reply
   stands : StandsFor window (list_after places input reply)
@@ -164,7 +164,7 @@ call_keeps places (MakeMic payload) context random reply after octets_are stands
 call_keeps places (VerifyMic token payload) context random reply after octets_are stands h =
     record { judged = tt; stands = along places context.window after.window (ap (λ (k : Kerberos). k.window) h.stays) stands }
 
--- an event that is no call says nothing of a message
+-- an event that is no call keeps the list, and its reply judges no message
 quiet_keeps : (places : List ℤ) (input : Input) (reply : Reply) (window : Window) → is_call input ≡ false → StandsFor window places → Keeps places input reply window
 quiet_keeps places (Token octets) reply window e stands = record { judged = tt; stands = stands }
 quiet_keeps places Start reply window e stands = record { judged = tt; stands = stands }
@@ -175,7 +175,7 @@ quiet_keeps places (Unwrap message) reply window e stands = absurd (cc)
 quiet_keeps places (MakeMic payload) reply window e stands = absurd (cc)
 quiet_keeps places (VerifyMic token payload) reply window e stands = absurd (cc)
 
--- the first checks tell no age
+-- the first checks never fail for a message's age
 same_refusal : (x y : Cause) → ◌≡◌ {A = Result Connection Cause} (Err x) (Err y) → x ≡ y
 same_refusal x y e = cc
 
@@ -195,7 +195,7 @@ checks_quiet true (Some connection) cause e age = waits_quiet connection connect
 ready_quiet : (connections : List (ℕ × Connection)) (event : Event) (cause : Cause) → ready connections event ≡ Err cause → TellsAge cause → ⊥
 ready_quiet connections event cause e age = checks_quiet (nat_le event.moment last_moment) (at_id event.connection connections) cause e age
 
--- so a refusal of theirs says nothing of a message
+-- a refusal of the first checks judges no message, and leaves the list
 refusal_keeps : (places : List ℤ) (input : Input) (cause : Cause) → (TellsAge cause → ⊥) → IsJudgedBy places input (Refused (error_of cause)) × (list_after places input (Refused (error_of cause)) ≡ places)
 refusal_keeps places (Token octets) cause quiet = (tt, refl)
 refusal_keeps places Start cause quiet = (tt, refl)
@@ -236,7 +236,7 @@ module _ (lists : Lists) (event : Event) where
   after_there reply id e = rw e refl
 
 module _ {G : Type 0} (lists : Lists) (event : Event) where
-  -- what an event says by the lists, and the lists for which the windows stand then
+  -- the reply to an event by the lists, and the lists that the windows represent then
   record Follows (reply : Reply) (after : State G) : Type 0 where
     judged : IsJudgedBy (lists event.connection) event.input reply
     stand : StandFor after (lists_after lists event reply)
@@ -265,7 +265,7 @@ module _ {G : Type 0} (lists : Lists) (event : Event) where
       stand = λ id other at. put_at connection next there put keeps.stands id other (event.connection == id) refl at;
     }
 
-    -- none is set: a refusal, or an event that is no call
+    -- no connection is set: a refusal, or an event that is no call
     same_at : after ≡ state → list_after (lists event.connection) event.input reply ≡ lists event.connection
         → (id : ℕ) (other : Connection) (same : Bool) → (event.connection == id) ≡ same → at_id id after.connections ≡ Some other → StandsFor other.context.window (lists_after lists event reply id)
     same_at is list id other true e at =
@@ -357,7 +357,7 @@ module _ {G : Type 0} (admits : G → Ask → Verdict → G → Type 0) where
 
 -- ---- no place twice
 
--- a fresh place is none of the list
+-- a fresh place is not in the list
 young_new : (young seen : Bool) → (if young then (if seen then Repeated else Fresh) else Old) ≡ Fresh → seen ≡ false
 young_new true true e = absurd (cc)
 young_new true false e = refl

@@ -41,7 +41,7 @@ pub precede-nothing : (rest : List ℕ) → Precede [] rest
 precede-nothing [] = tt
 precede-nothing (k ∷ rest) = (tt, precede-nothing rest)
 
--- the next entry of a map, put behind those before it
+-- the next entry of a map, put after those before it
 pub record IsPut {A B : Type 0} (f : ℕ × A → B) (now : List (ℕ × B)) (rest : List (ℕ × A)) (all : List (ℕ × B)) : Type 0 where
   pub whole : now ++ map (λ (entry : ℕ × A). (entry.0, f entry)) rest ≡ all
   pub precede : Precede (keys_of now) (keys_of rest)

@@ -1,4 +1,4 @@
--- Runs of the policy machine, one event more.
+-- Runs of the policy machine, with one more event.
 use Rattle.std.proofs.Common.{◌≡◌, suc, List, [], ◌∷◌, ◌++◌, length, refl, ap, ◌∙◌, subst, append_assoc}
 use Rattle.krb_replay.specs.declared.ask.Ask.{Ask}
 use Rattle.krb_replay.specs.declared.ask.Verdict.{Verdict}
@@ -7,7 +7,7 @@ use Rattle.krb_machine.specs.declared.reply.Reply.{Reply}
 use Rattle.krb_machine.specs.Policy.{State, Steps, Runs, RunsOn}
 
 module _ {G : Type 0} (admits : G → Ask → Verdict → G → Type 0) where
-  -- a run over one event more
+  -- a run over one more event
   pub Runs-push : (state : State G) (events : List Event) (replies : List Reply) (between : State G) (event : Event) (reply : Reply) (after : State G)
       → Runs admits state events replies between → Steps admits between event reply after → Runs admits state (events ++ event ∷ []) (replies ++ reply ∷ []) after
   Runs-push state [] [] between event reply after runs steps = let P : State G → Type 0 = λ s. Steps admits s event reply after in (after, subst P runs steps, refl)
@@ -23,7 +23,7 @@ module _ {G : Type 0} (admits : G → Ask → Verdict → G → Type 0) where
   Runs-length state (event ∷ events) [] after runs = absurd runs
   Runs-length state (event ∷ events) (reply ∷ replies) after runs = ap suc (Runs-length runs.0 events replies after runs.2)
 
-  -- replies that are made behind others
+  -- replies that are appended to others
   pub RunsOn-push : (state : State G) (events : List Event) (old now new : List Reply) (between : State G) (event : Event) (reply : Reply) (after : State G)
       → RunsOn admits state events old now between → Steps admits between event reply after → new ≡ now ++ reply ∷ [] → RunsOn admits state (events ++ event ∷ []) old new after
   RunsOn-push state events old now new between event reply after r steps is = record {

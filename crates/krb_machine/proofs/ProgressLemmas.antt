@@ -1,4 +1,4 @@
--- What a session knows against what the lines declare.
+-- The progress of a session against the declarations of the lines.
 use Rattle.std.proofs.Common.{◌≡◌, ℕ, ◌+◌, ◌<◌, ◌⊎◌, inl, inr, Bool, true, false, List, [], ◌∷◌, ◌++◌, length, length-append, take, Option, Some, None, is_some, option_map, refl, ap, sym, ◌∙◌, subst, arith}
 use Rattle.std.specs.Prelude.{if◌then◌else◌, MatchBool, MatchOption, IfSome}
 use Rattle.std.proofs.lemmas.List.{append-nil, take_at}
@@ -25,7 +25,7 @@ use Rattle.krb_machine.proofs.PolicyLemmas.{Runs-push}
 use Rattle.krb_machine.proofs.HistoryLemmas.{step-remembered}
 use Rattle.krb_machine.proofs.GrowthLemmas.{Grows}
 
--- what a line makes that is taken
+-- the state after a line that is taken
 pub record Made (progress : Progress) (so_far : Declared) (replies : List Reply) (declared : Option Declared) (text : List ℕ) (lines : ℕ) (after : Progress) : Type 0 where
   pub next : Declared
   pub is : declared ≡ Some next
@@ -34,7 +34,7 @@ pub record Made (progress : Progress) (so_far : Declared) (replies : List Reply)
   pub text_is : replies_text all ≡ replies_text replies ++ text
   pub lines_are : after.lines ≡ lines
 
--- what an event needs of a session: a skew, and the service behind the events so far
+-- the needs of an event: a session with a skew, and the service after the events so far
 record IsReady (so_far : Declared) (replies : List Reply) (before : State Book) : Type 0 where
   history : History
   skew : is_some so_far.setup.skew ≡ true
@@ -241,7 +241,7 @@ first_grown progress so_far final replies m (inr p) =
     let S : Setup → Type 0 = λ setup. Runs (Remembers (skew_of setup)) (service_of setup) (take (length so_far.events) final.events) replies (with_gate m.after m.history) in
     record { runs = subst S (sym p.0) (subst E (sym front) m.runs); is = refl }
 
--- the replies so far are those to the first events of all that is declared
+-- the replies so far are those to the first events of all declared ones
 pub first-answered : (progress : Progress) (so_far final : Declared) (replies : List Reply) → progress.answered ≡ length so_far.events → IsBefore progress so_far replies ⊎ IsAmid progress so_far replies → Grows so_far final
     → (after : State History) × Answered (first_events progress.answered final) (replies_text replies) replies after
 first-answered progress so_far final replies answered (inl b) grows =
@@ -257,7 +257,7 @@ before-answered progress so_far replies b =
     let E : List Event → Type 0 = λ es. Runs (Remembers (skew_of so_far.setup)) (service_of so_far.setup) es replies (service_of so_far.setup) in
     record { runs = subst E (sym b.events) (subst R (sym b.none) refl); is = refl }
 
--- the replies so far are those to what is declared so far
+-- the replies so far are those to the events declared so far
 pub all-answered : (progress : Progress) (so_far : Declared) (replies : List Reply) → IsBefore progress so_far replies ⊎ IsAmid progress so_far replies
     → (after : State History) × Answered so_far (replies_text replies) replies after
 all-answered progress so_far replies (inl b) = (service_of so_far.setup, before-answered progress so_far replies b)

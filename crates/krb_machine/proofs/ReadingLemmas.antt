@@ -1,4 +1,4 @@
--- Lines that are taken one after another are what the lines declare.
+-- The state after lines that are taken one after another follows their declarations.
 use Rattle.std.proofs.Common.{◌≡◌, ℕ, ◌+◌, true, false, List, [], ◌∷◌, ◌++◌, length, Some, inl, refl, ap, sym, ◌∙◌, subst, append_assoc, arith}
 use Rattle.std.proofs.lemmas.List.{append-nil}
 use Rattle.krb_text.specs.Limits.{is_long}
@@ -26,7 +26,7 @@ pub read-long : (total at n : ℕ) (so_far : Declared) (line : List ℕ) (rest :
     → read_lines total at n so_far (line ∷ rest) ≡ record { so_far = so_far; number = n; stop = Long }
 read-long total at n so_far line rest e = rw e refl
 
--- what the first lines declare, after what was declared before them, and the replies to all their events
+-- the declarations of the first lines, after the declarations before them, and the replies to all their events
 pub record Declares (total at : ℕ) (progress : Progress) (so_far : Declared) (replies : List Reply) (first others : List (List ℕ)) (text : List ℕ) (after : Progress) : Type 0 where
   pub next : Declared
   pub all : List Reply
@@ -59,7 +59,7 @@ run-declares total at progress so_far replies (line ∷ more) others text after 
       text_is = r.text_is ∙ ap (λ l. l ++ run.later) m.text_is ∙ append_assoc (replies_text replies) run.own run.later ∙ ap (λ l. replies_text replies ++ l) (sym run.text_is);
     }
 
--- after the first lines of an input a session follows what they declare, and their replies are written
+-- after the first lines of an input a session follows their declarations, and their replies are written
 pub record Reached (total at : ℕ) (input_lines others : List (List ℕ)) (text : List ℕ) (progress : Progress) : Type 0 where
   pub so_far : Declared
   pub replies : List Reply
@@ -84,7 +84,7 @@ pub input-reaches : (input : List ℕ) (others : List (List ℕ)) (text : List �
     → Reached (length input) (octet_count r.first) (r.first ++ others) others text progress
 input-reaches input others text progress r = run-reaches (length input) r.first others text progress r.runs r.short
 
--- the same, of the reading of the whole input
+-- the reading of the whole input is the reading from the first of the other lines on
 pub reading-from : (input : List ℕ) (others : List (List ℕ)) (text : List ℕ) (progress : Progress) (r : Reaches line_rules new_progress input others text progress)
     (k : Reached (length input) (octet_count r.first) (r.first ++ others) others text progress)
     → reading_of input ≡ read_lines (length input) (octet_count r.first) (progress.lines + 1) k.so_far others

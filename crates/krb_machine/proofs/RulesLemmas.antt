@@ -1,4 +1,4 @@
--- No event changes the rules of a connection, those that lines describe have none, and a context without rules asks nothing besides.
+-- No event changes the rules of a connection, connections that lines describe have none, and a context without rules adds no check.
 use Rattle.std.proofs.Common.{◌≡◌, ℕ, Bool, true, false, cond, List, [], ◌∷◌, Option, Some, None, Result, Ok, Err, refl, sym, ap, ◌∙◌, subst}
 use Rattle.std.specs.Prelude.{◌==◌}
 use Rattle.std.specs.Ordering.{nat_cmp}
@@ -112,7 +112,7 @@ call_rules (Unwrap message) context random reply after h = opened_rules context 
 call_rules (MakeMic payload) context random reply after h = signed_rules context h.answer reply after h.made
 call_rules (VerifyMic token payload) context random reply after h = ap (λ (k : Kerberos). k.rules) h.stays
 
--- ---- those of every connection
+-- ---- the rules of every connection
 
 some_same : (x y : Connection) (o : Option Connection) → o ≡ Some x → o ≡ Some y → x ≡ y
 some_same x y o p q = let e : Some x ≡ Some y = sym p ∙ q in cc

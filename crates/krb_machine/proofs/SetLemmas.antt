@@ -1,4 +1,4 @@
--- What stands at a number once a connection is set, and the connection that the first checks of an event found.
+-- The connection at a number after a connection is set, and the connection that the first checks of an event found.
 use Rattle.std.proofs.Common.{◌≡◌, ℕ, Bool, true, false, cond, List, [], ◌∷◌, Option, Some, None, Result, Ok, Err, refl, sym, ap, ◌∙◌}
 use Rattle.std.specs.Prelude.{◌==◌, not, nat_le}
 use Rattle.std.specs.Ordering.{nat_cmp}
@@ -19,7 +19,7 @@ use Rattle.krb_machine.specs.Policy.{◌>>=◌, check, called, ready, reached, h
 use Rattle.krb_machine.specs.declared.connection.Connection.{Connection}
 use Rattle.krb_machine.specs.declared.run.Run.{Run}
 
--- ---- what stands at a number
+-- ---- the connection at a number
 
 module _ {A : Type 0} (test : ℕ → Bool) where
   there_first : (entry : ℕ × A) (entries put : List (ℕ × A)) (old new : A) (b : Bool) → test entry.0 ≡ b → (lookup test entries ≡ Some old → lookup test put ≡ Some new)
@@ -49,7 +49,7 @@ tests_apart : (at id : ℕ) → (at == id) ≡ false → (k : ℕ) → is_at (na
 tests_apart at id differs k is =
     unsigned_tied id k ∙ other_apart at id k (id == k) differs (eqb-true at k (sym (unsigned_tied at k) ∙ is)) refl
 
--- the number whose connection is set has the new one, and every other number has what it had
+-- the number whose connection is set has the new connection, and every other number keeps its own
 pub set-there : (connections : List (ℕ × Connection)) (id : ℕ) (old next : Connection) → at_id id connections ≡ Some old → at_id id (set_value (is_at (nat_cmp id)) connections next) ≡ Some next
 set-there connections id old next e = set_there (is_at (nat_cmp id)) connections old next e
 
@@ -57,12 +57,12 @@ pub set-apart : (connections : List (ℕ × Connection)) (at id : ℕ) (next : C
     → at_id id (set_value (is_at (nat_cmp at)) connections next) ≡ at_id id connections
 set-apart connections at id next differs = set_apart (is_at (nat_cmp at)) (is_at (nat_cmp id)) (tests_apart at id differs) connections next
 
--- ---- what the first checks found stands at the event's number
+-- ---- the connection that the first checks found is the one at the event's number
 
 same_ok : {A : Type 0} (x y : A) → ◌≡◌ {A = Result A Cause} (Ok x) (Ok y) → x ≡ y
 same_ok x y e = cc
 
--- checks that let something through found something first
+-- checks that pass found a value first
 record Bound {A B : Type 0} (first : Result A Cause) (next : A → Result B Cause) (b : B) : Type 0 where
   found : A
   first_is : first ≡ Ok found

@@ -1,4 +1,4 @@
--- What is known of a run where its step stopped.
+-- A run after a step that stopped.
 use Rattle.std.proofs.Common.{◌≡◌, Result, Err}
 use Rattle.krb_as.specs.declared.done.InitDone.{InitDone}
 use Rattle.krb_as.specs.Turns.{IsWant}
@@ -13,7 +13,7 @@ use Rattle.sspi_generator.specs.declared.task.GeneratorState.TheVariants.{Suspen
 abbrev State : Type 0
 State = GeneratorState NetworkRequest (Result InitDone Error)
 
--- it is as before, if memory ran out
+-- the run is as before if memory ran out
 same_out : (a b : Result InitDone Error) → ◌≡◌ {A = State} (Completed a) (Completed b) → a ≡ b
 same_out a b h = cc
 

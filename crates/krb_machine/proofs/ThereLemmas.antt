@@ -1,4 +1,4 @@
--- What an event makes of its connection is the policy machine's step.
+-- The change that an event makes to its connection is the policy machine's step.
 use Rattle.std.proofs.Common.{◌≡◌, ℕ, ◌<◌, ◌≤◌, nat_le, not, Bool, true, false, List, Option, None, Some, is_some, is_none, Result, Ok, Err, IfOk, refl, sym, ap, ◌∙◌, subst, arith}
 use Rattle.std.specs.Ordering.{nat_cmp}
 use Rattle.std.specs.BTreeMap.{is_at}
@@ -31,7 +31,7 @@ use Rattle.krb_machine.specs.declared.reply.Reply.{Reply}
 use Rattle.krb_machine.specs.declared.reply.Reply.TheVariants.{Refused}
 use Rattle.krb_machine.specs.declared.run.Run.{Run}
 
--- a call is no answer of the network's
+-- a call is no answer of the network
 no_answer : (input : Input) → is_call input ≡ true → answer_of input ≡ None
 no_answer (inputs.Token octets) e = refl
 no_answer inputs.Start e = refl
@@ -42,12 +42,12 @@ no_answer (inputs.Unwrap message) e = refl
 no_answer (inputs.MakeMic payload) e = refl
 no_answer (inputs.VerifyMic token payload) e = refl
 
--- who is no initiator is an acceptor
+-- an end that is no initiator is an acceptor
 acceptor_is : (server : Option ServerProperties) → is_none server ≡ false → is_some server ≡ true
 acceptor_is None e = absurd (cc)
 acceptor_is (Some server) e = refl
 
--- the checks of a connection, by what it awaits
+-- the checks of a connection, by the run whose answer it awaits
 abbrev ready_by : Option Run → Connection → Result Connection Cause
 ready_by waits connection = check causes.Sequence (not (is_some waits)) >>= (λ free. Ok connection)
 
@@ -103,7 +103,7 @@ module _ {G : Type 0} (admits : G → Ask → Verdict → G → Type 0) (state :
   pub step-refused : (cause : Cause) → called state.connections event ≡ Err cause → Steps admits state event (Refused (error_of cause)) state
   step-refused cause e = refused-by cause e (is_call event.input)
 
-  -- a connection that stays leaves the connections
+  -- the connections are unchanged if the connection is
   pub connection-stays : (connection next : Connection) → at_id event.connection state.connections ≡ Some connection → next ≡ connection
       → set_value (is_at (nat_cmp event.connection)) state.connections next ≡ state.connections
   connection-stays connection next stands same =
@@ -196,7 +196,7 @@ module _ {G : Type 0} (admits : G → Ask → Verdict → G → Type 0) (state :
     step-there found h = by-there found (is_call event.input) refl h
 
 module _ {G : Type 0} (admits : G → Ask → Verdict → G → Type 0) where
-  -- what a connection makes of an event in time is a step of its service
+  -- the change that an event in time makes to a connection is a step of its service
   pub step-taken : (state last : State G) (event : Event) (connection next : Connection) (made : Result Reply OutOfMemory) → event.moment ≤ last_moment
       → at_id event.connection state.connections ≡ Some connection → last.connections ≡ set_value (is_at (nat_cmp event.connection)) state.connections next → last.env ≡ state.env
       → IfOk made (λ reply. StepsThere admits state.env connection state.gate event reply next last.gate) → IfOk made (λ reply. Steps admits state event reply last)

@@ -1,4 +1,4 @@
--- What the checks of a message say of its number and the window.
+-- The checks of a message, its sequence number and the window.
 use Rattle.std.proofs.Common.{◌≡◌, ℕ, ◌^◌, ◌<◌, Bool, true, false, List, [], ◌∷◌, take, Option, Some, None, Result, Ok, Err, inl, inr, refl, sym, ap, ◌∙◌, subst, arith}
 use Rattle.std.specs.Prelude.{◌⊎◌, ◌&&◌, nat_le, length, slice_index, if◌then◌else◌}
 use Rattle.std.specs.Int.{from_be_bytes, w32}
@@ -18,7 +18,7 @@ use Rattle.sspi_core.specs.Checks.{Finds, Takes, Holds, Passes, Gives, Goes, The
 use Rattle.sspi_core.specs.declared.cause.Cause.{Cause}
 use Rattle.sspi_core.specs.declared.cause.Cause.TheVariants as causes
 
--- the causes that tell a message's age
+-- the causes of a refusal for a message's age
 abbrev pub TellsAge : Cause → Type 0
 TellsAge cause = (cause ≡ causes.Old) ⊎ (cause ≡ causes.Repeated)
 
@@ -26,7 +26,7 @@ pub no_age : (cause : Cause) → (cause ≡ causes.Old → ⊥) → (cause ≡ c
 no_age cause p q (inl e) = p e
 no_age cause p q (inr e) = q e
 
--- checks that never tell it
+-- checks that never fail for a message's age
 record NoAge {A : Type 0} (checks : Result A Cause → Type 0) : Type 0 where
   never : (cause : Cause) → checks (Err cause) → TellsAge cause → ⊥
 
@@ -59,7 +59,7 @@ gives_no_age {A} value = record { never = λ e h age. gave e h.is }
     gave : (e : Cause) → ◌≡◌ {A = Result A Cause} (Err e) (Ok value) → ⊥
     gave e is = absurd (cc)
 
--- a refusal that tells it comes behind the first checks
+-- a refusal for a message's age comes after the first checks
 record Behind {A B : Type 0} (first : Result A Cause → Type 0) (next : A → Result B Cause → Type 0) (answer : Result B Cause) : Type 0 where
   found : A
   held : first (Ok found)
@@ -113,7 +113,7 @@ heads_front params key peer text header h =
     let d = passed _ _ header c.rest in
     same_ok header a.found d.rest.is ∙ front_of text a.found (nat_le 16 (length text) && is_wrap_header (take 16 text)) a.held.is
 
--- what the last check says
+-- the last check
 pub aged_fresh : (verdict : NumberVerdict) (u : Unit {0}) → ◌≡◌ {A = Result (Unit {0}) Cause} (Ok u) (err_of (aged verdict)) → verdict ≡ Fresh
 aged_fresh Fresh u e = refl
 aged_fresh Old u e = absurd (cc)
@@ -139,7 +139,7 @@ last_by verdict opened (Ok u) cause held rest = let e = rest.is in absurd (cc)
 last_by verdict opened (Err e) cause held rest =
     aged_as verdict cause (subst (λ (c : Cause). ◌≡◌ {A = Result (Unit {0}) Cause} (Err c) (err_of (aged verdict))) (sym (same_err {A = List ℕ} cause e rest)) held.is)
 
--- a message that is opened is fresh,
+-- a message that is decrypted is fresh
 pub opened_is_fresh : (context : Kerberos) (message : List Buffer) (text : List ℕ) → Unwraps context message (Ok text) → number_verdict context.window (message_number message) ≡ Fresh
 unfolding ReceivesMessage
 opened_is_fresh context message text h =
@@ -151,7 +151,7 @@ opened_is_fresh context message text h =
     let front = heads_front (params_for context (spelled message)) a.found (is_peer_acceptor context) (spelled message) c.found c.held in
     ap (λ (header : List ℕ). number_verdict context.window (number_of header)) (sym front) ∙ aged_fresh (number_verdict context.window (number_of c.found)) e.found e.held.is
 
--- and one whose refusal tells its age is refused by the window
+-- a message that is refused for its age is refused by the window
 pub refused_by_age : (context : Kerberos) (message : List Buffer) (cause : Cause) → TellsAge cause → Unwraps context message (Err cause) → aged (number_verdict context.window (message_number message)) ≡ Some cause
 unfolding ReceivesMessage
 refused_by_age context message cause age h =

@@ -1,4 +1,4 @@
--- When an event admits its peer, and what it is answered then (RFC 4120, sections 3.2.3 and 3.2.4). Nothing here decrypts.
+-- The events that admit their peer, and the replies to them (RFC 4120, sections 3.2.3 and 3.2.4). Nothing here decrypts.
 use Rattle.std.specs.Prelude.{◌≡◌, ◌≤◌, ◌^◌, ℕ, Bool, true, List, [], length, Option, Some, Ok, if◌then◌else◌}
 use Rattle.std.specs.Ordering.{nat_cmp}
 use Rattle.std.specs.BTreeMap.{is_at}
@@ -45,7 +45,7 @@ pub record IsEncryptionOf {A : Type 0} (layout : Layout A) (suite : CipherSuite)
   pub sealed : IsSealed suite key usage part.cipher plain
 
 -- a token is an AP-REQ: its ticket is encrypted under the key of the service that it names, with usage 2, its authenticator under the
--- key inside the ticket, with usage 11, and both speak of one client. By a rule the type of its name is a hint (RFC 4120, section 6.2)
+-- key inside the ticket, with usage 11, and both name one client. By a rule the type of its name is a hint (RFC 4120, section 6.2)
 pub record IsGenuine (rules : Rules) (server : ServerProperties) (dce : Bool) (token : List ℕ) (request : Request) : Type 0 where
   pub short : length token ≤ 2 ^ 24
   pub is_ap_req : IsApReq dce token request.message
@@ -56,31 +56,31 @@ pub record IsGenuine (rules : Rules) (server : ServerProperties) (dce : Bool) (t
   pub authenticator : IsEncryptionOf authenticator_layout request.suite request.part.key.key_value 11 request.authenticator request.message.authenticator
   pub same_client : is_same_client rules request.part request.authenticator ≡ true
 
--- the ticket and its authenticator are as the rules of the context ask. Each field asks something only by a rule, and of bindings only
--- where the context has those of its channel
+-- the ticket and its authenticator meet the rules of the context. Each field demands something only by a rule, and of bindings only
+-- if the context has those of its channel
 pub record IsAllowed (context : Kerberos) (request : Request) : Type 0 where
   -- the ticket is not INVALID (RFC 4120, section 3.2.3)
   pub validated : is_validated context.rules request.part ≡ true
-  -- it came through no further realms, or a KDC checked them (RFC 4120, section 2.7)
+  -- the ticket came through no further realms, or a KDC checked them (RFC 4120, section 2.7)
   pub transit : is_transit_checked context.rules request.part ≡ true
-  -- the checksum of the authenticator tells the bindings of its client's channel (RFC 4121, section 4.1.1)
+  -- the checksum of the authenticator states the bindings of its client's channel (RFC 4121, section 4.1.1)
   pub told : tells_bindings (channel_held context) request.authenticator.cksum ≡ true
-  -- and they are those of this channel (RFC 4121, section 4.1.1.2)
+  -- the bindings are those of this channel (RFC 4121, section 4.1.1.2)
   pub bound : is_bound (channel_held context) request.authenticator.cksum ≡ true
 
--- each connection of a service goes by these rules
+-- each connection of a service follows these rules
 abbrev pub GoBy : {G : Type 0} → Rules → State G → Type 0
 GoBy rules state = (id : ℕ) (connection : Connection) → at_id id state.connections ≡ Some connection → connection.context.rules ≡ rules
 
--- its client is known here: by a user name, or by a rule with any name that has a component (RFC 4120, section 6.2). Its options are known,
--- and a subkey that is to be taken fits its type
+-- the client of a request is known here: by a user name, or by a rule with any name that has a component (RFC 4120, section 6.2).
+-- The options of the request are known, and a subkey that is to be used fits its type
 pub record IsInOrder (rules : Rules) (request : Request) : Type 0 where
   pub known : is_known_client rules request.authenticator.cname request.authenticator.crealm ≡ true
   pub options : is_known_options request.message.ap_options ≡ true
   pub subkey : has_good_subkey request ≡ true
 
--- an event is to be admitted: the first checks let its token through to an acceptor that waits for one, the token is a genuine AP-REQ, the
--- rules allow it, the gate that never forgets says Admitted, and the request is in order
+-- an event is to be admitted: its token passes the first checks and is for an acceptor that waits for one, the token is a genuine
+-- AP-REQ, the rules allow it, the gate that never forgets says Admitted, and the request is in order
 pub record IsAdmissible (skew : ℕ) (state : State History) (event : Event) : Type 0 where
   pub connection : Connection
   pub token : List ℕ
@@ -94,7 +94,7 @@ pub record IsAdmissible (skew : ℕ) (state : State History) (event : Event) : T
   pub verdict : verdict_of skew state.gate (ask_of connection.context.rules request event.moment) ≡ Admitted
   pub in_order : IsInOrder connection.context.rules request
 
--- an AP-REP where the request asks for one, and else nothing but that the client is admitted
+-- the reply that admits the client: an AP-REP if the request asks for one, otherwise an empty token
 abbrev pub admitted_reply : Bool → Bool → ℕ → Draw → Request → Reply
 admitted_reply dce user_to_user number draw request =
     if is_mutual request.message.ap_options then Done (status_in (state_behind dce)) (token_with dce user_to_user (reply_message number draw request)) true
@@ -105,18 +105,18 @@ reply_to {skew} {state} {event} admissible =
     let context = admissible.connection.context in
     admitted_reply (asks_dce_style (server_flags event.flags)) context.krb5_user_to_user context.seq_number (draw_of event) admissible.request
 
--- the user name that the acceptor has of the client, where it has one
+-- the user name by which the acceptor knows the client, if it has one
 abbrev pub user_at : Kerberos → Request → Option UserName
 user_at context request = user_of context.rules request.authenticator.cname request.authenticator.crealm
 
--- what the admission makes: the client, the suite and the keys, the number and the state that the options of the request ask for
+-- the admission: the client, the suite and the keys, the sequence number and the state that the options of the request ask for
 abbrev pub admission_to : {skew : ℕ} {state : State History} {event : Event} → IsAdmissible skew state event → Admission
 admission_to {skew} {state} {event} admissible =
     let context = admissible.connection.context in
     let request = admissible.request in
     admission_of (asks_dce_style (server_flags event.flags)) context.krb5_user_to_user context.seq_number (draw_of event) request (user_at context request)
 
--- the service then: the client is admitted at the connection, the gate has the record, and all else stays
+-- the service after the event: the client is admitted at the connection, the gate has the record, and all else is unchanged
 abbrev pub service_behind : {skew : ℕ} {state : State History} {event : Event} → IsAdmissible skew state event → State History
 service_behind {skew} {state} {event} admissible =
     let connection = admissible.connection in record {

@@ -1,4 +1,4 @@
--- What the demonstration writes.
+-- The output of the demonstration.
 use Rattle.std.specs.Prelude.{◌≡◌, ℕ, ◌-◌, ◌^◌, nat_lt, nat_le, ◌&&◌, List, ◌++◌, codes, length, Option, Some, None, option_and_then, if◌then◌else◌, IfSome}
 use Rattle.std.specs.Fmt.{decimal}
 use Rattle.std.specs.Io.KnownBytes.{Appends}
@@ -20,7 +20,7 @@ use Rattle.krb_machine.specs.declared.reply.Reply.{Reply}
 abbrev pub event_count : ℕ → Option ℕ
 event_count n = if nat_lt 0 n && nat_le n 10000 then Some n else None
 
--- how many the words ask for: `demo` and a number
+-- the number of events that the words ask for: `demo` and a number
 abbrev pub demo_number : List (List ℕ) → Option ℕ
 demo_number words = option_and_then event_count (number_behind (codes "demo") (2 ^ 64 - 1) words)
 
@@ -37,7 +37,7 @@ pub record Counts (n : ℕ) (line : List ℕ) : Type 0 where
   pub answered : Answered so_far (replies_text replies) replies after
   pub is : line ≡ demo_line n (admissions replies) (length (window (skew_of so_far.setup) after.gate))
 
--- what is written, by the status
+-- the text that is written, by the status
 abbrev pub Demonstrates : Option ℕ → Option (List ℕ) → Option (List ℕ) → Status → Type 0
 Demonstrates number before after Done = IfSome number (λ n. (line : List ℕ) × Counts n line × Appends before after line)
 Demonstrates number before after WriteFault = IfSome number (λ n. (line : List ℕ) × Counts n line × AppendsFront before after line)

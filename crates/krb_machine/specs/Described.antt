@@ -25,11 +25,11 @@ use Rattle.krb_machine.specs.Policy.{State}
 abbrev pub Remembers : ℕ → History → Ask → Verdict → History → Type 0
 Remembers skew old ask verdict new = (verdict ≡ verdict_of skew old ask) × (new ≡ history_after skew old ask)
 
--- the skew that the lines tell
+-- the skew that the lines set, 0 if none does
 abbrev pub skew_of : Setup → ℕ
 skew_of setup = unwrap_or setup.skew 0
 
--- the components of a service's name, between which a `/` stands
+-- the components of a service's name, with a `/` between two of them
 abbrev pub components : List ℕ → List (List ℕ)
 components service = slice_split (λ octet. octet == 0x2f) service
 
@@ -37,7 +37,8 @@ components service = slice_split (λ octet. octet == 0x2f) service
 abbrev pub named_key : ServiceKey → PrincipalName × List ℕ
 named_key key = (service_named (components key.service), key.octets)
 
--- one line more with a key: the first with the acceptor's own service has the primary key, each other a further one
+-- the acceptor after one more line with a key: the first line for the acceptor's own service sets the primary key, each other line
+-- adds a further key
 abbrev pub with_key : List ℕ → ServerProperties → ServiceKey → ServerProperties
 with_key service server key =
     if bytes_eq key.service service && is_none server.ticket_decryption_key then record server { ticket_decryption_key = Some key.octets }
@@ -47,7 +48,7 @@ with_key service server key =
 abbrev pub acceptor_properties : ℕ → List ℕ → Endpoint → ServerProperties
 acceptor_properties skew service endpoint = fold (with_key service) (new_properties (components service) endpoint.credentials skew None) endpoint.keys
 
--- what an end is known by, and where its KDC is
+-- the configuration of an end: its host, and the URL of its KDC
 abbrev pub config_of : Endpoint → KerberosConfig
 config_of endpoint = record { kdc_url = endpoint.kdc_url; client_computer_name = endpoint.host }
 
@@ -56,7 +57,7 @@ abbrev pub acceptor_context : ℕ → List ℕ → Endpoint → Kerberos
 acceptor_context skew service endpoint =
     new_context (default_params 22 24) (config_of endpoint) (Some (acceptor_properties skew service endpoint)) endpoint.number
 
--- an initiator before its exchange, and who it speaks for
+-- an initiator before its exchange, with its user
 abbrev pub initiator_context : Endpoint → Kerberos
 initiator_context endpoint = record (new_context (default_params 24 22) (config_of endpoint) None endpoint.number) { auth_identity = endpoint.credentials }
 

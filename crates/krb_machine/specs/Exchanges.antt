@@ -1,5 +1,5 @@
--- How a connection's exchange with KDCs goes on, and what it is answered. Between its steps the connection awaits what a KDC answers,
--- and its context is as it was before.
+-- The steps of a connection's exchange with KDCs, and the replies to them. Between the steps the connection awaits the answer of a
+-- KDC, and its context is as it was before.
 use Rattle.std.specs.Prelude.{◌≡◌, ℕ, Bool, false, List, Option, Some, None, is_some, Result, Ok, Err}
 use Rattle.krb_context.specs.Contexts.{settled}
 use Rattle.krb_script.specs.declared.input.Input.{Input}
@@ -20,11 +20,11 @@ use Rattle.krb_machine.specs.declared.connection.Connection.{Connection}
 use Rattle.krb_machine.specs.declared.reply.Reply.{Reply}
 use Rattle.krb_machine.specs.declared.reply.Reply.TheVariants.{Done, Ask, Refused}
 
--- the connection awaits what a KDC answers
+-- the connection awaits the answer of a KDC
 abbrev pub awaits : Connection → Bool
 awaits connection = is_some connection.exchange
 
--- what an event brings of the network: a KDC's reply, or that there is none
+-- the answer of the network that an event brings: a KDC's reply, or a fault
 abbrev pub answer_of : Input → Option (Result (List ℕ) NetFault)
 answer_of (Token octets) = None
 answer_of Start = None
@@ -35,8 +35,8 @@ answer_of (Unwrap message) = None
 answer_of (MakeMic payload) = None
 answer_of (VerifyMic token payload) = None
 
--- what a step of an exchange makes of its connection: a request to a KDC, whose answer the connection awaits then; the end, whose change
--- the context takes; or a refusal, which ends the exchange too and leaves the context
+-- the connection after a step of its exchange: at a request to a KDC, it awaits the answer; at the end, its context takes the change;
+-- a refusal ends the exchange too and leaves the context
 abbrev pub LeadsTo : Connection → Step → Reply → Connection → Type 0
 LeadsTo connection (Asks request run) reply next = (reply ≡ Ask request) × (next ≡ record connection { exchange = Some run })
 LeadsTo connection (Ends done) reply next =
@@ -55,7 +55,7 @@ pub record GoesOn (connection : Connection) (run : Run) (answer : Result (List �
   pub resumes : ExchangeGoesOn run answer draw step
   pub leads : LeadsTo connection step reply next
 
--- where memory can run out behind an acceptor's answer: for the answer itself, or for the exchange that it begins
+-- the answers of an acceptor after which memory can run out: for the answer itself, or for the exchange that it begins
 abbrev pub StopsAt : Result Accepted Error → Type 0
 StopsAt (Ok (taken.Done status token admits)) = ⊥
 StopsAt (Ok (taken.Run run)) = Unit {0}

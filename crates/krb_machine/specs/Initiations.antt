@@ -1,4 +1,4 @@
--- What an initiator begins at an event, and what it hears.
+-- The initiation that an initiator begins at an event, and the token that it takes.
 use Rattle.std.specs.Prelude.{◌≡◌, ℕ, Bool, true, false, List, [], None, Result, Ok, Err, if◌then◌else◌}
 use Rattle.krb_conf.specs.declared.env.Env.{Env}
 use Rattle.krb_context.specs.declared.state.KerberosState.{KerberosState}
@@ -28,7 +28,8 @@ is_before Preauthentication = true
 is_before ApExchange = false
 is_before Final = false
 
--- the token that an event brings to an initiator: its start, which may come before the service is shown a ticket, is the empty one
+-- the token that an event brings to an initiator: its start is the empty token, and may come only before the service is shown a
+-- ticket
 abbrev pub token_heard : KerberosState → Input → Result (List ℕ) Cause
 token_heard state (Token octets) = Ok octets
 token_heard state Start = if is_before state then Ok [] else Err Sequence
@@ -39,7 +40,7 @@ token_heard state (Unwrap message) = Err Sequence
 token_heard state (MakeMic payload) = Err Sequence
 token_heard state (VerifyMic token payload) = Err Sequence
 
--- what an initiator asks for: for its own identity and target, by the environment of the service, and without channel bindings
+-- the options of an initiator: its own identity and target, the environment of the service, and no channel bindings
 abbrev pub options_of : Connection → Env → ClientRequestFlags → List ℕ → InitOptions
 options_of connection env flags token = record {
   flags = flags;
@@ -50,13 +51,13 @@ options_of connection env flags token = record {
   env = env;
 }
 
--- what it does then: an exchange begins, or it is refused and stays
+-- the initiator after its first checks: an exchange begins, or it is refused and unchanged
 abbrev pub SetsOut : Connection → Draw → Result Initiation Cause → Reply → Connection → Type 0
 SetsOut connection draw (Ok initiation) reply next =
     (run : InitRun) × (run.initiation ≡ initiation) × (run.phase ≡ New) × OpensExchange connection (Initiates run) draw reply next
 SetsOut connection draw (Err cause) reply next = (reply ≡ Refused (error_of cause)) × (next ≡ connection)
 
--- an initiator is called to what its state and these options tell
+-- an initiator begins the initiation that its state and these options determine
 pub record Undertakes (connection : Connection) (options : InitOptions) (draw : Draw) (reply : Reply) (next : Connection) : Type 0 where
   pub answer : Result Initiation Cause
   pub begins : BeginsInitiation connection.context options answer

@@ -1,4 +1,4 @@
--- The record that an event leaves in the gate, whatever it is then answered.
+-- The record that an event leaves in the gate, whatever the reply to it is.
 use Rattle.std.specs.Prelude.{ℕ, Bool, true, false, List, [], ◌∷◌, ◌++◌, Option, Some, None, Result, Ok, Err, if◌then◌else◌}
 use Rattle.krb_replay.specs.Verdicts.{is_admitted}
 use Rattle.krb_replay.specs.declared.ask.Ask.{Ask}
@@ -22,7 +22,7 @@ use Rattle.krb_machine.specs.MessageCalls.{is_call}
 use Rattle.krb_machine.specs.Exchanges.{answer_of}
 use Rattle.krb_machine.specs.Policy.{State, Behind, TakesPart, StepsOnward, StepsBy, Steps, Runs, reached, is_initiator}
 
--- that of a request which the gate admits, by the rules of the context that judged it
+-- the record of a request which the gate admits, by the rules of the context that judged it
 abbrev pub left_by : Rules → Result Request Cause → Verdict → ℕ → List Record
 left_by rules (Ok request) verdict moment = if is_admitted verdict then (ask_of rules request moment).entry ∷ [] else []
 left_by rules (Err cause) verdict moment = []
@@ -40,19 +40,19 @@ module _ {G : Type 0} (admits : G → Ask → Verdict → G → Type 0) where
   left_behind state event (Ok found) reply after judges = left_made _ _ _ _ _ _ judges.accepts.tgt_req _ _ _ judges.accepts.made
   left_behind state event (Err cause) reply after refused = []
 
-  -- an initiator asks none
+  -- an initiator asks no gate
   abbrev pub left_by_part : (initiates : Bool) (state : State G) (event : Event) (reply : Reply) (after : State G)
       → TakesPart admits initiates state event reply after → List Record
   left_by_part true state event reply after step = []
   left_by_part false state event reply after step = left_behind state event (reached state.connections event) reply after step
 
-  -- what the network brings asks none either
+  -- an answer of the network asks no gate
   abbrev pub left_onward : (answer : Option (Result (List ℕ) NetFault)) (state : State G) (event : Event) (reply : Reply) (after : State G)
       → StepsOnward admits answer state event reply after → List Record
   left_onward (Some answer) state event reply after step = []
   left_onward None state event reply after step = left_by_part (is_initiator event.connection state.connections) state event reply after step
 
-  -- what one event leaves: one record, or none
+  -- the records that one event leaves: one, or none
   abbrev pub left_by_kind : (is_call : Bool) (state : State G) (event : Event) (reply : Reply) (after : State G)
       → StepsBy admits is_call state event reply after → List Record
   left_by_kind true state event reply after step = []
@@ -61,7 +61,7 @@ module _ {G : Type 0} (admits : G → Ask → Verdict → G → Type 0) where
   abbrev pub record_left : (state : State G) (event : Event) (reply : Reply) (after : State G) → Steps admits state event reply after → List Record
   record_left state event reply after step = left_by_kind (is_call event.input) state event reply after step
 
-  -- what the events of a run leave
+  -- the records that the events of a run leave
   abbrev pub records_left : (state : State G) (events : List Event) (replies : List Reply) (after : State G)
       → Runs admits state events replies after → List Record
   records_left state [] replies after runs = []

@@ -1,4 +1,4 @@
--- How a session takes lines.
+-- The rules by which a session takes lines.
 use Rattle.std.specs.Prelude.{◌≤◌, Bool, ◌||◌, ℕ, length, Option, Some, None, is_some}
 use Rattle.krb_lines.specs.Rules.{Rules}
 use Rattle.krb_replay.specs.Book.{Book}
@@ -6,7 +6,7 @@ use Rattle.krb_machine.specs.Policy.{State}
 use Rattle.krb_machine.specs.Text.{end_line}
 use Rattle.krb_machine.specs.Progress.{Progress, Takes, Refuses}
 
--- whether there was a skew
+-- there was a skew
 abbrev pub has_begun : Progress → Bool
 has_begun progress = is_some progress.service || is_some progress.setup.skew
 
@@ -15,7 +15,7 @@ abbrev pub kept_by : Option (State Book) → ℕ
 kept_by None = 0
 kept_by (Some state) = length state.gate.kept
 
--- a line is taken or is bad as the lines before it say; the input may end once a line told the skew
+-- the lines before a line decide whether it is taken or bad; the input may end once a line has set the skew
 abbrev pub line_rules : Rules Progress
 line_rules = record {
   takes = Takes;
@@ -26,6 +26,6 @@ line_rules = record {
   end_line = λ progress. end_line progress.admitted (kept_by progress.service);
 }
 
--- no more events were answered than lines taken, and no more of them admitted their peer
+-- no more events were answered than lines taken, and no more events admitted their peer than were answered
 abbrev pub IsModest : Progress → Type 0
 IsModest progress = (progress.answered ≤ progress.lines) × (progress.admitted ≤ progress.answered)

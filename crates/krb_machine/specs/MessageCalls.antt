@@ -1,5 +1,5 @@
--- What an event asks of a connection's context beside its exchange: to seal and to open a message, to sign a payload and to
--- check a signature (RFC 4121, sections 4.2.4 and 4.2.6).
+-- The calls of an event at a connection's context apart from its exchange: to wrap and to unwrap a message, to make a MIC token of a
+-- payload and to check one (RFC 4121, sections 4.2.4 and 4.2.6).
 use Rattle.std.specs.Prelude.{◌≡◌, ℕ, Bool, true, false, List, take, Result, Ok, Err}
 use Rattle.sspi_core.specs.Buffer.{Buffer}
 use Rattle.sspi_core.specs.Kinds.{error_of, error_at}
@@ -16,7 +16,7 @@ use Rattle.krb_script.specs.declared.input.Input.TheVariants as inputs
 use Rattle.krb_machine.specs.declared.reply.Reply.{Reply}
 use Rattle.krb_machine.specs.declared.reply.Reply.TheVariants.{Buffers, Mic, Verified, Refused}
 
--- the event is such a call, and none of an exchange
+-- the event is a call, and no event of an exchange
 abbrev pub is_call : Input → Bool
 is_call (inputs.Token octets) = false
 is_call inputs.Start = false
@@ -27,7 +27,7 @@ is_call (inputs.Unwrap message) = true
 is_call (inputs.MakeMic payload) = true
 is_call (inputs.VerifyMic token payload) = true
 
--- the buffers that were sealed: the number rises by one. A refusal leaves the context
+-- the buffers that were wrapped: the sequence number rises by one. A refusal leaves the context
 abbrev pub IsSealedBy : Kerberos → Result (List Buffer) Cause → Reply → Kerberos → Type 0
 IsSealedBy context (Ok message) reply after = (reply ≡ Buffers message) × (after ≡ record context { seq_number = next_number context.seq_number })
 IsSealedBy context (Err cause) reply after = (reply ≡ Refused (error_of cause)) × (after ≡ context)
@@ -38,7 +38,7 @@ pub record Seals (context : Kerberos) (random : List ℕ) (message : List Buffer
   pub wraps : Wraps context (take 16 random) message answer
   pub made : IsSealedBy context answer reply after
 
--- the buffers with the text that was opened: the message's number is one that was opened. A refusal leaves the context
+-- the buffers with the unwrapped text: the window takes the message's sequence number. A refusal leaves the context
 abbrev pub IsOpenedBy : Kerberos → List Buffer → Result (List ℕ) Cause → Reply → Kerberos → Type 0
 IsOpenedBy context message (Ok text) reply after =
     (reply ≡ Buffers (unwrapped text message)) × (after ≡ record context { window = noted context.window (message_number message) })
@@ -49,7 +49,7 @@ pub record OpensMessage (context : Kerberos) (message : List Buffer) (reply : Re
   pub unwraps : Unwraps context message answer
   pub made : IsOpenedBy context message answer reply after
 
--- the MIC token: the number rises by one. A refusal leaves the context
+-- the MIC token: the sequence number rises by one. A refusal leaves the context
 abbrev pub IsSignedBy : Kerberos → Result (List ℕ) Cause → Reply → Kerberos → Type 0
 IsSignedBy context (Ok token) reply after = (reply ≡ Mic token) × (after ≡ record context { seq_number = next_number context.seq_number })
 IsSignedBy context (Err cause) reply after = (reply ≡ Refused (error_at MakingMic cause)) × (after ≡ context)
@@ -59,7 +59,7 @@ pub record Signs (context : Kerberos) (payload : List ℕ) (reply : Reply) (afte
   pub makes : MakesMic context payload answer
   pub made : IsSignedBy context answer reply after
 
--- a MIC token of the peer's over the payload, or none: the context stays
+-- the reply to a check of a MIC token of the peer over the payload
 abbrev pub verified : Result (Unit {0}) Cause → Reply
 verified (Ok here) = Verified
 verified (Err cause) = Refused (error_of cause)
@@ -70,7 +70,7 @@ pub record Verifies (context : Kerberos) (token payload : List ℕ) (reply : Rep
   pub reply_is : reply ≡ verified answer
   pub stays : after ≡ context
 
--- what a call makes at a context, with these octets to draw from
+-- the result of a call at a context, with these random octets
 abbrev pub Calls : Input → Kerberos → List ℕ → Reply → Kerberos → Type 0
 Calls (inputs.Token octets) context random reply after = ⊥
 Calls inputs.Start context random reply after = ⊥

@@ -1,5 +1,5 @@
--- The messages that the connections of a service opened, by lists that never forget (krb_context: specs/Places.antt): one list of places for each
--- connection. RFC 2743, section 1.2.3: a repetition is told as one, and so is a message that is too old to be told.
+-- The messages that the connections of a service decrypted, by lists that never forget (krb_context: specs/Places.antt): one list of
+-- places for each connection. RFC 2743, section 1.2.3: a repetition is reported, and so is a message that is too old to judge.
 use Rattle.std.specs.Prelude.{◌≡◌, ℕ, ◌==◌, ℤ, List, [], ◌∷◌, Some, if◌then◌else◌}
 use Rattle.krb_aes.specs.Octets.{IsOctets}
 use Rattle.krb_context.specs.Places.{verdict_of, opened}
@@ -19,15 +19,16 @@ use Rattle.krb_machine.specs.declared.connection.Connection.{Connection}
 use Rattle.krb_machine.specs.declared.reply.Reply.{Reply}
 use Rattle.krb_machine.specs.declared.reply.Reply.TheVariants.{Done, Ask, Buffers, Mic, Verified, Refused}
 
--- the places of the messages that each connection opened, by the connections' numbers
+-- the places of the messages that each connection decrypted, by the connections' numbers
 abbrev pub Lists : Type 0
 Lists = ℕ → List ℤ
 
--- the window of each connection stands for its list
+-- the window of each connection represents its list
 abbrev pub StandFor : {G : Type 0} → State G → Lists → Type 0
 StandFor state lists = (id : ℕ) (connection : Connection) → at_id id state.connections ≡ Some connection → StandsFor connection.context.window (lists id)
 
--- a message that was to be opened is answered by the list: its buffers where its number is fresh, and a refusal as old or repeated where it is so
+-- the reply to a message that was to be decrypted, by the list: the buffers only if the sequence number is fresh, and a refusal as
+-- old or repeated only if it is so
 abbrev pub IsAnsweredBy : List ℤ → List Buffer → Reply → Type 0
 IsAnsweredBy places message (Buffers text) = verdict_of places (message_number message) ≡ Fresh
 IsAnsweredBy places message (Refused error) =
@@ -48,7 +49,7 @@ IsJudgedBy places (Wrap message) reply = Unit {0}
 IsJudgedBy places (MakeMic payload) reply = Unit {0}
 IsJudgedBy places (VerifyMic token payload) reply = Unit {0}
 
--- the place of a message that was opened stands at the end of its connection's list then
+-- the list after a message: the place of a message that was decrypted is appended
 abbrev pub with_message : List ℤ → List Buffer → Reply → List ℤ
 with_message places message (Buffers text) = opened places (message_number message)
 with_message places message (Refused error) = places
@@ -70,7 +71,7 @@ list_after places (VerifyMic token payload) reply = places
 abbrev pub lists_after : Lists → Event → Reply → Lists
 lists_after lists event reply id = if event.connection == id then list_after (lists id) event.input reply else lists id
 
--- over a run: the lists behind it, and each message by the list of its connection at the time
+-- the lists after a run, and each message judged by the list of its connection at the time
 abbrev pub lists_behind : Lists → List Event → List Reply → Lists
 lists_behind lists [] replies = lists
 lists_behind lists (event ∷ events) [] = lists
@@ -82,7 +83,7 @@ AreJudgedBy lists (event ∷ events) [] = Unit {0}
 AreJudgedBy lists (event ∷ events) (reply ∷ replies) =
     IsJudgedBy (lists event.connection) event.input reply × AreJudgedBy (lists_after lists event reply) events replies
 
--- what a message spells is octets
+-- a message to decrypt consists of octets
 abbrev pub BringsOctets : Input → Type 0
 BringsOctets (Unwrap message) = IsOctets (spelled message)
 BringsOctets (Token octets) = Unit {0}

@@ -1,4 +1,4 @@
--- The policy machine: what a service answers to an event, and what it is afterwards.
+-- The policy machine: the reply of a service to an event, and the service afterwards.
 use Rattle.std.specs.Prelude.{◌≡◌, ℕ, nat_le, Bool, true, false, not, if◌then◌else◌, List, [], ◌∷◌, ◌++◌, Option, Some, None, is_some, is_none, Result, Ok, Err, IfErr}
 use Rattle.std.specs.Ordering.{nat_cmp}
 use Rattle.std.specs.BTreeMap.{is_at, insert_entry}
@@ -51,7 +51,7 @@ abbrev pub ◌>>=◌ : {A B : Type 0} → Result A Cause → (A → Result B Cau
 Ok x >>= f = f x
 Err cause >>= f = Err cause
 
--- nothing where the test holds, and else the refusal
+-- nothing if the test holds, otherwise the refusal
 abbrev pub check : Cause → Bool → Result (Unit {0}) Cause
 check cause test = if test then Ok tt else Err cause
 
@@ -72,7 +72,7 @@ called connections event = do
   in_range ← check causes.Moment (nat_le event.moment last_moment)
   ok_or causes.Connection (at_id event.connection connections)
 
--- those of a call, and of an event that begins an exchange or goes on with the peer: also that the connection awaits no KDC
+-- the first checks of a call, and of an event that begins an exchange or goes on with the peer: also that the connection awaits no KDC
 abbrev pub ready : List (ℕ × Connection) → Event → Result Connection Cause
 ready connections event = do
   connection ← called connections event
@@ -87,7 +87,8 @@ is_initiating (Some connection) = is_none connection.context.server
 abbrev pub is_initiator : ℕ → List (ℕ × Connection) → Bool
 is_initiator id connections = is_initiating (at_id id connections)
 
--- the first checks of an event of an exchange with the peer, at an acceptor: those of a call, and that the event brings a token
+-- the first checks of an event of an exchange with the peer, at an acceptor: also that the connection is an acceptor's, and that the
+-- event brings a token
 abbrev pub reached : List (ℕ × Connection) → Event → Result (Connection × List ℕ) Cause
 reached connections event = do
   connection ← ready connections event
@@ -95,14 +96,14 @@ reached connections event = do
   token ← ok_or causes.Sequence (input_token event.input)
   Ok (connection, token)
 
--- those at an initiator: also that it is the time for what the event brings
+-- the first checks of an event of an exchange with the peer, at an initiator: also that its state allows the event
 abbrev pub heard : List (ℕ × Connection) → Event → Result (Connection × List ℕ) Cause
 heard connections event = do
   connection ← ready connections event
   token ← token_heard connection.context.state event.input
   Ok (connection, token)
 
--- the first checks of what the network brings: the connection awaits it
+-- the first checks of an answer of the network: the connection awaits it
 abbrev pub awaited : List (ℕ × Connection) → Event → Result (Connection × Run) Cause
 awaited connections event = do
   connection ← called connections event
@@ -113,23 +114,23 @@ awaited connections event = do
 abbrev pub server_flags : ClientRequestFlags → ServerRequestFlags
 server_flags flags = record { 0 = flags.0 }
 
--- what an event hands to the step
+-- the moment and the random octets that an event passes to the step
 abbrev pub draw_of : Event → Draw
 draw_of event = record { moment = event.moment; random = event.random }
 
--- the request that an event brings to the gate: the first checks let its token through, and so do those before the gate
+-- the request that an event brings to the gate: its token passes the first checks, and the checks before the gate
 pub record Brings (connections : List (ℕ × Connection)) (event : Event) (request : Request) : Type 0 where
   pub connection : Connection
   pub token : List ℕ
   pub reaches : reached connections event ≡ Ok (connection, token)
   pub begun : BeginsAdmission connection.context (asks_dce_style (server_flags event.flags)) token (Ok request)
 
--- the reply that an acceptor's answer makes
+-- the reply for an acceptor's answer
 abbrev pub reply_of : Result Answer Cause → Reply
 reply_of (Ok answer) = Done answer.status answer.token answer.admits
 reply_of (Err cause) = Refused (error_of cause)
 
--- what an acceptor's answer to a token leads to: its reply; or an exchange with a KDC begins, at a TGT-REQ
+-- the reply and the connection after an acceptor's answer to a token; or the start of an exchange with a KDC, at a TGT-REQ
 abbrev pub Settles : Draw → Connection → Result Accepted Error → Reply → Connection → Type 0
 Settles draw connection (Ok (taken.Done status token admits)) reply next = (reply ≡ Done status token admits) × (next ≡ connection)
 Settles draw connection (Ok (taken.Run run)) reply next = OpensExchange connection (Accepts run.value) draw reply next
@@ -139,39 +140,39 @@ Settles draw connection (Err error) reply next = (reply ≡ Refused error) × (n
 abbrev pub is_taken : ℕ → List (ℕ × Connection) → Bool
 is_taken id connections = is_some (at_id id connections)
 
--- why a connection is not added: its number is taken, or else it has the other role
+-- the reason why a connection is not added: its number is taken, or it has the other role
 abbrev pub refusal_to_add : Bool → Bool → Option Cause
 refusal_to_add true fits = Some causes.Connection
 refusal_to_add false false = Some causes.Role
 refusal_to_add false true = None
 
--- a refusal with its cause; where nothing refuses, memory alone is answered
+-- a refusal with its cause; if nothing refuses, only `Memory` is a refusal
 abbrev pub IsRefusedFor : {A : Type 0} → Option Cause → Result A Error → Type 0
 IsRefusedFor (Some cause) result = result ≡ Err (error_of cause)
 IsRefusedFor None result = IfErr result (λ e. e ≡ error_of causes.Memory)
 
--- the token that the first checks let through
+-- the token that passes the first checks
 abbrev pub token_reached : List (ℕ × Connection) → Event → Result (List ℕ) Cause
 token_reached connections event = result_map_both (λ found. found.1) (λ cause. cause) (reached connections event)
 
 abbrev pub token_for : List (ℕ × Connection) → Event → Result (List ℕ) Cause
 token_for connections event = result_map_both (λ found. found.1) (λ cause. cause) (heard connections event)
 
--- a service with this connection at the number, in the place of one that has it
+-- a service with this connection at the number, which replaces the one at the number, if any
 abbrev pub with_connection : {G : Type 0} → State G → ℕ → Connection → State G
 with_connection state id connection = record state { connections = insert_entry nat_cmp state.connections id connection }
 
--- no caller can tell the second service from the first
+-- no caller can distinguish the second service from the first
 pub record IsSameState {G : Type 0} (is_same : G → G → Type 0) (old new : State G) : Type 0 where
   pub connections : new.connections ≡ old.connections
   pub env : new.env ≡ old.env
   pub gate : is_same old.gate new.gate
 
--- a gate that gives this verdict, whatever it is asked, and stays
+-- a gate that returns this verdict, whatever it is asked, and is unchanged
 abbrev pub Says : {G : Type 0} → Verdict → G → Ask → Verdict → G → Type 0
 Says given old ask verdict new = (verdict ≡ given) × (new ≡ old)
 
--- a call is answered at a connection's context, and all else stays
+-- a call is answered at a connection's context, and all else is unchanged
 pub record CallsAt {G : Type 0} (state : State G) (event : Event) (connection : Connection) (reply : Reply) (after : State G) : Type 0 where
   pub context : Kerberos
   pub calls : Calls event.input connection.context event.random reply context
@@ -179,12 +180,12 @@ pub record CallsAt {G : Type 0} (state : State G) (event : Event) (connection : 
   pub env : after.env ≡ state.env
   pub gate : after.gate ≡ state.gate
 
--- behind the first checks of a call: a refusal of theirs leaves the service
+-- a call after its first checks: their refusal leaves the service
 abbrev pub AnswersCall : {G : Type 0} → State G → Event → Result Connection Cause → Reply → State G → Type 0
 AnswersCall state event (Ok connection) reply after = CallsAt state event connection reply after
 AnswersCall state event (Err cause) reply after = (reply ≡ Refused (error_of cause)) × (after ≡ state)
 
--- the exchange of a connection takes what the network brought, and all else stays
+-- the exchange of a connection takes the answer of the network, and all else is unchanged
 pub record Resumes {G : Type 0} (state : State G) (event : Event) (found : Connection × Run) (answer : Result (List ℕ) NetFault)
     (reply : Reply) (after : State G) : Type 0 where
   pub next : Connection
@@ -193,12 +194,12 @@ pub record Resumes {G : Type 0} (state : State G) (event : Event) (found : Conne
   pub env : after.env ≡ state.env
   pub gate : after.gate ≡ state.gate
 
--- behind its first checks: a refusal of theirs leaves the service
+-- an answer of the network after its first checks: their refusal leaves the service
 abbrev pub TakesAnswer : {G : Type 0} → State G → Event → Result (Connection × Run) Cause → Result (List ℕ) NetFault → Reply → State G → Type 0
 TakesAnswer state event (Ok found) answer reply after = Resumes state event found answer reply after
 TakesAnswer state event (Err cause) answer reply after = (reply ≡ Refused (error_of cause)) × (after ≡ state)
 
--- an initiator begins, or hears its peer, and all else stays
+-- an initiator begins, or takes a token of its peer, and all else is unchanged
 pub record Initiates {G : Type 0} (state : State G) (event : Event) (connection : Connection) (token : List ℕ) (reply : Reply) (after : State G) : Type 0 where
   pub next : Connection
   pub undertakes : Undertakes connection (options_of connection state.env event.flags token) (draw_of event) reply next
@@ -206,13 +207,13 @@ pub record Initiates {G : Type 0} (state : State G) (event : Event) (connection 
   pub env : after.env ≡ state.env
   pub gate : after.gate ≡ state.gate
 
--- behind its first checks: a refusal of theirs leaves the service
+-- an event at an initiator after its first checks: their refusal leaves the service
 abbrev pub TakesTurn : {G : Type 0} → State G → Event → Result (Connection × List ℕ) Cause → Reply → State G → Type 0
 TakesTurn state event (Ok found) reply after = Initiates state event found.0 found.1 reply after
 TakesTurn state event (Err cause) reply after = (reply ≡ Refused (error_of cause)) × (after ≡ state)
 
 module _ {G : Type 0} (admits : G → Ask → Verdict → G → Type 0) where
-  -- the acceptor of a connection judges a token: its context, its exchange and the gate take the step, and all else stays
+  -- the acceptor of a connection judges a token: its context, its exchange and the gate take the step, and all else is unchanged
   pub record Judges (state : State G) (event : Event) (connection : Connection) (token : List ℕ) (reply : Reply) (after : State G) : Type 0 where
     pub answer : Result Accepted Cause
     pub server : Kerberos
@@ -223,12 +224,12 @@ module _ {G : Type 0} (admits : G → Ask → Verdict → G → Type 0) where
     pub connections : after.connections ≡ set_value (is_at (nat_cmp event.connection)) state.connections next
     pub env : after.env ≡ state.env
 
-  -- behind the first checks: a refusal of theirs leaves the service
+  -- a token after its first checks: their refusal leaves the service
   abbrev pub Behind : State G → Event → Result (Connection × List ℕ) Cause → Reply → State G → Type 0
   Behind state event (Ok found) reply after = Judges state event found.0 found.1 reply after
   Behind state event (Err cause) reply after = (reply ≡ Refused (error_of cause)) × (after ≡ state)
 
-  -- a token may be answered so, and the service is this afterwards
+  -- a possible reply to a token, and the service afterwards
   abbrev pub TakesToken : State G → Event → Reply → State G → Type 0
   TakesToken state event reply after = Behind state event (reached state.connections event) reply after
 
@@ -237,12 +238,12 @@ module _ {G : Type 0} (admits : G → Ask → Verdict → G → Type 0) where
   TakesPart true state event reply after = TakesTurn state event (heard state.connections event) reply after
   TakesPart false state event reply after = TakesToken state event reply after
 
-  -- an event of an exchange: what the network brings, or what goes on with the peer
+  -- an event of an exchange: an answer of the network, or an event of the exchange with the peer
   abbrev pub StepsOnward : Option (Result (List ℕ) NetFault) → State G → Event → Reply → State G → Type 0
   StepsOnward (Some answer) state event reply after = TakesAnswer state event (awaited state.connections event) answer reply after
   StepsOnward None state event reply after = TakesPart (is_initiator event.connection state.connections) state event reply after
 
-  -- one event may be answered so, and the service is this afterwards
+  -- a possible reply to one event, and the service afterwards
   abbrev pub StepsBy : Bool → State G → Event → Reply → State G → Type 0
   StepsBy true state event reply after = AnswersCall state event (ready state.connections event) reply after
   StepsBy false state event reply after = StepsOnward (answer_of event.input) state event reply after
@@ -250,23 +251,23 @@ module _ {G : Type 0} (admits : G → Ask → Verdict → G → Type 0) where
   abbrev pub Steps : State G → Event → Reply → State G → Type 0
   Steps state event reply after = StepsBy (is_call event.input) state event reply after
 
-  -- events may be answered so, one after another, and the service is this afterwards
+  -- possible replies to events, one after another, and the service afterwards
   abbrev pub Runs : State G → List Event → List Reply → State G → Type 0
   Runs state [] [] after = after ≡ state
   Runs state [] (reply ∷ replies) after = ⊥
   Runs state (event ∷ events) [] after = ⊥
   Runs state (event ∷ events) (reply ∷ replies) after = (between : State G) × Steps state event reply between × Runs between events replies after
 
-  -- a run whose replies stand behind those that were there
+  -- a run whose replies are appended to those that were there
   pub record RunsOn (state : State G) (events : List Event) (old new : List Reply) (after : State G) : Type 0 where
     pub made : List Reply
     pub replies : new ≡ old ++ made
     pub runs : Runs state events made after
 
-  -- one event more, whose reply stands behind those that were there
+  -- one more event, whose reply is appended to those that were there
   abbrev pub StepsOn : State G → Event → List Reply → List Reply → State G → Type 0
   StepsOn state event old new after = (reply : Reply) × (new ≡ old ++ reply ∷ []) × Steps state event reply after
 
-  -- a run that stopped behind these events: no caller can tell the service from the one behind them
+  -- a run that stopped after these events: no caller can distinguish the service from the one after them
   abbrev pub StopsBehind : (G → G → Type 0) → State G → List Event → List Reply → List Reply → State G → Type 0
   StopsBehind is_same state taken old new now = (after : State G) × RunsOn state taken old new after × IsSameState is_same after now

@@ -1,4 +1,4 @@
--- What a session knows after some lines, and what one line more does.
+-- The progress of a session after some lines, and its change by one more line.
 use Rattle.std.specs.Prelude.{◌≡◌, ℕ, ◌+◌, true, false, List, [], Option, Some, None, is_some, option_map, if◌then◌else◌, IfSome, MatchOption, MatchBool}
 use Rattle.krb_replay.specs.Book.{Book, Follows, StandsFor}
 use Rattle.krb_replay.specs.History.{no_history}
@@ -14,7 +14,7 @@ use Rattle.krb_machine.specs.Described.{skew_of, connections_of}
 use Rattle.krb_machine.specs.Reply.{reply_line, admits_peer}
 use Rattle.krb_machine.specs.declared.reply.Reply.{Reply}
 
--- what the lines before the first event declare, the service from the first event on, how many lines were taken, how many
+-- the declarations of the lines before the first event, the service from the first event on, how many lines were taken, how many
 -- events answered, and how many of them admitted their peer
 pub record Progress : Type 0 where
   pub setup : Setup
@@ -26,7 +26,7 @@ pub record Progress : Type 0 where
 abbrev pub new_progress : Progress
 new_progress = record { setup = empty_setup; service = None; lines = 0; answered = 0; admitted = 0 }
 
--- a service of what was declared, over a book that was asked nothing
+-- a service of the declarations, over an empty replay book
 pub record IsNew (setup : Setup) (state : State Book) : Type 0 where
   pub connections : state.connections ≡ connections_of setup
   pub env : state.env ≡ setup.env
@@ -37,15 +37,15 @@ pub record IsNew (setup : Setup) (state : State Book) : Type 0 where
 abbrev pub BeginsService : Progress → State Book → Type 0
 BeginsService progress state = MatchOption progress.service ((is_some progress.setup.skew ≡ true) × IsNew progress.setup state) (λ service. state ≡ service)
 
--- there is no service, and no line told the skew
+-- there is no service, and no line set the skew
 abbrev pub CannotBegin : Progress → Type 0
 CannotBegin progress = (progress.service ≡ None) × (is_some progress.setup.skew ≡ false)
 
--- how many events an answer adds to those that admitted their peer
+-- how many events a reply adds to those that admitted their peer
 abbrev pub one_if_admits : Reply → ℕ
 one_if_admits reply = if admits_peer reply then 1 else 0
 
--- one event is answered: this text is written, and this is known then
+-- one event is answered: the text that is written, and the progress afterwards
 pub record Answers (progress : Progress) (event : Event) (text : List ℕ) (after : Progress) : Type 0 where
   pub before : State Book
   pub reply : Reply
@@ -58,7 +58,7 @@ pub record Answers (progress : Progress) (event : Event) (text : List ℕ) (afte
   pub answered_is : after.answered ≡ progress.answered + 1
   pub admitted_is : after.admitted ≡ progress.admitted + one_if_admits reply
 
--- before the first event
+-- the progress after a declaration before the first event
 abbrev pub prepare_by : Option (State Book) → Progress → Declaration → Option Progress
 prepare_by (Some state) progress declaration = None
 prepare_by None progress declaration = option_map (λ setup. record progress { setup = setup }) (set_up progress.setup declaration)
@@ -66,7 +66,7 @@ prepare_by None progress declaration = option_map (λ setup. record progress { s
 abbrev pub prepare : Progress → Declaration → Option Progress
 prepare progress declaration = prepare_by progress.service progress declaration
 
--- nothing is written for what is declared
+-- nothing is written for a declaration
 pub record Prepares (progress : Progress) (declaration : Declaration) (text : List ℕ) (after : Progress) : Type 0 where
   pub text_is : text ≡ []
   pub after_is : prepare progress declaration ≡ Some after
@@ -89,11 +89,11 @@ pub record TakesContent (progress : Progress) (line text : List ℕ) (after : Pr
 abbrev pub RefusesContent : Progress → List ℕ → Type 0
 RefusesContent progress line = IfSome (item_of line) (λ item. RefusesItem progress item)
 
--- one line more is counted
+-- one more line is counted
 abbrev pub counted : Progress → Progress
 counted progress = record progress { lines = progress.lines + 1 }
 
--- a line is taken: this text is written, and this is known then
+-- a line is taken: the text that is written, and the progress afterwards
 pub record Takes (progress : Progress) (line text : List ℕ) (after : Progress) : Type 0 where
   pub last : Progress
   pub content : MatchBool (is_skipped line) ((text ≡ []) × (last ≡ progress)) (TakesContent progress line text last)

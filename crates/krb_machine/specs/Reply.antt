@@ -1,4 +1,4 @@
--- What is written of a reply.
+-- The text of a reply.
 use Rattle.std.specs.Prelude.{ℕ, Bool, true, false, List, [], ◌∷◌, ◌++◌, codes}
 use Rattle.std.specs.Fmt.{decimal}
 use Rattle.std.specs.List.{flat_map, count_by}
@@ -15,7 +15,7 @@ use Rattle.sspi_core.specs.declared.results.SecurityStatus.TheVariants.{Ok, Cont
 use Rattle.krb_machine.specs.declared.reply.Reply.{Reply}
 use Rattle.krb_machine.specs.declared.reply.Reply.TheVariants.{Done, Ask, Buffers, Mic, Verified, Refused}
 
--- octets in lower-case hex; `-` stands for none
+-- octets in lower-case hex; `-` means no octets
 abbrev pub hex_or_dash : List ℕ → List ℕ
 hex_or_dash [] = codes "-"
 hex_or_dash (b ∷ bs) = encode_lower (b ∷ bs)
@@ -25,14 +25,14 @@ abbrev pub done_line : SecurityStatus → List ℕ → List ℕ
 done_line Ok token = codes "ok " ++ hex_or_dash token ++ codes "\n"
 done_line ContinueNeeded token = codes "continue " ++ hex_or_dash token ++ codes "\n"
 
--- the letter of a buffer: T the token, D the data that are sealed, R data that the checksum covers, S the stream
+-- the letter of a buffer: T the token, D the data to encrypt, R data that the checksum covers, S the stream
 abbrev pub letter_of : BufferType → Bool → List ℕ
 letter_of types.Token covered = codes "T"
 letter_of types.Stream covered = codes "S"
 letter_of types.Data true = codes "R"
 letter_of types.Data false = codes "D"
 
--- <letter>:<hex>:<limit>, behind a space
+-- <letter>:<hex>:<limit>, after a space
 abbrev pub buffer_text : Buffer → List ℕ
 buffer_text buffer =
     codes " " ++ (letter_of buffer.kind (has_checksum_flag buffer.flags) ++ (codes ":" ++ (encode_lower buffer.octets ++ (codes ":" ++ decimal buffer.limit))))
@@ -42,7 +42,7 @@ abbrev pub ask_line : NetworkRequest → List ℕ
 ask_line request =
     codes "ask " ++ (scheme_of request.protocol ++ (codes " " ++ (serialize request.url ++ (codes " " ++ (hex_or_dash request.payload ++ codes "\n")))))
 
--- the line that tells a reply
+-- the line of a reply
 abbrev pub reply_line : Reply → List ℕ
 reply_line (Done status token admits) = done_line status token
 reply_line (Ask request) = ask_line request
@@ -55,7 +55,7 @@ reply_line (Refused error) = codes "refused " ++ error_text error ++ codes "\n"
 abbrev pub replies_text : List Reply → List ℕ
 replies_text replies = flat_map reply_line replies
 
--- whether a reply admits the peer
+-- a reply admits the peer
 abbrev pub admits_peer : Reply → Bool
 admits_peer (Done status token admits) = admits
 admits_peer (Ask request) = false
@@ -64,6 +64,6 @@ admits_peer (Mic token) = false
 admits_peer Verified = false
 admits_peer (Refused error) = false
 
--- how many of them admit their peer
+-- how many replies admit their peer
 abbrev pub admissions : List Reply → ℕ
 admissions replies = count_by admits_peer replies

@@ -11,7 +11,7 @@ use Rattle.sspi_generator.specs.declared.task.GeneratorState.{GeneratorState}
 use Rattle.krb_machine.specs.declared.run.Run.{Run}
 use Rattle.krb_machine.specs.declared.run.Run.TheVariants.{Accepts, Initiates}
 
--- it is not started; it waits for an answer
+-- a run is not started; a run waits for an answer
 abbrev pub IsNew : Run → Type 0
 IsNew (Accepts run) = acceptances.IsNew run
 IsNew (Initiates run) = initiations.IsNew run
@@ -20,7 +20,7 @@ abbrev pub IsWaiting : Run → Type 0
 IsWaiting (Accepts run) = acceptances.IsWaiting run
 IsWaiting (Initiates run) = initiations.IsWaiting run
 
--- its two steps: a run stays of its kind
+-- the two steps of a run, which stays of its kind
 abbrev pub StartsAt : Run → Draw → GeneratorState NetworkRequest (Result InitDone Error) → Run → Type 0
 StartsAt (Accepts old) draw state (Accepts new) = acceptances.StartsAt old draw state new
 StartsAt (Accepts old) draw state (Initiates new) = ⊥

@@ -1,4 +1,4 @@
--- How a call of `serve` ends, and what it has read and written then.
+-- The end of a call of `serve`, and the octets that it has read and written then.
 use Rattle.std.specs.Prelude.{◌≡◌, ◌≤◌, ◌+◌, ◌⊎◌, [], List, ℕ, Option, Some, IfSome, length, is_some, if◌then◌else◌}
 use Rattle.std.specs.Io.KnownBytes.{Appends, Consumes}
 use Rattle.krb_text.specs.Limits.{max_line, max_input}
@@ -23,7 +23,7 @@ status_of Long so_far = TooLong
 abbrev pub end_of : List ℕ → Status
 end_of input = status_of (reading_of input).stop (reading_of input).so_far
 
--- what the lines with a 0A declare of the octets that were taken
+-- the reading of the lines with a 0A among the octets that were taken
 abbrev pub whole_reading : List ℕ → Reading
 whole_reading taken = reading_at (length taken) (cut taken).whole
 
@@ -31,11 +31,11 @@ whole_reading taken = reading_at (length taken) (cut taken).whole
 abbrev pub IsSound : List ℕ → Type 0
 IsSound taken = ((whole_reading taken).stop ≡ Whole) × (length (cut taken).rest ≤ max_line) × (length taken ≤ max_input)
 
--- what is written where a write failed: a front of a text of the other statuses
+-- the text that is written if a write failed: a front of a text of the other statuses
 abbrev pub IsCutShort : List ℕ → List ℕ → Type 0
 IsCutShort input written = (whole : List ℕ) × IsFront written whole × (IsText input whole ⊎ IsStopped input whole)
 
--- what may have been taken and written of this input, by the status
+-- the octets taken of this input and the text written for it, by the status
 abbrev pub Written : List ℕ → List ℕ → Status → List ℕ → Type 0
 Written input taken Done written = (end_of input ≡ Done) × IsText input written × (taken ≡ input)
 Written input taken BadLine written = (end_of input ≡ BadLine) × IsText input written
@@ -50,7 +50,8 @@ Written input taken BadWords written = (taken ≡ []) × (written ≡ [])
 abbrev pub IsTaken : List ℕ → Option (List ℕ) → List ℕ → Type 0
 IsTaken input left_after taken = Consumes (Some input) left_after taken × (length taken ≤ max_input + 1)
 
--- of the input that the source had left, a front is taken, and the sink has taken what the status says, where they tell
+-- a front of the input that the source had left is taken, and the sink has taken the text that the status allows, if the octets of
+-- both are known
 abbrev pub Serves : Option (List ℕ) → Option (List ℕ) → Option (List ℕ) → Option (List ℕ) → Status → Type 0
 Serves left left_after before after status =
     IfSome left (λ input. (taken written : List ℕ) × IsTaken input left_after taken × Appends before after written × Written input taken status written)

@@ -1,4 +1,4 @@
--- What a step of an exchange leads to.
+-- The steps of an exchange.
 use Rattle.std.specs.Prelude.{◌≡◌, ◌≢◌, ℕ, List, Result, Ok, Err}
 use Rattle.krb_as.specs.declared.done.InitDone.{InitDone}
 use Rattle.sspi_core.specs.Kinds.{error_of}
@@ -27,7 +27,7 @@ pub record BeginsRun (run : Run) (draw : Draw) (step : Step) : Type 0 where
   pub starts : StartsAt run draw state later
   pub leads : IsStep state later step
 
--- it goes on with what the network brought
+-- an exchange goes on with the answer of the network
 pub record GoesOn (run : Run) (answer : Result (List ℕ) NetFault) (draw : Draw) (step : Step) : Type 0 where
   pub state : GeneratorState NetworkRequest (Result InitDone Error)
   pub later : Run

@@ -1,4 +1,4 @@
--- What is written for an input.
+-- The text that is written for an input.
 use Rattle.std.specs.Prelude.{◌≡◌, ◌≤◌, ℕ, List, ◌++◌, codes, length, take, is_some, if◌then◌else◌}
 use Rattle.std.specs.Fmt.{decimal}
 pub use Rattle.krb_lines.specs.Text.{bad_line, long_line, stopped_line}
@@ -15,8 +15,8 @@ use Rattle.krb_machine.specs.declared.reply.Reply.{Reply}
 abbrev pub end_line : ℕ → ℕ → List ℕ
 end_line admissions records = codes "end " ++ decimal admissions ++ codes " " ++ decimal records ++ codes "\n"
 
--- behind these replies, where this is the history afterwards: how many events admitted their peer, and how many records are
--- in the window. Where no line told the skew, the line behind the last is bad
+-- the last line after these replies, with this history afterwards: how many events admitted their peer, and how many records are
+-- in the window. If no line set the skew, the line after the last is bad
 abbrev pub last_line : Stop → ℕ → Setup → List Reply → History → List ℕ
 last_line Whole n setup replies h = if is_some setup.skew then end_line (admissions replies) (length (window (skew_of setup) h)) else bad_line n
 last_line Bad n setup replies h = bad_line n
@@ -39,7 +39,7 @@ pub record IsText (input text : List ℕ) : Type 0 where
 abbrev pub first_events : ℕ → Declared → Declared
 first_events t so_far = record { setup = so_far.setup; events = take t so_far.events }
 
--- the text where memory runs out: the replies to the first t events, and how many these are
+-- the text if memory runs out: the replies to the first t events, and the number of these events
 pub record IsStopped (input text : List ℕ) : Type 0 where
   pub t : ℕ
   pub few : t ≤ length (reading_of input).so_far.events

@@ -1,4 +1,4 @@
--- What an event makes of its connection, once the policy machine has found it there.
+-- The change that an event makes to its connection, once the policy machine has found it.
 use Rattle.std.specs.Prelude.{◌≡◌, ℕ, Bool, true, false, List, Option, Some, None, is_none, Result, Ok, Err}
 use Rattle.krb_conf.specs.declared.env.Env.{Env}
 use Rattle.krb_context.specs.declared.context.Kerberos.{Kerberos}
@@ -29,7 +29,7 @@ use Rattle.krb_machine.specs.declared.run.Run.{Run}
 abbrev pub Refuses : Cause → Connection → Reply → Connection → Type 0
 Refuses cause connection reply next = (reply ≡ Refused (error_of cause)) × (next ≡ connection)
 
--- the connection takes what the network brings, where it waits for it
+-- the connection takes an answer of the network, if it waits for one
 abbrev pub TakesAnswerThere : Option Run → Connection → Result (List ℕ) NetFault → Draw → Reply → Connection → Type 0
 TakesAnswerThere None connection answer draw reply next = Refuses Sequence connection reply next
 TakesAnswerThere (Some run) connection answer draw reply next = GoesOn connection run answer draw reply next
@@ -39,7 +39,7 @@ pub record CallsThere (connection : Connection) (event : Event) (reply : Reply) 
   pub calls : Calls event.input connection.context event.random reply next.context
   pub rest : next ≡ record connection { context = next.context }
 
--- an initiator begins, or hears its peer
+-- an initiator begins, or takes a token of its peer
 abbrev pub InitiatesThere : Connection → Env → ClientRequestFlags → Result (List ℕ) Cause → Draw → Reply → Connection → Type 0
 InitiatesThere connection env flags (Ok token) draw reply next = Undertakes connection (options_of connection env flags token) draw reply next
 InitiatesThere connection env flags (Err cause) draw reply next = Refuses cause connection reply next
@@ -52,23 +52,23 @@ module _ {G : Type 0} (admits : G → Ask → Verdict → G → Type 0) (env : E
     pub accepts : AcceptsWhole admits connection.context (asks_dce_style (server_flags flags)) token env draw old answer server new
     pub settles : Settles draw (record connection { context = server }) (told Elsewhere answer) reply next
 
-  -- where the event brings one
+  -- an acceptor takes an event, if the event brings a token
   abbrev pub AcceptsThere : ClientRequestFlags → Option (List ℕ) → Draw → Reply → Connection → G → Type 0
   AcceptsThere flags None draw reply next new = Refuses Sequence connection reply next × (new ≡ old)
   AcceptsThere flags (Some token) draw reply next new = JudgesThere flags token draw reply next new
 
-  -- what goes on with the peer, by the role: what an initiator hears, or the token that an acceptor gets
+  -- an event of the exchange with the peer, by the role: the token that an initiator takes, or the token that an acceptor judges
   abbrev pub TakesPartThere : Bool → ClientRequestFlags → Result (List ℕ) Cause → Option (List ℕ) → Draw → Reply → Connection → G → Type 0
   TakesPartThere true flags heard token draw reply next new = InitiatesThere connection env flags heard draw reply next × (new ≡ old)
   TakesPartThere false flags heard token draw reply next new = AcceptsThere flags token draw reply next new
 
-  -- an event that is no answer of the network's: a call, or what goes on with the peer
+  -- an event that is no answer of the network: a call, or an event of the exchange with the peer
   abbrev pub ActsThere : Bool → Event → Reply → Connection → G → Type 0
   ActsThere true event reply next new = CallsThere connection event reply next × (new ≡ old)
   ActsThere false event reply next new =
       TakesPartThere (is_none connection.context.server) event.flags (token_heard connection.context.state event.input) (input_token event.input) (draw_of event) reply next new
 
-  -- such an event comes when the connection awaits no KDC
+  -- an event that is no answer of the network is refused while the connection awaits a KDC
   abbrev pub IsTimelyThere : Option Run → Bool → Event → Reply → Connection → G → Type 0
   IsTimelyThere None is_call event reply next new = ActsThere is_call event reply next new
   IsTimelyThere (Some run) is_call event reply next new = Refuses Sequence connection reply next × (new ≡ old)
@@ -77,6 +77,6 @@ module _ {G : Type 0} (admits : G → Ask → Verdict → G → Type 0) (env : E
   StepsBy (Some answer) event reply next new = TakesAnswerThere connection.exchange connection answer (draw_of event) reply next × (new ≡ old)
   StepsBy None event reply next new = IsTimelyThere connection.exchange (is_call event.input) event reply next new
 
-  -- an event in time may be answered so, and connection and gate are these afterwards
+  -- a possible reply to an event in time, and connection and gate afterwards
   abbrev pub StepsThere : Event → Reply → Connection → G → Type 0
   StepsThere event reply next new = StepsBy (answer_of event.input) event reply next new

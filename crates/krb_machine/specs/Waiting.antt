@@ -1,4 +1,4 @@
--- That a run waits for an answer is known in one way: the fact has one proof at most.
+-- The fact that a run waits for an answer has at most one proof.
 use Rattle.std.specs.Prelude.{ℕ, List, [], ◌∷◌, Option, Some, None, IfSome}
 use Rattle.std.specs.List.{AllByRecursion}
 use Rattle.std.specs.Coded.{×_prop, Unit-prop, le_prop, Coded-set, coded_list, coded_ℕ}
@@ -33,7 +33,7 @@ use Rattle.krb_machine.specs.Runs.{IsWaiting}
 use Rattle.krb_machine.specs.declared.run.Run.{Run}
 use Rattle.krb_machine.specs.declared.run.Run.TheVariants.{Accepts, Initiates}
 
--- of every value, or of one that is there, a fact that has one proof of each value
+-- a fact about all values, or about an optional one, has at most one proof if it has at most one for each value
 all-prop : {A : Type 0} (P : A → Type 0) → ((value : A) → IsProp (P value)) → (values : List A) → IsProp (AllByRecursion P values)
 all-prop P one [] = Unit-prop
 all-prop P one (value ∷ values) = ×_prop (one value) (all-prop P one values)

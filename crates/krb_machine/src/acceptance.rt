@@ -1,4 +1,4 @@
-//! What an acceptor makes of a token.
+//! The acceptance of a token.
 
 ghost use Rattle.std.specs.Prelude.{◌≡◌};
 ghost use Rattle.krb_machine.specs.Policy.{server_flags};
@@ -15,7 +15,7 @@ use krb_server::{Accepted, accept_security_context};
 use sspi_core::{ClientRequestFlags, Draw, Error, ServerRequestFlags};
 use std::alloc::Global;
 
-/// The flags of an event, of which an acceptor reads the two that it has.
+/// Returns the flags of an event, of which an acceptor reads the two that it has.
 fn server_flags(flags: ClientRequestFlags) -> ServerRequestFlags
     ensures { result ≡ server_flags flags }
 {
@@ -32,7 +32,8 @@ impl Connection {
     ghost use Rattle.krb_machine.specs.Policy.{Settles};
     ghost use Rattle.krb_machine.specs.There.{JudgesThere};
 
-    /// Takes an acceptor's answer: its reply, or the beginning of an exchange with a KDC. Where memory runs out it stays.
+    /// Takes an acceptor's answer, and returns the reply; a run begins an exchange with a KDC. If memory runs out, the connection is
+    /// unchanged.
     fn settle(
         &mut self,
         alloc: Global,
@@ -66,7 +67,8 @@ impl Connection {
         }
     }
 
-    /// Judges a token at an acceptor. Where memory runs out it stays, and no caller can tell the gate from what it was.
+    /// Judges a token at an acceptor, and returns the reply. If memory runs out, the connection is unchanged, and no caller can
+    /// distinguish the gate from its state before the call.
     pub(crate) fn judge<G: ReplayGate>(
         &mut self,
         alloc: Global,

@@ -6,7 +6,7 @@ use arrayvec::ArrayString;
 use itoa::Buffer;
 use krb_lines::ROOM;
 
-/// The line `end <admitted> <kept>`.
+/// Returns the line `end <admitted> <kept>`.
 pub fn end_line(admitted: u64, kept: u64) -> ArrayString<ROOM>
     ensures { result.bytes ≡ end_line admitted kept }
 {

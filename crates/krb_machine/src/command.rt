@@ -8,26 +8,27 @@ use krb_lines::serve_lines;
 use krb_text::{Sink, Source, Status, Words};
 use std::alloc::Global;
 
-/// Answers each event of the input as its line comes, and writes the last line. The words are exactly `serve`.
+/// Replies to each event of the input as its line comes, and writes the last line. Returns `BadWords` unless the words are
+/// exactly `serve`.
 pub fn serve<S: Source, K: Sink>(
     alloc: Global,
     words: &Words,
     source: &mut S,
     sink: &mut K,
 ) -> Status
-    // The words are judged first: at others nothing is read or written.
+    // The words are checked first: if they are not `serve`, nothing is read or written.
     ensures words { (result ≡ Status.BadWords) ↔ (words.now ≢ codes "serve" ∷ []) }
     ensures untouched { result ≡ Status.BadWords → (source.new ≡ source.old) × (sink.new ≡ sink.old) }
 
-    // A fault is told only where the outside failed in this call.
+    // A fault is returned only if the outside failed in this call.
     ensures read { result ≡ Status.ReadFault → Rose (S.faults source.old) (S.faults source.new) }
     ensures write { result ≡ Status.WriteFault → Rose (K.faults sink.old) (K.faults sink.new) }
 
-    // And wherever the outside failed, it is told: no read and no write that failed is passed over, or tried again.
+    // If the outside failed, the fault is returned: no read and no write that failed is passed over, or tried again.
     ensures read_still { result ≢ Status.ReadFault → S.faults source.new ≡ S.faults source.old }
     ensures write_still { result ≢ Status.WriteFault → K.faults sink.new ≡ K.faults sink.old }
 
-    // What is taken of the input that the source had left, and what is written for it, by the status.
+    // The octets taken of the input that the source had left, and the text written for it, by the status.
     ensures text { Serves (S.left source.old) (S.left source.new) (K.taken sink.old) (K.taken sink.new) result }
 {
     if words.are("serve") {

@@ -7,19 +7,18 @@ use krb_der::{Name, OutOfMemory, boxed};
 use std::alloc::Global;
 use std::marker::Model;
 
-/// A connection of a service: an acceptor, or an initiator with the name of whom it speaks to.
+/// A connection of a service: an acceptor, or an initiator with the name of its peer.
 #[derive(Drop)]
 pub struct Connection {
-    /// Its end of the Kerberos exchange, with its keys and numbers.
+    /// The connection's end of the Kerberos exchange, with its keys and sequence numbers.
     pub context: Kerberos,
     /// The name of an initiator's peer. An acceptor has none.
     pub target: Option<Name>,
-    /// The exchange whose KDC it waits for, if it does. The context is as it was before that began.
+    /// The exchange that waits for a KDC, if there is one. The context is as it was before that exchange began.
     pub exchange: Option<Exchange>,
 }
 
-/// A connection that stands on the heap: a map keeps more places than it has entries, so they are small. Contracts see the
-/// connection.
+/// A heap-allocated connection: a map has more places than entries, so its entries are small. Contracts see the connection.
 #[derive(Drop)]
 pub struct HeldConnection {
     pub(crate) connection: Box<Connection>,

@@ -1,4 +1,4 @@
-//! What an event makes of its connection.
+//! The change that an event makes to its connection.
 
 ghost use Rattle.std.specs.Prelude.{◌≡◌};
 ghost use Rattle.krb_machine.specs.Policy.{draw_of};
@@ -15,7 +15,7 @@ use sspi_core::{Cause, Draw, Error};
 use sspi_generator::NetFault;
 use std::alloc::Global;
 
-/// What an event hands to a step.
+/// Returns the moment and the random octets that an event passes to a step.
 fn draw_of(event: &Event) -> Draw
     ensures { result ≡ draw_of event.now }
 {
@@ -31,14 +31,15 @@ impl Connection {
     ghost use Rattle.krb_machine.specs.Initiations.{is_before};
     ghost use Rattle.krb_machine.specs.There.{StepsThere};
 
-    /// Whether it is an initiator's, which has still to show the service a ticket.
+    /// Returns whether the connection is an initiator's that has not yet shown the service a ticket.
     fn can_start(&self) -> bool
         ensures { result ≡ (is_none self.now.context.server && is_before self.now.context.state) }
     {
         self.context.is_client() && is_before(self.context.state)
     }
 
-    /// Takes one event that is in time. Where memory runs out it stays, and no caller can tell the gate from what it was.
+    /// Takes one event that is in time, and returns the reply. If memory runs out, the connection is unchanged, and no caller can
+    /// distinguish the gate from its state before the call.
     pub(crate) fn take_event<G: ReplayGate>(
         &mut self,
         alloc: Global,

@@ -1,4 +1,4 @@
-//! What a connection does with its exchange.
+//! The exchange of a connection with KDCs.
 
 use crate::connection::Connection;
 use crate::exchange::{Exchange, Step, begin_exchange, continue_exchange};
@@ -16,7 +16,8 @@ impl Connection {
     ghost use Rattle.krb_machine.specs.Exchanges.{LeadsTo, OpensExchange, GoesOn};
     ghost use Rattle.krb_machine.specs.There.{TakesAnswerThere};
 
-    /// Takes a step of its exchange: it waits for an answer, or its context takes what the exchange made, or stays.
+    /// Takes a step of the exchange, and returns the reply: the connection waits for an answer, or its context takes the change that
+    /// the exchange made, or is unchanged.
     fn take_step(&mut self, step: Step) -> Reply
         requires free { self.old.exchange ≡ None }
         ensures { LeadsTo self.old step result self.new }
@@ -38,7 +39,7 @@ impl Connection {
         }
     }
 
-    /// Begins an exchange. Where memory runs out it does not.
+    /// Begins an exchange, and returns the reply. If memory runs out, no exchange begins.
     pub(crate) fn begin_exchange(
         &mut self,
         alloc: Global,
@@ -57,7 +58,8 @@ impl Connection {
         }
     }
 
-    /// Continues its exchange, which was taken out of it. Where memory runs out it waits as before.
+    /// Continues the exchange, which was taken out of the connection, and returns the reply. If memory runs out, the connection waits
+    /// as before.
     fn continue_exchange(
         &mut self,
         exchange: Exchange,
@@ -78,7 +80,7 @@ impl Connection {
         }
     }
 
-    /// Takes what the network brings. Where memory runs out it stays.
+    /// Takes an answer of the network, and returns the reply. If memory runs out, the connection is unchanged.
     pub(crate) fn take_answer(
         &mut self,
         answer: Result<Octets, NetFault>,

@@ -11,7 +11,7 @@ use krb_lines::{Halt, LineTaker, ROOM, answer_lines};
 use krb_text::{LineReader, Sink, Status, SureSink, SureSource, Words, write_line};
 use std::alloc::Global;
 
-/// The most events that a demonstration has.
+/// The greatest number of events of a demonstration.
 const MOST_EVENTS: u64 = 10_000;
 
 fn event_count(n: u64) -> Option<u64>
@@ -49,7 +49,7 @@ fn demo_line(n: u64, admitted: u64, kept: u64) -> ArrayString<ROOM>
     line
 }
 
-/// Answers the demonstration's input, and counts. None where memory runs out.
+/// Answers the demonstration's input, and returns the line with its counts. Returns None if memory runs out.
 fn demonstrate(alloc: Global, n: u64) -> Option<ArrayString<ROOM>>
     requires some { 1 ≤ n }
     requires few { n ≤ 10000 }
@@ -68,8 +68,8 @@ fn demonstrate(alloc: Global, n: u64) -> Option<ArrayString<ROOM>>
     }
 }
 
-/// Writes `demo <n> <admitted> <kept>` for the demonstration of n events: the two numbers with which the answers to its input
-/// end. The words are `demo` and n, a number from 1 to 10,000.
+/// Writes `demo <n> <admitted> <kept>` for the demonstration of n events, with the two numbers that end the replies to its input.
+/// Returns `BadWords` unless the words are `demo` and n, a number from 1 to 10,000.
 pub fn demo<K: Sink>(alloc: Global, words: &Words, sink: &mut K) -> Status
     ensures words { (result ≡ Status.BadWords) ↔ (demo_number words.now ≡ None) }
     ensures untouched { result ≡ Status.BadWords → sink.new ≡ sink.old }

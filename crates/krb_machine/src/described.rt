@@ -17,7 +17,7 @@ use std::alloc::{AllocError, Global};
 use std::collections::BTreeMap;
 use url::Url;
 
-/// The components of a service's name.
+/// Returns the components of a service's name.
 fn components(alloc: Global, service: &str) -> Result<Vec<&str>, AllocError>
     ensures { IfOk result (λ parts. map (λ part. part.now) parts.items ≡ components service.now) }
 {
@@ -33,7 +33,7 @@ fn copied_url(url: &Option<Url>) -> Result<Option<Url>, OutOfMemory>
     }
 }
 
-/// What an end is known by, and where its KDC is.
+/// Returns the configuration of an end: its host, and the URL of its KDC.
 fn config_of(alloc: Global, endpoint: &Endpoint) -> Result<KerberosConfig, OutOfMemory>
     ensures { IfOk result (λ config. config ≡ record { kdc_url = endpoint.now.kdc_url; client_computer_name = endpoint.now.host }) }
 {
@@ -44,7 +44,7 @@ fn config_of(alloc: Global, endpoint: &Endpoint) -> Result<KerberosConfig, OutOf
     })
 }
 
-/// A service without keys, of the endpoint's user. The skew is in seconds.
+/// Returns a service without keys, of the endpoint's user. The skew is in seconds.
 fn properties_of(
     alloc: Global,
     skew: u32,
@@ -62,7 +62,7 @@ fn properties_of(
     }
 }
 
-/// A further key.
+/// Adds a further key.
 fn add_further_key(
     alloc: Global,
     key: &ServiceKey,
@@ -79,7 +79,7 @@ fn add_further_key(
     }
 }
 
-/// One key more: the first for the acceptor's own service is the primary one.
+/// Adds one key: the first for the acceptor's own service is the primary one.
 fn add_key(
     alloc: Global,
     service: &Name,
@@ -96,7 +96,7 @@ fn add_key(
     add_further_key(alloc, key, server)
 }
 
-/// The keys of an acceptor, one after another.
+/// Adds the keys of an acceptor, one after another.
 fn add_keys(
     alloc: Global,
     service: &Name,
@@ -124,7 +124,7 @@ fn acceptor_properties(
     Ok(server)
 }
 
-/// The context of an acceptor before its exchange.
+/// Returns the context of an acceptor before its exchange.
 fn acceptor_context(
     alloc: Global,
     skew: u32,
@@ -145,7 +145,7 @@ fn set_identity(client: &mut Kerberos, identity: Option<CredentialsBuffers>)
     client.auth_identity = identity;
 }
 
-/// The context of an initiator before its exchange.
+/// Returns the context of an initiator before its exchange.
 fn initiator_context(alloc: Global, endpoint: &Endpoint) -> Result<Kerberos, OutOfMemory>
     ensures { IfOk result (λ context. context ≡ initiator_context endpoint.now) }
 {
@@ -156,7 +156,7 @@ fn initiator_context(alloc: Global, endpoint: &Endpoint) -> Result<Kerberos, Out
     Ok(client)
 }
 
-/// The connection of an end that the lines declare, before its exchange. The skew is in seconds.
+/// Returns the connection of an end that the lines declare, before its exchange. The skew is in seconds.
 pub fn connection_of(
     alloc: Global,
     skew: u32,
@@ -213,7 +213,7 @@ fn put_endpoints<G: ReplayGate>(
     Ok(())
 }
 
-/// The service that the lines describe, over a new book.
+/// Returns the service that the lines describe, over a new replay book.
 pub fn service_of(alloc: Global, script: Script) -> Result<Service<ReplayBook>, OutOfMemory>
     ensures { IfOk result (IsNew script) }
 {

@@ -1,4 +1,4 @@
-//! An exchange that waits, and what a step leads to.
+//! An exchange that waits, and its steps.
 
 ghost use Rattle.std.specs.Prelude.{◌≡◌, ◌≤◌, ◌↔◌, Err, IsTrue, IfOk, IfErr, OnErr};
 ghost use Rattle.sspi_core.specs.Kinds.{error_of};
@@ -19,8 +19,7 @@ use sspi_generator::{GeneratorState, NetFault, NetworkRequest};
 use std::alloc::Global;
 use std::marker::Model;
 
-/// A run that waits for what a KDC answers. Contracts see the run. It stands on the heap, so a connection that waits for nothing is
-/// small.
+/// A heap-allocated run that waits for the answer of a KDC: a connection that waits for nothing is small. Contracts see the run.
 #[derive(Drop)]
 pub struct Exchange {
     run: Box<Run>,
@@ -35,18 +34,18 @@ impl Model for Exchange {
     ghost view = { λ exchange. exchange.run.value };
 }
 
-/// What a step leads to.
+/// The result of a step of an exchange.
 #[derive(Drop)]
 pub enum Step {
-    /// Octets are to be sent to a KDC, and the exchange waits for its answer.
+    /// A request is to be sent to a KDC, and the exchange waits for its answer.
     Asks(NetworkRequest, Exchange),
     /// The exchange is over: its context takes the change.
     Ends(InitDone),
-    /// It is over, and its context stays. Running out of memory is never told so.
+    /// The exchange is over, and its context is unchanged. Running out of memory is never reported as `Refused`.
     Refused(Error),
 }
 
-/// Whether memory ran out.
+/// Returns whether the error is that memory ran out.
 pub fn is_memory(error: &Error) -> bool
     ensures { IsTrue result ↔ (error.now ≡ error_of causes.Memory) }
 {
@@ -59,7 +58,7 @@ pub fn is_memory(error: &Error) -> bool
     )
 }
 
-/// What the end of a run leads to, unless memory ran out.
+/// Returns the step for the end of a run. Fails if memory ran out.
 fn ended(out: Result<InitDone, Error>) -> Result<Step, OutOfMemory>
     ensures step { (run : Run) → IfOk result (λ step. IsStep (Completed out) run step) }
     ensures memory { OnErr result (out ≡ Err (error_of causes.Memory)) }
@@ -71,7 +70,7 @@ fn ended(out: Result<InitDone, Error>) -> Result<Step, OutOfMemory>
     }
 }
 
-/// What a step leads to, or the run, where memory ran out.
+/// Returns the step for the state of a run. Returns the run as the error if memory ran out.
 fn step_of(
     state: GeneratorState<NetworkRequest, Result<InitDone, Error>>,
     run: Box<Run>,
@@ -89,7 +88,7 @@ fn step_of(
     }
 }
 
-/// An exchange begins. Where memory runs out it does not.
+/// Begins an exchange, and returns its first step. If memory runs out, no exchange begins.
 pub fn begin_exchange(alloc: Global, run: Run, draw: &Draw) -> Result<Step, OutOfMemory>
     requires new { IsNew run }
     requires moment { draw.now.moment ≤ last_moment }
@@ -103,7 +102,8 @@ pub fn begin_exchange(alloc: Global, run: Run, draw: &Draw) -> Result<Step, OutO
     }
 }
 
-/// An exchange goes on with what the network brought. Where memory runs out it waits as before.
+/// Continues an exchange with the answer of the network, and returns the next step. If memory runs out, returns the exchange as the
+/// error, which waits as before.
 pub fn continue_exchange(
     exchange: Exchange,
     answer: Result<Octets, NetFault>,

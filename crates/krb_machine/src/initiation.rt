@@ -1,4 +1,4 @@
-//! What an initiator begins at an event, and what it hears.
+//! The initiation that an initiator begins at an event, and the token that it takes.
 
 ghost use Rattle.std.specs.Prelude.{◌≡◌, IfOk};
 ghost use Rattle.krb_machine.specs.Initiations.{is_before, options_of};
@@ -14,7 +14,7 @@ use krb_initiator::{InitOptions, initialize_security_context};
 use sspi_core::{ClientRequestFlags, Draw};
 use std::alloc::Global;
 
-/// Whether the service has still to be shown a ticket.
+/// Returns whether the service has not yet been shown a ticket.
 pub(crate) fn is_before(state: KerberosState) -> bool
     ensures { result ≡ is_before state }
 {
@@ -24,7 +24,7 @@ pub(crate) fn is_before(state: KerberosState) -> bool
     }
 }
 
-/// What an initiator asks for: all is copied, since the run keeps it.
+/// Returns the options of an initiator. All of them are copies, since the run keeps them.
 fn options_of(
     alloc: Global,
     connection: &Connection,
@@ -55,7 +55,7 @@ impl Connection {
     ghost use Rattle.sspi_core.specs.Moments.{last_moment};
     ghost use Rattle.krb_machine.specs.Initiations.{options_of, Undertakes};
 
-    /// Begins what an initiator is called to. Where memory runs out it stays.
+    /// Begins the initiation that the options ask for, and returns the reply. If memory runs out, the connection is unchanged.
     fn begin_initiation(
         &mut self,
         alloc: Global,
@@ -73,7 +73,8 @@ impl Connection {
         }
     }
 
-    /// What an initiator makes of a token, which is empty at its start. Where memory runs out it stays.
+    /// Takes a token at an initiator, which is empty at the start, and returns the reply. If memory runs out, the connection is
+    /// unchanged.
     pub(crate) fn initiate(
         &mut self,
         alloc: Global,

@@ -43,8 +43,8 @@ ghost use Rattle.krb_machine.specs.Text.{IsText};
 
 use krb_replay::ReplayGate;
 
-/// An initiator is called to at most one beginning, and each step of an exchange has at most one outcome, determined by its run, what
-/// the network brought and the draw.
+/// An initiator has at most one initiation to begin, and each step of an exchange has at most one outcome, determined by its run, the
+/// answer of the network and the draw.
 pub fn one_outcome()
     ensures initiations { (context : Kerberos) (options : InitOptions) (r s : Result Initiation Cause)
         → BeginsInitiation context options r → BeginsInitiation context options s → r ≡ s }
@@ -59,7 +59,7 @@ pub fn one_reply<G>()
         → Steps (Says verdict) state event r a → Steps (Says verdict) state event s b → (r ≡ s) × (a ≡ b) }
 {}
 
-/// Over any gate, a run has one reply an event.
+/// Over any gate, a run has one reply for each event.
 pub fn one_reply_an_event<G: ReplayGate>()
     ensures { (state after : State G) (events : List Event) (replies : List Reply)
         → Runs G.admits state events replies after → length replies ≡ length events }
@@ -71,7 +71,7 @@ pub fn one_text()
 {}
 
 /// Over the gate that never forgets, no record is left by two events of a run, on whichever connections they are, nor by an
-/// event where the gate has it already; and each event that admits its peer leaves one.
+/// event if the gate has it already; and each event that admits its peer leaves one.
 pub fn records_are_left_once()
     ensures once { (skew : ℕ) (state after : State History) (events : List Event) (replies : List Reply)
         (runs : Runs (Remembers skew) state events replies after) → IsDistinct state.gate.admitted
@@ -80,9 +80,10 @@ pub fn records_are_left_once()
         → admits_peer reply ≡ true → length (record_left (Remembers skew) state event reply after step) ≡ 1 }
 {}
 
-/// An event admits its peer exactly where it is admissible: its token came to an acceptor that waits for one and is an AP-REQ, whose
-/// ticket is encrypted under the service's key, whose authenticator is encrypted under the ticket's, whose record no event left before,
-/// and which the rules of the context allow, in time and in order. It is answered by the AP-REP that its options ask for, and makes what they ask for of the connection.
+/// An event admits its peer exactly if it is admissible: its token came to an acceptor that waits for one and is an AP-REQ, whose
+/// ticket is encrypted under the service's key, whose authenticator is encrypted under the ticket's, whose record no event left
+/// before, and which the rules of the context allow, in time and in order. The reply has the AP-REP that the options ask for, and
+/// the connection becomes the one that the options ask for.
 pub fn admitted_exactly_where()
     ensures exactly { (skew : ℕ) (state after : State History) (event : Event) (reply : Reply)
         → Steps (Remembers skew) state event reply after → (admits_peer reply ≡ true) ↔ IsAdmissible skew state event }
@@ -98,8 +99,9 @@ pub fn admitted_exactly_where()
         → (admissible : IsAdmissible before.gate.skew (with_gate before h) event) → reply ≡ reply_to admissible }
 {}
 
-/// A context without rules allows every request, and each connection that the lines of an input describe is without them. How clients are
-/// compared then, which are known, and what their records are, the laws of `krb_admission` say whose names begin so.
+/// A context without rules allows every request, and each connection that the lines of an input describe has no rules. The laws of
+/// `krb_admission` whose names begin with `without_rules` say how clients are compared then, which are known, and what their records
+/// are.
 pub fn without_rules_nothing_is_asked_besides()
     ensures allowed { (context : Kerberos) (request : Request) → context.rules ≡ no_rules → IsAllowed context request }
     ensures lines { (setup : Setup) → GoBy no_rules (service_of setup) }
@@ -123,8 +125,8 @@ pub fn completeness()
         → reply ≡ reply_of (Ok (answer_for admission)) }
 {}
 
-/// A run over a replay book is a run over the gate that never forgets, for each history that the book stands for: with the
-/// same replies and connections, and the book stands for the history behind it.
+/// A run over a replay book is a run over the gate that never forgets, for each history that the book represents: with the
+/// same replies and connections, and the book afterwards represents the history after the run.
 pub fn runs_never_forget()
     ensures { (before after : State Book) (events : List Event) (replies : List Reply) (h : History)
         → StandsFor before.gate h → Runs (Follows StandsFor) before events replies after
@@ -132,7 +134,7 @@ pub fn runs_never_forget()
         × StandsFor after.gate later }
 {}
 
-/// Over a replay book, no record is left by two events of a run, on whichever connections they are, nor by an event where the
+/// Over a replay book, no record is left by two events of a run, on whichever connections they are, nor by an event if the
 /// book admitted it before; and each event that admits its peer leaves one. So no two admitted events share a record.
 pub fn books_admit_a_record_once()
     ensures once { (before after : State Book) (events : List Event) (replies : List Reply) (h : History)
@@ -154,8 +156,8 @@ pub fn completeness_over_a_book()
         → reply ≡ reply_of (Ok (answer_for admission)) }
 {}
 
-/// Whatever the gate, from what every gate owes alone: a request that reaches it is refused for the first of the clock's
-/// refusals at the moment that the gate judges by, where there is one; where it admits its peer there is none; and a run
+/// Over any gate, from the obligations of every gate alone: a request that reaches the gate is refused for the first of the clock's
+/// refusals at the moment that the gate judges by, if there is one; if the event admits its peer there is none; and a run
 /// leaves the skew.
 pub fn gates_refuse_by_the_clock<G: ReplayGate>()
     ensures refused { (state after : State G) (event : Event) (reply : Reply) (request : Request) (verdict : Verdict) (cause : Cause)
@@ -169,9 +171,9 @@ pub fn gates_refuse_by_the_clock<G: ReplayGate>()
         → Runs G.admits state events replies after → G.skew after.gate ≡ G.skew state.gate }
 {}
 
-/// Messages by the lists that never forget, whatever the gate. Over a run of events, from connections whose windows stand for lists: a
-/// message that is opened was fresh by its connection's list, one that is refused as old or repeated was so by that list, and the
-/// windows afterwards stand for the lists with the places of the messages that were opened. So no place is opened twice.
+/// Messages by the lists that never forget, over any gate. Over a run of events, from connections whose windows represent lists: a
+/// message that is decrypted was fresh by its connection's list, one that is refused as old or repeated was so by that list, and the
+/// windows afterwards represent the lists with the places of the messages that were decrypted. So no place is decrypted twice.
 pub fn messages_follow_the_lists<G: ReplayGate>()
     ensures judged { (lists : Lists) (state after : State G) (events : List Event) (replies : List Reply) → BringOctets events
         → Runs G.admits state events replies after → StandFor state lists → AreJudgedBy lists events replies }

@@ -1,6 +1,6 @@
 //! A Kerberos service over lines of text.
 //!
-//! [`serve`] reads lines from a source, answers each event as its line comes, and writes the reply before it reads on:
+//! [`serve`] reads lines from a source, takes each event as its line comes, and writes the reply before it reads on:
 //!
 //! ```
 //! let mut source = SureSource::new(b"skew 300\n");
@@ -8,13 +8,13 @@
 //! let status = serve(alloc, &words, &mut source, &mut sink); // Done, and the sink has taken `end 0 0`
 //! ```
 //!
-//! How a call ends, and what it has written then, is its contract: `specs/Serve.antt` has a line for each status. What a
-//! service answers to an event is the policy machine's: `specs/Policy.antt`.
+//! The contract says how a call ends, and what it has written then: `specs/Serve.antt` has a line for each status. The policy
+//! machine determines the reply of a service to an event: `specs/Policy.antt`.
 //!
-//! A connection that talks to KDCs has an [`Exchange`]: [`begin_exchange`] starts a [`Run`], and [`continue_exchange`] hands it what
-//! the network brought. Both tell by a [`Step`] what follows: a request, and the exchange that waits for its answer; the end, with
-//! what the context is to take; or a refusal, which ends the exchange too. Where memory runs out there is no step, and the exchange
-//! is as it was.
+//! A connection that talks to KDCs has an [`Exchange`]: [`begin_exchange`] starts a [`Run`], and [`continue_exchange`] passes the
+//! answer of the network to it. Both return a [`Step`]: a request, and the exchange that waits for its answer; the end, with the
+//! change for the context; or a refusal, which ends the exchange too. If memory runs out there is no step, and the exchange is as it
+//! was.
 #![tactic(auto)]
 
 mod acceptance;

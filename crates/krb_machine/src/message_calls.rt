@@ -1,4 +1,4 @@
-//! What an event asks of a connection's context beside its exchange: messages and MIC tokens.
+//! The calls of an event at a connection's context apart from its exchange: messages and MIC tokens.
 
 ghost use Rattle.std.specs.Prelude.{◌≡◌, ◌≢◌, take, IfOk, OnErr};
 ghost use Rattle.sspi_core.specs.Kinds.{error_of};
@@ -39,7 +39,7 @@ fn copy_buffers(
     Ok(Items::new(copies))
 }
 
-/// The message of an event is lent: what is answered is a copy.
+/// Copies the message of an event, which is borrowed: the reply is the copy.
 fn copy_message(alloc: Global, message: &Message) -> Result<Message, OutOfMemory>
     ensures { IfOk result (λ copy. copy ≡ message.now) }
 {
@@ -51,7 +51,7 @@ fn copy_message(alloc: Global, message: &Message) -> Result<Message, OutOfMemory
     }
 }
 
-/// A refusal, unless memory ran out.
+/// Returns a refusal. Fails if memory ran out.
 pub(crate) fn refused(error: Error) -> Result<Reply, OutOfMemory>
     ensures refused { IfOk result (λ reply. (reply ≡ Refused error) × (error ≢ error_of causes.Memory)) }
 {
@@ -70,7 +70,7 @@ fn confounder_of(random: &[u8; 64]) -> [u8; 16]
     confounder
 }
 
-/// Seals a copy of a message.
+/// Wraps a copy of a message, and returns it in the reply.
 pub(crate) fn seal_message(
     alloc: Global,
     context: &mut Kerberos,
@@ -87,7 +87,7 @@ pub(crate) fn seal_message(
     }
 }
 
-/// Opens a copy of a message.
+/// Unwraps a copy of a message, and returns it in the reply.
 pub(crate) fn open_message(
     alloc: Global,
     context: &mut Kerberos,
@@ -103,7 +103,7 @@ pub(crate) fn open_message(
     }
 }
 
-/// Makes the MIC token of a payload.
+/// Makes the MIC token of a payload, and returns it in the reply.
 pub(crate) fn sign(
     alloc: Global,
     context: &mut Kerberos,

@@ -1,4 +1,4 @@
-//! What an event is answered, and the line that tells it.
+//! The reply to an event, and its line.
 ghost use Rattle.std.specs.Prelude.{◌≡◌, ◌++◌, codes, IfOk, string_bytes};
 ghost use Rattle.std.specs.List.{flat_map};
 ghost use Rattle.hex.specs.Hex.{encode_lower};
@@ -13,25 +13,25 @@ use sspi_core::{
 use sspi_generator::NetworkRequest;
 use std::alloc::{AllocError, Global};
 
-/// What an event is answered.
+/// The reply to an event.
 #[derive(Drop)]
 pub enum Reply {
-    /// It was taken. The token, which may be empty, is for the peer.
+    /// The event was taken. The token, which may be empty, is for the peer.
     Done {
         status: SecurityStatus,
         token: Octets,
-        /// Whether it admits the peer. The last word of an exchange in DCE style does so no second time.
+        /// Set if the reply admits the peer. The third leg of an exchange in DCE style does not admit the peer again.
         admits: bool,
     },
-    /// Octets are to be sent to a KDC: the connection awaits what it answers.
+    /// A request is to be sent to a KDC: the connection awaits its answer.
     Ask(NetworkRequest),
-    /// The buffers of a message that was sealed, or opened.
+    /// The buffers of a message that was wrapped or unwrapped.
     Buffers(Message),
     /// The MIC token of a payload.
     Mic(Octets),
-    /// A MIC token is the peer's, over the payload.
+    /// The MIC token is the peer's, over the payload.
     Verified,
-    /// It was refused, for the first check that fails. Running out of memory is never told so.
+    /// The event was refused, for the first check that fails. Running out of memory is never reported as `Refused`.
     Refused(Error),
 }
 
@@ -39,7 +39,7 @@ impl Reply {
     ghost use Rattle.std.specs.Prelude.{◌≡◌, IfOk, string_bytes};
     ghost use Rattle.krb_machine.specs.Reply.{reply_line, admits_peer};
 
-    /// Whether it admits the peer.
+    /// Returns whether the reply admits the peer.
     pub fn admits_peer(&self) -> bool
         ensures { result ≡ admits_peer self.now }
     {
@@ -53,7 +53,7 @@ impl Reply {
         }
     }
 
-    /// The line that tells it, with the octet 0A at its end.
+    /// Returns the line of the reply, with 0A at its end.
     pub fn line(&self, alloc: Global) -> Result<String, AllocError>
         ensures { IfOk result (λ line. string_bytes line ≡ reply_line self.now) }
     {
@@ -113,7 +113,7 @@ fn letter_of(buffer: &SecurityBufferRef) -> &'static str
     }
 }
 
-/// A buffer as a line tells it, behind a space.
+/// Returns the text of a buffer in a line, after a space.
 fn buffer_text(alloc: Global, buffer: &SecurityBufferRef) -> Result<String, AllocError>
     ensures { IfOk result (λ text. string_bytes text ≡ buffer_text buffer.now) }
 {
@@ -135,7 +135,7 @@ fn buffers_line(alloc: Global, buffers: &[SecurityBufferRef]) -> Result<String, 
     Ok(line)
 }
 
-/// Octets in lower-case hex; `-` stands for none.
+/// Returns octets in lower-case hex; `-` means no octets.
 fn hex_or_dash(alloc: Global, octets: &[u8]) -> Result<String, AllocError>
     ensures { IfOk result (λ text. string_bytes text ≡ hex_or_dash octets.now) }
 {

@@ -15,16 +15,16 @@ use krb_user_to_user::AcceptRun;
 use sspi_core::{Draw, Error};
 use sspi_generator::{GeneratorState, NetFault, NetworkRequest, Resumable, Task};
 
-/// What a connection may do over a network.
+/// A run of a connection over a network.
 #[derive(Drop)]
 pub enum Run {
-    /// A service fetches its own ticket.
+    /// An acceptor fetches its own ticket.
     Accepts(AcceptRun),
-    /// An initiator fetches the ticket of a service and shows it, asks for the service's own ticket, or hears the service's answer.
+    /// An initiator fetches the ticket of a service and shows it, asks for the service's own ticket, or takes the service's answer.
     Initiates(InitRun),
 }
 
-/// The first step of a run.
+/// Takes the first step of a run.
 pub(crate) fn start(
     run: &mut Run,
     draw: &Draw,
@@ -41,7 +41,7 @@ pub(crate) fn start(
     }
 }
 
-/// The step that an answer allows.
+/// Takes the step of a run that an answer of the network allows.
 pub(crate) fn resume(
     run: &mut Run,
     answer: Result<Octets, NetFault>,

@@ -14,14 +14,14 @@ use std::collections::BTreeMap;
 use std::marker::Model;
 
 /// Connections by their numbers, over one replay gate. Contracts see the connections in the order of their numbers, the
-/// environment, and the gate. The fields are public so that whoever runs a service over a gate that borrows takes that gate
-/// back by a pattern.
+/// environment, and the gate. The fields are public so that a caller who runs a service over a gate that borrows can take that
+/// gate back by a pattern.
 #[derive(Drop)]
 pub struct Service<G> {
     pub connections: BTreeMap<u32, HeldConnection>,
     pub env: Env,
     pub gate: G,
-    /// Where connections that are added stand.
+    /// The allocator of connections that are added.
     pub alloc: Global,
 }
 
@@ -33,7 +33,7 @@ impl<G> Model for Service<G> {
     ghost view = { λ s. record { connections = s.connections.entries; env = s.env; gate = s.gate } };
 }
 
-/// Memory ran out behind so many events.
+/// Memory ran out after `taken` events.
 #[derive(Clone, Copy, Debug, PartialEq, Eq)]
 pub struct Stopped {
     /// How many events were taken, each with its reply.
@@ -47,7 +47,7 @@ impl<G: ReplayGate> Service<G> {
     ghost use Rattle.krb_machine.specs.Described.{no_env};
     ghost use Rattle.krb_machine.specs.Policy.{with_connection, is_taken, refusal_to_add, IsRefusedFor, IsSameState, Steps, StepsOn, RunsOn, StopsBehind};
 
-    /// A service without connections, whose environment has no variable and no file.
+    /// Returns a service without connections, whose environment has no variable and no file.
     pub fn new(alloc: Global, gate: G) -> Service<G>
         ensures { result ≡ record { connections = []; env = no_env; gate = gate } }
     {
@@ -62,7 +62,7 @@ impl<G: ReplayGate> Service<G> {
         }
     }
 
-    /// The context of the connection with this number, and None exactly where there is no such connection.
+    /// Returns the context of the connection with this number, and None exactly if there is no such connection.
     pub fn connection(&self, id: u32) -> Option<&Kerberos>
         ensures { option_map (λ context. context.now) result ≡ option_map (λ connection. connection.context) (at_id id self.now.connections) }
     {
@@ -72,21 +72,21 @@ impl<G: ReplayGate> Service<G> {
         }
     }
 
-    /// The replay gate of all connections.
+    /// Returns the replay gate of all connections.
     pub fn gate(&self) -> &G
         ensures { result.now ≡ self.now.gate }
     {
         &self.gate
     }
 
-    /// Sets the variables and files that contexts read, in the place of those that it had.
+    /// Sets the variables and files that contexts read, and replaces those that the service had.
     pub fn set_env(&mut self, env: Env)
         ensures { self.new ≡ record self.old { env = env } }
     {
         self.env = env;
     }
 
-    /// Puts a connection that stands on the heap where its number stands, in the place of one that has it.
+    /// Puts a heap-allocated connection at its number, and replaces the one at the number, if any.
     fn insert(&mut self, id: u32, held: HeldConnection) -> Result<(), OutOfMemory>
         ensures put { OnOk result (self.new ≡ with_connection self.old id held) }
         ensures err { OnErr result (self.new ≡ self.old) }
@@ -95,7 +95,7 @@ impl<G: ReplayGate> Service<G> {
         Ok(())
     }
 
-    /// Puts a connection where its number stands, in the place of one that has it.
+    /// Puts a connection at its number, and replaces the one at the number, if any.
     pub(crate) fn put(&mut self, id: u32, connection: Connection) -> Result<(), OutOfMemory>
         ensures put { OnOk result (self.new ≡ with_connection self.old id connection) }
         ensures err { OnErr result (self.new ≡ self.old) }
@@ -104,8 +104,8 @@ impl<G: ReplayGate> Service<G> {
         self.insert(id, held)
     }
 
-    /// Adds an acceptor in its own context. A refusal leaves the service: `Connection` where the number is taken, and then
-    /// `Role` where the context is an initiator's.
+    /// Adds an acceptor in its own context. Fails with `Connection` if the number is taken, and then with `Role` if the context is an
+    /// initiator's. An error leaves the service unchanged.
     pub fn add_acceptor(&mut self, id: u32, server: Kerberos) -> Result<(), Error>
         ensures added { OnOk result (self.new ≡ with_connection self.old id (record { context = server; target = None; exchange = None })) }
         ensures refused { IsRefusedFor (refusal_to_add (is_taken id self.old.connections) (is_acceptor server)) result }
@@ -120,8 +120,8 @@ impl<G: ReplayGate> Service<G> {
         self.add(id, fits, connection)
     }
 
-    /// Adds an initiator in its own context, and whom it is to speak to. A refusal leaves the service: `Connection` where the
-    /// number is taken, and then `Role` where the context is an acceptor's.
+    /// Adds an initiator in its own context, with the name of its peer. Fails with `Connection` if the number is taken, and then with
+    /// `Role` if the context is an acceptor's. An error leaves the service unchanged.
     pub fn add_initiator(
         &mut self,
         id: u32,
@@ -141,14 +141,14 @@ impl<G: ReplayGate> Service<G> {
         self.add(id, fits, connection)
     }
 
-    /// Adds a connection, whose context fits its role or does not.
+    /// Adds a connection; `fits` says whether its context fits its role.
     fn add(&mut self, id: u32, fits: bool, connection: Connection) -> Result<(), Error>
         ensures added { OnOk result (self.new ≡ with_connection self.old id connection) }
         ensures refused { IsRefusedFor (refusal_to_add (is_taken id self.old.connections) fits) result }
         ensures err { OnErr result (self.new ≡ self.old) }
     {
         let refusal = self.refusal(id, fits);
-        // It stands on the heap first, refused or not. A refusal is told before out of memory is.
+        // The connection is put on the heap first, refused or not. A refusal is reported before out of memory.
         let held = HeldConnection::new(self.alloc, connection);
         match refusal {
             Some(cause) => Err(Error::from(cause)),
@@ -156,7 +156,7 @@ impl<G: ReplayGate> Service<G> {
         }
     }
 
-    /// Why a connection is not added.
+    /// Returns the reason why a connection is not added, if there is one.
     fn refusal(&self, id: u32, fits: bool) -> Option<Cause>
         ensures { result ≡ refusal_to_add (is_taken id self.now.connections) fits }
     {
@@ -166,7 +166,8 @@ impl<G: ReplayGate> Service<G> {
         if fits { None } else { Some(Cause::Role) }
     }
 
-    /// Takes one event. Out of memory, the connections and the environment stay, and no caller can tell the gate from what it was.
+    /// Takes one event, and returns the reply. If memory runs out, the connections and the environment are unchanged, and no caller
+    /// can distinguish the gate from its state before the call.
     pub(crate) fn step(&mut self, alloc: Global, event: &Event) -> Result<Reply, OutOfMemory>
         ensures step { IfOk result (λ reply. Steps G.admits self.old event.now reply self.new) }
         ensures err { OnErr result (IsSameState G.is_same self.old self.new) }
@@ -183,7 +184,7 @@ impl<G: ReplayGate> Service<G> {
         }
     }
 
-    /// One event, and its reply behind the others. The reply's place is made first.
+    /// Takes one event, and appends the reply. The place of the reply is reserved first.
     fn answer(
         &mut self,
         alloc: Global,
@@ -199,9 +200,9 @@ impl<G: ReplayGate> Service<G> {
         Ok(())
     }
 
-    /// Answers the events, one after another, over whichever gate. The replies grow by one for each event that is taken. Where
-    /// memory runs out, connections, gate and replies are those behind the events taken, and a later run goes on from there.
-    /// What that means over a replay book, and over a gate of which nothing else is known, stands in [`laws`](crate::laws).
+    /// Takes the events, one after another, over any gate. The replies grow by one for each event that is taken. If
+    /// memory runs out, connections, gate and replies are those after the events taken, and a later run goes on from there.
+    /// The laws for a replay book, and for a gate of which nothing else is known, are in [`laws`](crate::laws).
     pub fn run(
         &mut self,
         alloc: Global,

@@ -1,4 +1,4 @@
-//! A session: it takes one line after another, and answers each event as it comes.
+//! A session: it takes one line after another, and replies to each event as it comes.
 use crate::closing::end_line;
 use crate::described::service_of;
 use crate::reply::Reply;
@@ -13,7 +13,7 @@ use std::alloc::Global;
 use std::marker::Model;
 use std::mem;
 
-/// What the lines so far declare, and the service from the first event on.
+/// The declarations of the lines so far, and the service from the first event on.
 #[derive(Drop)]
 pub struct Session {
     script: Script,
@@ -49,14 +49,14 @@ impl Session {
         }
     }
 
-    /// How many events admitted their peer.
+    /// Returns how many events admitted their peer.
     pub fn admitted(&self) -> u64
         ensures { result ≡ self.now.admitted }
     {
         self.admitted
     }
 
-    /// How many records the replay book keeps.
+    /// Returns how many records the replay book keeps.
     pub fn kept(&self) -> u64
         ensures { result ≡ kept_by self.now.service }
     {
@@ -66,7 +66,7 @@ impl Session {
         }
     }
 
-    /// Makes the service, where there is none yet and a line told the skew.
+    /// Makes the service, if there is none yet and a line set the skew.
     fn make_service(&mut self, alloc: Global) -> Result<(), OutOfMemory>
         ensures begun { OnOk result (MatchOption self.new.service (CannotBegin self.old × (self.new ≡ self.old)) (BeginsService self.old)) }
         ensures lines { self.new.lines ≡ self.old.lines }
@@ -80,7 +80,7 @@ impl Session {
         Ok(())
     }
 
-    /// One answer more.
+    /// Counts one more reply.
     fn count(&mut self, reply: &Reply)
         requires answered { self.old.answered < 2 ^ 32 }
         requires admitted { self.old.admitted < 2 ^ 32 }
@@ -92,7 +92,7 @@ impl Session {
         }
     }
 
-    /// One event, and the line of its reply.
+    /// Takes one event, and returns the line of the reply. Fails with `Bad` if there is no service and no line set the skew.
     fn answer(&mut self, alloc: Global, event: &Event) -> Result<String, FieldError>
         requires answered { self.old.answered < 2 ^ 32 }
         requires admitted { self.old.admitted < 2 ^ 32 }
@@ -114,7 +114,7 @@ impl Session {
         Ok(text)
     }
 
-    /// One line before the first event.
+    /// Takes the declaration of one line before the first event. Fails with `Bad` after an event, or if its conditions do not hold.
     fn prepare(&mut self, alloc: Global, declaration: Declaration) -> Result<String, FieldError>
         ensures turn { MatchResult result
             (λ text. Prepares self.old declaration (string_bytes text) self.new)
@@ -176,12 +176,12 @@ impl LineTaker for Session {
         self.lines
     }
 
-    /// How many events were answered.
+    /// Returns how many events were answered.
     fn answered(&self) -> u64 {
         self.answered
     }
 
-    /// Whether there was a line with the skew.
+    /// Returns whether there was a line with the skew.
     fn can_end(&self) -> bool {
         self.service.is_some() || self.script.has_begun()
     }

@@ -10,7 +10,7 @@ pub end_within : (text : List ℕ) (r : Option ℕ) → r ≡ first_end text →
 end_within text None e = tt
 end_within text (Some end) e = (has_end text end (sym e)).low
 
--- of a text the lines in the first octets are taken
+-- the lines in the first `done` octets of a text are taken
 pub record IsTaken (text : List ℕ) (done : ℕ) (begun head : Head) : Type 0 where
   pub within : done ≤ length text
   pub lines : with_lines begun (cut text).whole ≡ with_lines head (cut (drop done text)).whole

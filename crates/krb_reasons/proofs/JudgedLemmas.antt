@@ -1,4 +1,4 @@
--- A line is judged as an input that has it declares it.
+-- The judgement of a line agrees with its declaration in an input.
 use Rattle.std.proofs.Common.{◌≡◌, ℕ, Bool, true, false, List, [], ◌∷◌, ◌++◌, Option, Some, None, refl}
 use Rattle.std.specs.Prelude.{option_map, if◌then◌else◌}
 use Rattle.krb_der.specs.Reading.{◌>>=◌}
@@ -11,7 +11,7 @@ use Rattle.krb_script.specs.declared.item.Item.TheVariants.{Declaration as Decla
 use Rattle.krb_script.specs.declared.declaration.Declaration.{Declaration}
 use Rattle.krb_reasons.specs.Judged.{judged_of, step, after, has_any}
 
--- behind one event more there is an event
+-- after one more event there is an event
 some_event : (events : List Event) (event : Event) → has_any (events ++ event ∷ []) ≡ true
 some_event [] event = refl
 some_event (e ∷ events) event = refl

@@ -1,4 +1,4 @@
--- What is kept of an input stands for all its lines.
+-- The kept part of an input represents all its lines.
 use Rattle.std.proofs.Common.{◌≡◌, ℕ, Bool, true, false, List, [], ◌∷◌, ◌++◌, refl, sym, ap, ◌∙◌, append_assoc}
 use Rattle.std.specs.Prelude.{◌==◌}
 use Rattle.std.specs.List.{concat, fold}
@@ -6,11 +6,11 @@ use Rattle.std.proofs.lemmas.List.{append-nil}
 use Rattle.krb_text.specs.Lines.{Cut, cut, in_front, unended}
 use Rattle.krb_reasons.specs.Kept.{Head, no_head, with_line, with_lines, Keeping, nothing_kept, kept_with, kept_of, KeepsLines}
 
--- the lines of a text, and of what follows it
+-- the lines of a text, and of the text that follows it
 abbrev onto : Cut → List ℕ → Cut
 onto c more = record { whole = c.whole ++ (cut (c.rest ++ more)).whole; rest = (cut (c.rest ++ more)).rest }
 
--- one octet in front that ends no line
+-- one more octet at the front, which ends no line
 front_onto : (b : ℕ) (c : Cut) (more : List ℕ) → (b == 10) ≡ false → in_front b (onto c more).whole (onto c more).rest ≡ onto (in_front b c.whole c.rest) more
 front_onto b c more inside = by c.whole c.rest
   where
@@ -31,7 +31,7 @@ lines_onto : (head : Head) (before more : List (List ℕ)) → with_lines (with_
 lines_onto head [] more = refl
 lines_onto head (line ∷ before) more = lines_onto (with_line head line) before more
 
--- so far the head stands for lines, whatever follows
+-- the head represents the lines so far, whatever follows
 record StandsFor (input : List ℕ) (kept : Keeping) : Type 0 where
   pub before : List (List ℕ)
   pub head_is : kept.head ≡ with_lines no_head before

@@ -1,4 +1,4 @@
--- What is left behind a place, once it is moved to the front and the rest is cut off.
+-- The octets from a position on, after they are moved to the front and the rest is cut off.
 use Rattle.std.proofs.Common.{◌≡◌, ℕ, ◌-◌, ◌≤◌, List, length, length-drop, take, drop, ap, ◌∙◌, arith}
 use Rattle.std.specs.List.{copy_within}
 use Rattle.std.proofs.lemmas.List.{take_all}

@@ -1,4 +1,4 @@
--- What is kept of an input.
+-- The kept part of an input.
 use Rattle.std.specs.Prelude.{◌≡◌, ℕ, ◌+◌, ◌-◌, ◌^◌, ◌==◌, ◌||◌, min, Bool, false, List, [], ◌∷◌, ◌++◌, codes, if◌then◌else◌}
 use Rattle.std.specs.List.{fold, starts_with}
 use Rattle.krb_text.specs.Lines.{cut, lines, is_skipped}
@@ -21,7 +21,7 @@ is_event line = starts_with ◌==◌ line (codes "event ")
 abbrev pub number_after : ℕ → ℕ
 number_after lines = min (lines + 1) (2 ^ 64 - 1)
 
--- one line more: it is counted, and kept where it is not skipped and no event stands before it
+-- the head after one more line: the line is counted, and kept if it is not skipped and comes after no event
 abbrev pub with_line : Head → List ℕ → Head
 with_line head line =
     if head.has_event || is_skipped line then record head { lines = number_after head.lines }
@@ -35,7 +35,7 @@ with_line head line =
 abbrev pub with_lines : Head → List (List ℕ) → Head
 with_lines head lines = fold with_line head lines
 
--- what is left of the lines before the last piece, and the last piece, from the beginning of its first line on
+-- the kept lines before the last piece, and the last piece, from the beginning of its first line on
 pub record Keeping : Type 0 where
   pub head : Head
   pub tail : List ℕ
@@ -44,7 +44,7 @@ pub record Keeping : Type 0 where
 abbrev pub nothing_kept : Keeping
 nothing_kept = record { head = no_head; tail = []; is_lost = false }
 
--- one piece more: the lines before it are settled
+-- the kept part after one more piece: the lines before the piece are in the head
 abbrev pub kept_with : Keeping → List ℕ → Keeping
 kept_with kept piece = record {
   head = with_lines kept.head (cut kept.tail).whole;
@@ -52,11 +52,11 @@ kept_with kept piece = record {
   is_lost = kept.is_lost;
 }
 
--- what is kept of an input that comes in these pieces
+-- the kept part of an input that comes in these pieces
 abbrev pub kept_of : List (List ℕ) → Keeping
 kept_of pieces = fold kept_with nothing_kept pieces
 
--- the input's lines are those that the head has or counts, and then those of the tail
+-- the input's lines are the lines that the head has or counts, and then the lines of the tail
 pub record KeepsLines (input : List ℕ) (kept : Keeping) : Type 0 where
   pub before : List (List ℕ)
   pub head_is : kept.head ≡ with_lines no_head before

@@ -1,4 +1,4 @@
--- Why a line is bad, in words.
+-- The reason why a line is bad, in words.
 use Rattle.std.specs.Prelude.{ℕ, ◌==◌, if◌then◌else◌, List, ◌++◌, codes}
 use Rattle.std.specs.Fmt.{decimal}
 use Rattle.krb_reasons.specs.Wanted.{field_name, wish}
@@ -6,7 +6,7 @@ use Rattle.krb_reasons.specs.declared.reason.Reason.{Reason}
 use Rattle.krb_reasons.specs.declared.reason.Reason.TheVariants as reasons
 use Rattle.krb_reasons.specs.declared.bad_line.BadLine.{BadLine}
 
--- an octet that no field has
+-- an octet that is not allowed in a field
 abbrev pub octet_name : ℕ → List ℕ
 octet_name octet =
     if octet == 9 then codes "a tab" else if octet == 13 then codes "a carriage return" else codes "an octet below 21 or above 7E"

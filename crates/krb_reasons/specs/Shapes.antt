@@ -11,7 +11,7 @@ use Rattle.krb_reasons.specs.declared.wanted.Wanted.TheVariants as fields
 use Rattle.krb_reasons.specs.declared.reason.Reason.{Reason}
 use Rattle.krb_reasons.specs.declared.reason.Reason.TheVariants.{Gap, Octet, Field, Missing, Surplus, Buffers}
 
--- the fields behind the word of a line other than an event's
+-- the fields after the word of a line other than an event's
 abbrev pub declaration_shape : List ℕ → List Wanted
 declaration_shape word =
     if bytes_eq word (codes "skew") then fields.Seconds ∷ []
@@ -29,7 +29,7 @@ declaration_shape word =
 abbrev pub buffers_shape : ℕ → List Wanted
 buffers_shape count = replicate (min (max count 1) 16) fields.Buffer
 
--- the fields behind the word of an input that has so many
+-- the fields after the word of an input that has `count` fields
 abbrev pub input_shape : List ℕ → ℕ → List Wanted
 input_shape word count =
     if bytes_eq word (codes "token") || bytes_eq word (codes "reply") || bytes_eq word (codes "mic") then fields.HexOrNone ∷ []
@@ -38,29 +38,29 @@ input_shape word count =
     else if bytes_eq word (codes "wrap") || bytes_eq word (codes "unwrap") then buffers_shape count
     else []
 
--- the fields behind the word of an event, up to the word of its input
+-- the fields after the word of an event, up to the word of its input
 abbrev pub event_head : List Wanted
 event_head = fields.Id ∷ fields.Moment ∷ fields.Random ∷ fields.Flags ∷ fields.Input ∷ []
 
--- the fields behind the word of an event that has these
+-- the fields after the word of an event with these texts
 abbrev pub event_shape : List (List ℕ) → List Wanted
 event_shape (id ∷ moment ∷ random ∷ flags ∷ word ∷ texts) = event_head ++ input_shape word (length texts)
 event_shape _ = event_head
 
--- the fields behind the word of a line that has these
+-- the fields after the word of a line with these texts
 abbrev pub rest_shape : List ℕ → List (List ℕ) → List Wanted
 rest_shape word rest = if bytes_eq word (codes "event") then event_shape rest else declaration_shape word
 
--- the fields of a line that has these
+-- the fields of a line with these texts
 abbrev pub shape_of : List (List ℕ) → List Wanted
 shape_of [] = []
 shape_of (word ∷ rest) = fields.Word ∷ rest_shape word rest
 
--- an octet that no field has: a tab or a carriage return where there is one, and 0 for any other
+-- an octet that is not allowed in a field: a tab or a carriage return if there is one, and 0 for any other
 abbrev pub odd_octet : List ℕ → ℕ
 odd_octet text = if list_any (λ octet. octet == 9) text then 9 else if list_any (λ octet. octet == 13) text then 13 else 0
 
--- what is wrong with one field
+-- the reason why one field is wrong
 abbrev pub wrong_in : ℕ → Wanted → List ℕ → Option Reason
 wrong_in place wanted text =
     if length text == 0 then Some (Gap place)
@@ -68,12 +68,12 @@ wrong_in place wanted text =
     else if fits wanted text then None
     else Some (Field place wanted)
 
--- one reason, or the next where there is none
+-- one reason, or the next if there is none
 abbrev pub or_next : Option Reason → Option Reason → Option Reason
 or_next (Some reason) next = Some reason
 or_next None next = next
 
--- what is wrong with the first field that is not what is wanted, that is missing, or that is one too many
+-- the reason for the first field that is not the expected one, that is missing, or that is one too many
 abbrev pub first_wrong : ℕ → List Wanted → List (List ℕ) → Option Reason
 first_wrong place [] [] = None
 first_wrong place [] (text ∷ texts) = Some (Surplus place)
@@ -83,7 +83,7 @@ first_wrong place (wanted ∷ more) (text ∷ texts) = or_next (wrong_in place w
 abbrev pub wrong_in_fields : List (List ℕ) → Option Reason
 wrong_in_fields texts = first_wrong 1 (shape_of texts) texts
 
--- why a line is not in the table, where it is not
+-- the reason why a line is not in the table, if it is not
 unfoldable pub reason_of : List ℕ → Option Reason
 reason_of line =
     if is_some (item_of line) then None

@@ -1,4 +1,4 @@
--- What the fields of a line are, and what they want: in words, and as a test.
+-- The kinds of fields of a line, and their requirements: in words, and as a test.
 use Rattle.std.specs.Prelude.{ℕ, ◌-◌, ◌^◌, Bool, true, ◌||◌, List, codes, is_some}
 use Rattle.std.specs.Str.{bytes_eq}
 use Rattle.krb_text.specs.Decimals.{decimal_up_to, u32_of}
@@ -8,7 +8,7 @@ use Rattle.krb_script.specs.Buffers.{buffer_of}
 use Rattle.krb_reasons.specs.declared.wanted.Wanted.{Wanted}
 use Rattle.krb_reasons.specs.declared.wanted.Wanted.TheVariants as fields
 
--- its name in the table of lines
+-- the name of a field in the table of lines
 abbrev pub field_name : Wanted → List ℕ
 field_name fields.Word = codes "the word"
 field_name fields.Input = codes "<input>"
@@ -33,7 +33,7 @@ field_name fields.HexOrNone = codes "<hex>"
 field_name fields.Utf8 = codes "<hex>"
 field_name fields.Buffer = codes "<buffers>"
 
--- what it wants, in words
+-- the requirement of a field, in words
 abbrev pub wish : Wanted → List ℕ
 wish fields.Word = codes "skew, acceptor, initiator, key, password, keytab, kdc, env, file or event"
 wish fields.Input = codes "token, start, reply, fault, wrap, unwrap, mic or verify"
@@ -71,11 +71,11 @@ is_input text =
     bytes_eq text (codes "token") || bytes_eq text (codes "start") || bytes_eq text (codes "reply") || bytes_eq text (codes "fault")
     || bytes_eq text (codes "wrap") || bytes_eq text (codes "unwrap") || bytes_eq text (codes "mic") || bytes_eq text (codes "verify")
 
--- the letter of a buffer: the token, data, data that are not sealed, the stream
+-- the letter of a buffer: the token, data, data that are not encrypted, the stream
 abbrev pub is_letter : List ℕ → Bool
 is_letter text = bytes_eq text (codes "T") || bytes_eq text (codes "D") || bytes_eq text (codes "R") || bytes_eq text (codes "S")
 
--- whether a name is the field that is wanted
+-- a name meets the requirement of the field
 abbrev pub fits : Wanted → List ℕ → Bool
 fits fields.Word text = is_word text
 fits fields.Input text = is_input text

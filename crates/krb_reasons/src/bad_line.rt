@@ -1,4 +1,4 @@
-//! Which line of an input is bad, and why.
+//! The first bad line of an input, and the reason.
 
 ghost use Rattle.std.specs.Prelude.{◌≡◌, IfOk, string_bytes};
 ghost use Rattle.krb_reasons.specs.Reasons.{bad_line_text};
@@ -19,7 +19,7 @@ pub struct BadLine {
 }
 
 impl BadLine {
-    /// The line that the program writes on standard error.
+    /// Returns the line that the program writes on standard error.
     pub fn text(self, alloc: Global) -> Result<String, AllocError>
         ensures { IfOk result (λ text. string_bytes text ≡ bad_line_text self) }
     {
@@ -37,7 +37,7 @@ struct Walk {
 }
 
 impl Walk {
-    /// Takes lines that have these numbers, each with its 0A.
+    /// Takes the lines of the head, each with its 0A and its number.
     fn take_head(&mut self, alloc: Global, head: &Head) -> Result<(), Complaint> {
         let lines = split(alloc, b'\n', head.octets())?;
         for (line, number) in lines.iter().zip(head.numbers()) {
@@ -47,8 +47,8 @@ impl Walk {
         Ok(())
     }
 
-    /// Takes the lines of a text that stands behind so many lines. Behind its last 0A a line begins, which may be empty and is then
-    /// none. At the end of the text its next line is to be taken.
+    /// Takes the lines of a text after `before` lines. A line begins after the text's last 0A; if it is empty, it is no line. At the
+    /// end of the text the number is that of the next line.
     fn take_tail(&mut self, alloc: Global, before: u64, octets: &[u8]) -> Result<(), Complaint> {
         let mut lines = split(alloc, b'\n', octets)?;
         if octets.is_empty() || octets.ends_with(b"\n") {
@@ -72,7 +72,7 @@ impl Walk {
     }
 }
 
-/// The first bad line of what was kept of an input. An input without a `skew` line has a bad line after its last.
+/// Returns the first bad line of the kept part of an input. An input without a `skew` line has a bad line after its last.
 pub fn first_bad_line(alloc: Global, kept: &Kept) -> Result<Option<BadLine>, OutOfMemory> {
     if kept.is_lost() {
         return Err(OutOfMemory);

@@ -1,4 +1,4 @@
-//! Whether a field is a buffer of a message.
+//! Test that a field is a buffer of a message.
 
 ghost use Rattle.std.specs.Prelude.{◌≡◌, [], ◌∷◌, map, is_some, IfOk};
 ghost use Rattle.krb_script.specs.Buffers.{parts, hex_of, buffer_in, buffer_of};
@@ -9,7 +9,7 @@ use krb_der::{Octets, OutOfMemory};
 use krb_script::{FieldError, number, octets, split};
 use std::alloc::{AllocError, Global};
 
-/// The greatest limit of a buffer, in octets.
+/// The greatest limit of a buffer, in bytes.
 const MAX_LIMIT: u64 = 1_048_576;
 
 fn is_letter(text: &[u8]) -> bool
@@ -21,7 +21,7 @@ fn is_letter(text: &[u8]) -> bool
         || text == b"S".as_slice()
 }
 
-/// Octets in hex, of which there may be none.
+/// Decodes octets in hex, of which there may be none.
 fn octets_of_hex(alloc: Global, digits: &[u8]) -> Result<Octets, FieldError>
     ensures { Gives (hex_of digits.now) result }
 {
@@ -37,7 +37,7 @@ fn split_parts<'a>(alloc: Global, field: &'a [u8]) -> Result<Vec<&'a [u8]>, Allo
     split(alloc, b':', field)
 }
 
-/// Whether a letter, octets in hex and a limit are a buffer.
+/// Returns whether a letter, octets in hex and a limit are a buffer.
 #[tactic(auto, using(crate::proofs::BufferLemmas::buffer_is, crate::proofs::BufferLemmas::no_octets, crate::proofs::BufferLemmas::no_limit))]
 fn are_buffer(
     alloc: Global,
@@ -69,7 +69,7 @@ fn are_parts(alloc: Global, parts: &[&[u8]]) -> Result<bool, OutOfMemory>
     are_buffer(alloc, letter, digits, limit)
 }
 
-/// Whether a field is a letter, octets and a limit, with a colon between two.
+/// Returns whether a field is a letter, octets and a limit, with a colon between two.
 pub fn is_buffer(alloc: Global, field: &[u8]) -> Result<bool, OutOfMemory>
     ensures { IfOk result (λ is. is ≡ is_some (buffer_of field.now)) }
 {

@@ -1,4 +1,4 @@
-//! Whether a field is what is wanted.
+//! Tests that a field meets its requirement.
 
 ghost use Rattle.std.specs.Prelude.{◌≡◌, Option, is_some, IfOk};
 ghost use Rattle.std.specs.Char.{is_ascii_graphic};
@@ -25,7 +25,7 @@ fn are_graphic(text: &[u8]) -> bool
     text.iter().all(|octet| octet.is_ascii_graphic())
 }
 
-/// Whether it is one octet or more, each from 21 to 7E.
+/// Returns whether a field is one octet or more, each from 21 to 7E.
 pub fn is_name(text: &[u8]) -> bool
     ensures { result ≡ is_name text.now }
 {
@@ -123,7 +123,7 @@ fn is_utf8(octets: &[u8]) -> bool
     }
 }
 
-/// The octets of a text in UTF-8.
+/// Returns the octets of a text in UTF-8. Fails with `Bad` if they are not UTF-8.
 fn text_octets(alloc: Global, text: &[u8]) -> Result<Octets, FieldError>
     ensures { Gives (text_of text.now) result }
 {
@@ -135,7 +135,7 @@ fn text_octets(alloc: Global, text: &[u8]) -> Result<Octets, FieldError>
     }
 }
 
-/// Whether a field was read: exactly where it has what it is to have.
+/// Returns whether a field was read: exactly if it meets its requirement.
 fn is_given<T: Drop>(found: Result<T, FieldError>) -> Result<bool, OutOfMemory>
     ensures { (wanted : Option T) → Gives wanted found → IfOk result (λ given. given ≡ is_some wanted) }
 {
@@ -146,7 +146,7 @@ fn is_given<T: Drop>(found: Result<T, FieldError>) -> Result<bool, OutOfMemory>
     }
 }
 
-/// Whether a name is the field that is wanted.
+/// Returns whether a name meets the requirement of the field.
 pub fn fits(alloc: Global, wanted: Wanted, text: &[u8]) -> Result<bool, OutOfMemory>
     ensures { IfOk result (λ is. is ≡ fits wanted text.now) }
 {

@@ -1,4 +1,4 @@
-//! The lines before the last piece of an input, as far as they tell why a line is bad.
+//! The lines before the last piece of an input, as far as the reason for a bad line depends on them.
 
 ghost use Rattle.std.specs.Prelude.{◌≡◌, ◌≤◌, ◌<◌, length, drop, IfSome};
 ghost use Rattle.krb_text.specs.Cutter.{first_end};
@@ -15,7 +15,7 @@ fn behind(text: &[u8], count: usize) -> &[u8]
     &text[count..]
 }
 
-/// Where the first whole line ends.
+/// Returns the position of the 0A of the first whole line.
 #[tactic(auto, using(crate::proofs::HeadLemmas::end_within))]
 fn first_end(text: &[u8]) -> Option<usize>
     ensures end { result ≡ first_end text.now }
@@ -24,7 +24,7 @@ fn first_end(text: &[u8]) -> Option<usize>
     newline(text)
 }
 
-/// Whether a line is an event's.
+/// Returns whether a line is an event's.
 fn is_event(line: &[u8]) -> bool
     ensures { result ≡ is_event line.now }
 {
@@ -54,7 +54,7 @@ impl Head {
     ghost use Rattle.krb_text.specs.Lines.{cut};
     ghost use Rattle.krb_reasons.specs.Kept.{no_head, with_line, with_lines};
 
-    /// No line was read. It takes no memory yet.
+    /// Returns a head of which no line was read. It allocates no memory yet.
     pub(crate) fn new(alloc: Global) -> Head
         ensures { result ≡ no_head }
     {
@@ -66,28 +66,28 @@ impl Head {
         }
     }
 
-    /// The lines that are kept, each with its 0A.
+    /// Returns the lines that are kept, each with its 0A.
     pub fn octets(&self) -> &[u8]
         ensures { result.now ≡ self.now.octets }
     {
         &self.octets
     }
 
-    /// The number of each of those lines, from 1.
+    /// Returns the number of each line that is kept, from 1.
     pub fn numbers(&self) -> &[u64]
         ensures { result.now ≡ self.now.numbers }
     {
         &self.numbers
     }
 
-    /// How many lines were read, kept or not.
+    /// Returns how many lines were read, kept or not.
     pub fn lines(&self) -> u64
         ensures { result ≡ self.now.lines }
     {
         self.lines
     }
 
-    /// One line more, without its 0A.
+    /// Takes one more line, without its 0A.
     fn take_line(&mut self, line: &[u8]) -> Result<(), AllocError>
         ensures { OnOk result (self.new ≡ with_line self.old line.now) }
     {
@@ -102,7 +102,7 @@ impl Head {
         Ok(())
     }
 
-    /// The whole lines of a text more. How many octets these have, each with its 0A.
+    /// Takes the whole lines of one more text. Returns how many bytes these lines have, each with its 0A.
     pub(crate) fn take_lines(&mut self, text: &[u8]) -> Result<usize, AllocError>
         ensures count { IfOk result (λ count. count ≤ length text.now) }
         ensures rest { IfOk result (λ count. drop count text.now ≡ (cut text.now).rest) }

@@ -14,7 +14,7 @@ use std::alloc::{AllocError, Global};
 use std::marker::Model;
 use std::mem;
 
-/// Why a line is not taken.
+/// The reason why a line is not taken.
 #[derive(Clone, Copy, Debug, PartialEq, Eq)]
 pub enum Complaint {
     Bad(Reason),
@@ -32,7 +32,7 @@ impl From<AllocError> for Complaint {
     }
 }
 
-/// The connection that a declaration adds to.
+/// Returns the connection that a declaration adds to.
 fn needed(declaration: &Declaration) -> Option<u32>
     ensures { result ≡ needed declaration.now }
 {
@@ -42,7 +42,7 @@ fn needed(declaration: &Declaration) -> Option<u32>
     }
 }
 
-/// Why something that a line adds to a connection is not taken where this is declared.
+/// Returns the reason why an attribute is not taken although its connection is declared.
 fn attribute_conflict(id: u32, attribute: &Attribute) -> Reason
     ensures { result ≡ attribute_conflict id attribute.now }
 {
@@ -53,7 +53,7 @@ fn attribute_conflict(id: u32, attribute: &Attribute) -> Reason
     }
 }
 
-/// Why a declaration is not taken behind the skew, where the connection that it adds to is declared.
+/// Returns the reason why a declaration is not taken after the skew, if the connection that it adds to is declared.
 fn conflict(declaration: &Declaration) -> Reason
     ensures { result ≡ conflict declaration.now }
 {
@@ -64,7 +64,7 @@ fn conflict(declaration: &Declaration) -> Reason
     }
 }
 
-/// The same, or that this connection is not declared.
+/// Returns the reason, or `NotDeclared` if the connection is not declared.
 fn conflict_in(script: Script, needed: Option<u32>, reason: Reason) -> Reason
     ensures { result ≡ conflict_in script needed reason }
 {
@@ -75,7 +75,7 @@ fn conflict_in(script: Script, needed: Option<u32>, reason: Reason) -> Reason
     }
 }
 
-/// What the lines so far declare, and whether an event is among them.
+/// The declarations of the lines so far, and whether an event is among them.
 #[derive(Drop)]
 pub struct Judge {
     script: Script,
@@ -94,7 +94,7 @@ impl Judge {
     ghost use Rattle.krb_script.specs.declared.item.Item.TheVariants.{Declaration as DeclarationItem, Event as EventItem};
     ghost use Rattle.krb_reasons.specs.Judged.{nothing_judged, step, after, refusal, why, TakesLine};
 
-    /// No line was taken.
+    /// Returns a judge that has taken no line.
     pub fn new(alloc: Global) -> Judge
         ensures { result ≡ nothing_judged }
     {
@@ -104,7 +104,7 @@ impl Judge {
         }
     }
 
-    /// Why the input may not end here: no line told the skew.
+    /// Returns the reason why the input may not end here, if there is one: no line set the skew.
     pub fn missing(&self) -> Option<Reason>
         ensures { is_some result ≡ not (is_some self.now.setup.skew) }
     {
@@ -146,7 +146,7 @@ impl Judge {
         }
     }
 
-    /// One line more, or why it is bad. Behind a bad line no other is to be taken.
+    /// Takes one more line, or fails with the reason why it is bad. No other line is to be taken after a bad line.
     pub fn take(&mut self, alloc: Global, line: &[u8]) -> Result<(), Complaint>
         ensures { TakesLine (after self.old line.now) (why self.old line.now) result self.new }
     {
@@ -162,7 +162,7 @@ impl Judge {
     }
 }
 
-/// Why a line is not in the table.
+/// Returns the reason why a line is not in the table.
 fn refused(alloc: Global, line: &[u8]) -> Complaint
     ensures { (reason : Reason) → result ≡ Bad reason → reason_of line.now ≡ Some reason }
 {

@@ -4,7 +4,7 @@ use crate::kept::Kept;
 use krb_text::{Failed, Source};
 use std::alloc::Global;
 
-/// A source that hands on another, and keeps of what it read as much as a reason needs.
+/// A source that reads from another one, and keeps as much of the input as a reason needs.
 #[derive(Drop)]
 pub struct KeepingSource<S: Source> {
     source: S,
@@ -15,7 +15,7 @@ impl<S: Source> KeepingSource<S> {
     ghost use Rattle.std.specs.Prelude.{◌≡◌};
     ghost use Rattle.krb_reasons.specs.Kept.{nothing_kept};
 
-    /// A source of what this one gives. Nothing is read yet.
+    /// Returns a source that reads from this one. Nothing is read yet.
     pub fn new(alloc: Global, source: S) -> Self
         ensures left { ⟦<KeepingSource<S> as Source>⟧.left result ≡ S.left source }
         ensures kept { result.kept ≡ nothing_kept }
@@ -26,14 +26,14 @@ impl<S: Source> KeepingSource<S> {
         }
     }
 
-    /// The source that it hands on.
+    /// Returns the source that it reads from.
     pub fn source(&self) -> &S
         ensures { result.now ≡ self.now.source }
     {
         &self.source
     }
 
-    /// What is kept.
+    /// Returns the kept part of the input.
     pub fn kept(&self) -> &Kept
         ensures { result.now ≡ self.now.kept }
     {

@@ -1,4 +1,4 @@
-//! What is kept of an input to tell why a line of it is bad.
+//! The part of an input that is kept to find the reason why a line is bad.
 
 ghost use Rattle.std.specs.Prelude.{◌≡◌, ◌≤◌, length, drop};
 
@@ -6,7 +6,7 @@ use crate::head::Head;
 use std::alloc::{AllocError, Global};
 use std::marker::Model;
 
-/// What is left of the lines before the last piece, and the last piece, from the beginning of its first line on. A line that is
+/// The kept lines before the last piece, and the last piece, from the beginning of its first line on. A line that is
 /// refused as soon as its piece was read is among them, with all that its reason needs.
 #[derive(Drop)]
 pub struct Kept {
@@ -37,7 +37,7 @@ impl Kept {
     ghost use Rattle.std.specs.Prelude.{OnOk, false};
     ghost use Rattle.krb_reasons.specs.Kept.{nothing_kept, kept_with};
 
-    /// Nothing was read. It takes no memory yet.
+    /// Returns the kept part of an input of which nothing was read. It allocates no memory yet.
     pub fn new(alloc: Global) -> Kept
         ensures { result ≡ nothing_kept }
     {
@@ -48,21 +48,21 @@ impl Kept {
         }
     }
 
-    /// The lines before the tail.
+    /// Returns the lines before the tail.
     pub fn head(&self) -> &Head
         ensures { result.now ≡ self.now.head }
     {
         &self.head
     }
 
-    /// The last piece, from the beginning of its first line on.
+    /// Returns the last piece, from the beginning of its first line on.
     pub fn tail(&self) -> &[u8]
         ensures { result.now ≡ self.now.tail }
     {
         &self.tail
     }
 
-    /// Whether there was no memory to keep what was read.
+    /// Returns whether memory ran out, so that the input was not kept.
     pub fn is_lost(&self) -> bool
         ensures { result ≡ self.now.is_lost }
     {
@@ -78,7 +78,7 @@ impl Kept {
         self.tail.extend_from_slice(piece)
     }
 
-    /// Keeps what is read next. Where there is no memory for it nothing is kept from then on.
+    /// Keeps the next piece that was read. If there is no memory for it, nothing is kept from then on.
     pub fn keep(&mut self, piece: &[u8])
         ensures { self.new.is_lost ≡ false → self.new ≡ kept_with self.old piece.now }
     {

@@ -1,4 +1,4 @@
-//! What holds for all values.
+//! Laws over all values.
 
 ghost use Rattle.std.specs.Prelude.{◌≡◌, List, ℕ, option_map};
 ghost use Rattle.std.specs.List.{concat};
@@ -6,12 +6,12 @@ ghost use Rattle.krb_script.specs.Script.{Declared, declare_line};
 ghost use Rattle.krb_reasons.specs.Judged.{judged_of, after};
 ghost use Rattle.krb_reasons.specs.Kept.{kept_of, KeepsLines};
 
-/// A judge takes exactly the lines that an input may have, whatever stood before.
+/// A judge takes exactly the lines that an input may have, whatever came before.
 pub fn lines_are_judged_as_declared()
     ensures { (so_far : Declared) (line : List ℕ) → option_map judged_of (declare_line so_far line) ≡ after (judged_of so_far) line }
 {}
 
-/// Of what is kept of an input, however it comes in pieces, the head stands for the lines before the tail.
+/// In the kept part of an input, however the input comes in pieces, the head represents the lines before the tail.
 pub fn lines_are_kept_or_counted()
     ensures { (pieces : List (List ℕ)) → KeepsLines (concat pieces) (kept_of pieces) }
 {}

@@ -1,9 +1,9 @@
-//! Why a line of an input is bad: the first reason in reading order, with its words.
+//! The reason why a line of an input is bad: the first one in reading order, with its words.
 //!
-//! [`reason_of`] looks at one line alone. A [`Judge`] takes the lines of an input one after another, and so knows what stood
-//! before: a connection that is declared twice, or not at all.
+//! [`reason_of`] looks at one line alone. A [`Judge`] takes the lines of an input one after another, and so finds reasons that
+//! depend on the lines before: a connection that is declared twice, or not at all.
 //!
-//! A [`KeepingSource`] keeps what a reason needs of an input while it is read, and [`first_bad_line`] finds the line behind the end:
+//! A [`KeepingSource`] keeps what a reason needs of an input while it is read, and [`first_bad_line`] finds the line after the end:
 //!
 //! ```
 //! let mut source = KeepingSource::new(alloc, SureSource::new(b"skew 300\nkey 1 host/server 00f\n"));

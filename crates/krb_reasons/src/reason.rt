@@ -1,4 +1,4 @@
-//! Why a line is bad.
+//! The reason why a line is bad.
 
 ghost use Rattle.std.specs.Prelude.{◌≡◌, ◌++◌, codes, IfOk, string_bytes};
 ghost use Rattle.std.specs.Fmt.{decimal};
@@ -8,12 +8,12 @@ ghost use Rattle.krb_reasons.specs.Reasons.{octet_name, reason_text};
 use crate::wanted::Wanted;
 use std::alloc::{AllocError, Global};
 
-/// Why a line is bad. A place counts the fields of the line from 1, with its word.
+/// The reason why a line is bad. A place counts the fields of the line from 1, with its word.
 #[derive(Clone, Copy, Debug, PartialEq, Eq)]
 pub enum Reason {
-    /// The field has no octet: two spaces stand together, or one at an end of the line.
+    /// The field is empty: two spaces are together, or one is at an end of the line.
     Gap { place: usize },
-    /// The field has an octet that no field has: a tab, a carriage return, or 0 for any other.
+    /// The field has an octet that is not allowed in a field: a tab, a carriage return, or 0 for any other.
     Octet { place: usize, octet: u8 },
     /// The field is not what it should be.
     Field { place: usize, wanted: Wanted },
@@ -21,13 +21,13 @@ pub enum Reason {
     Missing { place: usize, wanted: Wanted },
     /// The line has more fields than it may.
     Surplus { place: usize },
-    /// Each buffer of the message is one, and two of them do not go together.
+    /// Each buffer of the message is a valid field, but two of them are not allowed together.
     Buffers,
-    /// No line told the skew.
+    /// No line set the skew.
     NoSkew,
-    /// A line before told the skew.
+    /// A line before set the skew.
     SecondSkew,
-    /// An event stands before this declaration.
+    /// An event comes before this declaration.
     BehindEvent,
     /// A connection with this number was declared before.
     DeclaredTwice { id: u32 },
@@ -41,7 +41,7 @@ pub enum Reason {
     SecondKdc { id: u32 },
 }
 
-/// An octet that no field has, in words.
+/// Returns an octet that is not allowed in a field, in words.
 fn octet_name(octet: u8) -> &'static str
     ensures { result.now ≡ octet_name octet }
 {
@@ -52,7 +52,7 @@ fn octet_name(octet: u8) -> &'static str
     }
 }
 
-/// What a field wants, behind its place and name and these words.
+/// Returns the requirement of a field, after its place, its name and these words.
 fn field_text(
     alloc: Global,
     place: usize,
@@ -66,7 +66,7 @@ fn field_text(
 }
 
 impl Reason {
-    /// The reason in words, without a line end.
+    /// Returns the reason in words, without a line end.
     pub fn text(self, alloc: Global) -> Result<String, AllocError>
         ensures { IfOk result (λ text. string_bytes text ≡ reason_text self) }
     {

@@ -42,7 +42,7 @@ static ENV: [Wanted; 2] = [Wanted::Variable, Wanted::Utf8];
 
 static FILE: [Wanted; 2] = [Wanted::Path, Wanted::Utf8];
 
-/// The fields behind the word of an event, up to the word of its input.
+/// The fields after the word of an event, up to the word of its input.
 static EVENT: [Wanted; 5] = [
     Wanted::Id,
     Wanted::Moment,
@@ -61,7 +61,7 @@ static CODE: [Wanted; 1] = [Wanted::Number];
 
 static BUFFERS: [Wanted; 16] = [Wanted::Buffer; 16];
 
-/// The fields behind the word of a line other than an event's.
+/// Returns the fields after the word of a line other than an event's.
 fn declaration_shape(word: &[u8]) -> &'static [Wanted]
     ensures shape { result.now ≡ declaration_shape word.now }
     ensures short { length result.now ≤ 16 }
@@ -89,7 +89,7 @@ fn declaration_shape(word: &[u8]) -> &'static [Wanted]
     }
 }
 
-/// As many buffers as there are fields, from one to 16.
+/// Returns as many buffers as there are fields, from one to 16.
 #[tactic(auto, using(crate::proofs::ShapeLemmas::buffers_taken))]
 fn buffers_shape(count: usize) -> &'static [Wanted]
     ensures shape { result.now ≡ buffers_shape count }
@@ -98,7 +98,7 @@ fn buffers_shape(count: usize) -> &'static [Wanted]
     &BUFFERS[..count.max(1).min(16)]
 }
 
-/// The fields behind the word of an input that has so many.
+/// Returns the fields after the word of an input that has `count` fields.
 fn input_shape(word: &[u8], count: usize) -> &'static [Wanted]
     ensures shape { result.now ≡ input_shape word.now count }
     ensures short { length result.now ≤ 16 }
@@ -116,7 +116,7 @@ fn input_shape(word: &[u8], count: usize) -> &'static [Wanted]
     }
 }
 
-/// The fields behind the word of an event that has these.
+/// Returns the fields after the word of an event with these texts.
 #[tactic(auto, using(crate::proofs::ShapeLemmas::mapped_count))]
 fn event_shape(alloc: Global, fields: &[&[u8]]) -> Result<Vec<Wanted>, AllocError>
     ensures shape { IfOk result (λ shape. shape.items ≡ event_shape (map (λ x. x.now) fields.now)) }
@@ -129,7 +129,7 @@ fn event_shape(alloc: Global, fields: &[&[u8]]) -> Result<Vec<Wanted>, AllocErro
     Ok(shape)
 }
 
-/// The fields behind the word of a line.
+/// Returns the fields after the word of a line.
 fn rest_shape(alloc: Global, word: &[u8], rest: &[&[u8]]) -> Result<Vec<Wanted>, AllocError>
     ensures shape { IfOk result (λ shape. shape.items ≡ rest_shape word.now (map (λ x. x.now) rest.now)) }
     ensures short { IfOk result (λ shape. length shape.items ≤ 21) }
@@ -141,7 +141,7 @@ fn rest_shape(alloc: Global, word: &[u8], rest: &[&[u8]]) -> Result<Vec<Wanted>,
     }
 }
 
-/// An octet that no field has: a tab or a carriage return where there is one, and 0 for any other.
+/// Returns an octet that is not allowed in a field: a tab or a carriage return if there is one, and 0 for any other.
 fn odd_octet(text: &[u8]) -> u8
     ensures { result ≡ odd_octet text.now }
 {
@@ -154,7 +154,7 @@ fn odd_octet(text: &[u8]) -> u8
     }
 }
 
-/// What is wrong with one field.
+/// Returns the reason why one field is wrong, or None if it is right.
 fn wrong_in(
     alloc: Global,
     place: usize,
@@ -177,7 +177,7 @@ fn wrong_in(
     }
 }
 
-/// What is wrong with the first field that is not right, where the first of all has this place.
+/// Returns the reason for the first field that is wrong, if any. `place` is the place of the first of these fields.
 fn first_wrong(
     alloc: Global,
     place: usize,
@@ -201,7 +201,7 @@ fn first_wrong(
     }
 }
 
-/// What is wrong with the first field of a line that is not right.
+/// Returns the reason for the first field of a line that is wrong, if any.
 fn wrong_in_fields(alloc: Global, fields: &[&[u8]]) -> Result<Option<Reason>, OutOfMemory>
     ensures { IfOk result (λ reason. reason ≡ wrong_in_fields (map (λ x. x.now) fields.now)) }
 {
@@ -221,7 +221,7 @@ fn split_fields<'a>(alloc: Global, line: &'a [u8]) -> Result<Vec<&'a [u8]>, Allo
     split(alloc, b' ', line)
 }
 
-/// What is wrong with a line that is not in the table.
+/// Returns the reason why a line that is not in the table is wrong.
 fn wrong_in_line(alloc: Global, line: &[u8]) -> Result<Reason, OutOfMemory>
     ensures { IfOk result (λ reason. reason ≡ unwrap_or (wrong_in_fields (fields line.now)) Buffers) }
 {
@@ -232,8 +232,8 @@ fn wrong_in_line(alloc: Global, line: &[u8]) -> Result<Reason, OutOfMemory>
     }
 }
 
-/// Why a line that is not skipped is no line of the table; none exactly where it is one. It is the first reason in reading order.
-/// Where each field is right, buffers of one message do not go together.
+/// Returns the reason why a line that is not skipped is no line of the table, and None exactly if it is one. The reason is the first
+/// in reading order. If each field is right, the reason is `Buffers`.
 #[tactic(auto, unfolding(crate::specs::Shapes::reason_of))]
 pub fn reason_of(alloc: Global, line: &[u8]) -> Result<Option<Reason>, OutOfMemory>
     ensures exact { IfOk result (λ reason. is_some reason ≡ not (is_some (item_of line.now))) }

@@ -1,9 +1,9 @@
-//! What a field of a line is, and what it wants.
+//! The kinds of fields of a line, and their requirements.
 
 ghost use Rattle.std.specs.Prelude.{◌≡◌};
 ghost use Rattle.krb_reasons.specs.Wanted.{field_name, wish};
 
-/// What a field of a line is: its name in the table of lines, and what may stand there.
+/// The kind of a field of a line: its name in the table of lines, and its requirement.
 #[derive(Clone, Copy, Debug, PartialEq, Eq)]
 pub enum Wanted {
     /// The first field of a line.
@@ -40,7 +40,7 @@ pub enum Wanted {
 }
 
 impl Wanted {
-    /// Its name in the table of lines.
+    /// Returns the name of the field in the table of lines.
     pub fn name(self) -> &'static str
         ensures { result.now ≡ field_name self }
     {
@@ -68,7 +68,7 @@ impl Wanted {
         }
     }
 
-    /// What it wants, in words.
+    /// Returns the requirement of the field, in words.
     pub fn wish(self) -> &'static str
         ensures { result.now ≡ wish self }
     {

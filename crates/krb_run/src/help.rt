@@ -1,4 +1,4 @@
-//! What the program prints of itself.
+//! The help text of the program.
 
 pub const HELP: &str = "\
 krb_run answers the events of a Kerberos service, one line of text for each.

@@ -1,4 +1,4 @@
--- What the entries of a journal tell of each worker.
+-- The runs of the workers, by the entries of a journal.
 use Rattle.std.proofs.Common.{◌≡◌, ℕ, ◌+◌, ◌==◌, Bool, true, false, cond, List, [], ◌∷◌, ◌++◌, length, length-append, map, get_or, refl, sym, ap, ◌∙◌, subst, arith}
 use lib.ListN.{length-map}
 use Rattle.std.specs.Prelude.{if◌then◌else◌}
@@ -71,14 +71,14 @@ told-whole journal seats low high d two at_low at_high zero_is one_is low_agrees
     let h = log-length journal high 1 one_is high_agrees in
     omega (arith, calls, p, q, r, l, h)
 
--- of entries that are all of one seat, those of that seat are all
+-- if all entries are of one seat, the entries of that seat are all entries
 own-all : (seat : ℕ) (entries : List Entry) → AreOf seat entries → entries_of seat entries ≡ entries
 own-all seat [] own = refl
 own-all seat (entry ∷ entries) own =
     let is : (entry.seat == seat) ≡ true = let e = own.0 in grind (arith, nat_tests) in
     ap (λ b. cond b (entry ∷ entries_of seat entries) (entries_of seat entries)) is ∙ ap (λ (l : List Entry). entry ∷ l) (own-all seat entries own.1)
 
--- and those of another none
+-- if all entries are of one seat, another seat has no entries
 own-none : (seat other : ℕ) (entries : List Entry) → (seat == other) ≡ false → AreOf seat entries → entries_of other entries ≡ []
 own-none seat other [] apart own = refl
 own-none seat other (entry ∷ entries) apart own =

@@ -1,4 +1,4 @@
--- What is written when the reading has ended.
+-- The text that is written after the end of the reading.
 use Rattle.std.proofs.Common.{◌≡◌, ◌≢◌, ℕ, ◌+◌, ◌⊎◌, inl, inr, true, false, List, [], Option, Some, None, IfSome, is_some, refl, ap, sym, ◌∙◌, subst}
 use Rattle.std.specs.Io.KnownBytes.{Appends}
 use Rattle.std.proofs.lemmas.List.{append-nil}
@@ -15,7 +15,7 @@ use Rattle.krb_input.specs.declared.ending.Ending.TheVariants.{Whole, Bad, Long,
 use Rattle.krb_threads.specs.Answers.{IsAnswer}
 use Rattle.krb_threads.specs.Threads.{IsText, IsTextAt, Written, Runs, Answers}
 
--- by what a write has answered
+-- by the status that a write returned
 pub by-write : (P : Status → Type 0) (A F : Type 0) (status own : Status) → (status ≢ WriteFault → (status ≡ own) × A) → (status ≡ WriteFault → F) → (A → P own) → (F → P WriteFault) → P status
 by-write P A F WriteFault own whole cut f g = g (cut refl)
 by-write P A F Done own whole cut f g = let w = whole (λ e. cc) in subst P (sym w.0) (f w.1)
@@ -37,7 +37,7 @@ Appends-nothing (Some xs) = sym (append-nil xs)
 text_at : (input text : List ℕ) (status : Status) → end_of input ≡ status → IsTextAt input status text → IsText input text
 text_at input text status is t = let P : Status → Type 0 = λ s. IsTextAt input s text in subst P (sym is) t
 
--- the line that a bad or a long line leaves
+-- the line that is written for a bad or a long line
 pub closed-line : (left b before after : Option (List ℕ)) (status own : Status) (line : List ℕ)
     → IfSome left (λ input. (taken : List ℕ) × IsTaken input b taken × IsText input line × ((written : List ℕ) → IsText input written → Written input taken own written))
     → (status ≢ WriteFault → (status ≡ own) × Appends before after line) → (status ≡ WriteFault → AppendsFront before after line) → Runs left b before after status
@@ -59,7 +59,7 @@ closed-bad left b before after known status line is ends whole cut =
     let text : line ≡ bad_line (reading_of input).number = is ∙ ap (λ (r : Reading). bad_line r.number) (sym k.2) in
     (k.0, k.1, text_at input line BadLine end text, λ written t. (end, t))) ends) whole cut
 
--- the lines tell no skew
+-- the lines set no skew
 pub closed-short : (left b before after : Option (List ℕ)) (known : Known) (status : Status) (line : List ℕ) → line ≡ bad_line (known.lines + 1) → is_some known.so_far.setup.skew ≡ false → Ends left b known Whole
     → (status ≢ WriteFault → (status ≡ BadLine) × Appends before after line) → (status ≡ WriteFault → AppendsFront before after line) → Runs left b before after status
 closed-short left b before after known status line is none ends whole cut =

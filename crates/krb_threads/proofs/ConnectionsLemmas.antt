@@ -1,4 +1,4 @@
--- The connections of a worker, one declared end more at a time.
+-- The connections of a worker, with one more declared end at a time.
 use Rattle.std.proofs.Common.{◌≡◌, ℕ, zero, suc, ◌<◌, Bool, true, false, cond, List, [], ◌∷◌, ◌++◌, length, get_or, refl, sym, ap, ◌∙◌, subst, arith, Ordering, Less}
 use lib.ListN.{length-map}
 use Rattle.std.specs.Ordering.{MatchOrdering, nat_cmp}
@@ -46,7 +46,7 @@ module _ (worker skew : ℕ) where
       → connections_with skew (endpoints ++ (id, endpoint) ∷ []) ≡ connections_with skew endpoints ++ (id, connection_of skew endpoint) ∷ []
   grown endpoints id endpoint = map-append (λ (entry : ℕ × Endpoint). (entry.0, connection_of skew entry.1)) endpoints ((id, endpoint) ∷ [])
 
-  -- an end of the worker's
+  -- an end of this worker
   pub put-own : (endpoints : List (ℕ × Endpoint)) (id : ℕ) (endpoint : Endpoint) (made : Connection) (before after : List (ℕ × Connection)) → before ≡ own endpoints → is_of worker id ≡ true
       → made ≡ connection_of skew endpoint → AreBelow id (keys_of endpoints) → after ≡ insert_entry nat_cmp before id made → after ≡ own (endpoints ++ (id, endpoint) ∷ [])
   put-own endpoints id endpoint made before after so_far is made_is below put =
@@ -55,7 +55,7 @@ module _ (worker skew : ℕ) where
       ∙ sym (filter-in (λ (entry : ℕ × Connection). is_of worker entry.0) (connections_with skew endpoints) (id, connection_of skew endpoint) is)
       ∙ ap (connections_of worker) (sym (grown endpoints id endpoint))
 
-  -- and one of the other's
+  -- an end of the other worker
   pub put-other : (endpoints : List (ℕ × Endpoint)) (id : ℕ) (endpoint : Endpoint) → is_of worker id ≡ false → own endpoints ≡ own (endpoints ++ (id, endpoint) ∷ [])
   put-other endpoints id endpoint is =
       sym (filter-out (λ (entry : ℕ × Connection). is_of worker entry.0) (connections_with skew endpoints) (id, connection_of skew endpoint) is)

@@ -1,4 +1,4 @@
--- Texts, one line more at a time.
+-- Texts, with one more line at a time.
 use Rattle.std.proofs.Common.{◌≡◌, ℕ, ◌+◌, List, [], ◌∷◌, ◌++◌, length, sym, ap, ◌∙◌, arith, append_assoc}
 use Rattle.std.proofs.lemmas.List.{append-nil}
 use Rattle.krb_shared.specs.declared.entry.Entry.{Entry}

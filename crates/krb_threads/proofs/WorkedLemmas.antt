@@ -34,7 +34,7 @@ use Rattle.krb_threads.specs.Journaled.{Rest, Reads, RunsBy}
 use Rattle.krb_threads.specs.Runs.{EndsAs}
 use Rattle.krb_threads.specs.Worked.{log_of, WorksAt, AreOf, WorksThere}
 
--- one call is entered into a log, as the next of its seat, and what is to stay stays
+-- one call is entered into a log, as the next of its seat, and the kept part is unchanged
 pub record Logs {G N : Type 0} (log : G → List Entry) (next seat : G → ℕ) (kept : G → N) (a : G) (ask : Ask) (verdict : Verdict) (b : G) : Type 0 where
   pub log_is : log b ≡ log a ++ record { seat = seat a; call = next a; ask = ask; verdict = verdict } ∷ []
   pub next_is : next b ≡ next a + 1
@@ -51,7 +51,7 @@ module _ {G N : Type 0} (admits : G → Ask → Verdict → G → Type 0) (log :
   abbrev rest_at : G → List Entry → Rest
   rest_at g entries = record { call = next g; entries = entries }
 
-  -- what stays of a gate, and what its log gains
+  -- the part of a gate that is kept, and the entries that its log gains
   record Gains (old new : G) (gained : List Entry) : Type 0 where
     log_is : log new ≡ log old ++ gained
     own : AreOf (seat old) gained
@@ -150,7 +150,7 @@ module _ {G N : Type 0} (admits : G → Ask → Verdict → G → Type 0) (log :
   call_env state event (Ok connection) reply after c = c.env
   call_env state event (Err cause) reply after c = ap (λ (s : State G). s.env) c.1
 
-  -- a call asks no gate: it is one over what is left of the journal too
+  -- a call asks no gate: it is a call over the rest of the journal too
   call_by : (state : State G) (event : Event) (found : Result Connection Cause) (reply : Reply) (after : State G) → AnswersCall state event found reply after → (more : List Entry)
       → AnswersCall (with_gate state (rest_at state.gate more)) event found reply (with_gate after (rest_at after.gate more))
   call_by state event (Ok connection) reply after c more = record { context = c.context; calls = c.calls; connections = c.connections; env = c.env; gate = ap (λ g. rest_at g more) c.gate }
@@ -162,13 +162,13 @@ module _ {G N : Type 0} (admits : G → Ask → Verdict → G → Type 0) (log :
     env : after.env ≡ state.env
     steps : (more : List Entry) → StepsBy (Reads (seat state.gate)) b (with_gate state (rest_at state.gate (gained ++ more))) event reply (with_gate after (rest_at after.gate more))
 
-  -- what the network brings asks no gate either
+  -- an answer of the network asks no gate
   answer_by : (state : State G) (event : Event) (found : Result (Connection × Run) Cause) (answer : Result (List ℕ) NetFault) (reply : Reply) (after : State G) → TakesAnswer state event found answer reply after
       → (more : List Entry) → TakesAnswer (with_gate state (rest_at state.gate more)) event found answer reply (with_gate after (rest_at after.gate more))
   answer_by state event (Ok found) answer reply after s more = record { next = s.next; goes_on = s.goes_on; connections = s.connections; env = s.env; gate = ap (λ g. rest_at g more) s.gate }
   answer_by state event (Err cause) answer reply after s more = (s.0, ap (λ (s : State G). with_gate s (rest_at s.gate more)) s.1)
 
-  -- nor does an initiator
+  -- an initiator asks no gate
   turn_by : (state : State G) (event : Event) (found : Result (Connection × List ℕ) Cause) (reply : Reply) (after : State G) → TakesTurn state event found reply after
       → (more : List Entry) → TakesTurn (with_gate state (rest_at state.gate more)) event found reply (with_gate after (rest_at after.gate more))
   turn_by state event (Ok found) reply after s more = record { next = s.next; undertakes = s.undertakes; connections = s.connections; env = s.env; gate = ap (λ g. rest_at g more) s.gate }
@@ -252,7 +252,7 @@ module _ {G N : Type 0} (admits : G → Ask → Verdict → G → Type 0) (log :
             );
       }
 
-  -- what a run leaves
+  -- the result of a run: the entries that the log gains, and the kept part
   pub record Worked (state : State G) (events : List Event) (replies : List Reply) (after : State G) : Type 0 where
     pub gained : List Entry
     pub log_is : log after.gate ≡ log state.gate ++ gained
@@ -288,7 +288,7 @@ module _ {G N : Type 0} (admits : G → Ask → Verdict → G → Type 0) (log :
       let P : List Reply → Type 0 = λ rs. Worked state events rs after in
       subst P (sym (on.replies ∙ ap (λ l. l ++ on.made) fresh)) (worked_of state events on.made after on.runs)
 
-  -- however a part ends, what is to stay stays
+  -- however a part ends, the kept part of its gate is unchanged
   pub keeps : (is_same : G → G → Type 0) (state : State G) (events : List Event) (old replies : List Reply) (after : State G) (ended : Option (Result (Unit {0}) Stopped))
       → IsSomeAnd ended (λ (e : Result (Unit {0}) Stopped). EndsAs admits is_same state events old e replies after) → old ≡ [] → ((a b : G) → is_same a b → kept b ≡ kept a) → kept after.gate ≡ kept state.gate
   keeps is_same state events old replies after None h fresh same = absurd h
@@ -296,7 +296,7 @@ module _ {G N : Type 0} (admits : G → Ask → Verdict → G → Type 0) (log :
   keeps is_same state events old replies after (Some (Err stopped)) h fresh same =
       same h.1.0.gate after.gate h.1.2.gate ∙ (worked state (take stopped.taken events) old replies h.1.0 h.1.1 fresh).kept_is
 
--- a receipt more is an entry more in the seat's log
+-- one more receipt is one more entry in the seat's log
 pub adds-logs : (skew : ℕ) (a : Seat) (ask : Ask) (verdict : Verdict) (b : Seat) → AddsReceipt skew a ask verdict b → Logs log_of (λ s. length s.receipts + 1) (λ s. s.number) (λ s. s.parts) a ask verdict b
 adds-logs skew a ask verdict b step =
     let receipt : Receipt = record { entry = record { seat = a.number; call = length a.receipts + 1; ask = ask; verdict = verdict }; place = step.place } in
@@ -307,14 +307,14 @@ adds-logs skew a ask verdict b step =
       kept_is = step.parts;
     }
 
--- a step of a gate over a seat, which is seen so
+-- a step of a gate over a seat, by its view
 pub seat-logs : {G N : Type 0} (skew : ℕ) (view : G → Seat) (name : G → N) (a : G) (ask : Ask) (verdict : Verdict) (b : G) → AddsReceipt skew (view a) ask verdict (view b) × (name b ≡ name a)
     → Logs {N = N × ℕ} (λ g. log_of (view g)) (λ g. length (view g).receipts + 1) (λ g. (view g).number) (λ g. (name g, (view g).parts)) a ask verdict b
 seat-logs skew view name a ask verdict b step =
     let l = adds-logs skew (view a) ask verdict (view b) step.0 in
     record { log_is = l.log_is; next_is = l.next_is; seat_is = l.seat_is; kept_is = rw (step.1, l.kept_is) refl }
 
--- a step of a gate over a desk, whose journal has at least the entries that stood there before
+-- a step of a gate over a desk, whose journal has at least the entries from before
 pub desk-logs : {G N : Type 0} (view : G → Gate) (name : G → N) (a : G) (ask : Ask) (verdict : Verdict) (b : G) → (view a).before ≤ length (view a).desk.journal
     → AdmitsNext (view a) ask verdict (view b) × (name b ≡ name a)
     → Logs {N = N × ℕ} (λ g. (view g).desk.journal) (λ g. next_call (view g)) (λ g. (view g).seat) (λ g. (name g, (view g).desk.skew)) a ask verdict b
@@ -324,7 +324,7 @@ desk-logs view name a ask verdict b enough step =
     let grown : length (view b).desk.journal ≡ length (view a).desk.journal + 1 = ap length s.step.entry ∙ length-append (view a).desk.journal (entry ∷ []) in
     record { log_is = s.step.entry; next_is = omega (arith, s.before); seat_is = s.seat; kept_is = rw (step.1, s.step.skew) refl }
 
--- a part whose gate stands over a seat
+-- a part whose gate is over a seat
 module _ {G N : Type 0} (admits : G → Ask → Verdict → G → Type 0) (is_same : G → G → Type 0) (skew : ℕ) (view : G → Seat) (name : G → N)
     (step : (a : G) (ask : Ask) (verdict : Verdict) (b : G) → admits a ask verdict b → AddsReceipt skew (view a) ask verdict (view b) × (name b ≡ name a)) where
   seat_step : (a : G) (ask : Ask) (verdict : Verdict) (b : G) → admits a ask verdict b
@@ -334,7 +334,7 @@ module _ {G N : Type 0} (admits : G → Ask → Verdict → G → Type 0) (is_sa
   both_same : (a b : G) → (view b ≡ view a) × (name b ≡ name a) → ◌≡◌ {A = N × ℕ} (name b, (view b).parts) (name a, (view a).parts)
   both_same a b s = rw (s.1, ap (λ (seat : Seat). seat.parts) s.0) refl
 
-  -- however it ends, the gate stands over the same seat
+  -- however the part ends, its gate is over the same seat
   pub seat-keeps : (state : State G) (events : List Event) (old replies : List Reply) (after : State G) (ended : Option (Result (Unit {0}) Stopped))
       → IsSomeAnd ended (λ (e : Result (Unit {0}) Stopped). EndsAs admits is_same state events old e replies after) → old ≡ [] → ((a b : G) → is_same a b → (view b ≡ view a) × (name b ≡ name a))
       → name after.gate ≡ name state.gate
@@ -349,7 +349,7 @@ module _ {G N : Type 0} (admits : G → Ask → Verdict → G → Type 0) (is_sa
       let w = worked {N = N × ℕ} admits (λ g. log_of (view g)) (λ g. length (view g).receipts + 1) (λ g. (view g).number) (λ g. (name g, (view g).parts)) seat_step state events old replies after runs fresh in
       record { number = w.seat_is; parts = ap (λ (p : N × ℕ). p.1) w.kept_is; gained = w.gained; log = w.log_is; runs = w.runs }
 
-  -- and where all events were taken, the seat has gained the receipts of the run
+  -- if all events were taken, the seat has gained the receipts of the run
   pub seat-works : (state : State G) (events : List Event) (old replies : List Reply) (after : State G) (ended : Option (Result (Unit {0}) Stopped))
       → IsSomeAnd ended (λ (e : Result (Unit {0}) Stopped). EndsAs admits is_same state events old e replies after) → old ≡ []
       → IsSomeAnd ended (λ (e : Result (Unit {0}) Stopped). OnOk e (WorksAt (view state.gate) state.env state.connections events replies (view after.gate)))
@@ -357,7 +357,7 @@ module _ {G N : Type 0} (admits : G → Ask → Verdict → G → Type 0) (is_sa
   seat-works state events old replies after (Some (Ok done)) h fresh = seat_worked state events old replies after h fresh
   seat-works state events old replies after (Some (Err stopped)) h fresh = tt
 
--- a part whose gate stands over a desk
+-- a part whose gate is over a desk
 module _ {G N : Type 0} (admits : G → Ask → Verdict → G → Type 0) (view : G → Gate) (name : G → N) (enough : (a : G) → (view a).before ≤ length (view a).desk.journal)
     (step : (a : G) (ask : Ask) (verdict : Verdict) (b : G) → admits a ask verdict b → AdmitsNext (view a) ask verdict (view b) × (name b ≡ name a)) where
   desk_step : (a : G) (ask : Ask) (verdict : Verdict) (b : G) → admits a ask verdict b
@@ -378,7 +378,7 @@ module _ {G N : Type 0} (admits : G → Ask → Verdict → G → Type 0) (view 
       let w = desk_worked state events old replies after runs fresh in
       record { skew = ap (λ (p : N × ℕ). p.1) w.kept_is; gained = w.gained; journal = w.log_is; own = w.own; runs = w.runs }
 
--- how a run of a service ends, by its answer
+-- the end of a run of a service, by its result
 pub ends-as : {G : Type 0} (admits : G → Ask → Verdict → G → Type 0) (is_same : G → G → Type 0) (service : State G) (events : List Event) (old : List Reply) (result : Result (Unit {0}) Stopped) (new : List Reply) (after : State G)
     → OnOk result (RunsOn admits service events old new after) → IfErr result (λ (stopped : Stopped). stopped.taken < length events)
     → IfErr result (λ (stopped : Stopped). StopsBehind admits is_same service (take stopped.taken events) old new after) → EndsAs admits is_same service events old result new after

@@ -1,4 +1,4 @@
--- What the workers answer, and the text that tells it.
+-- The replies of the workers, and their text.
 use Rattle.std.specs.Prelude.{◌≡◌, ℕ, ◌+◌, List, [], ◌∷◌, ◌++◌, codes, length}
 use Rattle.std.specs.Fmt.{decimal}
 use Rattle.krb_conf.specs.declared.env.Env.{Env}
@@ -48,7 +48,7 @@ abbrev pub entry_line : ℕ → Entry → List ℕ
 entry_line place entry =
     codes "j " ++ decimal place ++ codes " " ++ decimal entry.seat ++ codes " " ++ decimal entry.call ++ codes " " ++ verdict_name entry.verdict ++ codes "\n"
 
--- a line for each entry, where the first has this place
+-- a line for each entry; the first entry has this place
 abbrev pub entries_text : ℕ → List Entry → List ℕ
 entries_text place [] = []
 entries_text place (entry ∷ entries) = entry_line place entry ++ entries_text (place + 1) entries
@@ -59,7 +59,7 @@ answers_text events first second journal =
     worker_text 0 (numbers_of 0 events) first ++ worker_text 1 (numbers_of 1 events) second ++ entries_text 1 journal.entries
     ++ end_line (admissions first + admissions second) journal.kept
 
--- the text that answers what was declared
+-- the text that answers the declarations
 pub record IsAnswer (so_far : Declared) (text : List ℕ) : Type 0 where
   pub first : List Reply
   pub second : List Reply

@@ -19,7 +19,7 @@ connections_of worker connections = filter (λ (entry : ℕ × Connection). is_o
 abbrev pub entries_of : ℕ → List Entry → List Entry
 entries_of seat entries = filter (λ (entry : Entry). entry.seat == seat) entries
 
--- what is left of one seat's entries, and the number of its next call
+-- the rest of one seat's entries, and the number of its next call
 pub record Rest : Type 0 where
   pub call : ℕ
   pub entries : List Entry
@@ -29,8 +29,8 @@ pub record Reads (seat : ℕ) (old : Rest) (ask : Ask) (verdict : Verdict) (new 
   pub entries : old.entries ≡ record { seat = seat; call = old.call; ask = ask; verdict = verdict } ∷ new.entries
   pub call : new.call ≡ old.call + 1
 
--- a run of a service with this environment and these connections over these events, from this call on: the k-th event that reaches the gate is given
--- the verdict of the k-th entry, which has its ask, and no entry is left
+-- a run of a service with this environment and these connections over these events, from this call on: the k-th event that reaches
+-- the gate gets the verdict of the k-th entry, which has its ask, and no entry is left
 pub record RunsBy (call seat : ℕ) (env : Env) (connections : List (ℕ × Connection)) (events : List Event) (entries : List Entry)
     (replies : List Reply) : Type 0 where
   pub after : State Rest

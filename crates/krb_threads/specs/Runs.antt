@@ -1,4 +1,4 @@
--- How the run of a part ends.
+-- The end of the run of a part.
 use Rattle.std.specs.Prelude.{◌<◌, List, length, take, Result, Ok, Err}
 use Rattle.krb_replay.specs.declared.ask.Ask.{Ask}
 use Rattle.krb_replay.specs.declared.ask.Verdict.{Verdict}
@@ -7,7 +7,7 @@ use Rattle.krb_machine.specs.Policy.{State, RunsOn, StopsBehind}
 use Rattle.krb_machine.specs.declared.reply.Reply.{Reply}
 use Rattle.krb_machine.specs.declared.service.Stopped.{Stopped}
 
--- over all events, or behind so many of them where memory ran out
+-- a run over all events, or over the first `stopped.taken` events if memory ran out
 abbrev pub EndsAs : {G : Type 0} → (G → Ask → Verdict → G → Type 0) → (G → G → Type 0) → State G → List Event → List Reply
     → Result (Unit {0}) Stopped → List Reply → State G → Type 0
 EndsAs admits is_same service events old (Ok done) new after = RunsOn admits service events old new after

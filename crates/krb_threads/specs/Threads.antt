@@ -1,4 +1,4 @@
--- How a call of `threads` ends, and what it has read and written then.
+-- The end of a call of `threads`, and the octets that it has read and written then.
 use Rattle.std.specs.Prelude.{◌≡◌, ◌⊎◌, [], List, ℕ, Option, IfSome}
 use Rattle.std.specs.Io.KnownBytes.{Appends}
 use Rattle.krb_text.specs.Output.{IsFront, AppendsFront}
@@ -10,7 +10,7 @@ use Rattle.krb_machine.specs.Serve.{end_of}
 use Rattle.krb_machine.specs.Text.{bad_line, long_line, stopped_line}
 use Rattle.krb_threads.specs.Answers.{IsAnswer}
 
--- the text of an input, by the status that goes with its reading: no event is run where a line is bad or long
+-- the text of an input, by the status that goes with its reading: no event is run if a line is bad or long
 abbrev pub IsTextAt : List ℕ → Status → List ℕ → Type 0
 IsTextAt input Done text = IsAnswer (reading_of input).so_far text
 IsTextAt input BadLine text = text ≡ bad_line (reading_of input).number
@@ -23,7 +23,7 @@ IsTextAt input BadWords text = ⊥
 abbrev pub IsText : List ℕ → List ℕ → Type 0
 IsText input text = IsTextAt input (end_of input) text
 
--- what may have been taken and written of this input, by the status
+-- the octets taken of this input and the text written for it, by the status
 abbrev pub Written : List ℕ → List ℕ → Status → List ℕ → Type 0
 Written input taken Done written = (end_of input ≡ Done) × IsText input written × (taken ≡ input)
 Written input taken BadLine written = (end_of input ≡ BadLine) × IsText input written
@@ -33,12 +33,13 @@ Written input taken WriteFault written = (whole : List ℕ) × IsFront written w
 Written input taken OutOfMemory written = written ≡ stopped_line 0
 Written input taken BadWords written = (taken ≡ []) × (written ≡ [])
 
--- of the input that the source had left, a front is taken, and the sink has taken what the status says, where they tell
+-- a front of the input that the source had left is taken, and the sink has taken the text that the status allows, if the octets of
+-- both are known
 abbrev pub Runs : Option (List ℕ) → Option (List ℕ) → Option (List ℕ) → Option (List ℕ) → Status → Type 0
 Runs left left_after before after status =
     IfSome left (λ input. (taken written : List ℕ) × IsTaken input left_after taken × Appends before after written × Written input taken status written)
 
--- what a sink has taken of the answer to what was declared, by the status
+-- the part that a sink has taken of the answer to the declarations, by the status
 abbrev pub Answers : Declared → Option (List ℕ) → Option (List ℕ) → Status → Type 0
 Answers so_far before after Done = (text : List ℕ) × IsAnswer so_far text × Appends before after text
 Answers so_far before after OutOfMemory = Appends before after (stopped_line 0)

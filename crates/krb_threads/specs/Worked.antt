@@ -1,4 +1,4 @@
--- What a worker's run leaves at its seat, or at the desk.
+-- The receipts that a worker's run adds to its seat, or the entries that it adds to the desk.
 use Rattle.std.specs.Prelude.{◌≡◌, ℕ, ◌+◌, List, [], ◌∷◌, ◌++◌, map, length}
 use Rattle.krb_conf.specs.declared.env.Env.{Env}
 use Rattle.krb_shared.specs.declared.entry.Entry.{Entry}

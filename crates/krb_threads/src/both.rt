@@ -9,8 +9,8 @@ use krb_replay::ReplayGate;
 use std::alloc::Global;
 use std::thread::{Threads, join_mut};
 
-/// Runs each part over its events, in two threads; where no thread can be started, one after the other. Each ends as its
-/// service's run does over its own gate. It returns if the calls of both gates do.
+/// Runs each part over its events, in two threads; if no thread can be started, one after the other. Each part ends as its
+/// service's run does over its own gate. Returns if the calls of both gates return.
 pub fn run_two<R: Threads + Sync, A: ReplayGate + Send, B: ReplayGate + Send>(
     rt: &R,
     alloc: Global,

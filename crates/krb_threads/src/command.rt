@@ -1,4 +1,4 @@
-//! The command `threads`: it reads all its input, and writes what two workers answer.
+//! The command `threads`: it reads all its input, and writes the replies of two workers.
 
 ghost use Rattle.std.specs.Prelude.{◌≡◌, ◌≢◌, ◌≤◌, ◌↔◌, ◌∷◌, ◌++◌, [], codes, decimal, length, IfOk, string_bytes};
 ghost use Rattle.std.specs.Io.KnownBytes.{Appends};
@@ -26,7 +26,7 @@ use std::mem;
 use std::sync::Wait;
 use std::thread::Threads;
 
-/// The ends that the lines declare, the environment and the skew, taken out of what is known.
+/// Takes the ends that the lines declare, the environment and the skew out of `known`, and returns them.
 fn take_described(alloc: Global, known: &mut Known) -> Result<Box<Described>, OutOfMemory>
     ensures skew { IfOk result (λ described. described.value.skew ≡ skew_of known.old.so_far.setup) }
     ensures env { IfOk result (λ described. described.value.env ≡ known.old.so_far.setup.env) }
@@ -45,7 +45,7 @@ fn take_described(alloc: Global, known: &mut Known) -> Result<Box<Described>, Ou
     )
 }
 
-/// The text that answers what was declared, where these are the numbers of each worker's events.
+/// Returns the text that answers the declarations. `low` and `high` are the numbers of each worker's events.
 fn numbered_text<R: Threads + Wait + Sync, P: Pause + Send, Q: Pause + Send>(
     rt: &R,
     alloc: Global,
@@ -68,7 +68,7 @@ fn numbered_text<R: Threads + Wait + Sync, P: Pause + Send, Q: Pause + Send>(
     text
 }
 
-/// The text that answers what was declared, which is taken out of what is known.
+/// Returns the text that answers the declarations, which are taken out of `known`.
 fn answer_text<R: Threads + Wait + Sync, P: Pause + Send, Q: Pause + Send>(
     rt: &R,
     alloc: Global,
@@ -83,7 +83,7 @@ fn answer_text<R: Threads + Wait + Sync, P: Pause + Send, Q: Pause + Send>(
     numbered_text(rt, alloc, known, &low, &high, first, second)
 }
 
-/// Writes a text, which goes with this status.
+/// Writes a text, and returns this status, or `WriteFault` if a write fails.
 fn write<K: Sink>(sink: &mut K, text: &[u8], status: Status) -> Status
     requires { status ≢ Status.WriteFault }
     ensures whole { result ≢ Status.WriteFault → (result ≡ status) × Appends (K.taken sink.old) (K.taken sink.new) text.now }
@@ -97,7 +97,7 @@ fn write<K: Sink>(sink: &mut K, text: &[u8], status: Status) -> Status
     }
 }
 
-/// Writes a word and a number as the last line.
+/// Writes a word and a number as the last line, and returns this status, or `WriteFault` if a write fails.
 fn write_numbered<K: Sink>(sink: &mut K, word: &str, number: u64, status: Status) -> Status
     requires word { length word.now ≤ 16 }
     requires status { status ≢ Status.WriteFault }
@@ -111,7 +111,7 @@ fn write_numbered<K: Sink>(sink: &mut K, word: &str, number: u64, status: Status
     write(sink, line.as_str().as_bytes(), status)
 }
 
-/// Writes that memory ran out, before the reply to any event.
+/// Writes the line that memory ran out before the reply to any event.
 fn write_stopped<K: Sink>(sink: &mut K) -> Status
     ensures whole { result ≢ Status.WriteFault
         → (result ≡ Status.OutOfMemory) × Appends (K.taken sink.old) (K.taken sink.new) (stopped_line 0) }
@@ -122,7 +122,7 @@ fn write_stopped<K: Sink>(sink: &mut K) -> Status
     write_numbered(sink, "stopped ", 0, Status::OutOfMemory)
 }
 
-/// Answers what was declared.
+/// Answers the declarations, and returns the status.
 fn answer<R: Threads + Wait + Sync, P: Pause + Send, Q: Pause + Send, K: Sink>(
     rt: &R,
     alloc: Global,
@@ -141,7 +141,7 @@ fn answer<R: Threads + Wait + Sync, P: Pause + Send, Q: Pause + Send, K: Sink>(
     }
 }
 
-/// Reads all lines, and answers their events, or writes why it does not.
+/// Reads all lines, and answers their events, or writes the reason why it does not. Returns the status.
 fn read_and_answer<R: Threads + Wait + Sync, P: Pause + Send, Q: Pause + Send, S: Source, K: Sink>(
     rt: &R,
     alloc: Global,
@@ -170,8 +170,8 @@ fn read_and_answer<R: Threads + Wait + Sync, P: Pause + Send, Q: Pause + Send, S
 }
 
 /// Reads all of its input, and then answers its events by two workers: worker w has the connections whose number modulo 2 is w,
-/// and takes the events at such numbers in their order. Each stands at a seat of one shared replay book, and asks its pause
-/// before each call of the book. The words are exactly `threads`.
+/// and takes the events at such numbers in their order. Each worker has a seat of one shared replay book, and asks its pause
+/// before each call of the book. Returns `BadWords` unless the words are exactly `threads`.
 pub fn threads<R: Threads + Wait + Sync, P: Pause + Send, Q: Pause + Send, S: Source, K: Sink>(
     rt: &R,
     alloc: Global,
@@ -181,19 +181,19 @@ pub fn threads<R: Threads + Wait + Sync, P: Pause + Send, Q: Pause + Send, S: So
     first: &mut P,
     second: &mut Q,
 ) -> Status
-    // The words are judged first: at others nothing is read or written.
+    // The words are checked first: if they are not `threads`, nothing is read or written.
     ensures words { (result ≡ Status.BadWords) ↔ (words.now ≢ codes "threads" ∷ []) }
     ensures untouched { result ≡ Status.BadWords → (source.new ≡ source.old) × (sink.new ≡ sink.old) }
 
-    // A fault is told only where the outside failed in this call.
+    // A fault is returned only if the outside failed in this call.
     ensures read { result ≡ Status.ReadFault → Rose (S.faults source.old) (S.faults source.new) }
     ensures write { result ≡ Status.WriteFault → Rose (K.faults sink.old) (K.faults sink.new) }
 
-    // And wherever the outside failed, it is told.
+    // If the outside failed, the fault is returned.
     ensures read_still { result ≢ Status.ReadFault → S.faults source.new ≡ S.faults source.old }
     ensures write_still { result ≢ Status.WriteFault → K.faults sink.new ≡ K.faults sink.old }
 
-    // What is taken of the input that the source had left, and what is written for it, by the status.
+    // The octets taken of the input that the source had left, and the text written for it, by the status.
     ensures text { Runs (S.left source.old) (S.left source.new) (K.taken sink.old) (K.taken sink.new) result }
 {
     if !words.are("threads") {

@@ -24,7 +24,7 @@ pub struct Described {
     pub endpoints: BTreeMap<u32, Endpoint>,
 }
 
-/// The connection of an end that the lines declare, on the heap.
+/// Returns the connection of an end that the lines declare, on the heap. The skew is in seconds.
 fn held_connection(
     alloc: Global,
     skew: u32,
@@ -35,7 +35,7 @@ fn held_connection(
     HeldConnection::new(alloc, connection_of(alloc, skew, endpoint)?)
 }
 
-/// Puts the connection of an end where its number stands, in the place of one that has it.
+/// Puts the connection of an end at its number, and replaces the one at the number, if any.
 fn put(
     alloc: Global,
     skew: u32,
@@ -50,7 +50,7 @@ fn put(
     Ok(())
 }
 
-/// The connections that a worker has, of whom there are two.
+/// Returns the connections of a worker, of which there are two.
 fn connections(
     alloc: Global,
     described: &Described,
@@ -75,7 +75,7 @@ pub struct Ends {
     pub connections: BTreeMap<u32, HeldConnection>,
 }
 
-/// What one worker has of what the lines declare.
+/// Returns the ends of one worker, of those that the lines declare, and the environment.
 pub fn ends_of(alloc: Global, described: &Described, worker: u32) -> Result<Box<Ends>, OutOfMemory>
     ensures { IfOk result (λ ends. AreEnds described.now worker ends.value) }
 {
@@ -84,7 +84,7 @@ pub fn ends_of(alloc: Global, described: &Described, worker: u32) -> Result<Box<
     boxed(alloc, Ends { env, connections })
 }
 
-/// What both have, each made in a thread of its own.
+/// Returns the ends of both workers, each made in its own thread.
 pub fn ends_in_threads<R: Threads>(
     rt: &R,
     alloc: Global,
@@ -106,7 +106,7 @@ pub fn ends_in_threads<R: Threads>(
     Ok((low, high?))
 }
 
-/// A service of the environment and the connections of a worker over a gate.
+/// Returns a service of the environment and the connections of a worker over a gate.
 pub fn service_of<G: ReplayGate>(alloc: Global, ends: Ends, gate: G) -> Service<G>
     ensures { result ≡ record { connections = ends.connections.entries; env = ends.env; gate = gate } }
 {

@@ -16,7 +16,7 @@ use krb_machine::Event;
 use krb_shared::{Desk, DeskGate};
 use std::alloc::Global;
 
-/// Runs a part behind its pause, at a desk.
+/// Runs a part, with its pause, at a desk.
 fn run_gate<'a, P: Pause>(
     alloc: Global,
     part: &mut Part<PausedGate<'a, P, DeskGate<'a>>>,

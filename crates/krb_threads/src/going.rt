@@ -1,17 +1,17 @@
-//! What is dropped beside other work.
+//! Values that are dropped next to other work.
 
 use crate::described::Described;
 use crate::workers::Answers;
 use std::thread::{JoinHandle, Threads, spawn};
 
-/// A thread that drops a value, or none where none could be made.
+/// A thread that drops a value, or none if none could be made.
 #[derive(Drop)]
 pub struct Going {
     thread: Option<JoinHandle<()>>,
 }
 
 impl Going {
-    /// Begins to drop a value. Where no thread can be made, it is dropped at once.
+    /// Begins to drop a value. Drops it at once if no thread can be made.
     pub fn start<R: Threads, T: Drop + Send + 'static>(rt: &R, value: T) -> Going {
         let go = move || {
             let _gone = value;
@@ -32,8 +32,8 @@ impl Going {
     }
 }
 
-/// Drops all that was needed for the answers. Each of two threads gives back what it took itself, since the C library's
-/// allocator has one lock for all that a thread has taken; what both took is given back last.
+/// Drops all that was needed for the answers. Each of two threads frees what it allocated itself, since the C library's
+/// allocator has one lock for all that a thread has allocated; what both allocated is freed last.
 pub fn drop_all<R: Threads>(rt: &R, described: Box<Described>, answers: Answers) {
     let Answers {
         one,

@@ -1,8 +1,8 @@
 //! A Kerberos service on two threads, over one replay book, with a journal of its calls.
 //!
-//! [`threads`] reads all lines of its input, gives each event to one of two workers by the number of its connection, and writes
-//! what both answered, and the journal of the replay book on which they stood. [`run_two`] is the call that it stands on: two
-//! services, each with its own events, in two threads.
+//! [`threads`] reads all lines of its input, passes each event to one of two workers by the number of its connection, and writes
+//! the replies of both, and the journal of the replay book that they share. It uses [`run_two`]: two services, each with its own
+//! events, in two threads.
 //!
 //! ```
 //! let mut source = SureSource::new(b"skew 300\n");
@@ -11,8 +11,8 @@
 //! // Done, and the sink has taken `end 0 0`
 //! ```
 //!
-//! How a call ends, and what it has written then, is its contract: `specs/Threads.antt` has a line for each status. No contract
-//! says that both workers run at once, or that a worker gets on.
+//! The contract says how a call ends, and what it has written then: `specs/Threads.antt` has a line for each status. No contract
+//! says that both workers run at once, or that a worker makes progress.
 #![tactic(auto)]
 
 mod both;

@@ -16,7 +16,7 @@ pub struct Part<G> {
 }
 
 impl<G: ReplayGate> Part<G> {
-    /// Answers the events, one after another.
+    /// Takes the events, one after another, and appends the replies.
     pub(crate) fn run(&mut self, alloc: Global) -> Result<(), Stopped>
         ensures run { EndsAs G.admits G.is_same self.old.service self.old.events.items self.old.replies.items result self.new.replies.items self.new.service }
         ensures events { self.new.events ≡ self.old.events }

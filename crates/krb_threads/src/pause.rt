@@ -1,6 +1,6 @@
 //! Pauses.
 
-/// What a worker does before each admission. It returns, and nothing else is known of it.
+/// A call that a worker makes before each admission. It returns, and nothing else is known of it.
 pub trait Pause {
     fn before(&mut self);
 }

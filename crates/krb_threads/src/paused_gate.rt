@@ -1,4 +1,4 @@
-//! A gate behind a pause.
+//! A gate with a pause before each call.
 
 ghost use Rattle.std.specs.Prelude.{◌≡◌};
 
@@ -6,7 +6,7 @@ use crate::pause::Pause;
 use krb_der::OutOfMemory;
 use krb_replay::{Ask, ReplayGate, Verdict};
 
-/// A replay gate that asks a pause once before each call of another gate. What it does is what that gate does.
+/// A replay gate that asks a pause once before each call of another gate, and returns that gate's verdict.
 #[derive(Drop)]
 pub struct PausedGate<'a, P, G> {
     pub(crate) pause: &'a mut P,
@@ -14,7 +14,7 @@ pub struct PausedGate<'a, P, G> {
 }
 
 impl<'a, P: Pause, G: ReplayGate> PausedGate<'a, P, G> {
-    /// That gate, behind the pause.
+    /// Returns a gate that asks the pause before each call of this gate.
     pub fn new(pause: &'a mut P, gate: G) -> PausedGate<'a, P, G>
         ensures { result.gate ≡ gate }
     {

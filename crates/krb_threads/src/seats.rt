@@ -15,7 +15,7 @@ use std::alloc::Global;
 use std::sync::Wait;
 use std::thread::Threads;
 
-/// Runs both parts, each behind its pause and at its seat.
+/// Runs both parts, each with its pause and at its seat.
 fn run_gates<
     'a,
     'b,
@@ -43,7 +43,7 @@ fn run_gates<
     run_two(rt, alloc, first, second)
 }
 
-/// What both have done, each on the heap.
+/// Puts the results of both workers on the heap.
 fn both_boxed(alloc: Global, low: Done, high: Done) -> Result<(Box<Done>, Box<Done>), OutOfMemory>
     ensures first { IfOk result (λ both. both.0.value ≡ low) }
     ensures second { IfOk result (λ both. both.1.value ≡ high) }
@@ -52,7 +52,7 @@ fn both_boxed(alloc: Global, low: Done, high: Done) -> Result<(Box<Done>, Box<Do
     Ok((low, boxed(alloc, high)?))
 }
 
-/// Runs both workers, each at its seat of the book and behind its pause.
+/// Runs both workers, each at its seat of the book and with its pause.
 pub fn run_seats<
     'a,
     'b,

@@ -1,4 +1,4 @@
-//! The text that tells what the workers answered.
+//! The text of the workers' replies.
 
 ghost use Rattle.std.specs.Prelude.{◌≡◌, ◌≤◌, ◌++◌, ◌+◌, length, IfOk, OnOk, string_bytes};
 ghost use Rattle.krb_machine.specs.Reply.{admissions};
@@ -25,7 +25,7 @@ fn verdict_name(verdict: Verdict) -> &'static str
     }
 }
 
-/// One reply more.
+/// Appends one reply.
 fn put_reply(
     alloc: Global,
     text: &mut String,
@@ -41,7 +41,7 @@ fn put_reply(
     Ok(())
 }
 
-/// A worker's replies, with the numbers of their events.
+/// Appends a worker's replies, with the numbers of their events.
 fn put_replies(
     alloc: Global,
     text: &mut String,
@@ -58,7 +58,7 @@ fn put_replies(
     Ok(())
 }
 
-/// A worker's replies as text.
+/// Returns a worker's replies as text.
 fn replies_text(
     alloc: Global,
     worker: u32,
@@ -73,7 +73,7 @@ fn replies_text(
     Ok(text)
 }
 
-/// What both workers replied, each made into text in a thread of its own.
+/// Returns the replies of both workers as text, each made in its own thread.
 fn texts_in_threads<R: Threads>(
     rt: &R,
     alloc: Global,
@@ -101,7 +101,7 @@ fn texts_in_threads<R: Threads>(
     Ok((first, second?))
 }
 
-/// One entry of the journal more.
+/// Appends one entry of the journal.
 fn put_entry(alloc: Global, text: &mut String, place: u64, entry: &Entry) -> Result<(), OutOfMemory>
     ensures { OnOk result (string_bytes text.new ≡ string_bytes text.old ++ entry_line place entry.now) }
 {
@@ -113,7 +113,7 @@ fn put_entry(alloc: Global, text: &mut String, place: u64, entry: &Entry) -> Res
     Ok(())
 }
 
-/// The journal.
+/// Appends the journal.
 fn put_entries(alloc: Global, text: &mut String, entries: &[Entry]) -> Result<(), OutOfMemory>
     ensures { OnOk result (string_bytes text.new ≡ string_bytes text.old ++ entries_text 1 entries.now) }
 {
@@ -123,7 +123,7 @@ fn put_entries(alloc: Global, text: &mut String, entries: &[Entry]) -> Result<()
     Ok(())
 }
 
-/// How many of the replies admit their peer.
+/// Returns how many of the replies admit their peer.
 fn admissions(replies: &[Reply]) -> u64
     ensures count { result ≡ admissions replies.now }
     ensures few { result ≤ length replies.now }
@@ -137,7 +137,7 @@ fn admissions(replies: &[Reply]) -> u64
     count
 }
 
-/// The whole text.
+/// Returns the whole text.
 pub fn text_of<R: Threads>(
     rt: &R,
     alloc: Global,

@@ -1,4 +1,4 @@
-//! What one worker is to do, and what it has done.
+//! The work of one worker, and its results.
 
 ghost use Rattle.std.specs.Prelude.{◌≡◌, []};
 
@@ -11,14 +11,14 @@ use krb_replay::ReplayGate;
 use std::alloc::Global;
 use std::collections::BTreeMap;
 
-/// What one worker is to do.
+/// The work of one worker.
 #[derive(Drop)]
 pub struct Work {
     pub ends: Box<Ends>,
     pub events: Vec<Event>,
 }
 
-/// The replies of one worker, its events, and its connections as they are then.
+/// The replies of one worker, its events, and its connections afterwards.
 #[derive(Drop)]
 pub struct Done {
     pub replies: Vec<Reply>,
@@ -26,7 +26,7 @@ pub struct Done {
     pub connections: BTreeMap<u32, HeldConnection>,
 }
 
-/// The part of a worker, over a gate and behind its pause.
+/// Returns the part of a worker, over a gate with its pause.
 pub fn begun<'a, P: Pause, G: ReplayGate>(
     alloc: Global,
     work: Work,
@@ -47,7 +47,7 @@ pub fn begun<'a, P: Pause, G: ReplayGate>(
     }
 }
 
-/// Takes a part apart: its gate comes back, and what the worker has done.
+/// Takes a part apart, and returns its gate and the results of the worker.
 pub fn ended<'a, P: Pause, G: ReplayGate>(part: Part<PausedGate<'a, P, G>>) -> (G, Done)
     ensures gate { result.0 ≡ part.entry.service.gate.gate }
     ensures replies { result.1.replies ≡ part.entry.replies }

@@ -1,4 +1,4 @@
-//! What two workers answer.
+//! The answers of two workers.
 
 ghost use Rattle.std.specs.Prelude.{◌≡◌, IfOk};
 ghost use Rattle.krb_threads.specs.Answers.{AreAnswers};
@@ -18,7 +18,7 @@ use std::sync::Wait;
 use std::sync::ledger::Blank;
 use std::thread::Threads;
 
-/// What both workers have done, the journal of the book on which they stood, and the receipts of their seats.
+/// The results of both workers, the journal of the book that they share, and the receipts of their seats.
 #[derive(Drop)]
 pub struct Answers {
     pub one: Box<Done>,
@@ -27,7 +27,7 @@ pub struct Answers {
     pub receipts: Vec<Vec<Receipt>>,
 }
 
-/// Runs both workers.
+/// Runs both workers, and returns their answers.
 pub fn answers_of<R: Threads + Wait + Sync, P: Pause + Send, Q: Pause + Send>(
     rt: &R,
     alloc: Global,
@@ -54,8 +54,8 @@ pub fn answers_of<R: Threads + Wait + Sync, P: Pause + Send, Q: Pause + Send>(
     )
 }
 
-/// The same over a ledger of calls. Where the receipts of the two seats and the journal don't agree, both run again, one after
-/// the other.
+/// Runs both workers over a ledger of calls, and returns their answers. If the receipts of the two seats and the journal do not
+/// agree, both run again, one after the other.
 fn answers_as<L: Calls + Send + Sync, R: Threads + Wait + Sync, P: Pause + Send, Q: Pause + Send>(
     rt: &R,
     alloc: Global,
