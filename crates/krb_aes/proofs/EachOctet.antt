@@ -1,4 +1,4 @@
--- What holds of each octet because it was computed at each.
+-- Facts about all octets that are computed at each octet.
 use Rattle.std.proofs.Common.{◌≡◌, ℕ, zero, suc, ◌-◌, ◌<◌, Bool, true, ◌&&◌, T, eqb, List, [], ◌∷◌, map, get_or, refl, ap, ap₂, ◌∙◌, subst, inl, inr, arith, eq-zero-or-pos, w8, Fits, eqb→eq}
 use lib.Ieee.Fits.{and_l, and_r}
 use lib.Lanes.{Each1}

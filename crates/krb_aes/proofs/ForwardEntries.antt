@@ -1,4 +1,4 @@
--- What the tables give on the way forward is what the definitions of AES give, in the tower: computed at each octet.
+-- The tables of encryption agree with the definitions of AES, in the tower: computed at each octet.
 use Rattle.std.proofs.Common.{◌≡◌, ℕ, ◌%◌, ◌/◌, ◌<◌, bit_xor, ap, ◌∙◌}
 use Rattle.krb_aes.specs.Field.{x_times, product_of_low, product, sub}
 use Rattle.krb_aes.specs.Tower.{entry, first_quotient, second_quotient, sum_at, pair_sum, sum_of_bits, tower}
@@ -6,7 +6,7 @@ use Rattle.krb_aes.specs.declared.tables.TheConstants.{INTO_LOW, INTO_HIGH, ONCE
 use Rattle.krb_aes.proofs.EachOctet.{agree, same_octet}
 use Rattle.krb_aes.proofs.SubBytesEntries.{SBOX, sub_entry, sub_entry_is}
 
--- an octet in the tower, as the tables of its halves have it
+-- an octet in the tower, from the tables of its halves
 abbrev pub tower_entry : ℕ → ℕ
 tower_entry x = bit_xor (entry INTO_LOW (x % 16)) (entry INTO_HIGH (x / 16))
 

@@ -134,7 +134,7 @@ fourth_lane p q r t k hp hq hr ht hk =
     (same_sum (terms p q r t k) computed (Sum.plus (Sum.plus (Sum.plus (Sum.plus (Sum.plus (Sum.term 1) (Sum.term 2)) (Sum.term 3)) (Sum.term 4)) (Sum.term 0)) (Sum.term 5)) refl
     ∙ ap (λ (n : ℕ). bit_xor (bit_xor (bit_xor (bit_xor (n) (sub r)) (sub t)) (product 2 (sub p))) k) (sym (triple_is (sub q) (sub_below q hq))))
 
--- the S-box's constant stands twice in a lane of the last round
+-- the S-box's constant occurs twice in a lane of the last round
 key_once : (x k : ℕ) → bit_xor (bare x) (bit_xor k 0x63) ≡ bit_xor (sub x) k
 key_once x k =
     same_sum (sub x ∷ k ∷ 0x63 ∷ []) (Sum.plus (Sum.plus (Sum.term 0) (Sum.term 2)) (Sum.plus (Sum.term 1) (Sum.term 2))) (Sum.plus (Sum.term 0) (Sum.term 1)) refl

@@ -1,4 +1,4 @@
--- A round back on the lanes of a vector is a round of AES: what the tables give is computed at each octet.
+-- A round of decryption on the lanes of a vector undoes a round of AES: the entries of the tables are computed at each octet.
 use Rattle.std.proofs.Common.{◌≡◌, ℕ, zero, suc, ◌%◌, ◌/◌, ◌<◌, T, ltb, List, [], ◌∷◌, map, length, get_or, bit_xor, refl, sym, ap, ap₂, ◌∙◌, arith}
 use Rattle.std.specs.List.{range_with_len}
 use Rattle.std.proofs.Math.Facts.{ltb_yes}
@@ -16,7 +16,7 @@ use Rattle.krb_aes.proofs.Sums.{Sum, same_sum}
 
 -- ---- octets in the tower
 
--- an octet behind SubBytes in the tower, as the tables of its halves have it
+-- an octet after SubBytes in the tower, from the tables of its halves
 abbrev pub back_entry : ℕ → ℕ
 back_entry x = bit_xor (entry LINEAR_BACK_LOW (x % 16)) (entry LINEAR_BACK_HIGH (x / 16))
 
@@ -38,7 +38,7 @@ linear_back-xor a b ha hb =
     ∙ agree_at_pair (λ x y. back_entry (bit_xor x y)) (λ x y. bit_xor (back_entry x) (back_entry y)) a b back_entry_sums ha hb
     ∙ ap₂ bit_xor (back_entry_is a ha) (back_entry_is b hb)
 
--- the octet of the field in front of SubBytes: the inverse of an octet of the tower
+-- the octet of the field before SubBytes: the inverse of an octet of the tower
 unfoldable pub inverted : ℕ → ℕ
 inverted x = pair_sum INVERTED_U INVERTED_T x
 
@@ -157,7 +157,7 @@ fourteen_octet x h = ltb_yes (every_below (λ x. ltb (product 14 x) 256) 256 fou
 
 -- ---- the inverse of MixColumns
 
--- an octet of a column from the four that stand in the next state, its own first
+-- an octet of a column from the column's four octets in the next state, its own first
 abbrev pub unmixed : ℕ → ℕ → ℕ → ℕ → ℕ
 unmixed p q r t = bit_xor (bit_xor (bit_xor (product 9 t) (product 13 r)) (product 11 q)) (product 14 p)
 

@@ -64,11 +64,11 @@ read s = map (slice_index s) (range_with_len 0 16)
 abbrev pub moved_list : List ℕ → List ℕ
 moved_list v = get_or v 0 0 ∷ get_or v 13 0 ∷ get_or v 10 0 ∷ get_or v 7 0 ∷ get_or v 4 0 ∷ get_or v 1 0 ∷ get_or v 14 0 ∷ get_or v 11 0 ∷ get_or v 8 0 ∷ get_or v 5 0 ∷ get_or v 2 0 ∷ get_or v 15 0 ∷ get_or v 12 0 ∷ get_or v 9 0 ∷ get_or v 6 0 ∷ get_or v 3 0 ∷ []
 
--- the octets in front of SubBytes and ShiftRows
+-- the octets before SubBytes and ShiftRows
 abbrev pub before : List ℕ → List ℕ
 before v = inverted (get_or v 0 0) ∷ inverted (get_or v 13 0) ∷ inverted (get_or v 10 0) ∷ inverted (get_or v 7 0) ∷ inverted (get_or v 4 0) ∷ inverted (get_or v 1 0) ∷ inverted (get_or v 14 0) ∷ inverted (get_or v 11 0) ∷ inverted (get_or v 8 0) ∷ inverted (get_or v 5 0) ∷ inverted (get_or v 2 0) ∷ inverted (get_or v 15 0) ∷ inverted (get_or v 12 0) ∷ inverted (get_or v 9 0) ∷ inverted (get_or v 6 0) ∷ inverted (get_or v 3 0) ∷ []
 
--- those in front of MixColumns and the round key
+-- the octets before MixColumns and the round key
 abbrev pub returned : List ℕ → List ℕ → List ℕ
 returned v k =
     bit_xor (unmixed (inverted (get_or v 0 0)) (inverted (get_or v 13 0)) (inverted (get_or v 10 0)) (inverted (get_or v 7 0))) (get_or k 0 0) ∷
@@ -139,7 +139,7 @@ mix-returned v k f h =
     (mix_column-xor _ _ _ _ _ _ _ _ (unmixed_octet _ _ _ _ (z 12) (z 9) (z 6) (z 3)) (unmixed_octet _ _ _ _ (z 9) (z 6) (z 3) (z 12)) (unmixed_octet _ _ _ _ (z 6) (z 3) (z 12) (z 9)) (unmixed_octet _ _ _ _ (z 3) (z 12) (z 9) (z 6)) (h 12) (h 13) (h 14) (h 15)
     ∙ ap (λ (l : List ℕ). xor_octets l (mix_column (get_or k 12 0) (get_or k 13 0) (get_or k 14 0) (get_or k 15 0))) (mix-unmixed _ _ _ _ (z 12) (z 9) (z 6) (z 3)))
 
--- SubBytes and ShiftRows take them to what the lanes stand for
+-- SubBytes and ShiftRows map the octets of `before` to the octets that the lanes represent
 pub shifted_before : (v : List ℕ) → ((i : ℕ) → get_or v i 0 < 256) → map affine_back (shifted (before v)) ≡ read v
 unfolding shifted
 shifted_before v f =
@@ -161,7 +161,7 @@ shifted_before v f =
     (cons_same (affine_back-sub-inverted (get_or v 15 0) (f 15))
     (refl))))))))))))))))
 
--- where they are in front of MixColumns, the round is undone
+-- the round is undone if the octets before its MixColumns are those of `returned`
 pub round_undone : (v s k : List ℕ) → IsVector v → IsBlock s → IsBlock k → map affine_back (shifted s) ≡ map affine_back (returned v k)
     → map affine_back (shifted (full_round s (mix_columns k))) ≡ v
 unfolding full_round shifted

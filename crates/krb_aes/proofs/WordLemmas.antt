@@ -19,7 +19,7 @@ word_alike e f g h = ap (from_be_bytes w32) (cons_same e (cons_same f (cons_same
 nested : (a b c d : ℕ) → from_be_bytes w32 (a ∷ b ∷ c ∷ d ∷ []) ≡ ((a * 2 ^ 8 + b) * 2 ^ 8 + c) * 2 ^ 8 + d
 nested a b c d = omega arith
 
--- an octet in front of three zeros
+-- an octet before three zeros
 pub leading : (a : ℕ) → from_be_bytes w32 (a ∷ 0 ∷ 0 ∷ 0 ∷ []) ≡ a * 2 ^ 24
 leading a = omega arith
 
@@ -186,7 +186,7 @@ constant_fits c h =
     let z : Fits w8 0 = record { fits = omega arith } in
     (refl, (x, (z, (z, (z, (x, (z, (z, (z, (x, (z, (z, (z, (x, (z, (z, (z, tt)))))))))))))))))
 
--- an octet that is p, in front of three zeros, added to each of four equal words
+-- an octet that is p, before three zeros, added to each of four equal words
 pub constant_added : (words : List ℕ) (w c p : ℕ) → IsVector words → c < 256 → c ≡ p → words_in words ≡ replicate 4 w
     → words_in (zip2 bit_xor words (constant_lanes c)) ≡ replicate 4 (bit_xor w (p * 2 ^ 24))
 constant_added words w c p fits h e ew =

@@ -4,16 +4,17 @@ use Rattle.krb_aes.specs.Octets.{IsBlock}
 use Rattle.krb_aes.specs.Round.{full_round, mix_columns, shifted, xor_octets}
 use Rattle.krb_aes.specs.Tower.{affine_back, turned}
 
--- what the inverse cipher has for the state in front of a round: what stands behind that round's SubBytes and ShiftRows
+-- the inverse cipher's representation of the state before a round: the octets after that round's SubBytes and ShiftRows, each
+-- through affine_back
 abbrev pub inverse_state : List ℕ → List ℕ
 inverse_state s = map affine_back (shifted s)
 
--- one round back, under the key that is k behind MixColumns: where it gives what stands for s, it was done to what stands for the
--- state behind the round of s
+-- one round of the inverse cipher, for the round key that is MixColumns of k: if its result represents s, its argument represents
+-- the state after the round of s
 abbrev pub UndoesRound : List ℕ → List ℕ → List ℕ → Type 0
 UndoesRound v key result =
     (s k : List ℕ) → IsBlock s → IsBlock k → key ≡ turned (map affine_back k) → inverse_state s ≡ result → inverse_state (full_round s (mix_columns k)) ≡ v
 
--- the last round back gives the block itself: what it was done to stands for the block with the first round key added
+-- the last round of the inverse cipher returns the block itself: its argument represents the block with the first round key added
 abbrev pub UndoesLastRound : List ℕ → List ℕ → List ℕ → Type 0
 UndoesLastRound v key result = (s k : List ℕ) → IsBlock k → key ≡ k → s ≡ xor_octets result k → inverse_state s ≡ v

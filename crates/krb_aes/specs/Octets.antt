@@ -10,6 +10,6 @@ pub record IsBlock (s : List ℕ) : Type 0 where
   pub size : length s ≡ 16
   pub octets : IsOctets s
 
--- block b of the blocks that stand side by side
+-- block b of blocks side by side
 abbrev pub block_at : ℕ → List ℕ → List ℕ
 block_at b v = take 16 (drop (16 * b) v)

@@ -8,7 +8,7 @@ use Rattle.std.specs.Int.{w8, rotate_left}
 abbrev pub tower_basis : List ℕ
 tower_basis = 0x01 ∷ 0x37 ∷ 0xd0 ∷ 0xd2 ∷ 0xbb ∷ 0x7b ∷ 0xbf ∷ 0xc8 ∷ []
 
--- the sum of the octets that stand where a bit of x is set, the lowest bit first
+-- the sum of the octets whose bits are set in x; the first octet has the lowest bit
 unfoldable pub sum_of_bits : List ℕ → ℕ → ℕ
 sum_of_bits [] x = 0
 sum_of_bits (b ∷ bs) x = bit_xor (x % 2 * b) (sum_of_bits bs (x / 2))
@@ -19,7 +19,7 @@ tower x = sum_of_bits tower_basis x
 
 -- ---- the inverse of an octet, by its nibbles
 
--- the inverse of each nibble; 0 has none, and a place with the top bit set stands there
+-- the inverse of each nibble; 0 has no inverse, and its entry is a place with the top bit set
 abbrev pub nibble_inverses : List ℕ
 nibble_inverses = 0x80 ∷ 0x01 ∷ 0x08 ∷ 0x0d ∷ 0x0f ∷ 0x06 ∷ 0x05 ∷ 0x0e ∷ 0x02 ∷ 0x0c ∷ 0x0b ∷ 0x0a ∷ 0x09 ∷ 0x03 ∷ 0x07 ∷ 0x04 ∷ []
 
@@ -52,17 +52,17 @@ pair_sum u t x = bit_xor (entry u (first_quotient x)) (entry t (second_quotient 
 unfoldable pub tower_key : ℕ → ℕ
 tower_key x = tower (bit_xor x 0x63)
 
--- the same of the last round, out of the tower
+-- an octet of the last round key, with the S-box's constant, out of the tower
 unfoldable pub plain_key : ℕ → ℕ
 plain_key x = bit_xor x 0x63
 
--- ---- the way back: an octet behind SubBytes stands in the tower as what its inverse was taken of
+-- ---- decryption: an octet after SubBytes is in the tower without the affine form, as the inverse of the octet before SubBytes
 
 -- the inverse of the affine form's linear part, into the tower
 unfoldable pub linear_back : ℕ → ℕ
 linear_back x = tower (bit_xor (bit_xor (rotate_left w8 x 1) (rotate_left w8 x 3)) (rotate_left w8 x 6))
 
--- an octet of the field times 2 (section 4.2), where both stand as linear_back has them: the octets for 1, 2, 4 and so on
+-- an octet of the field times 2 (section 4.2), the octet and the product through linear_back: the octets for 1, 2, 4 and so on
 unfoldable pub doubled_back : ℕ → ℕ
 doubled_back y = sum_of_bits (0x37 ∷ 0x9a ∷ 0xb3 ∷ 0x36 ∷ 0x16 ∷ 0xd8 ∷ 0x19 ∷ 0xdd ∷ []) y
 

@@ -10,7 +10,7 @@ use crate::lanes::{inverse_round, last_inverse_round, linear_back, turned_back};
 use crate::schedule::{DecryptionSchedule, KeySchedule};
 use std::simd::prelude::*;
 
-/// The block that the cipher takes to this one.
+/// Decrypts one block: returns the block that the cipher encrypts to `block`.
 #[inline(never)]
 fn decrypted(keys: &[[u8; 16]; 15], rounds: usize, block: u8x16) -> u8x16
     requires some { 2 ≤ rounds }
@@ -24,7 +24,7 @@ fn decrypted(keys: &[[u8; 16]; 15], rounds: usize, block: u8x16) -> u8x16
     last_inverse_round(v, u8x16::from_array(keys[0]))
 }
 
-/// The same of four blocks.
+/// Decrypts four blocks, side by side in one vector.
 #[inline(never)]
 fn decrypted_four(keys: &[[u8; 16]; 15], rounds: usize, blocks: u8x64) -> u8x64
     requires some { 2 ≤ rounds }
@@ -39,7 +39,7 @@ fn decrypted_four(keys: &[[u8; 16]; 15], rounds: usize, blocks: u8x64) -> u8x64
     four_blocks::last_inverse_round(v, four_blocks::four_copies(keys[0]))
 }
 
-/// The same of eight blocks.
+/// Decrypts eight blocks, in two vectors.
 #[inline(never)]
 fn decrypted_eight(
     keys: &[[u8; 16]; 15],
@@ -74,21 +74,21 @@ fn decrypted_eight(
 impl KeySchedule {
     ghost use Rattle.krb_aes.specs.Aes.{block_cipher};
 
-    /// The block that `encrypt_vector` takes to this one.
+    /// Decrypts one block in a vector: returns the block that `encrypt_vector` encrypts to `block`.
     pub fn decrypt_vector(&self, block: u8x16) -> u8x16
         ensures { block_cipher self.now result ≡ block }
     {
         decrypted(&self.back.keys, self.forward.rounds, block)
     }
 
-    /// The same of four blocks, side by side in one vector.
+    /// Decrypts four blocks, side by side in one vector.
     pub fn decrypt_four(&self, blocks: u8x64) -> u8x64
         ensures { (b : ℕ) → b < 4 → block_cipher self.now (block_at b result) ≡ block_at b blocks }
     {
         decrypted_four(&self.back.keys, self.forward.rounds, blocks)
     }
 
-    /// The same of eight blocks, in two vectors.
+    /// Decrypts eight blocks, in two vectors.
     pub fn decrypt_eight(&self, blocks: u8x64, others: u8x64) -> (u8x64, u8x64)
         ensures front { (b : ℕ) → b < 4 → block_cipher self.now (block_at b result.0) ≡ block_at b blocks }
         ensures back { (b : ℕ) → b < 4 → block_cipher self.now (block_at b result.1) ≡ block_at b others }
@@ -96,7 +96,7 @@ impl KeySchedule {
         decrypted_eight(&self.back.keys, self.forward.rounds, blocks, others)
     }
 
-    /// The block that `encrypt_block` takes to this one.
+    /// Decrypts one block: returns the block that `encrypt_block` encrypts to `block`.
     pub fn decrypt_block(&self, block: [u8; 16]) -> [u8; 16]
         ensures { block_cipher self.now result ≡ block }
     {
@@ -107,21 +107,21 @@ impl KeySchedule {
 impl DecryptionSchedule {
     ghost use Rattle.krb_aes.specs.Aes.{Undoes};
 
-    /// The block that the cipher takes to this one.
+    /// Decrypts one block: returns the block that the cipher encrypts to `block`.
     pub fn decrypt_block(&self, block: [u8; 16]) -> [u8; 16]
         ensures { (E : List ℕ → List ℕ) → Undoes E self.now → E result ≡ block }
     {
         decrypted(&self.keys, self.rounds, u8x16::from_array(block)).to_array()
     }
 
-    /// The same of four blocks, side by side in one vector.
+    /// Decrypts four blocks, side by side in one vector.
     pub fn decrypt_four(&self, blocks: u8x64) -> u8x64
         ensures { (E : List ℕ → List ℕ) → Undoes E self.now → (b : ℕ) → b < 4 → E (block_at b result) ≡ block_at b blocks }
     {
         decrypted_four(&self.keys, self.rounds, blocks)
     }
 
-    /// The same of eight blocks, in two vectors.
+    /// Decrypts eight blocks, in two vectors.
     pub fn decrypt_eight(&self, blocks: u8x64, others: u8x64) -> (u8x64, u8x64)
         ensures front { (E : List ℕ → List ℕ) → Undoes E self.now → (b : ℕ) → b < 4 → E (block_at b result.0) ≡ block_at b blocks }
         ensures back { (E : List ℕ → List ℕ) → Undoes E self.now → (b : ℕ) → b < 4 → E (block_at b result.1) ≡ block_at b others }
@@ -130,7 +130,7 @@ impl DecryptionSchedule {
     }
 }
 
-/// The block that `encrypt_block` takes to this one, under a key of 16 or 32 octets.
+/// Decrypts one block under a key of 16 or 32 octets: returns the block that `encrypt_block` encrypts to `block`.
 pub fn decrypt_block(key: &[u8], block: [u8; 16]) -> [u8; 16]
     requires { IsKey key.now }
     ensures { aes key.now result ≡ block }

@@ -45,7 +45,7 @@ fn encrypted_two(keys: &[[u8; 16]; 15], rounds: usize, block: u8x16, other: u8x1
 impl KeySchedule {
     ghost use Rattle.krb_aes.specs.Aes.{block_cipher};
 
-    /// Encrypts one block that stands in a vector.
+    /// Encrypts one block in a vector.
     pub fn encrypt_vector(&self, block: u8x16) -> u8x16
         ensures { result ≡ block_cipher self.now block }
     {
@@ -63,7 +63,7 @@ impl KeySchedule {
 impl EncryptionSchedule {
     ghost use Rattle.krb_aes.specs.Aes.{aes, AreWordsOf, forward_cipher};
 
-    /// Encrypts one block that stands in a vector.
+    /// Encrypts one block in a vector.
     pub fn encrypt_vector(&self, block: u8x16) -> u8x16
         ensures { result ≡ forward_cipher self.now block }
     {

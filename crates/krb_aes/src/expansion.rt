@@ -11,7 +11,7 @@ use std::simd::prelude::*;
 /// The octets x^0 to x^9 of the field (section 5.2).
 static ROUND_CONSTANTS: [u8; 10] = [0x01, 0x02, 0x04, 0x08, 0x10, 0x20, 0x40, 0x80, 0x1b, 0x36];
 
-/// SubWord of the last word, in the place of each word.
+/// Returns SubWord of the fourth word of `key`, in each of the four places.
 #[inline(always)]
 fn substituted_word(key: u8x16) -> u8x16
     ensures { words_in result ≡ replicate 4 (sub_word (word_at key 12)) }
@@ -21,7 +21,7 @@ fn substituted_word(key: u8x16) -> u8x16
     ])
 }
 
-/// SubWord and RotWord of the last word, in the place of each word.
+/// Returns SubWord and RotWord of the fourth word of `key`, in each of the four places.
 #[inline(always)]
 fn rotated_word(key: u8x16) -> u8x16
     ensures { words_in result ≡ replicate 4 (sub_word (rotate_left w32 (word_at key 12) 8)) }
@@ -31,7 +31,7 @@ fn rotated_word(key: u8x16) -> u8x16
     ])
 }
 
-/// A word in the place of each word, with a round constant added.
+/// Adds round constant `group` to each of the four words.
 #[inline(always)]
 fn with_constant(words: u8x16, group: usize) -> u8x16
     requires some { 1 ≤ group }
@@ -42,8 +42,8 @@ fn with_constant(words: u8x16, group: usize) -> u8x16
     words ^ u8x16::from_array([c, 0, 0, 0, c, 0, 0, 0, c, 0, 0, 0, c, 0, 0, 0])
 }
 
-/// What is added to the first word of round key `round`, behind the round key `previous`, in the place of each word. A key has
-/// `size` round keys in it, and no division is by a variable.
+/// Returns the word that is added to the first word of round key `round - size` to give that of round key `round`, in each of the
+/// four places. `previous` is round key `round - 1`. A key has `size` round keys in it, and no division is by a variable.
 #[inline(always)]
 fn added_words(previous: u8x16, round: usize, size: usize) -> u8x16
     requires sizes { (size ≡ 1) ⊎ (size ≡ 2) }
@@ -60,7 +60,7 @@ fn added_words(previous: u8x16, round: usize, size: usize) -> u8x16
     substituted_word(previous)
 }
 
-/// The words of `before`, each with the word in front of it in the new key, and `added` with the first.
+/// Returns the words of `before`: adds `added` to the first word, and the previous word of the new key to each other word.
 #[inline(always)]
 fn next_key(before: u8x16, added: u8x16) -> u8x16
     ensures { (w : ℕ) → words_in added ≡ replicate 4 w → words_in result ≡ chained_sums w (words_in before) }

@@ -115,7 +115,7 @@ fn turned_twice(v: u8x64) -> u8x64
     ])
 }
 
-/// The octets times 2 (section 4.2), where each stands through the inverse of the affine form's linear part.
+/// Returns the octets times 2 (section 4.2); `v` and the result are through the inverse of the affine form's linear part.
 #[inline(always)]
 fn doubled_back(v: u8x64) -> u8x64
     ensures { result ≡ map doubled_back v }

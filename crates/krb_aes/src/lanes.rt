@@ -1,6 +1,6 @@
 //! The rounds of AES on the 16 octets of a state at once, by look-ups in tables of 16 octets: no address depends on a secret.
 //!
-//! A state stands in a tower of fields (`tower`), where the inverse of an octet takes five look-ups by its nibbles.
+//! A state is represented in a tower of fields (`tower`), where the inverse of an octet takes five look-ups by its nibbles.
 
 ghost use Rattle.std.specs.Prelude.{◌≡◌, ◌%◌, ◌/◌, ◌<◌, ℕ, List, map, length};
 ghost use Rattle.krb_aes.specs.Octets.{IsBlock};
@@ -78,8 +78,8 @@ pub fn substituted(v: u8x16) -> u8x16
     pair_sums(PLAIN_U, PLAIN_T, quotients(t), t) ^ u8x16::splat(0x63)
 }
 
-/// A round but the last (section 5.1). The key is added before the constant shuffle and not behind it, where the compiler
-/// would shuffle both.
+/// Computes a round but the last (section 5.1). The key is added before the constant shuffle and not after it: after it, the
+/// compiler would shuffle both.
 #[inline(always)]
 pub fn full_round(v: u8x16, key: u8x16) -> u8x16
     ensures { (s k : List ℕ) → IsBlock s → IsBlock k → v ≡ map tower s → key ≡ map tower_key k → result ≡ map tower (full_round s k) }
@@ -157,8 +157,8 @@ fn unshifted(v: u8x16) -> u8x16
     v.swizzle([0, 13, 10, 7, 4, 1, 14, 11, 8, 5, 2, 15, 12, 9, 6, 3])
 }
 
-/// A round of the inverse cipher (section 5.3.5): from what stands behind SubBytes and ShiftRows of a round to what stands
-/// there in the round before.
+/// Computes a round of the inverse cipher (section 5.3.5): from the state after SubBytes and ShiftRows of a round to the state
+/// after SubBytes and ShiftRows of the round before.
 #[inline(always)]
 pub fn inverse_round(v: u8x16, key: u8x16) -> u8x16
     ensures back { UndoesRound v key result }

@@ -1,4 +1,4 @@
-//! What holds of the cipher for all keys and blocks. A law makes no calls: its clause is the statement.
+//! Laws of the cipher, for all keys and blocks. A law makes no calls: its clause is the statement.
 
 ghost use Rattle.std.specs.Prelude.{◌≡◌, ℕ, List};
 ghost use Rattle.krb_aes.specs.Octets.{IsBlock};

@@ -24,7 +24,7 @@ use Rattle.krb_replies.specs.Unseals.{IsRead, Unseals, OpensSealed, session_key}
 use Rattle.krb_ap.specs.ApReps.{IsSendableNumber}
 use Rattle.krb_ap.specs.Answered.{IsApRep, ReadsApRep}
 
--- the fields behind the second one are not longer than the record
+-- the fields after the second one are not longer than the record
 behind_le : (n outer inner : ℕ) (a b c : List ℕ) → length (tlv outer (tlv inner (a ++ (b ++ c)))) ≤ n → length c ≤ n
 behind_le n outer inner a b c h =
     omega (arith, h, contents_shorter outer (tlv inner (a ++ (b ++ c))), contents_shorter inner (a ++ (b ++ c)), length-append a (b ++ c), length-append b c)

@@ -1,4 +1,4 @@
--- What a service is shown, and what is made of its answer, is one.
+-- An AP-REQ to a service, and the outcome of the service's answer, have one value.
 use Rattle.std.proofs.Common.{◌≡◌, ℕ, Bool, true, false, List, [], ◌∷◌, subst}
 use Rattle.krb_crypto.specs.declared.suite.CipherSuite.{CipherSuite}
 use Rattle.krb_messages.specs.Layouts.{ap_rep_layout, enc_ap_rep_part_layout}

@@ -1,4 +1,4 @@
--- What a context can allow at the client's end, and that nothing changes where it allows nothing.
+-- The effects of the rules at the initiator's end, and no change without rules.
 use Rattle.std.proofs.Common.{◌≡◌, ℕ, Bool, true, false, not, List, Option, Some, None, refl, ap, ◌∙◌, if◌then◌else◌}
 use Rattle.std.specs.Prelude.{◌&&◌, ◌||◌}
 use Rattle.krb_crypto.specs.declared.suite.CipherSuite.{CipherSuite}

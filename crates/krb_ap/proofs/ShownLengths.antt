@@ -14,7 +14,7 @@ use Rattle.krb_requests.specs.Pieces.{Fits}
 use Rattle.krb_authenticators.specs.declared.options.ChecksumOptions.{ChecksumOptions}
 use Rattle.krb_authenticators.specs.Authenticators.{authenticator}
 
--- what is framed, behind the mechanism's name
+-- the message in a frame, after the mechanism's name
 pub framed_short : (mechanism oid message : List ℕ) → oid ≡ mechanism → length mechanism ≤ 2 ^ 24 → length message ≤ 2 ^ 28 → length (tlv 0x06 oid ++ ((1 ∷ 0 ∷ []) ++ message)) < 2 ^ 31
 framed_short mechanism oid message e h k =
     let name : length oid ≤ 2 ^ 24 = subst (λ (o : List ℕ). length o ≤ 2 ^ 24) (sym e) h in

@@ -1,4 +1,4 @@
--- The answer of the service: an AP-REP (RFC 4120, section 3.2.5; RFC 4121, section 4.1), which DCE style answers in turn
+-- The service's answer, an AP-REP (RFC 4120, section 3.2.5; RFC 4121, section 4.1), to which the initiator replies in DCE style
 -- (MS-KILE, section 3.4.5.1).
 use Rattle.std.specs.Prelude.{ℕ, ◌%◌, ◌&&◌, ◌||◌, not, pos, nat_le, Bool, true, false, is_some, List, [], ◌∷◌, length, take, Option, Some, None, option_map, Result, if◌then◌else◌}
 use Rattle.std.specs.Ordering.{int_eq}
@@ -34,7 +34,7 @@ pub record IsFramedApRep (token : List ℕ) (message : ApRep) : Type 0 where
   pub frame : IsFrame oid (2 ∷ 0 ∷ []) octets token
   pub read : IsRead ap_rep_layout octets message
 
--- the token is this AP-REP: bare in DCE style, else framed
+-- the token is this AP-REP: bare in DCE style, otherwise framed
 abbrev pub IsApRep : Bool → List ℕ → ApRep → Type 0
 IsApRep true token message = IsRead ap_rep_layout token message
 IsApRep false token message = IsFramedApRep token message
@@ -45,7 +45,7 @@ ReadsApRep dce token = do
   Holds Shape (nat_le (length token) 16777216)
   Finds Shape (IsApRep dce token)
 
--- the context is established, with this sub-session key, which is the service's or not: all else of it stays
+-- the context is established, with this subkey, which is the service's or not: the rest of it stays
 abbrev pub established : Initiator → Bool → List ℕ → ℕ → ℕ → ContextChange
 established initiator from_service subkey ec number = record {
   state = Final;
@@ -57,7 +57,7 @@ established initiator from_service subkey ec number = record {
   ticket_decryption_key = None;
 }
 
--- nothing more is said
+-- the end without DCE style, with no further token
 abbrev pub confirmed : Initiator → Bool → List ℕ → InitDone
 confirmed initiator from_service subkey = record {
   status = Complete;
@@ -65,11 +65,11 @@ confirmed initiator from_service subkey = record {
   change = established initiator from_service subkey initiator.params.ec (settled_number initiator);
 }
 
--- the last word: an AP-REP with the number of the service's under the session key; the first 16 random octets are the confounder
+-- the third leg: an AP-REP with the service's sequence number under the session key; the first 16 random octets are the confounder
 unfoldable pub last_word : CipherSuite → List ℕ → List ℕ → Draw → List ℕ
 last_word suite key number draw = spelling ap_rep_layout (ap_rep suite key (take 16 draw.random) (ap_rep_part number draw.moment))
 
--- that is the token, the own number stays, and sealed messages have 16 octets of filler
+-- the end in DCE style: the third leg is the token, the context's sequence number stays, and EC is 16 in Wrap tokens
 abbrev pub replied : Initiator → List ℕ → Bool → List ℕ → List ℕ → Draw → InitDone
 replied initiator key from_service subkey number draw = record {
   status = Complete;
@@ -81,20 +81,20 @@ replied initiator key from_service subkey number draw = record {
 abbrev pub subkey_in : Option EncryptionKey → Option (List ℕ)
 subkey_in subkey = option_map (λ (k : EncryptionKey). k.key_value) subkey
 
--- where it is allowed that the service chose none, the authenticator's own, which the context keeps (RFC 4121, section 2)
+-- if a rule allows that the service chose none, the authenticator's own, which the context keeps (RFC 4121, section 2)
 abbrev pub own_subkey : Initiator → Option (List ℕ)
 own_subkey initiator = if has_rule initiator.rules ap_rep_without_subkey then initiator.params.sub_session_key else None
 
 abbrev pub chosen_subkey : Initiator → Option EncryptionKey → Option (List ℕ)
 chosen_subkey initiator subkey = or_else (subkey_in subkey) (own_subkey initiator)
 
--- without DCE style the subkey is taken
+-- without DCE style the AP-REP needs a subkey
 unfoldable pub Confirms : Initiator → Option EncryptionKey → Result InitDone Cause → Type 0
 Confirms initiator subkey = do
   key ← Takes NoSubKey (chosen_subkey initiator subkey)
   Gives (confirmed initiator (is_some subkey) key)
 
--- in DCE style the number too
+-- in DCE style it needs a subkey and a sequence number
 unfoldable pub Replies : Initiator → List ℕ → Option EncryptionKey → Option (List ℕ) → Draw → Result InitDone Cause → Type 0
 Replies initiator key subkey number draw = do
   chosen ← Takes NoSubKey (chosen_subkey initiator subkey)
@@ -114,12 +114,12 @@ abbrev pub answers_at : Option ℕ → EncApRepPart → Bool
 answers_at None part = false
 answers_at (Some moment) part = is_time_of part moment
 
--- where that is a rule, an AP-REP has the time of its authenticator
+-- by a rule, an AP-REP has the time of its authenticator
 abbrev pub answers_authenticator : Initiator → EncApRepPart → Bool
 answers_authenticator initiator part = not (has_rule initiator.rules answers_its_authenticator) || answers_at initiator.asked_at part
 
--- the answer of the service: what has the subkey and the number is sealed under the session key, in the context's suite, and
--- nothing is sealed under a key that is not there
+-- the service's answer: the part with the subkey and the sequence number is encrypted under the session key, in the context's
+-- suite, and nothing is encrypted under a key that is not there
 unfoldable pub TakesApRep : Initiator → List ℕ → Draw → Result InitDone Cause → Type 0
 TakesApRep initiator token draw = do
   message ← ReadsApRep (is_bare initiator.flags) token

@@ -1,4 +1,4 @@
--- What an initiator shows to a service: an AP-REQ with the ticket that a KDC gave (RFC 4120, sections 3.2.2 and 5.5.1; RFC 4121,
+-- The AP-REQ of an initiator to a service, with the ticket that a KDC gave (RFC 4120, sections 3.2.2 and 5.5.1; RFC 4121,
 -- section 4.1).
 use Rattle.std.specs.Prelude.{ℕ, ◌+◌, ◌^◌, ◌<◌, ◌≤◌, ◌==◌, List, [], ◌∷◌, ◌++◌, length, take, drop, Option, Some, None, IfSome, Result, if◌then◌else◌}
 use Rattle.bitflags.specs.Sets.{without}
@@ -44,35 +44,35 @@ gss_checksum flags = record {
   checksum_value = with_flags default_value (without 32 (gss_flags_of flags) gss_deleg);
 }
 
--- the client of the reply, with that number, the drawn subkey, that checksum and the bindings
+-- the client of the reply, with the sequence number after the context's, the drawn subkey, that checksum and the bindings
 abbrev pub service_authenticator : Errand → CipherSuite → KdcRep → Draw → Authenticator
 service_authenticator errand suite rep draw =
     let key : EncKey = record { key_type = suite; key_value = drawn_key suite draw } in
     authenticator rep (Some (next_number errand.initiator.number)) (Some key) (Some (gss_checksum errand.initiator.flags.0)) errand.bindings draw.moment
 
--- the AP-REQ, with the options that the exchange goes by: its authenticator is sealed under the session key of its ticket
+-- the AP-REQ, with the options of the exchange: its authenticator is encrypted under the session key of its ticket
 abbrev pub service_request : Errand → CipherSuite → List ℕ → KdcRep → Draw → ApReq
 service_request errand suite key rep draw =
     ap_req suite key service_usage (drawn_confounder suite draw) (ap_options_of (exchange_flags errand.initiator)) rep.ticket
     (service_authenticator errand suite rep draw)
 
--- its octets
+-- the octets of the AP-REQ
 unfoldable pub message : Errand → CipherSuite → List ℕ → KdcRep → Draw → List ℕ
 message errand suite key rep draw = spelling ap_req_layout (service_request errand suite key rep draw)
 
--- in a frame (RFC 2743, section 3.1; RFC 4121, section 4.1): the token id 01 00
+-- the AP-REQ in a frame (RFC 2743, section 3.1; RFC 4121, section 4.1): the token id 01 00
 unfoldable pub framed_ap_req : List ℕ → List ℕ → List ℕ
 framed_ap_req mechanism octets = tlv 0x60 (tlv 0x06 mechanism ++ (1 ∷ 0 ∷ [] ++ octets))
 
--- the token: bare in DCE style (MS-KILE, section 3.4.5.1), else framed
+-- the token: bare in DCE style (MS-KILE, section 3.4.5.1), otherwise framed
 abbrev pub shown_token : Errand → List ℕ → List ℕ
 shown_token errand octets = if is_bare errand.initiator.flags then octets else framed_ap_req errand.mechanism octets
 
--- the sub-session key, where the authenticator's subkey is kept
+-- the subkey of the context, which is the authenticator's if that is kept
 abbrev pub kept_subkey : Initiator → CipherSuite → Draw → Option (List ℕ)
 kept_subkey initiator suite draw = if keeps_subkey initiator then Some (drawn_key suite draw) else initiator.params.sub_session_key
 
--- behind it the service's answer is awaited, or the context is established at once
+-- after the token the service's answer is awaited, or the context is established at once
 abbrev pub shown_state : Initiator → KerberosState
 shown_state initiator = if is_one_way initiator then Final else ApExchange
 
@@ -82,8 +82,8 @@ shown_number initiator = if is_one_way initiator then settled_number initiator e
 abbrev pub shown_status : Initiator → SecurityStatus
 shown_status initiator = if is_one_way initiator then Complete else ContinueNeeded
 
--- the session key of the ticket is the context's, in the suite of the exchange, and the context's realm is the client's own; all else of
--- it stays
+-- the session key of the ticket is the context's, in the suite of the exchange, and the context's realm is the client's own; the
+-- rest of the context stays
 abbrev pub change_of : Initiator → CipherSuite → List ℕ → List ℕ → Draw → ContextChange
 change_of initiator suite key home draw = record {
   state = shown_state initiator;

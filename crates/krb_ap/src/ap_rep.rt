@@ -1,4 +1,4 @@
-//! The client's AP-REP, its last word in DCE style (MS-KILE, section 3.4.5.1; RFC 4120, section 5.5.2).
+//! The initiator's AP-REP, the third leg in DCE style (MS-KILE, section 3.4.5.1; RFC 4120, section 5.5.2).
 
 ghost use Rattle.std.specs.Prelude.{◌≡◌, ◌↔◌, ◌⊎◌, ◌<◌, ◌≤◌, ◌^◌, length, IfOk, IfErr, Err};
 ghost use Rattle.krb_der.specs.Layout.{spelling};
@@ -20,7 +20,7 @@ use krb_requests::{Maker, sealed_under, whole_second};
 use sspi_core::{Cause, Error, Secret};
 use std::alloc::Global;
 
-/// What the AP-REP seals.
+/// Returns the EncAPRepPart with this sequence number, the time of `now` (microseconds since 1970) and no subkey.
 fn ap_rep_part(alloc: Global, seq_number: Octets, now: u64) -> Result<EncApRepPart, OutOfMemory>
     requires { now ≤ last_moment }
     ensures { IfOk result (λ part. part ≡ ap_rep_part seq_number now) }
@@ -36,7 +36,7 @@ fn ap_rep_part(alloc: Global, seq_number: Octets, now: u64) -> Result<EncApRepPa
     maker.finish(part)
 }
 
-/// An AP-REP with this sealed part.
+/// Returns an AP-REP with this encrypted part.
 fn ap_rep_with(alloc: Global, enc_part: EncryptedData) -> Result<ApRep, OutOfMemory>
     ensures { IfOk result (λ made. made ≡ ap_rep_with enc_part) }
 {
@@ -49,7 +49,7 @@ fn ap_rep_with(alloc: Global, enc_part: EncryptedData) -> Result<ApRep, OutOfMem
     maker.finish(made)
 }
 
-/// The part, sealed under a session key of the suite's length.
+/// Encrypts the part under a session key of the suite's length.
 fn sealed_part(
     alloc: Global,
     suite: CipherSuite,
@@ -73,7 +73,7 @@ fn sealed_part(
     )
 }
 
-/// An AP-REP with this number and no subkey, sealed under a session key of the suite's length.
+/// Returns an AP-REP with this sequence number and no subkey, encrypted under a session key of the suite's length.
 pub(crate) fn seal_ap_rep(
     alloc: Global,
     suite: CipherSuite,
@@ -94,11 +94,11 @@ pub(crate) fn seal_ap_rep(
     ap_rep_with(alloc, enc_part)
 }
 
-/// An AP-REP with this number, by the octets of its INTEGER, with the time of `now` and without a subkey, sealed under the
-/// session key in the parameters' suite (AES-256 where there is none), with usage 12.
+/// Returns an AP-REP with this sequence number, by the octets of its INTEGER, with the time of `now` and without a subkey. It is
+/// encrypted under the session key in the parameters' suite (AES-256 if they have none), with usage 12.
 ///
-/// Refused as InvalidParameter KeyLength exactly where the session key has not the length of the suite's keys; else it fails only if memory
-/// runs out.
+/// Fails with InvalidParameter KeyLength exactly if the session key has not the length of the suite's keys; otherwise it fails
+/// only if memory runs out.
 pub fn generate_ap_rep(
     alloc: Global,
     session_key: &Secret<Octets>,

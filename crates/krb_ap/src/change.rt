@@ -1,4 +1,4 @@
-//! What the service's answer makes of the context.
+//! The change of the context by the service's answer.
 
 ghost use Rattle.std.specs.Prelude.{◌≡◌, IfOk, Some};
 ghost use Rattle.krb_ap.specs.Answered.{established};
@@ -25,7 +25,8 @@ fn established_params(
     Ok(made)
 }
 
-/// The context is established, with this sub-session key, which is the service's or not, this many octets of filler and this own number.
+/// Returns the change to an established context: `from_service` if the AP-REP brought the subkey, `ec` octets of EC in Wrap tokens,
+/// and `number`, this end's sequence number.
 pub(crate) fn established(
     alloc: Global,
     initiator: &Initiator,

@@ -12,25 +12,25 @@ use sspi_core::ClientRequestFlags;
 #[derive(Drop)]
 pub struct Initiator {
     pub params: EncryptionParams,
-    /// The context's own number.
+    /// The context's sequence number.
     pub number: u32,
     pub realm: Option<Text>,
     pub user_to_user: bool,
     pub flags: ClientRequestFlags,
     /// The rules that the context goes by.
     pub rules: Rules,
-    /// The moment of the authenticator that it showed last, in microseconds since 1970.
+    /// The moment of the last authenticator that the initiator showed, in microseconds since 1970.
     pub asked_at: Option<u64>,
 }
 
-/// Whether tokens are bare: DCE style.
+/// Returns whether tokens are bare: DCE style.
 pub(crate) fn is_bare(flags: ClientRequestFlags) -> bool
     ensures { result ≡ is_bare flags }
 {
     flags.contains(ClientRequestFlags::USE_DCE_STYLE)
 }
 
-/// The flags that the exchange goes by: those of the caller, and in user-to-user a session key is used besides.
+/// Returns the flags of the exchange: those of the caller, and in user-to-user also the use of a session key.
 pub fn exchange_flags(initiator: &Initiator) -> ClientRequestFlags
     ensures { result.0 ≡ exchange_flags initiator.now }
 {
@@ -41,7 +41,7 @@ pub fn exchange_flags(initiator: &Initiator) -> ClientRequestFlags
     }
 }
 
-/// The own number behind the exchange.
+/// Returns this end's sequence number after the exchange.
 pub(crate) fn settled_number(initiator: &Initiator) -> u32
     ensures { result ≡ settled_number initiator.now }
 {
@@ -53,7 +53,7 @@ pub(crate) fn settled_number(initiator: &Initiator) -> u32
     }
 }
 
-/// Whether no answer is asked for, and none is awaited.
+/// Returns whether no answer is asked for, and none is awaited.
 pub(crate) fn is_one_way(initiator: &Initiator) -> bool
     ensures { result ≡ is_one_way initiator.now }
 {
@@ -62,7 +62,7 @@ pub(crate) fn is_one_way(initiator: &Initiator) -> bool
         && !exchange_flags(initiator).contains(ClientRequestFlags::MUTUAL_AUTH)
 }
 
-/// Whether the subkey of the authenticator is kept.
+/// Returns whether the subkey of the authenticator is kept.
 pub(crate) fn keeps_subkey(initiator: &Initiator) -> bool
     ensures { result ≡ keeps_subkey initiator.now }
 {

@@ -12,8 +12,8 @@ ghost use Rattle.krb_ap.specs.declared.initiator.Initiator.{Initiator};
 ghost use Rattle.krb_ap.specs.Answered.{confirmed, subkey_in, chosen_subkey};
 ghost use Rattle.krb_ap.specs.Shown.{kept_subkey, shown_state, shown_number, shown_status};
 
-/// The number of an initiator's first message behind an AP-REP: where it is allowed the one that its authenticator showed, which is the
-/// one after its own; where nothing is allowed the next one.
+/// The sequence number of an initiator's first message after an AP-REP: by a rule the one that its authenticator showed, which is
+/// the one after its own; without rules the next one.
 pub fn first_numbers()
     ensures as_shown { (initiator : Initiator) (from_service : Bool) (subkey : List ℕ) → has_rule initiator.rules first_number_as_shown ≡ true
         → next_number (confirmed initiator from_service subkey).change.seq_number ≡ next_number initiator.number }
@@ -21,7 +21,7 @@ pub fn first_numbers()
         → next_number (confirmed initiator from_service subkey).change.seq_number ≡ next_number (next_number initiator.number) }
 {}
 
-/// Without rules, an initiator awaits the service's answer behind its AP-REQ, whether it asked for one or not,
+/// Without rules, an initiator awaits the service's answer after its AP-REQ, whether it asked for one or not,
 /// and that answer has the key of messages.
 pub fn without_rules_an_answer_is_awaited()
     ensures state { (initiator : Initiator) → initiator.rules ≡ no_rules → shown_state initiator ≡ states.ApExchange }

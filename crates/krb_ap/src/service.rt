@@ -1,4 +1,4 @@
-//! The answer of the service: an AP-REP (RFC 4120, section 3.2.5), which DCE style answers in turn (MS-KILE, section 3.4.5.1).
+//! The service's answer, an AP-REP (RFC 4120, section 3.2.5), to which the initiator replies in DCE style (MS-KILE, section 3.4.5.1).
 
 ghost use Rattle.std.specs.Prelude.{◌≡◌, ◌≤◌, ◌^◌, length, true, false, [], IfOk, IfSome, Result};
 ghost use Rattle.std.specs.Result.{result_map_both};
@@ -25,10 +25,10 @@ use krb_replies::{SESSION_KEY, check_token_length, is_number, open, read_or};
 use sspi_core::{Cause, Draw, Secret, SecurityStatus, hold, take};
 use std::alloc::Global;
 
-/// The filler of sealed messages in DCE style, in octets.
+/// The EC of Wrap tokens in DCE style, in octets.
 const EXTRA_COUNT: u16 = 16;
 
-/// The AP-REP in a frame.
+/// Reads the AP-REP in a frame.
 fn framed_ap_rep(alloc: Global, token: &[u8]) -> Result<ApRep, Cause>
     ensures { Answers (Finds causes.Shape (IsApRep false token.now)) result }
 {
@@ -38,7 +38,7 @@ fn framed_ap_rep(alloc: Global, token: &[u8]) -> Result<ApRep, Cause>
     }
 }
 
-/// The AP-REP that a token is.
+/// Reads the AP-REP that a token is.
 fn ap_rep_in(alloc: Global, dce: bool, token: &[u8]) -> Result<ApRep, Cause>
     ensures { Answers (Finds causes.Shape (IsApRep dce token.now)) result }
 {
@@ -49,7 +49,7 @@ fn ap_rep_in(alloc: Global, dce: bool, token: &[u8]) -> Result<ApRep, Cause>
     }
 }
 
-/// The AP-REP in a token, no part of which is longer than a token.
+/// Reads the AP-REP in a token, no part of which is longer than a token.
 #[tactic(auto, unfolding(crate::specs::Answered::ReadsApRep))]
 fn read_ap_rep(alloc: Global, dce: bool, token: &[u8]) -> Result<ApRep, Cause>
     ensures step { Answers (ReadsApRep dce token.now) result }
@@ -68,7 +68,7 @@ fn session_key(initiator: &Initiator) -> Result<&Secret<Octets>, Cause>
     }
 }
 
-/// What is sealed in the AP-REP. A number that it has can be sent back.
+/// Decrypts the encrypted part of the AP-REP. A sequence number that it has can be sent back.
 #[tactic(auto, unfolding(krb_replies::specs::Answered::OpensApRep))]
 fn open_ap_rep(
     alloc: Global,
@@ -91,7 +91,7 @@ fn open_ap_rep(
     )
 }
 
-/// The authenticator's own subkey, where it is allowed that the service chose none.
+/// Returns the authenticator's own subkey, if a rule allows that the service chose none.
 fn own_subkey(alloc: Global, initiator: &Initiator) -> Result<Option<Secret<Octets>>, OutOfMemory>
     ensures { IfOk result (λ key. key ≡ own_subkey initiator.now) }
 {
@@ -103,7 +103,7 @@ fn own_subkey(alloc: Global, initiator: &Initiator) -> Result<Option<Secret<Octe
     }
 }
 
-/// That subkey, which is to be there.
+/// Returns the authenticator's own subkey. Fails with `NoSubKey` if the context keeps none.
 fn kept_key(alloc: Global, initiator: &Initiator) -> Result<Secret<Octets>, Cause>
     ensures { Answers (Takes causes.NoSubKey (own_subkey initiator.now)) result }
 {
@@ -111,7 +111,7 @@ fn kept_key(alloc: Global, initiator: &Initiator) -> Result<Secret<Octets>, Caus
     take(own, Cause::NoSubKey)
 }
 
-/// The key of messages: that of the service, or else the own one.
+/// Returns the key of messages: the service's subkey, otherwise the authenticator's own.
 fn key_in(
     alloc: Global,
     initiator: &Initiator,
@@ -136,7 +136,7 @@ fn number_in(number: Option<IntegerAsn1>) -> Result<Octets, Cause>
     }
 }
 
-/// The end without DCE style.
+/// Returns the outcome without DCE style.
 fn confirmed(
     alloc: Global,
     initiator: &Initiator,
@@ -168,7 +168,7 @@ fn confirm(
     confirmed(alloc, initiator, from_service, subkey)
 }
 
-/// The last word, an AP-REP with this number.
+/// Returns the third leg, an AP-REP with this sequence number.
 #[tactic(auto, unfolding(crate::specs::Answered::last_word))]
 fn last_word(
     alloc: Global,
@@ -188,7 +188,7 @@ fn last_word(
     message.write(alloc)
 }
 
-/// The end in DCE style.
+/// Returns the outcome in DCE style.
 fn replied(
     alloc: Global,
     initiator: &Initiator,
@@ -232,7 +232,7 @@ fn reply(
     replied(alloc, initiator, key, from_service, subkey, number, draw)
 }
 
-/// Whether an AP-REP has the time of the authenticator that was shown at this moment.
+/// Returns whether an AP-REP has the time of the authenticator that was shown at this moment, in microseconds since 1970.
 fn is_time_of(part: &EncApRepPart, moment: u64) -> bool
     ensures { result ≡ is_time_of part.now moment }
 {
@@ -249,7 +249,7 @@ fn answers_at(asked_at: Option<u64>, part: &EncApRepPart) -> bool
     }
 }
 
-/// Whether an AP-REP has the time of its authenticator, where that is a rule.
+/// Returns whether an AP-REP has the time of its authenticator, if that is a rule.
 fn answers_authenticator(initiator: &Initiator, part: &EncApRepPart) -> bool
     ensures { result ≡ answers_authenticator initiator.now part.now }
 {
@@ -263,7 +263,7 @@ fn check_time(initiator: &Initiator, part: &EncApRepPart) -> Result<(), Cause>
     hold(answers_authenticator(initiator, part), Cause::ReplyTime)
 }
 
-/// What follows from what was sealed.
+/// Returns the outcome of the decrypted part.
 fn finish(
     alloc: Global,
     dce: bool,
@@ -284,16 +284,16 @@ fn finish(
     }
 }
 
-/// The service's answer at an initiator that awaits it, which is established by it: an AP-REP under the session key, framed, or
-/// bare in DCE style. Its subkey becomes the sub-session key; where it has none and that is allowed, the authenticator's stays. In
-/// DCE style it is answered by an AP-REP with the same number, and sealed messages have 16 octets of filler. Else nothing is
-/// answered, and the own number rises by one; it stays where it is allowed that the first message has the number that the
-/// authenticator showed.
+/// Takes the service's answer at an initiator that awaits it, and establishes the context: an AP-REP under the session key, framed,
+/// or bare in DCE style. Its subkey becomes the context's; if it has none and a rule allows that, the authenticator's subkey stays.
+/// In DCE style the initiator replies with an AP-REP with the same sequence number, and EC is 16 in Wrap tokens. Otherwise it sends
+/// nothing, and its own sequence number rises by one; the number stays if a rule allows that the first message has the number that
+/// the authenticator showed.
 ///
-/// Refused, in this order, as `Shape` where the token is no AP-REP or has more than 16,777,216 octets; as `Reply` where nothing
-/// is sealed to it under the session key; as `Inner` where what is sealed is no EncAPRepPart; as `ReplyTime` where it has to have the time
-/// of the authenticator, and does not; as `NoSubKey` where it has no subkey
-/// and none of the authenticator's stays; in DCE style as `NoNumber` where it has no number.
+/// Fails, in this order, with `Shape` if the token is no AP-REP or has more than 16,777,216 octets; with `Reply` if the AP-REP does
+/// not decrypt under the session key; with `Inner` if its plain text is no EncAPRepPart; with `ReplyTime` if it has to have the time
+/// of the authenticator, and does not; with `NoSubKey` if it has no subkey and none of the authenticator's stays; in DCE style with
+/// `NoNumber` if it has no sequence number.
 #[tactic(auto, unfolding(crate::specs::Answered::TakesApRep))]
 pub fn take_ap_rep(
     alloc: Global,

@@ -51,7 +51,7 @@ use krb_messages::{ApReq, Authenticator, Oid, Ticket, write_framed};
 use sspi_core::{Cause, ClientRequestFlags, Draw, Secret, SecurityStatus, hold};
 use std::alloc::Global;
 
-/// The flags of the context, but never delegation, for which there would have to be a KRB-CRED.
+/// Returns the checksum with the flags of the context, but never delegation, for which there would have to be a KRB-CRED.
 fn gss_checksum(alloc: Global, flags: ClientRequestFlags) -> Result<ChecksumOptions, OutOfMemory>
     ensures made { IfOk result (λ made. made ≡ gss_checksum flags.0) }
     ensures short { IfOk result IsShortChecksum }
@@ -66,7 +66,7 @@ fn gss_checksum(alloc: Global, flags: ClientRequestFlags) -> Result<ChecksumOpti
     })
 }
 
-/// Who asks. The checksum has room for the hash of bindings, so nothing is refused.
+/// Returns the authenticator for the service. Its checksum has room for the hash of bindings, so only memory can fail.
 fn service_authenticator(
     alloc: Global,
     errand: &Errand,
@@ -99,7 +99,7 @@ fn service_authenticator(
     }
 }
 
-/// The AP-REQ of this authenticator. The session key has its length, so nothing is refused.
+/// Returns the AP-REQ with this authenticator. The session key has its length, so only memory can fail.
 fn ap_req_by(
     alloc: Global,
     errand: &Errand,
@@ -133,7 +133,7 @@ fn ap_req_by(
     }
 }
 
-/// The AP-REQ.
+/// Returns the AP-REQ.
 fn service_request(
     alloc: Global,
     errand: &Errand,
@@ -152,7 +152,7 @@ fn service_request(
     ap_req_by(alloc, errand, suite, key, rep.ticket, &authenticator, draw)
 }
 
-/// The octets of the AP-REQ.
+/// Returns the octets of the AP-REQ.
 #[tactic(auto, unfolding(crate::specs::Shown::message))]
 fn message(
     alloc: Global,
@@ -172,7 +172,7 @@ fn message(
     request.write(alloc)
 }
 
-/// An AP-REQ in a frame.
+/// Returns an AP-REQ in a frame.
 #[tactic(auto, unfolding(crate::specs::Shown::framed_ap_req))]
 fn framed(alloc: Global, mechanism: &Octets, message: &Octets) -> Result<Octets, OutOfMemory>
     requires named { 0 < length mechanism.now }
@@ -184,7 +184,7 @@ fn framed(alloc: Global, mechanism: &Octets, message: &Octets) -> Result<Octets,
     write_framed(alloc, oid, AP_REQ_TOKEN_ID, message.as_slice())
 }
 
-/// The AP-REQ as a token.
+/// Returns the AP-REQ as a token.
 fn token_of(alloc: Global, errand: &Errand, message: Octets) -> Result<Octets, OutOfMemory>
     requires errand { CanGo errand.now }
     requires message { length message ≤ 2 ^ 28 }
@@ -197,7 +197,7 @@ fn token_of(alloc: Global, errand: &Errand, message: Octets) -> Result<Octets, O
     }
 }
 
-/// The sub-session key: the authenticator's subkey where it is kept, else the one that was there.
+/// Returns the context's subkey: the authenticator's if that is kept, otherwise the one that was there.
 fn kept_subkey(
     alloc: Global,
     initiator: &Initiator,
@@ -214,7 +214,7 @@ fn kept_subkey(
     }
 }
 
-/// The parameters with these keys.
+/// Returns the parameters with these keys.
 fn keyed_params(
     alloc: Global,
     initiator: &Initiator,
@@ -265,7 +265,7 @@ fn shown_status(initiator: &Initiator) -> SecurityStatus
     }
 }
 
-/// What the context becomes: the service's answer is awaited, or it is established at once.
+/// Returns the change of the context: the service's answer is awaited, or the context is established at once.
 fn change_of(
     alloc: Global,
     initiator: &Initiator,
@@ -289,7 +289,7 @@ fn change_of(
     })
 }
 
-/// What the exchange with the KDCs ends with.
+/// Returns the outcome of the exchange with the KDCs.
 #[tactic(auto, unfolding(crate::specs::Shown::shown))]
 fn shown(
     alloc: Global,
@@ -339,12 +339,12 @@ fn all_shown(
     Ok(shown(alloc, errand, suite, key, rep, home, draw)?)
 }
 
-/// The end of the exchange with the KDCs: the ticket of this reply is shown to the service, whose answer is awaited. Where it is allowed,
-/// a context that asked for no answer is established at once. The key is the ticket's session key, `home` the client's own realm.
+/// Ends the exchange with the KDCs: shows the ticket of this reply to the service, whose answer is then awaited. If a rule allows
+/// it, a context that asked for no answer is established at once. The key is the ticket's session key, `home` the client's own realm.
 ///
-/// The AP-REQ has the options that the flags ask for. Its authenticator, under that key, has the number after the context's own,
-/// which stays, a drawn subkey, and a checksum of type 8003 hex with the context's flags and the bindings. It is framed, or bare in
-/// DCE style. Refused as `KeyLength` exactly where the key has not the length of the suite's keys.
+/// The AP-REQ has the options that the flags ask for. Its authenticator, under that key, has the sequence number after the
+/// context's own, which stays, a drawn subkey, and a checksum of type 8003 hex with the context's flags and the bindings. The AP-REQ
+/// is framed, or bare in DCE style. Fails with `KeyLength` exactly if the key has not the length of the suite's keys.
 #[tactic(auto, unfolding(crate::specs::Shown::ShowsTicket))]
 pub fn show_ticket(
     alloc: Global,

@@ -1,4 +1,4 @@
--- What the searches of std find, in the words of `specs/Line`.
+-- The results of the searches of std, in the words of `specs/Line`.
 use Rattle.std.proofs.Common.{MatchOption, option_copied, Bor, ◌≡◌, ℕ, suc, ◌+◌, ◌-◌, ◌<◌, Bool, true, false, cond, eqb, List, [], ◌∷◌, ◌++◌, length, take, drop, get_or, refl, sym, ap, ◌∙◌, arith, length-append}
 use Rattle.std.specs.Prelude.{◌==◌, ◌||◌, not, Option, Some, None}
 use Rattle.std.specs.List.{list_any, position_or_len, prefix_len}
@@ -8,7 +8,7 @@ use Rattle.std.proofs.Math.Seq.{take-append_seam, take-length}
 use Rattle.sspi_core.proofs.Cuts.{list_any-absent}
 use Rattle.krb_conf.specs.Line.{section_name, relation}
 
--- the section that stands between brackets
+-- a name between brackets is the name of the section
 between : (name : List ℕ) → section_name (91 ∷ (name ++ 93 ∷ [])) ≡ Some name
 between name =
     let line : List ℕ = 91 ∷ (name ++ 93 ∷ []) in
@@ -27,7 +27,7 @@ section_name-no_front (b ∷ bs) h =
     let other : eqb b 91 ≡ false = grind (arith, nat_tests, λ (e : b ≡ 91). h bs (ap (λ n. n ∷ bs) e)) in
     rw other refl
 
--- what stands last in a list
+-- a list is its front and its last element
 last-is : (xs : List ℕ) (c : ℕ) → 0 < length xs → get_or xs (length xs - 1) 0 ≡ c → xs ≡ take (length xs - 1) xs ++ (c ∷ [])
 last-is xs c some is =
     let whole : length xs - 1 + 1 ≡ length xs = omega arith in

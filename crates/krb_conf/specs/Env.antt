@@ -1,9 +1,9 @@
--- What variables and files say, found by name.
+-- The values of variables and the texts of files, found by name.
 use Rattle.std.specs.Prelude.{ℕ, List, ◌==◌, Option, option_map, unwrap_or, bytes_eq, codes}
 use Rattle.std.specs.List.{find, filter_map, slice_split}
 use Rattle.krb_conf.specs.Ascii.{colon}
 
--- what the first pair of this name has
+-- the value of the first pair with this name
 abbrev pub named : {V : Type 0} → List ℕ → List (List ℕ × V) → Option V
 named name pairs = option_map (λ pair. pair.1) (find (λ pair. bytes_eq pair.0 name) pairs)
 

@@ -1,4 +1,4 @@
--- Where the KDC of a realm is.
+-- The address of the KDC of a realm.
 use Rattle.std.specs.Prelude.{ℕ, Bool, true, false, ◌&&◌, ◌||◌, ◌==◌, List, [], ◌∷◌, ◌++◌, Option, Some, None, option_map, if◌then◌else◌, codes}
 use Rattle.std.specs.Option.{option_or}
 use Rattle.std.specs.Result.{result_ok}
@@ -7,7 +7,7 @@ use Rattle.url.specs.Parser.{parse_url}
 use Rattle.krb_conf.specs.Env.{named, conf_texts}
 use Rattle.krb_conf.specs.Krb5Conf.{values_of, value_at}
 
--- what f gives of the first of the list of which it gives anything
+-- the first value that f has for an element of the list
 abbrev pub first_given : {A B : Type 0} → (A → Option B) → List A → Option B
 first_given f [] = None
 first_given f (x ∷ xs) = option_or (f x) (first_given f xs)
@@ -17,7 +17,8 @@ abbrev pub kdc_in : List ℕ → List ℕ → Option (List ℕ)
 kdc_in realm text =
     option_map (λ kdc. codes "tcp://" ++ kdc) (value_at (codes "realms" ∷ realm ∷ codes "kdc" ∷ []) (values_of text))
 
--- the address of a realm's KDC: what the realm's own variable says; else what the variable of all realms says; else that of the first file that names one
+-- the address of a realm's KDC: the value of the realm's own variable; otherwise the value of the variable of all realms;
+-- otherwise the address in the first file that names one
 abbrev pub kdc_host : List (List ℕ × List ℕ) → List (List ℕ × List ℕ) → List ℕ → Option (List ℕ)
 kdc_host vars files realm =
     option_or (option_or (named (codes "SSPI_KDC_URL_" ++ realm) vars) (named (codes "SSPI_KDC_URL") vars))
@@ -27,7 +28,7 @@ kdc_host vars files realm =
 abbrev pub url_of : List ℕ → Option Parts
 url_of text = result_ok (parse_url None text)
 
--- the text begins with the part; the part stands somewhere in the text
+-- the text begins with the part; the part is somewhere in the text
 abbrev pub begins_with_part : List ℕ → List ℕ → Bool
 begins_with_part [] text = true
 begins_with_part (p ∷ part) [] = false

@@ -7,12 +7,13 @@ use Rattle.krb_conf.specs.Ascii.{line_feed, left_bracket, left_brace, right_brac
 use Rattle.krb_conf.specs.Key.{is_at, under}
 use Rattle.krb_conf.specs.Line.{begins_with, ends_with, has, is_skipped, section_name, relation}
 
--- where a line stands: outside every section, or in one, in the group that was opened last if no brace was closed since, under so many open braces
+-- the place of a line: outside every section, or in one, in the group that was opened last if no brace was closed since, and the
+-- number of open braces
 pub data Place : Type 0 where
   Outside : Place
   Within : (section : List ℕ) (group : Option (List ℕ)) (depth : ℕ) → Place
 
--- what a line does: nothing, or it leads to another place, or it adds a value under a key
+-- the effect of a line: nothing, or it leads to another place, or it adds a value under a key
 pub data Effect : Type 0 where
   Nothing : Effect
   LeadsTo : Place → Effect
@@ -22,7 +23,7 @@ pub data Effect : Type 0 where
 abbrev pub key : List ℕ → Option (List ℕ) → List ℕ → List ℕ
 key section group name = join_with_byte bar (section ∷ option_to_list group ++ name ∷ [])
 
--- what a line does that is no comment and not empty
+-- the effect of a line that is neither a comment nor empty
 abbrev pub effect : Place → List ℕ → Effect
 -- 1. Outside, the line of a section leads into it, and other lines do nothing.
 effect Outside line = option_map_or (λ name. LeadsTo (Within name None 0)) (section_name line) Nothing

@@ -1,5 +1,5 @@
--- What one line of a krb5.conf says by itself, after the section "Structure" of MIT's documentation of krb5.conf. The line's white
--- space at both ends is cut off.
+-- The content of one line of a krb5.conf by itself, after the section "Structure" of MIT's documentation of krb5.conf. The line's
+-- white space at both ends is cut off.
 use Rattle.std.specs.Prelude.{ℕ, ◌-◌, Bool, ◌&&◌, ◌||◌, ◌==◌, List, length, take, drop, slice_index, Option, Some, None, if◌then◌else◌}
 use Rattle.std.specs.List.{list_any, before_first, after_first}
 use Rattle.std.specs.Str.{trim}
@@ -19,7 +19,7 @@ has sign line = list_any (λ octet. octet == sign) line
 abbrev pub is_skipped : List ℕ → Bool
 is_skipped line = length line == 0 || (begins_with number_sign line || begins_with semicolon line)
 
--- the section that the line names: what stands between `[` at its beginning and `]` at its end
+-- the section that the line names: the text between `[` at its beginning and `]` at its end
 abbrev pub section_name : List ℕ → Option (List ℕ)
 section_name line =
     if begins_with left_bracket line && ends_with right_bracket line then Some (drop 1 (take (length line - 1) line))

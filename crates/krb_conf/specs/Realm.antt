@@ -14,7 +14,8 @@ use Rattle.krb_conf.specs.Line.{begins_with}
 abbrev pub ends_with_text : List ℕ → List ℕ → Bool
 ends_with_text text ending = is_same_text (drop (length text - length ending) text) ending
 
--- a mapping fits a domain: one that begins with a dot where the domain ends with it, another where the domain is it or ends with a dot and it
+-- a mapping fits a domain: a mapping that begins with a dot if the domain ends with it; any other mapping if it is the domain or the
+-- domain ends with a dot and the mapping
 abbrev pub fits : List ℕ → List ℕ → Bool
 fits domain mapping =
     if begins_with full_stop mapping then ends_with_text domain mapping
@@ -24,12 +25,12 @@ fits domain mapping =
 abbrev pub realm_in : List ℕ → List ℕ → Option (List ℕ)
 realm_in domain text = option_map (λ entry. entry.1) (find (λ entry. fits domain entry.0) (values_under (codes "domain_realm" ∷ []) (values_of text)))
 
--- what follows the last such sign of the text, if it has one
+-- the text after the last such sign, if the text has the sign
 abbrev pub after_last : ℕ → List ℕ → Option (List ℕ)
 after_last sign [] = None
 after_last sign (octet ∷ text) = option_or (after_last sign text) (if octet == sign then Some text else None)
 
--- the domain of a user: the given one, or what follows the last `@` of the user's name, or nothing
+-- the domain of a user: the given one, or the text after the last `@` of the user's name, or nothing
 abbrev pub domain_of : List ℕ → List ℕ → List ℕ
 domain_of username given = if length given == 0 then unwrap_or (after_last at_sign username) [] else given
 

@@ -1,4 +1,4 @@
--- What the types of the reader stand for.
+-- The meaning of the reader's types.
 use Rattle.std.specs.Prelude.{ℕ, List, Option, option_copied}
 use Rattle.krb_conf.specs.Krb5Conf as conf
 use Rattle.krb_conf.specs.declared.reader.Place.{Place}

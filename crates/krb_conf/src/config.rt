@@ -1,4 +1,4 @@
-//! What a Kerberos client is configured with.
+//! The configuration of a Kerberos client.
 
 ghost use Rattle.std.specs.Prelude.{◌≡◌, IfOk, option_and_then};
 ghost use Rattle.std.specs.Option.{option_or};
@@ -11,7 +11,7 @@ use krb_der::{OutOfMemory, Text, TryCopy};
 use std::alloc::Global;
 use url::Url;
 
-/// What a Kerberos client is configured with.
+/// The configuration of a Kerberos client.
 #[derive(Drop)]
 pub struct KerberosConfig {
     /// The URL of the client's own KDC, if it is known.
@@ -21,7 +21,7 @@ pub struct KerberosConfig {
 }
 
 impl KerberosConfig {
-    /// The configuration with the KDC at this address, as `parse_kdc_url` reads it.
+    /// Makes a configuration with the KDC at this address, as `parse_kdc_url` reads it.
     pub fn new(
         alloc: Global,
         kdc_url: &str,
@@ -38,7 +38,7 @@ impl KerberosConfig {
         })
     }
 
-    /// The URL of the KDC: the configuration's own, else that which `detect_kdc_url` finds.
+    /// Returns the URL of the KDC: the one in the configuration, otherwise the one that `detect_kdc_url` finds.
     pub fn get_kdc_url(
         self,
         alloc: Global,

@@ -1,4 +1,4 @@
-//! Variables and files, handed in by the caller: nothing here reads the environment or a file.
+//! Variables and files that the caller passes in: nothing here reads the environment or a file.
 
 ghost use Rattle.std.specs.Prelude.{◌≡◌, ◌==◌, [], IfOk, map, option_copied, option_map};
 ghost use Rattle.std.specs.List.{find, filter_map, slice_split};
@@ -19,7 +19,7 @@ pub struct Env {
     pub files: Items<(Text, ConfigFile)>,
 }
 
-/// What the first pair of this name has.
+/// Returns the value of the first pair with this name.
 fn lookup<'a, V>(pairs: &'a Items<(Text, V)>, name: &str) -> Option<&'a V>
     ensures { option_copied result ≡ named name.entry.now pairs.entry.now }
 {
@@ -31,7 +31,7 @@ fn lookup<'a, V>(pairs: &'a Items<(Text, V)>, name: &str) -> Option<&'a V>
     None
 }
 
-/// The value of the variable of this name.
+/// Returns the value of the variable with this name.
 pub(crate) fn variable<'a>(vars: &'a Items<(Text, Text)>, name: &str) -> Option<&'a str>
     ensures { option_copied result ≡ named name.entry.now vars.entry.now }
 {
@@ -41,10 +41,10 @@ pub(crate) fn variable<'a>(vars: &'a Items<(Text, Text)>, name: &str) -> Option<
     }
 }
 
-/// The files that are read where the variable `KRB5_CONFIG` is not set.
+/// The files that are read if the variable `KRB5_CONFIG` is not set.
 const DEFAULT_PATHS: &str = "/etc/krb5.conf:/usr/local/etc/krb5.conf";
 
-/// Those of these files that there are, in the order of the names, which colons separate.
+/// Returns the files that exist at these paths, in the order of the paths. Colons separate the paths.
 fn files_of<'a>(
     alloc: Global,
     files: &'a Items<(Text, ConfigFile)>,

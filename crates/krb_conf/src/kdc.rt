@@ -1,4 +1,4 @@
-//! Where the KDC of a realm is.
+//! The address of the KDC of a realm.
 
 ghost use Rattle.std.specs.Prelude.{◌≡◌, ◌++◌, IfOk, codes, option_copied, option_and_then};
 ghost use Rattle.krb_conf.specs.Kdc as words;
@@ -14,7 +14,7 @@ use krb_der::{OutOfMemory, Text};
 use std::alloc::Global;
 use url::{ParseError, Url};
 
-/// What the variable of one realm's KDC begins with; the realm's name follows.
+/// The prefix of the variable of one realm's KDC; the realm's name follows.
 const REALM_VARIABLE: &str = "SSPI_KDC_URL_";
 
 /// The variable of the KDC of all realms.
@@ -23,7 +23,7 @@ const VARIABLE: &str = "SSPI_KDC_URL";
 /// The protocol of an address that names none.
 const TCP: &str = "tcp://";
 
-/// The address of the KDC that a file names for a realm.
+/// Returns the address of the KDC that a file names for a realm.
 fn kdc_in(alloc: Global, file: &ConfigFile, realm: &str) -> Result<Option<Text>, OutOfMemory>
     ensures { IfOk result (λ kdc. kdc ≡ words.kdc_in realm.now file.now) }
 {
@@ -34,7 +34,7 @@ fn kdc_in(alloc: Global, file: &ConfigFile, realm: &str) -> Result<Option<Text>,
     }
 }
 
-/// The address of the KDC that the first file that names one names for the realm.
+/// Returns the realm's KDC address from the first file that names one.
 fn kdc_in_files(alloc: Global, env: &Env, realm: &str) -> Result<Option<Text>, OutOfMemory>
     ensures { IfOk result (λ kdc. kdc
         ≡ first_given (words.kdc_in realm.now) (conf_texts env.now.vars env.now.files)) }
@@ -48,7 +48,7 @@ fn kdc_in_files(alloc: Global, env: &Env, realm: &str) -> Result<Option<Text>, O
     Ok(None)
 }
 
-/// What the variable of this name says, or else the variable of all realms.
+/// Returns the value of the variable with this name, otherwise that of the variable of all realms.
 fn configured<'a>(env: &'a Env, own: &str) -> Option<&'a str>
     ensures { option_copied result
         ≡ option_or (named own.entry.now env.entry.now.vars)
@@ -60,8 +60,8 @@ fn configured<'a>(env: &'a Env, own: &str) -> Option<&'a str>
     }
 }
 
-/// The address of a realm's KDC: the value of the variable `SSPI_KDC_URL_` and the realm; else of
-/// `SSPI_KDC_URL`; else `tcp://` and the value of realms, realm, kdc of the first file that has one.
+/// Returns the address of a realm's KDC: the value of the variable `SSPI_KDC_URL_` and the realm; otherwise of
+/// `SSPI_KDC_URL`; otherwise `tcp://` and the value of realms, realm, kdc of the first file that has one.
 pub fn detect_kdc_host(alloc: Global, env: &Env, domain: &str) -> Result<Option<Text>, OutOfMemory>
     ensures { IfOk result (λ host. host ≡ kdc_host env.now.vars env.now.files domain.now) }
 {
@@ -72,7 +72,7 @@ pub fn detect_kdc_host(alloc: Global, env: &Env, domain: &str) -> Result<Option<
     }
 }
 
-/// The URL that a text is, if it is one.
+/// Returns the URL that a text is, if it is one.
 fn url_of(alloc: Global, text: &str) -> Result<Option<Url>, OutOfMemory>
     ensures { IfOk result (λ url. url ≡ words.url_of text.now) }
 {
@@ -83,7 +83,7 @@ fn url_of(alloc: Global, text: &str) -> Result<Option<Url>, OutOfMemory>
     }
 }
 
-/// The URL of a realm's KDC; None where there is no address, or it is no URL.
+/// Returns the URL of a realm's KDC; None if there is no address, or it is no URL.
 pub fn detect_kdc_url(alloc: Global, env: &Env, domain: &str) -> Result<Option<Url>, OutOfMemory>
     ensures { IfOk result (λ url. url
         ≡ option_and_then words.url_of (kdc_host env.now.vars env.now.files domain.now)) }
@@ -94,14 +94,14 @@ pub fn detect_kdc_url(alloc: Global, env: &Env, domain: &str) -> Result<Option<U
     }
 }
 
-/// Whether an address names its protocol.
+/// Returns whether an address names its protocol.
 fn has_protocol(address: &str) -> bool
     ensures { result ≡ words.has_part (codes "://") address.now }
 {
     address.contains("://")
 }
 
-/// The URL of an address, which is reached over TCP where it has no `://`; None where that is no URL.
+/// Returns the URL of an address, which is reached over TCP if it has no `://`; None if that is no URL.
 pub fn parse_kdc_url(alloc: Global, kdc_url: &str) -> Result<Option<Url>, OutOfMemory>
     ensures { IfOk result (λ url. url ≡ words.url_of (with_protocol kdc_url.now)) }
 {

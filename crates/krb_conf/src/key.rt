@@ -8,7 +8,7 @@ ghost use Rattle.krb_conf.specs.Ascii.{bar};
 use krb_der::OutOfMemory;
 use std::alloc::Global;
 
-/// What follows the prefix in the text, if the text begins with it.
+/// Returns the text after the prefix, if the text begins with it, the case of ASCII letters ignored.
 pub(crate) fn after_prefix<'a>(text: &'a [u8], prefix: &[u8]) -> Option<&'a [u8]>
     ensures { option_copied result ≡ words.after_prefix prefix.entry.now text.entry.now }
 {
@@ -35,14 +35,14 @@ pub(crate) fn join(alloc: Global, path: &[&str]) -> Result<String, OutOfMemory>
     Ok(key)
 }
 
-/// Whether the two texts are the same.
+/// Returns whether the two texts are equal, the case of ASCII letters ignored.
 pub(crate) fn is_same_text(x: &str, y: &str) -> bool
     ensures { result ≡ words.is_same_text x.now y.now }
 {
     x.eq_ignore_ascii_case(y)
 }
 
-/// What follows the path and a `|` in the key, if the key begins so.
+/// Returns the rest of the key after the path and a `|`, if the key begins with them.
 pub(crate) fn under<'a>(key: &'a str, path: &str) -> Option<&'a str>
     ensures { option_copied result
         ≡ words.after_prefix (path.entry.now ++ bar ∷ []) key.entry.now }

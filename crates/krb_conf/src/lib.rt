@@ -1,4 +1,4 @@
-//! What a Kerberos client reads before it sends: `krb5.conf`, realms, the address of a KDC, and the
+//! The inputs of a Kerberos client before it sends: `krb5.conf`, realms, the address of a KDC, and the
 //! names of a client and of a service.
 #![tactic(auto)]
 

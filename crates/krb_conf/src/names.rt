@@ -11,7 +11,7 @@ use sspi_core::{Cause, Error, Username, UsernameParts};
 /// The type of a name that is an account (RFC 4120 6.2).
 const NT_PRINCIPAL: u8 = 1;
 
-/// The type of a name that has its domain behind an `@` (RFC 6806 5).
+/// The type of a name that has its domain after an `@` (RFC 6806 5).
 const NT_ENTERPRISE: u8 = 10;
 
 /// A client's name as it is sent to a KDC.
@@ -25,7 +25,7 @@ pub struct ClientPrincipalName<'a> {
     pub name_type: u8,
 }
 
-/// The type of a client's name: 10 where the user name has `@`, else 1, whatever the domain.
+/// Returns the type of a client's name: 10 if the user name has `@`, otherwise 1, whatever the domain.
 pub fn get_client_principal_name_type(username: &str, _domain: &str) -> u8
     ensures { result ≡ name_type username.now }
 {
@@ -36,8 +36,8 @@ pub fn get_client_principal_name_type(username: &str, _domain: &str) -> u8
     }
 }
 
-/// A user's name as a client's: a user principal name whole, with its suffix; a down-level name's
-/// account, with its domain.
+/// Returns a user's name as a client's name: the whole user principal name, with its suffix; or the account
+/// of a down-level name, with its domain.
 pub fn get_client_principal_name(username: &Username) -> ClientPrincipalName<'_>
     ensures { (result.name.now, result.realm_domain.now, result.name_type)
         ≡ client_name username.entry.now }
@@ -56,7 +56,7 @@ pub fn get_client_principal_name(username: &Username) -> ClientPrincipalName<'_>
     }
 }
 
-/// The service and the host of a target's name, which stand before and after its first `/`. Refused as `Target` where
+/// Returns the service and the host of a target's name: the texts before and after its first `/`. Fails with `Target` if
 /// there is no `/`, or either part is empty.
 pub fn parse_target_name(target_name: &str) -> Result<(&str, &str), Error>
     ensures parts { IfOk result (λ parts. target_parts target_name.entry.now

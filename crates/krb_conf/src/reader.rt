@@ -1,4 +1,4 @@
-//! How the lines of a `krb5.conf` lead from place to place.
+//! The place and the effect of the lines of a `krb5.conf`.
 
 ghost use Rattle.std.specs.Prelude.{◌≡◌, ◌+◌, ◌^◌, ◌<◌, ◌≤◌, None, option_copied};
 ghost use Rattle.krb_conf.specs.Krb5Conf as conf;
@@ -9,24 +9,24 @@ use crate::line::{relation, section_name};
 use crate::relation::Relation;
 use krb_der::has_octet;
 
-/// A section, and where in it a line stands.
+/// A section, and the place of a line in it.
 #[derive(Clone, Copy)]
 pub(crate) struct Section<'a> {
     pub(crate) name: &'a str,
     /// The group that was opened last, if no brace was closed since.
     pub(crate) group: Option<&'a str>,
-    /// How many braces are open.
+    /// The number of open braces.
     pub(crate) depth: usize,
 }
 
-/// Where a line stands.
+/// The place of a line.
 #[derive(Clone, Copy)]
 pub(crate) enum Place<'a> {
     Outside,
     Within(Section<'a>),
 }
 
-/// What a line does.
+/// The effect of a line.
 #[derive(Clone, Copy)]
 pub(crate) enum Effect<'a> {
     Nothing,
@@ -34,7 +34,7 @@ pub(crate) enum Effect<'a> {
     Adds(Relation<'a>),
 }
 
-/// The line leads to this place within a section.
+/// Returns the effect of a line that leads to this place within a section.
 fn leads_within<'a>(name: &'a str, group: Option<&'a str>, depth: usize) -> Effect<'a>
     ensures leads { effect_of result
         ≡ conf.LeadsTo (conf.Within name.entry.now (option_copied group.entry) depth) }
@@ -43,7 +43,7 @@ fn leads_within<'a>(name: &'a str, group: Option<&'a str>, depth: usize) -> Effe
     Effect::LeadsTo(Place::Within(Section { name, group, depth }))
 }
 
-/// What a trimmed line does outside every section.
+/// Returns the effect of a trimmed line outside every section.
 fn effect_outside<'a>(line: &'a str) -> Effect<'a>
     ensures does { effect_of result ≡ effect conf.Outside line.entry.now }
     ensures depth { depth_after result ≡ 0 }
@@ -54,7 +54,7 @@ fn effect_outside<'a>(line: &'a str) -> Effect<'a>
     }
 }
 
-/// What a trimmed line does within a section.
+/// Returns the effect of a trimmed line within a section.
 fn effect_within<'a>(section: Section<'a>, line: &'a str) -> Effect<'a>
     requires { section.depth + 1 < 2 ^ 64 }
     ensures does { effect_of result
@@ -91,7 +91,7 @@ fn effect_within<'a>(section: Section<'a>, line: &'a str) -> Effect<'a>
     }
 }
 
-/// What a trimmed line does that is no comment and not empty.
+/// Returns the effect of a trimmed line that is neither a comment nor empty.
 pub(crate) fn effect_at<'a>(place: Place<'a>, line: &'a str) -> Effect<'a>
     requires { depth_of place + 1 < 2 ^ 64 }
     ensures does { effect_of result ≡ effect (place_of place.entry) line.entry.now }

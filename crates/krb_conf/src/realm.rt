@@ -17,7 +17,7 @@ use crate::texts::uppercase;
 use krb_der::{OutOfMemory, Text, TryCopy};
 use std::alloc::Global;
 
-/// What follows the last `@` of a text, if it has one.
+/// Returns the text after the last `@`, if there is one.
 fn after_last_at(text: &str) -> Option<&str>
     ensures { option_copied result ≡ words.after_last at_sign text.entry.now }
 {
@@ -25,7 +25,7 @@ fn after_last_at(text: &str) -> Option<&str>
     Some(&text[at + 1..])
 }
 
-/// The domain of a user.
+/// Returns the domain of a user.
 fn domain_of<'a>(username: &'a str, given: &'a str) -> &'a str
     ensures { result.now ≡ words.domain_of username.entry.now given.entry.now }
 {
@@ -36,7 +36,7 @@ fn domain_of<'a>(username: &'a str, given: &'a str) -> &'a str
     }
 }
 
-/// Whether the text ends with the other, the case of ASCII letters ignored.
+/// Returns whether the text ends with the ending, the case of ASCII letters ignored.
 fn ends_with_text(text: &[u8], ending: &[u8]) -> bool
     ensures { result ≡ words.ends_with_text text.now ending.now }
 {
@@ -46,7 +46,7 @@ fn ends_with_text(text: &[u8], ending: &[u8]) -> bool
     text[start..].eq_ignore_ascii_case(ending)
 }
 
-/// Whether the text ends with a dot and the other, the case of ASCII letters ignored.
+/// Returns whether the text ends with a dot and the ending, the case of ASCII letters ignored.
 fn ends_with_dot_and(text: &[u8], ending: &[u8]) -> bool
     ensures { result ≡ words.ends_with_text text.now (full_stop ∷ ending.now) }
 {
@@ -56,7 +56,7 @@ fn ends_with_dot_and(text: &[u8], ending: &[u8]) -> bool
     text[start] == b'.' && text[start + 1..].eq_ignore_ascii_case(ending)
 }
 
-/// Whether a mapping fits a domain.
+/// Returns whether a mapping fits a domain.
 fn fits(domain: &str, mapping: &str) -> bool
     ensures { result ≡ words.fits domain.now mapping.now }
 {
@@ -66,7 +66,7 @@ fn fits(domain: &str, mapping: &str) -> bool
     is_same_text(domain, mapping) || ends_with_dot_and(domain.as_bytes(), mapping.as_bytes())
 }
 
-/// The realm of the first mapping that fits the domain.
+/// Returns the realm of the first mapping that fits the domain.
 fn mapped_realm<'a>(conf: &'a Krb5Conf, domain: &str) -> Option<&'a Text>
     ensures { option_copied result ≡ option_map (λ entry. entry.1)
         (find (λ entry. words.fits domain.entry.now entry.0)
@@ -83,7 +83,7 @@ fn mapped_realm<'a>(conf: &'a Krb5Conf, domain: &str) -> Option<&'a Text>
     None
 }
 
-/// The realm to which a file maps the domain.
+/// Returns the realm to which a file maps the domain.
 fn realm_in(alloc: Global, file: &ConfigFile, domain: &str) -> Result<Option<Text>, OutOfMemory>
     ensures { IfOk result (λ realm. realm ≡ words.realm_in domain.now file.now) }
 {
@@ -93,7 +93,7 @@ fn realm_in(alloc: Global, file: &ConfigFile, domain: &str) -> Result<Option<Tex
     }
 }
 
-/// The realm to which the first file that maps the domain maps it.
+/// Returns the realm to which the first file that maps the domain maps it.
 fn realm_in_files(alloc: Global, env: &Env, domain: &str) -> Result<Option<Text>, OutOfMemory>
     ensures { IfOk result (λ realm. realm
         ≡ first_given (words.realm_in domain.now) (conf_texts env.now.vars env.now.files)) }
@@ -107,9 +107,9 @@ fn realm_in_files(alloc: Global, env: &Env, domain: &str) -> Result<Option<Text>
     Ok(None)
 }
 
-/// The realm of a client: that of the first mapping of the files' `domain_realm` that fits the
-/// domain, in the order of the files and of their lines, or else the domain in ASCII capitals. The
-/// domain is the given one or, where that is empty, what follows the last `@` of the user's name.
+/// Returns the realm of a client: that of the first mapping of the files' `domain_realm` that fits the
+/// domain, in the order of the files and of their lines; otherwise the domain in ASCII capitals. The
+/// domain is the given one or, if that is empty, the text after the last `@` of the user's name.
 pub fn get_client_principal_realm(
     alloc: Global,
     env: &Env,

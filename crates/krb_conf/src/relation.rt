@@ -6,7 +6,7 @@ ghost use Rattle.krb_conf.specs.Krb5Conf.{key};
 use krb_der::{OutOfMemory, Text};
 use std::alloc::Global;
 
-/// A name and its value, with the section and the group where they stand.
+/// A name and its value, with the section and the group that they are in.
 #[derive(Clone, Copy)]
 pub(crate) struct Relation<'a> {
     pub(crate) section: &'a str,

@@ -1,4 +1,4 @@
--- What a refused call answers.
+-- The result of a call that fails.
 use Rattle.std.proofs.Common.{◌≡◌, refl, ap, ◌∙◌, Result, Ok, Err}
 use Rattle.std.specs.Result.{IsErrAnd, IfErr}
 use Rattle.sspi_core.specs.declared.cause.Cause.{Cause}

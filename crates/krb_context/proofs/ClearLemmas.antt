@@ -1,4 +1,4 @@
--- What is known of a message that goes in the clear, and that the other end opens it.
+-- Facts about a message that goes in the clear; the other end opens it.
 use Rattle.std.proofs.Common.{◌≡◌, ℕ, ◌+◌, ◌%◌, Bool, true, false, List, ◌++◌, length, take, refl, sym, subst, ap, ◌∙◌, inr, arith, length-append, Ok}
 use Rattle.std.specs.Prelude.{Some, ◌==◌}
 use Rattle.std.specs.List.{slice_rotate_right}

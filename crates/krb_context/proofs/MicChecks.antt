@@ -1,4 +1,4 @@
--- What is known of a MIC token whose header and key are checked.
+-- Facts about a MIC token whose header and key are checked.
 use Rattle.std.proofs.Common.{◌≡◌, ℕ, ◌≤◌, Bool, true, false, not, List, ◌++◌, length, take, refl, ap, ap₂, ◌∙◌, Ok}
 use Rattle.std.specs.Prelude.{Some, None, ◌&&◌, nat_le, if◌then◌else◌}
 use Rattle.std.proofs.lemmas.Bool.{eqb-true, leb-true}

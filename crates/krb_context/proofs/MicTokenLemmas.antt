@@ -1,4 +1,4 @@
--- What a MIC token has to be is what its checks ask, and they give one answer.
+-- A MIC token passes its checks exactly if it satisfies `IsMicToken`; the checks have one result.
 use Rattle.std.proofs.Common.{◌≡◌, ℕ, ◌≤◌, Bool, true, not, List, ◌++◌, length, take, refl, sym, ap, ◌∙◌, arith, length-append, Ok}
 use Rattle.std.specs.Prelude.{Some}
 use Rattle.std.proofs.lemmas.List.{length-take-le}

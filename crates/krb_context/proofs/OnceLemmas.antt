@@ -36,7 +36,7 @@ spelt_once keys peer ec buffers p q s t =
     subst (λ (x : List ℕ). IsSealedAs keys ec x buffers t.whole p) h (subst (λ (w : List ℕ). IsSealedAs keys ec s.header buffers w p) same s.sealed_as) in
     sealed_once keys ec t.header buffers buffers t.whole p q moved t.sealed_as
 
--- and at most one stands in the clear
+-- at most one text is in the clear in given buffers
 pub spelt_clear_once : (key : List ℕ) (peer : Bool) (buffers : List Buffer) (p q : List ℕ) → SpeltClear key peer buffers p → SpeltClear key peer buffers q → p ≡ q
 spelt_clear_once key peer buffers p q s t =
     let one = halves (spelled buffers) s.header s.body s.text s.header_size in

@@ -117,7 +117,7 @@ agrees_sealed keys ec header buffers whole o d agrees copied =
           sym (ap₂ (λ (u v : List ℕ). u ++ v) (ap (cts (aes keys.encryption)) inner ∙ d.opened) code ∙ take-append-drop (length o) whole);
     }
 
--- where the header's copy stands, in these terms
+-- the header's copy: the last 16 octets of o, in terms of an equal slice and its length
 pub copy_is : (o slice : List ℕ) (n : ℕ) → slice ≡ o → n ≡ length o → take (length slice - (n - 16)) (drop (n - 16) slice) ≡ drop (length o - 16) o
 copy_is o slice n es en = take_rest slice (n - 16) ∙ ap₂ (λ (k : ℕ) (s : List ℕ). drop (k - 16) s) en es
 

@@ -1,4 +1,4 @@
--- What it takes to open a message is what the checks of an unwrap ask.
+-- A message passes the checks of an unwrap exactly if it satisfies `IsOpenable`.
 use Rattle.std.proofs.Common.{◌≡◌, ℕ, ◌+◌, ◌-◌, ◌≤◌, Bool, true, false, List, length, take, refl, sym, subst, ap, ap₂, ◌∙◌, inl, inr, arith, length-append, Ok}
 use Rattle.std.specs.Prelude.{Some, nat_le}
 use Rattle.std.proofs.lemmas.Bool.{le-leb, and_from, eq-eqb, eqb-true}

@@ -1,4 +1,4 @@
--- What one end wraps the other opens.
+-- A message that one end wraps is opened by the other.
 use Rattle.std.proofs.Common.{◌≡◌, ℕ, ◌+◌, ◌<◌, ◌^◌, Bool, true, List, ◌++◌, length, take, drop, sym, subst, ap, ◌∙◌, inl, arith, Ok}
 use Rattle.std.specs.Prelude.{◌==◌}
 use Rattle.std.proofs.lemmas.List.{append_assoc, take_at, take-append-drop}

@@ -1,4 +1,4 @@
--- What is known of a message that an end is ready to wrap.
+-- Facts about a message that an end is ready to wrap.
 use Rattle.std.proofs.Common.{◌≡◌, ℕ, ◌+◌, ◌≤◌, true, false, not, List, length, sym, ap, ◌∙◌, Ok}
 use Rattle.std.specs.Prelude.{Some, ◌&&◌}
 use Rattle.std.proofs.lemmas.Bool.{and_parts, not-true, eqb-true, leb-true}

@@ -36,7 +36,7 @@ mic_takes_next context payload token h =
     ap (λ (s : List ℕ). number_of s) (ap (take 16) m.is ∙ take_at header code 16 (mic_size (own_sign_flags context) number))
     ∙ mic_number (own_sign_flags context) number (omega arith)
 
--- one number, and those behind it
+-- one number, and the numbers after it
 one_more : (number first : ℕ) (rest : List ℕ) → first ≡ next_number number
     → ((k : ℕ) → k < length rest → get_or rest k 0 ≡ (next_number number + (k + 1)) % 2 ^ 32)
     → (k : ℕ) → k < length (first ∷ rest) → get_or (first ∷ rest) k 0 ≡ (number + (k + 1)) % 2 ^ 32

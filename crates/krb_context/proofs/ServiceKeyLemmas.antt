@@ -1,4 +1,4 @@
--- Where the first service with some components stands.
+-- The place of the first service with given components.
 use Rattle.std.proofs.Common.{◌≡◌, ◌<◌, ◌+◌, ℕ, suc, add-one, take, Bool, true, false, cond, List, [], ◌∷◌, ◌++◌, length, get_or, Option, Some, None, is_some, option_map, refl, sym, ap, ◌∙◌, subst, arith}
 use Rattle.std.proofs.lemmas.List.{length-take-le}
 use Rattle.std.proofs.Math.Seq.{take-suc}
@@ -33,7 +33,7 @@ place_behind (s ∷ services) service components =
     ap (λ (found : Option ℕ). if same_components s.0.name_string components then Some 0 else option_map suc found) (place_behind services service components)
     ∙ behind (same_components s.0.name_string components) (same_components service.0.name_string components) (first_place services components) (length services)
 
--- the places of services and of one more behind them
+-- the first place with given components, once one more service is added at the end
 pub place_pushed : (services : List (PrincipalName × List ℕ)) (service : PrincipalName × List ℕ) (components : List (List ℕ)) (place : ℕ) (before now : Option ℕ)
     → before ≡ first_place services components → now ≡ option_or before (if same_components service.0.name_string components then Some place else None)
     → place ≡ length services → now ≡ first_place (services ++ service ∷ []) components
@@ -60,7 +60,7 @@ known_by (Some x) same place h = refl
 known_by None true place h = let e = h refl in absurd cc
 known_by None false place h = refl
 
--- a service stands there before it
+-- an earlier service has the same components, so the first place is unchanged
 pub place_known : (places : List (List ℕ) → Option ℕ) (components other : List (List ℕ)) (place : ℕ) → is_some (places components) ≡ true
     → places other ≡ option_or (places other) (if same_components components other then Some place else None)
 place_known places components other place known =
@@ -84,9 +84,9 @@ place_new places noted components other place new put =
     put ∙ new_by (places other) (same_components components other) place
     (λ e. subst (λ (c : List (List ℕ)). places c ≡ None) ((components_decide components other).0 e) (none_of (places components) new))
 
--- ---- what stands at a place
+-- ---- the service at a place
 
--- a service that stands at the place, with its key
+-- the service that is found is the one at the place, with its key
 pub record Stands (services : List (PrincipalName × List ℕ)) (place : ℕ) (found : Option (PrincipalName × List ℕ)) : Type 0 where
   pub low : place < length services
   pub is : (d : PrincipalName × List ℕ) → found ≡ Some (get_or services place d)
@@ -120,7 +120,7 @@ none_behind true at s found h e = absurd cc
 none_behind false None s found h e = h refl
 none_behind false (Some p) s found h e = absurd cc
 
--- none stands anywhere
+-- no service is found if no place is found
 pub stands_nowhere : (services : List (PrincipalName × List ℕ)) (components : List (List ℕ)) → first_place services components ≡ None
     → find (λ (service : PrincipalName × List ℕ). same_components service.0.name_string components) services ≡ None
 stands_nowhere [] components e = refl

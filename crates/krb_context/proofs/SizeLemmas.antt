@@ -1,4 +1,4 @@
--- What a wrap leaves: how long its parts are, and its number.
+-- The result of a wrap: the lengths of its parts, and its number.
 use Rattle.std.proofs.Common.{◌≡◌, ℕ, zero, suc, ◌+◌, ◌<◌, ◌^◌, ◌%◌, Bool, true, List, ◌++◌, length, take, drop, ap, ◌∙◌, arith, length-append, length-drop}
 use Rattle.std.specs.Prelude.{Option, is_some}
 use Rattle.std.proofs.lemmas.List.{length-take-le}

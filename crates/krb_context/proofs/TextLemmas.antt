@@ -1,4 +1,4 @@
--- Parts of two texts, one behind the other, and what the checksum covers.
+-- Parts of two texts, one after the other, and the octets that the checksum covers.
 use Rattle.std.proofs.Common.{◌≡◌, ℕ, ◌+◌, ◌-◌, ◌<◌, ◌≤◌, List, [], ◌∷◌, ◌++◌, length, take, drop, get_or, refl, sym, ap, ap₂, ◌∙◌, arith, add-one}
 use Rattle.std.proofs.Math.Seq.{take-suc, take-append-add}
 use Rattle.std.proofs.lemmas.List.{append-nil, append_assoc, length-drop, drop-drop, take_all, drop-append-le}

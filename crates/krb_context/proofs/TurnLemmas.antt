@@ -46,7 +46,7 @@ pub halves : (text header body : List ℕ) → text ≡ header ++ body → lengt
 halves text header body e size =
     (sym (ap (take 16) e ∙ take_at header body 16 size), sym (ap (drop 16) e ∙ drop_at header body 16 size))
 
--- the body is the whole turned to the right, by a count that the header and the body's length tell
+-- the body is the whole turned to the right, by a count that follows from the header and the body's length
 body_turned : (turns : List ℕ → ℕ → ℕ) (text header whole : List ℕ) (turn : ℕ) → IsTurned text header whole turn → turn ≡ turns header (length text - 16)
     → drop 16 text ≡ slice_rotate_right whole (turns header (length (drop 16 text)))
 body_turned turns text header whole turn t et =

@@ -1,4 +1,4 @@
--- What is known of a message that was opened.
+-- Facts about a message that was opened.
 use Rattle.std.proofs.Common.{◌≡◌, ℕ, ◌+◌, ◌-◌, ◌%◌, ◌≤◌, Bool, true, false, List, ◌++◌, length, take, drop, refl, sym, subst, ap, ◌∙◌, arith, length-append, length-drop, Ok}
 use Rattle.std.specs.Prelude.{Option, Some, None, Result, IfSome, ◌&&◌, ◌==◌, nat_le, if◌then◌else◌}
 use Rattle.std.specs.List.{slice_rotate_right}

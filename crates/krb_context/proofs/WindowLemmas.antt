@@ -72,7 +72,7 @@ moved_above mask distance i up high fits =
     (bit_at_or (mask * 2 ^ distance % 2 ^ 64) 1 i ∙ ap₂ (λ (a b : ℕ). max a b) (moved_high mask distance i high fits) (bit_of_one i up)
     ∙ omega arith))
 
--- ---- how a number stands
+-- ---- the verdict on a number
 
 -- ahead of the newest by less than half the way round is fresh
 ahead_fresh : (newest : ℤ) (places : List ℤ) (distance : ℕ) → greatest places ≡ Some newest → is_ahead distance ≡ true
@@ -83,7 +83,7 @@ ahead_fresh newest places distance top forward =
     let above : newest <ℤ (newest +ℤ pos distance) = omega (arith, ints) in
     rw (young, none_above places newest (newest +ℤ pos distance) top above) refl
 
--- behind it the mask tells
+-- at or below the newest, the mask decides
 behind_is : (mask : ℕ) (newest : ℤ) (places : List ℤ) (distance : ℕ)
     → ((below : ℕ) → below < 64 → has_bit mask below ≡ was_opened places (newest -ℤ pos below))
     → (if nat_le 64 distance then Old else if has_bit mask distance then Repeated else Fresh) ≡ verdict_after (Some newest) places (newest -ℤ pos distance)
@@ -102,7 +102,7 @@ behind_is mask newest places distance bits =
     ] in
     both refl
 
--- a window with its newest place stands for at least that one
+-- the mask of a window with a newest place is not zero
 mask_there : (mask : ℕ) (newest : ℤ) (places : List ℤ) → greatest places ≡ Some newest
     → ((below : ℕ) → below < 64 → has_bit mask below ≡ was_opened places (newest -ℤ pos below)) → (mask == 0) ≡ false
 mask_there mask newest places top bits =
@@ -132,7 +132,7 @@ judged_after None window places n top empty = rw empty refl
 judged_after (Some newest) window places n top stands =
     ap (λ (m : ℕ). number_verdict (record { newest = m; mask = window.mask }) n) stands.number ∙ judged_some window.mask newest places n top stands.bits
 
--- a window judges as each list that it stands for
+-- a window judges a number as each list that it represents does
 pub judged_is : (window : Window) (places : List ℤ) (n : ℕ) → StandsFor window places → number_verdict window n ≡ verdict_of places n
 judged_is window places n stands = judged_after (greatest places) window places n refl stands
 
@@ -210,7 +210,7 @@ higher newest distance = omega (arith, ints, clamps)
 lower : (newest : ℤ) (distance : ℕ) → int_max newest (newest -ℤ pos distance) ≡ newest
 lower newest distance = omega (arith, ints, clamps)
 
--- a window that stands for places by their greatest place
+-- a window represents places if it represents them with their greatest place
 stands_by : (window : Window) (newest : ℤ) (places : List ℤ) → greatest places ≡ Some newest → IsWindowOf window newest places → StandsFor window places
 stands_by window newest places top stands = let P : Option ℤ → Type 0 = λ g. StandsAfter g window places in subst P (sym top) stands
 
@@ -264,7 +264,7 @@ noted_after (Some newest) window places n fits top stands fresh =
     → StandsFor (noted (record { newest = m; mask = window.mask }) n) (places ++ place_after (Some newest) n ∷ []) in
     subst P (sym stands.number) (noted_some window.mask newest places n fits top stands.bits) fresh
 
--- a window that noted a fresh number stands for each list that it stood for, with that number's place
+-- a window that noted a fresh number represents each list that it represented before, with that number's place added
 pub noted_is : (window : Window) (places : List ℤ) (n : ℕ) → n < 2 ^ 32 → StandsFor window places → number_verdict window n ≡ Fresh → StandsFor (noted window n) (opened places n)
 noted_is window places n fits stands fresh = noted_after (greatest places) window places n fits refl stands fresh
 

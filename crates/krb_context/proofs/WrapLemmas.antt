@@ -1,4 +1,4 @@
--- What wrapping makes.
+-- The result of wrapping.
 use Rattle.std.proofs.Common.{◌≡◌, ℕ, ◌+◌, ◌-◌, ◌≤◌, Bool, true, false, not, List, ◌++◌, length, take, drop, replicate, refl, sym, ap, ap₂, ◌∙◌, arith, length-append, length-drop}
 use Rattle.std.specs.Prelude.{Option, Some, None, IfSome, ◌&&◌}
 use Rattle.std.specs.List.{slice_rotate_right}

@@ -13,7 +13,7 @@ additional_key services components =
     option_map (λ (service : PrincipalName × List ℕ). service.1)
     (find (λ (service : PrincipalName × List ℕ). same_components service.0.name_string components) services)
 
--- how many services stand before the first with these components, where there is one
+-- the count of services before the first with these components, if there is one
 abbrev pub first_place : List (PrincipalName × List ℕ) → List (List ℕ) → Option ℕ
 first_place [] components = None
 first_place (service ∷ services) components =

@@ -41,16 +41,16 @@ is_acceptor context = is_some context.server
 abbrev pub is_peer_acceptor : Kerberos → Bool
 is_peer_acceptor context = is_none context.server
 
--- the number behind a number, going round
+-- the number after a number, modulo 2^32
 abbrev pub next_number : ℕ → ℕ
 next_number number = (number + 1) % 2 ^ 32
 
--- the number so many behind a number
+-- the number after a number and a count of further messages
 abbrev pub number_after_messages : ℕ → ℕ → ℕ
 number_after_messages number zero = number
 number_after_messages number (suc times) = next_number (number_after_messages number times)
 
--- the URL of the KDC of a realm: the configured one, else the one that is found
+-- the URL of the KDC of a realm: the configured one, otherwise the one that is found
 abbrev pub kdc_url_of : KerberosConfig → Env → List ℕ → Option Parts
 kdc_url_of config env realm = option_or config.kdc_url (option_and_then url_of (kdc_host env.vars env.files realm))
 

@@ -1,4 +1,4 @@
--- What a draw gives for a suite.
+-- The key that a draw gives for a suite.
 use Rattle.std.specs.Prelude.{ℕ, List, take}
 use Rattle.krb_crypto.specs.Suite.{key_size}
 use Rattle.krb_crypto.specs.declared.suite.CipherSuite.{CipherSuite}

@@ -1,4 +1,4 @@
--- What holds of a token whose header is checked.
+-- The properties of a token whose header is checked.
 use Rattle.std.specs.Prelude.{◌≡◌, ◌≤◌, ℕ, List, length, take, Bool, true}
 use Rattle.krb_crypto.specs.Suite.{key_size}
 use Rattle.krb_context.specs.declared.params.EncryptionParams.{EncryptionParams}

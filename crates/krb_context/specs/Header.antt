@@ -6,7 +6,7 @@ unfoldable pub wrap_header : ℕ → ℕ → ℕ → ℕ → List ℕ
 wrap_header flags ec rrc number =
     0x05 ∷ 0x04 ∷ flags ∷ 0xff ∷ [] ++ to_be_bytes w16 ec ++ to_be_bytes w16 rrc ++ to_be_bytes w64 number
 
--- the token's id, and the filler
+-- the token id (05 04), and the `Filler` octet (ff)
 abbrev pub is_wrap_header : List ℕ → Bool
 is_wrap_header h = slice_index h 0 == 0x05 && slice_index h 1 == 0x04 && slice_index h 3 == 0xff
 
@@ -19,7 +19,7 @@ is_from_acceptor h = not (bit_and (slice_index h 2) 1 == 0)
 abbrev pub is_from : Bool → List ℕ → Bool
 is_from acceptor h = if acceptor then is_from_acceptor h else not (is_from_acceptor h)
 
--- how many octets of filler or of checksum there are
+-- the extra count (EC): the octets of padding in a sealed token, of the checksum in a token in the clear
 abbrev pub ec_of : List ℕ → ℕ
 ec_of h = from_be_bytes w16 (slice_index h 4 ∷ slice_index h 5 ∷ [])
 

@@ -1,10 +1,10 @@
--- What is kept of the key of MIC tokens.
+-- The stored key of MIC tokens.
 use Rattle.krb_crypto.specs.Suite.{key_octets}
 use Rattle.krb_crypto.specs.Keyed.{IsHmacKeyOf}
 use Rattle.krb_context.specs.Origins.{Origin, origin, checksum_key_of}
 use Rattle.krb_context.specs.declared.kept.KeptCode.TheInside.{Inside}
 
--- what it was made from
+-- the suite, key and usage that it was made from
 abbrev pub origin_of : Inside → Origin
 origin_of kept = origin kept.suite (key_octets kept.key) kept.usage
 

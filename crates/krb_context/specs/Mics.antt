@@ -18,7 +18,7 @@ use Rattle.krb_context.specs.Unwraps.{has_key_size}
 unfoldable pub mic_header : ℕ → ℕ → List ℕ
 mic_header flags number = 0x04 ∷ 0x04 ∷ flags ∷ 0xff ∷ 0xff ∷ 0xff ∷ 0xff ∷ 0xff ∷ [] ++ to_be_bytes w64 number
 
--- the token's id, and the filler
+-- the token id (04 04), and the five `Filler` octets (ff)
 abbrev pub is_mic_header : List ℕ → Bool
 is_mic_header h =
     slice_index h 0 == 0x04 && slice_index h 1 == 0x04 && slice_index h 3 == 0xff && slice_index h 4 == 0xff && slice_index h 5 == 0xff
@@ -43,7 +43,7 @@ MakesMic context payload = do
   Holds KeyLength (has_key_size context.encryption_params key)
   Gives (mic_token context.encryption_params key (is_acceptor context) (own_sign_flags context) (next_number context.seq_number) payload)
 
--- the header of a MIC token: 16 octets with its id and its filler
+-- the header of a MIC token: 16 octets with the token id and the `Filler` octets
 abbrev pub mic_header_of : List ℕ → Option (List ℕ)
 mic_header_of token = if nat_le 16 (length token) && is_mic_header (take 16 token) then Some (take 16 token) else None
 
@@ -66,8 +66,8 @@ MicKeys params = do
 pub record IsSigned (key payload header token : List ℕ) : Type 0 where
   pub is : token ≡ signed key payload header
 
--- the token is one of this side over the payload: 16 octets with the id 04 04 and the filler, of its side, in the clear, and behind
--- them the checksum of the payload and of them; the other flags and the number are any
+-- the token is one of this side over the payload: a header of 16 octets with the token id 04 04 and the `Filler` octets, of this side,
+-- in the clear, followed by the checksum of the payload and the header; the other flags and the number are any
 pub record IsMicToken (params : EncryptionParams) (key : List ℕ) (acceptor : Bool) (payload token : List ℕ) : Type 0 where
   pub header : List ℕ
   pub header_size : length header ≡ 16

@@ -1,4 +1,4 @@
--- What a derived key is made from.
+-- The values that a derived key is made from.
 use Rattle.std.specs.Prelude.{ℕ, List}
 use Rattle.krb_crypto.specs.declared.suite.CipherSuite.{CipherSuite}
 use Rattle.krb_crypto.specs.Suite.{kc}

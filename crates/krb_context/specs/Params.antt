@@ -6,7 +6,7 @@ use Rattle.krb_crypto.specs.declared.suite.AesSize.{AesSize}
 use Rattle.krb_crypto.specs.declared.suite.AesSize.TheVariants.{Aes128, Aes256}
 use Rattle.krb_context.specs.declared.params.EncryptionParams.{EncryptionParams}
 
--- no suite, no keys and no filler
+-- no suite, no keys and an extra count (EC) of 0
 abbrev pub default_params : ℕ → ℕ → EncryptionParams
 default_params encrypt_usage decrypt_usage = record {
   encryption_type = None;
@@ -18,7 +18,7 @@ default_params encrypt_usage decrypt_usage = record {
   acceptor_subkey = false;
 }
 
--- the suite that was chosen, else AES-256
+-- the suite that was chosen, otherwise AES-256
 abbrev pub suite_of : EncryptionParams → CipherSuite
 suite_of params = unwrap_or params.encryption_type Aes256CtsHmacSha196
 
@@ -32,6 +32,6 @@ abbrev pub or_else : {A : Type 0} → Option A → Option A → Option A
 or_else (Some x) other = Some x
 or_else None other = other
 
--- the sub-session key, else the session key
+-- the subkey, otherwise the session key
 abbrev pub key_of : EncryptionParams → Option (List ℕ)
 key_of params = or_else params.sub_session_key params.session_key

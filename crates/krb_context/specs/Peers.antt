@@ -10,7 +10,7 @@ use Rattle.krb_context.specs.Parties.{ready_key}
 use Rattle.krb_context.specs.Spelled.{spelled, covered}
 use Rattle.krb_context.specs.Unwraps.{has_room}
 
--- an initiator and an acceptor, in either order, with one key, one suite and one length of the filler
+-- an initiator and an acceptor, in either order, with the same key, suite and extra count (EC)
 pub record ArePeers (sender receiver : Kerberos) : Type 0 where
   pub roles : is_acceptor sender ≡ is_peer_acceptor receiver
   pub key : ready_key sender.state sender.encryption_params ≡ ready_key receiver.state receiver.encryption_params

@@ -1,6 +1,6 @@
 -- The numbers of opened messages, by the list that never forgets.
--- A number is what is left of a place modulo 2^32 (RFC 4121, section 4.2.2: sequence numbers are used modulo their size). Places have no bound.
--- Of messages it is told whether one is a repetition, or so old that it is not told any more (RFC 2743, section 1.2.3).
+-- A number is a place modulo 2^32 (RFC 4121, section 4.2.2: sequence numbers are used modulo their size). Places have no bound.
+-- The verdict on a message says whether it is a repetition, or so old that this is unknown (RFC 2743, section 1.2.3).
 use Rattle.std.specs.Prelude.{ℕ, ◌+◌, ◌-◌, ◌%◌, ◌^◌, ℤ, pos, ◌+ℤ◌, ◌-ℤ◌, unsigned_abs, fold, Bool, ◌&&◌, nat_le}
 use Rattle.std.specs.Prelude.{nat_lt, int_lt, List, [], ◌∷◌, ◌++◌, Option, Some, None, if◌then◌else◌}
 use Rattle.std.specs.Int.{int_max, int_rem_euclid}
@@ -26,27 +26,27 @@ abbrev pub greatest : List ℤ → Option ℤ
 greatest [] = None
 greatest (place ∷ places) = Some (fold int_max place places)
 
--- the place of a number that comes after a greatest place: ahead of it by less than half the way round, else behind it
+-- the place of a number that arrives after a greatest place: above it if ahead by less than half the way round, otherwise not above it
 abbrev pub place_after : Option ℤ → ℕ → ℤ
 place_after None number = pos number
 place_after (Some newest) number =
     if is_ahead (ahead (number_at newest) number) then newest +ℤ pos (ahead (number_at newest) number) else newest -ℤ pos (ahead number (number_at newest))
 
--- the place of a number that comes after these places
+-- the place of a number that arrives after these places
 abbrev pub place_of : List ℤ → ℕ → ℤ
 place_of places number = place_after (greatest places) number
 
--- whether a message at this place was opened
+-- a message at this place was opened
 abbrev pub was_opened : List ℤ → ℤ → Bool
 was_opened places place = list_any (λ opened. int_eq opened place) places
 
--- how a place stands to a greatest one and to the places so far: old at 64 below the greatest
+-- the verdict on a place, given the greatest place and the places so far: old from 64 below the greatest
 abbrev pub verdict_after : Option ℤ → List ℤ → ℤ → NumberVerdict
 verdict_after None places place = Fresh
 verdict_after (Some newest) places place =
     if int_lt (newest -ℤ pos 64) place then (if was_opened places place then Repeated else Fresh) else Old
 
--- how a number stands to the places so far
+-- the verdict on a number, given the places so far
 abbrev pub verdict_of : List ℤ → ℕ → NumberVerdict
 verdict_of places number = verdict_after (greatest places) places (place_of places number)
 

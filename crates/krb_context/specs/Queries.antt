@@ -1,4 +1,4 @@
--- What a context tells of itself.
+-- The values that a context reports about itself.
 use Rattle.std.specs.Prelude.{ℕ, ◌+◌, Bool, true, false, ◌&&◌, Option, Some, None, is_none, option_map, option_and_then, Result, Ok, Err, codes, if◌then◌else◌}
 use Rattle.sspi_core.specs.Checks.{ok_or}
 use Rattle.sspi_core.specs.CredentialBuffers.{buffers_of}
@@ -15,7 +15,7 @@ use Rattle.sspi_core.specs.declared.results.CredentialUse.TheVariants.{Inbound, 
 use Rattle.sspi_core.specs.declared.results.PackageInfo.{PackageInfo}
 use Rattle.krb_context.specs.declared.context.Kerberos.{Kerberos}
 
--- what the package is
+-- the description of the package
 abbrev pub kerberos_package : PackageInfo
 kerberos_package = record {
   capabilities = 0;
@@ -25,11 +25,11 @@ kerberos_package = record {
   comment = codes "Kerberos Security Package";
 }
 
--- the sizes of a context with this filler
+-- the sizes of a context with this extra count (EC)
 abbrev pub sizes_of : ℕ → ContextSizes
 sizes_of ec = record { max_token = 48000; max_signature = 16; block = 0; security_trailer = 60 + ec }
 
--- the name of the user that a context speaks for; a key has no user that is told
+-- the name of the user that a context speaks for; a keytab has no user name
 abbrev pub own_name : Option CredentialsBuffers → Result UserName Cause
 own_name None = Err NoIdentity
 own_name (Some (AuthIdentity identity)) = ok_or BadUser (named identity.user identity.domain)
@@ -39,7 +39,7 @@ abbrev pub name_by : Option UserName → Option CredentialsBuffers → Result Us
 name_by (Some client) identity = Ok client
 name_by None identity = own_name identity
 
--- the admitted client, else the user that the context speaks for
+-- the admitted client, otherwise the user that the context speaks for
 abbrev pub name_of : Kerberos → Result UserName Cause
 name_of context = name_by (option_and_then (λ server. server.client) context.server) context.auth_identity
 

@@ -26,7 +26,7 @@ pub data Call : Type 0 where
 abbrev pub with_next_number : Kerberos → Kerberos
 with_next_number context = record context { seq_number = next_number context.seq_number }
 
--- the context behind a call
+-- the context after a call
 abbrev pub after_call : Kerberos → Call → Kerberos
 after_call context (wraps confounder sent made) = with_next_number context
 after_call context (clears plain token) = with_next_number context
@@ -47,7 +47,7 @@ abbrev pub AreCalls : Kerberos → List Call → Type 0
 AreCalls context [] = Unit {0}
 AreCalls context (call ∷ calls) = IsCall context call × AreCalls (after_call context call) calls
 
--- the numbers that stand in what was made, in order
+-- the numbers of the messages and tokens that were made, in order
 abbrev pub made_numbers : List Call → List ℕ
 made_numbers [] = []
 made_numbers (wraps confounder sent made ∷ calls) = message_number made ∷ made_numbers calls

@@ -32,7 +32,8 @@ new_properties parts user skew key = record {
   additional_service_keys = [];
 }
 
--- the key of a service: the primary one where the primary name has these components and there is one, else that of the first further name with them
+-- the key of a service: the primary key if the primary name has these components and there is one, otherwise the key of the first
+-- further name with these components
 unfoldable pub service_key : ServerProperties → List (List ℕ) → Option (List ℕ)
 service_key server components =
     or_else

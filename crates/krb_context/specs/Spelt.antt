@@ -1,4 +1,4 @@
--- What spells a text (RFC 4121, section 4.2.4).
+-- The octets that spell a text (RFC 4121, section 4.2.4).
 use Rattle.std.specs.Prelude.{◌≡◌, ℕ, ◌+◌, ◌-◌, ◌%◌, ◌<◌, List, ◌++◌, length, take, drop, slice_index, Bool, IsTrue, IsFalse, ◌==◌, if◌then◌else◌}
 use Rattle.std.specs.List.{slice_rotate_right}
 use Rattle.krb_aes.specs.Aes.{aes}
@@ -13,11 +13,11 @@ use Rattle.krb_context.specs.Spelled.{spelled, covered}
 abbrev pub sealed_turn : ℕ → ℕ → ℕ → ℕ
 sealed_turn ec rrc n = if rrc == 28 then 28 + ec else rrc % n
 
--- what is encrypted
+-- the text that is encrypted
 abbrev pub inner_text : List ℕ → List ℕ → List ℕ → List ℕ → List ℕ
 inner_text confounder p filler copy = confounder ++ p ++ filler ++ copy
 
--- the encrypted text, and the checksum of the confounder, all data, the filler and the header's copy
+-- the encrypted text, and the checksum of the confounder, all data, the EC octets (`filler`) and the header's copy
 unfoldable pub sealed_body : SealingPair → List Buffer → List ℕ → List ℕ → List ℕ → List ℕ → List ℕ
 sealed_body keys buffers confounder p filler copy =
     cts (aes keys.encryption) (inner_text confounder p filler copy)

@@ -1,4 +1,4 @@
--- What a state allows.
+-- The actions that a state allows.
 use Rattle.std.specs.Prelude.{Bool, true, false}
 use Rattle.krb_context.specs.declared.state.KerberosState.{KerberosState}
 use Rattle.krb_context.specs.declared.state.KerberosState.TheVariants.{TgtExchange, Preauthentication, ApExchange, Final}

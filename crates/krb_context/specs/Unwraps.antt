@@ -22,21 +22,21 @@ use Rattle.krb_context.specs.Spelled.{spelled, has_part}
 use Rattle.krb_context.specs.Spelt.{Spelt, SpeltClear}
 use Rattle.krb_context.specs.Window.{number_verdict}
 
--- the header of a wrap token: 16 octets with its id and its filler
+-- the header of a wrap token: 16 octets with the token id and the `Filler` octet
 abbrev pub header_of : List ℕ → Option (List ℕ)
 header_of text = if nat_le 16 (length text) && is_wrap_header (take 16 text) then Some (take 16 text) else None
 
--- the length of the filler that a text is opened by: the context's, and where it is allowed the one that the text's own header says, up to
--- what its body holds (RFC 4121, section 4.2.3)
+-- the extra count (EC) that a text is opened by: the context's, or with the rule `extra_count_by_token` the one in the text's own
+-- header, up to what its body holds (RFC 4121, section 4.2.3)
 abbrev pub count_for : Rules → ℕ → List ℕ → ℕ
 count_for rules ec text = if has_rule rules extra_count_by_token && nat_le 16 (length text) then ec_of (take 16 text) else ec
 
--- what a text is opened by
+-- the parameters that a text is opened by
 abbrev pub params_for : Kerberos → List ℕ → EncryptionParams
 params_for context text =
     record context.encryption_params { ec = count_for context.rules context.encryption_params.ec text }
 
--- the filler of a sealed text is as long as that
+-- a sealed text has this extra count (EC)
 abbrev pub has_count : ℕ → List ℕ → Bool
 has_count ec h = not (is_sealed h) || ec_of h == ec
 
@@ -53,15 +53,15 @@ Heads params key peer text = do
   Holds KeyLength (has_key_size params key)
   Gives header
 
--- what a body has beside the text: a confounder, the filler, the header's copy and the checksum, or the checksum alone
+-- the octets of a body in addition to its text: the confounder, EC octets, the header's copy and the checksum, or the checksum alone
 abbrev pub extra_of : List ℕ → ℕ
 extra_of h = if is_sealed h then 44 + ec_of h else ec_of h
 
--- a body of n octets is not empty, and has what stands beside the text
+-- a body of n octets is not empty, and holds the octets in addition to the text
 abbrev pub is_long : List ℕ → ℕ → Bool
 is_long h n = nat_le 1 n && nat_le (extra_of h) n
 
--- a text of n octets has room in the plain data; behind a stream it always has
+-- a text of n octets has room in the plain data; with a stream it always has
 abbrev pub has_room : List Buffer → Buffer → ℕ → Bool
 has_room buffers plain n = has_part Stream buffers || nat_le n plain.limit
 
@@ -76,7 +76,7 @@ OpensBody params key peer buffers plain text header = do
   Holds Room (has_room buffers plain (length text - 16 - extra_of header))
   Finds Altered (λ p. SpeltBy (is_sealed header) params key peer buffers p)
 
--- how a number is refused
+-- the cause of a refusal by number, none if the number is fresh
 abbrev pub aged : NumberVerdict → Option Cause
 aged Fresh = None
 aged Old = Some OldCause

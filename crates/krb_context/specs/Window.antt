@@ -12,7 +12,7 @@ pub record Window : Type 0 where
 abbrev pub new_window : Window
 new_window = record { newest = 0; mask = 0 }
 
--- whether the place so far below the newest was opened
+-- the place that is `below` below the newest was opened
 abbrev pub has_bit : ℕ → ℕ → Bool
 has_bit mask below = bit_at mask below == 1
 
@@ -20,7 +20,7 @@ has_bit mask below = bit_at mask below == 1
 abbrev pub has_newest : Window → Bool
 has_newest window = window.mask == 0 || has_bit window.mask 0
 
--- a window with a newest place stands for places of which this is the greatest
+-- a window with a newest place represents places of which this is the greatest
 pub record IsWindowOf (window : Window) (newest : ℤ) (places : List ℤ) : Type 0 where
   pub number : window.newest ≡ number_at newest
   pub bits : (below : ℕ) → below < 64 → has_bit window.mask below ≡ was_opened places (newest -ℤ pos below)
@@ -29,11 +29,11 @@ abbrev pub StandsAfter : Option ℤ → Window → List ℤ → Type 0
 StandsAfter None window places = window.mask ≡ 0
 StandsAfter (Some newest) window places = IsWindowOf window newest places
 
--- the window stands for these places
+-- the window represents these places
 abbrev pub StandsFor : Window → List ℤ → Type 0
 StandsFor window places = StandsAfter (greatest places) window places
 
--- how a number stands to a window
+-- the verdict of a window on a number
 abbrev pub number_verdict : Window → ℕ → NumberVerdict
 number_verdict window number =
     if window.mask == 0 then Fresh

@@ -1,4 +1,4 @@
--- What a writer makes of a message (RFC 4121, section 4.2.4): one of the texts that spell its data.
+-- The message that a writer makes (RFC 4121, section 4.2.4): one of the texts that spell its data.
 use Rattle.std.specs.Prelude.{ℕ, ◌+◌, List, ◌++◌, take, drop, replicate, Option, Some, None}
 use Rattle.std.specs.List.{slice_rotate_right}
 use Rattle.krb_crypto.specs.SealingPair.{SealingPair}
@@ -14,7 +14,7 @@ abbrev pub limit_of : Option Buffer → ℕ
 limit_of (Some b) = b.limit
 limit_of None = 0
 
--- the body: the filler is zeros, and so is the count of turns in the header's copy
+-- the body: the EC octets are zeros, and so is the right rotation count (RRC) in the header's copy
 unfoldable pub written_body : SealingPair → ℕ → ℕ → ℕ → List ℕ → List Buffer → List ℕ
 written_body keys flags ec number confounder buffers =
     slice_rotate_right

@@ -19,7 +19,7 @@ use Rattle.krb_context.specs.Wrapped.{limit_of, wrapped_by}
 abbrev pub has_parts : List Buffer → Bool
 has_parts buffers = has_part Token buffers && has_part Plain buffers && not (has_part Stream buffers)
 
--- the token has room for a header, the filler, and what is sealed beside the data
+-- the token has room for a header, the EC octets, and the octets that are sealed in addition to the data
 abbrev pub has_token_room : ℕ → List Buffer → Bool
 has_token_room ec buffers = nat_le (60 + ec) (limit_of (find_part Token buffers))
 

@@ -81,11 +81,11 @@ impl EncryptionParams {
 }
 
 impl Kerberos {
-    /// A wrap token whose text goes in the clear: a header of 16 octets, the plain octets, and 12 octets of a checksum over
-    /// them and the header. The context's number rises by one, going round at 2^32, and stands in the header.
+    /// Makes a wrap token whose text is in the clear: a header of 16 octets, the plain octets, and a checksum of 12 octets over
+    /// the plain octets and the header. Increments the context's sequence number modulo 2^32; the new number is in the header.
     ///
-    /// The refusals, in their order: `Sequence` before the exchange is over and where there is no key; `KeyLength`. A refusal
-    /// leaves the context.
+    /// Fails, in this order, with `Sequence` before the exchange is over or if there is no key; `KeyLength`. After an error the
+    /// context is unchanged.
     pub fn wrap_in_clear(&mut self, alloc: Global, plain: &[u8]) -> Result<Octets, Error>
         ensures wrapped { IfOk result (λ token. WrapsClear self.old plain.now (Ok token)
             × (self.new ≡ record self.old { seq_number = next_number self.old.seq_number })) }

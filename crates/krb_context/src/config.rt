@@ -1,4 +1,4 @@
-//! What contexts are made from.
+//! The configurations that contexts are made from.
 
 ghost use Rattle.std.specs.Prelude.{◌≡◌, IfOk};
 ghost use Rattle.std.specs.Int.{from_be_bytes, w32};
@@ -10,14 +10,14 @@ use krb_conf::KerberosConfig;
 use krb_der::{OutOfMemory, TryCopy};
 use std::alloc::Global;
 
-/// What an acceptor is made from.
+/// The configuration of an acceptor.
 #[derive(Drop)]
 pub struct KerberosServerConfig {
     pub kerberos_config: KerberosConfig,
     pub server_properties: ServerProperties,
 }
 
-/// What a context is made from.
+/// The configuration of a context.
 #[derive(Drop)]
 pub enum ProtocolConfig {
     Client(KerberosConfig),
@@ -25,8 +25,8 @@ pub enum ProtocolConfig {
 }
 
 impl ProtocolConfig {
-    /// A context before its exchange, made from a copy of the configuration. Its number is made of the random octets, the
-    /// highest first.
+    /// Makes a context before its exchange, from a copy of the configuration. Its sequence number is made of the random bytes,
+    /// in big-endian order.
     pub fn new_instance(&self, alloc: Global, random: [u8; 4]) -> Result<Kerberos, OutOfMemory>
         ensures { IfOk result (λ context. context ≡ instance_of self.now (from_be_bytes w32 random)) }
     {

@@ -17,7 +17,7 @@ pub const CHANGE_PASSWORD_SERVICE_NAME: &str = "changepw";
 /// The suite of a context for which none was chosen.
 pub const DEFAULT_ENCRYPTION_TYPE: CipherSuite = CipherSuite::Aes256CtsHmacSha196;
 
-/// By how many octets, beside the filler, a writer turns the body of a sealed message.
+/// The octets, in addition to EC, by which a writer turns the body of a sealed message.
 pub const RRC: u16 = 28;
 
 /// The longest token of the handshake in octets.
@@ -26,5 +26,5 @@ pub const MAX_TOKEN: u32 = 48000;
 /// The longest signature in octets.
 pub const MAX_SIGNATURE: u32 = 16;
 
-/// The octets that a sealed message has beside its text and its filler.
+/// The octets of a sealed message in addition to its text and its EC octets.
 pub const SECURITY_TRAILER: u32 = 60;

@@ -23,13 +23,13 @@ pub struct Kerberos {
     /// How far the exchange has come.
     pub state: KerberosState,
     pub config: KerberosConfig,
-    /// Who an initiator speaks for.
+    /// The identity that an initiator speaks for.
     pub auth_identity: Option<CredentialsBuffers>,
     pub encryption_params: EncryptionParams,
     /// The number of the last message that this end wrapped or signed; the next has one more, going round at 2^32.
     pub seq_number: u32,
     pub realm: Option<Text>,
-    /// Whether a ticket under the session key of the other's ticket is used (RFC 4120, section 3.7).
+    /// True if the ticket is encrypted under the session key of the peer's ticket: user-to-user (RFC 4120, section 3.7).
     pub krb5_user_to_user: bool,
     /// The service of an acceptor; an initiator has none.
     pub server: Option<ServerProperties>,
@@ -47,7 +47,7 @@ pub struct Kerberos {
     pub kept_to_open: KeptKey,
 }
 
-/// What an exchange makes of a context.
+/// The changes that an exchange makes to a context.
 #[derive(Drop)]
 pub struct ContextChange {
     pub state: KerberosState,
@@ -121,7 +121,7 @@ impl Kerberos {
         ))
     }
 
-    /// Whether this end is the initiator.
+    /// Returns whether this end is the initiator.
     pub fn is_client(&self) -> bool
         ensures { result ≡ is_none self.now.server }
     {
@@ -143,8 +143,8 @@ impl Kerberos {
         self.seq_number
     }
 
-    /// The context's realm and the URL of its KDC: the configured one, else that which `detect_kdc_url` finds. None where
-    /// either is none.
+    /// Returns the context's realm and the URL of its KDC: the configured URL, otherwise the one that `detect_kdc_url` finds.
+    /// Returns None if either is none.
     pub fn get_kdc(&self, alloc: Global, env: &Env) -> Result<Option<(Text, Url)>, OutOfMemory>
         ensures { IfOk result (λ kdc. kdc ≡ kdc_of self.now env.now) }
     {
@@ -158,7 +158,7 @@ impl Kerberos {
         }
     }
 
-    /// Puts what an exchange made into the context.
+    /// Applies the changes of an exchange to the context.
     pub fn settle(&mut self, change: ContextChange)
         ensures { self.new ≡ settled self.old change }
     {

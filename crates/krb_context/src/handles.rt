@@ -1,4 +1,4 @@
-//! Who a context speaks for.
+//! The identity that a context speaks for.
 
 ghost use Rattle.std.specs.Prelude.{◌≡◌, IfOk, IfErr, OnOk, OnErr, Ok, Some, option_map};
 ghost use Rattle.std.specs.Option.{option_copied};

@@ -1,4 +1,4 @@
-//! A message whose header is checked, and the text that stands in it.
+//! A message whose header is checked, and its text.
 
 ghost use Rattle.std.specs.Prelude.{◌≡◌, ◌+◌, ◌-◌, ◌≤◌, length, true, false};
 ghost use Rattle.krb_crypto.specs.Suite.{kc};
@@ -22,7 +22,7 @@ use krb_der::Octets;
 use sspi_core::{Cause, Message, Part, SecurityBufferRef, hold, take};
 use std::alloc::Global;
 
-/// The octets of a body beside its text.
+/// Returns the count of octets of a body in addition to its text.
 fn extra_of(header: &[u8; 16]) -> usize
     ensures { result ≡ extra_of header.now }
 {
@@ -50,10 +50,10 @@ fn sealed_turn(ec: u16, rrc: u16, len: usize) -> usize
 #[derive(Drop)]
 pub(crate) struct Headed<'a> {
     pub(crate) params: &'a EncryptionParams,
-    /// The length of the filler that it is opened by.
+    /// The extra count (EC), in octets, that the message is opened by.
     pub(crate) ec: u16,
     pub(crate) key: &'a Octets,
-    /// Whether it came from an acceptor.
+    /// True if the message came from an acceptor.
     pub(crate) peer: bool,
     pub(crate) message: &'a Message,
     pub(crate) text: &'a TokenText<'a>,
@@ -87,7 +87,7 @@ impl Headed<'_> {
         )
     }
 
-    /// The text that is sealed.
+    /// Finds the text of a sealed message.
     fn find_sealed(&self, kept_to_open: &mut KeptKey, alloc: Global) -> Result<Octets, Cause>
         requires long { is_long self.now.header.now (length self.now.text.now - 16) ≡ true }
         requires sealed { is_sealed self.now.header.now ≡ true }
@@ -110,7 +110,7 @@ impl Headed<'_> {
         take(found, Cause::Altered)
     }
 
-    /// The text that stands in the clear.
+    /// Finds the text of a message in the clear.
     fn find_clear(&self, alloc: Global) -> Result<Octets, Cause>
         requires long { is_long self.now.header.now (length self.now.text.now - 16) ≡ true }
         requires clear { is_sealed self.now.header.now ≡ false }

@@ -72,7 +72,7 @@ pub(crate) fn number_of(header: &[u8; 16]) -> u32
     u32::from_be_bytes([header[12], header[13], header[14], header[15]])
 }
 
-/// Whether they are equal in all octets but the count of turns.
+/// Returns whether a header and a copy are equal in all octets but the right rotation count (RRC).
 pub(crate) fn is_copy_of(header: &[u8; 16], copy: &[u8]) -> bool
     requires { length copy.now ≡ 16 }
     ensures { IsTrue result ↔ IsCopyOf header.now copy.now }

@@ -1,4 +1,4 @@
-//! What a context keeps of its keys, so that a message needs not derive them again. Contracts see nothing of it.
+//! The derived keys that a context keeps, so that it does not derive them again for each message. Contracts do not see them.
 
 ghost use Rattle.std.specs.Prelude.{◌≡◌, ◌≤◌, IfOk, IsTrue, length, []};
 ghost use Rattle.krb_context.specs.Origins.{origin, checksum_key_of};
@@ -123,8 +123,8 @@ impl KeptCode {
     }
 }
 
-/// The keys of one side's sealed texts and MIC tokens that may be kept. Contracts see one value. Key schedules are long: they
-/// stand on the heap, so a context that has sealed and opened nothing is small.
+/// The keys of one side's sealed texts and MIC tokens, as far as they are kept. Contracts see one value. Key schedules are long:
+/// they are on the heap, so a context that has sealed and opened nothing is small.
 #[derive(Drop)]
 pub struct KeptKey {
     kept: Option<Box<Kept>>,

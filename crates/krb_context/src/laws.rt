@@ -33,8 +33,8 @@ ghost use Rattle.krb_context.specs.Window.{Window, StandsFor, number_verdict, no
 ghost use Rattle.krb_context.specs.Wrapped.{limit_of};
 ghost use Rattle.krb_context.specs.Wraps.{has_parts, wrapped, Wraps};
 
-/// What one end wraps the other opens to the same octets: under one key, suite and length of the filler, with the same
-/// read-only data in the same places, where there is room and the number is fresh.
+/// A message that one end wraps is opened by the other to the same octets: under the same key, suite and extra count (EC), with
+/// the same read-only data in the same places, if there is room and the number is fresh.
 pub fn wrapped_messages_open()
     ensures { (sender receiver : Kerberos) (confounder : List ℕ) (sent made received : List Buffer) → ArePeers sender receiver
         → length confounder ≡ 16 → IsOctets confounder → IsOctets (part_octets Plain sent)
@@ -43,8 +43,8 @@ pub fn wrapped_messages_open()
         → Unwraps receiver received (Ok (part_octets Plain sent)) }
 {}
 
-/// What one end wraps in the clear the other opens to the same octets: under one key and suite, where there is room and the
-/// number is fresh.
+/// A text that one end wraps in the clear is opened by the other to the same octets: under the same key and suite, if there is
+/// room and the number is fresh.
 pub fn clear_messages_open()
     ensures { (sender receiver : Kerberos) (p token : List ℕ) (received : List Buffer) (plain : Buffer) → ArePeers sender receiver
         → WrapsClear sender p (Ok token) → spelled received ≡ token → find_part Plain received ≡ Some plain
@@ -52,7 +52,7 @@ pub fn clear_messages_open()
         → Unwraps receiver received (Ok p) }
 {}
 
-/// A wrap of n octets leaves a token of 60 octets and the filler, and data of n octets; its number is the next one.
+/// A wrap of n octets leaves a token of 60 + EC octets, and data of n octets; its number is the next one.
 pub fn wrapped_messages_have_lengths_and_numbers()
     ensures { (sender : Kerberos) (confounder : List ℕ) (sent made : List Buffer) → sender.encryption_params.ec < 2 ^ 16
         → length confounder ≡ 16 → IsOctets confounder → IsOctets (part_octets Plain sent) → Wraps sender confounder sent (Ok made)
@@ -111,8 +111,8 @@ pub fn mic_tokens_are_accepted()
         → ChecksMic other token payload (Ok tt) }
 {}
 
-/// A MIC token is accepted over a payload exactly where it is the peer's: a header of the peer's side, in the clear, and behind it
-/// the checksum of the payload and of it (RFC 4121, sections 4.2.4 and 4.2.6.1).
+/// A MIC token is accepted over a payload exactly if it is the peer's: a header of the peer's side, in the clear, followed by the
+/// checksum of the payload and the header (RFC 4121, sections 4.2.4 and 4.2.6.1).
 pub fn peers_mic_tokens_are_accepted()
     ensures { (context : Kerberos) (key payload token : List ℕ) → key_of context.encryption_params ≡ Some key
         → has_key_size context.encryption_params key ≡ true
@@ -136,21 +136,22 @@ pub fn without_rules_the_subkey_is_the_acceptors()
     ensures signed { (context : Kerberos) → context.rules ≡ no_rules → own_sign_flags context ≡ (if is_acceptor context then 5 else 4) }
 {}
 
-/// Where it is allowed, each end says so exactly where the sub-session key came in an AP-REP (RFC 4121, section 4.2.2).
+/// With the rule `subkey_flag_by_origin`, each end says that the acceptor chose the key exactly if the subkey came in an AP-REP
+/// (RFC 4121, section 4.2.2).
 pub fn the_subkey_flag_goes_by_its_origin()
     ensures { (context : Kerberos) → has_rule context.rules subkey_flag_by_origin ≡ true
         → writes_subkey context ≡ context.encryption_params.acceptor_subkey }
 {}
 
-/// Without rules, a text is opened by the context's own length of the filler; where it is allowed, a text by
-/// that of its own header.
+/// Without rules, a text is opened by the context's own extra count (EC); with the rule `extra_count_by_token`, a text is opened
+/// by the extra count in its own header.
 pub fn texts_are_opened_by_a_count()
     ensures own { (context : Kerberos) (text : List ℕ) → context.rules ≡ no_rules → params_for context text ≡ context.encryption_params }
     ensures tokens { (context : Kerberos) (text : List ℕ) → has_rule context.rules extra_count_by_token ≡ true → 16 ≤ length text
         → (params_for context text).ec ≡ ec_of (take 16 text) }
 {}
 
-/// A window judges and notes a number as each list of places that it stands for.
+/// A window judges and notes a number as each list of places that it represents does.
 pub fn windows_follow_the_list()
     ensures { (window : Window) (places : List ℤ) (number : ℕ) → number < 2 ^ 32 → StandsFor window places
         → (number_verdict window number ≡ verdict_of places number)
@@ -164,7 +165,7 @@ pub fn service_keys_go_by_components()
 {}
 
 /// The code's names and numbers are those of the package (RFC 4121, section 4.2.4: a body is turned by 28 octets, a wrap
-/// token has 60 octets beside its text).
+/// token has 60 octets in addition to its text).
 pub fn constants()
     ensures pkg_name { code.PKG_NAME.now ≡ codes "Kerberos" }
     ensures tgt_service_name { code.TGT_SERVICE_NAME.now ≡ codes "krbtgt" }

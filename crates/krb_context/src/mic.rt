@@ -146,10 +146,10 @@ fn joined(alloc: Global, header: &[u8; 16], code: &[u8; 12]) -> Result<Octets, A
 }
 
 impl Kerberos {
-    /// A MIC token of 28 octets over a payload, under the sub-session key. The context's number rises by one, going round at
-    /// 2^32, and stands in the header.
+    /// Makes a MIC token of 28 octets over a payload, under the subkey. Increments the context's sequence number modulo 2^32; the
+    /// new number is in the header.
     ///
-    /// The refusals, in their order: `NoSubKey`, of the kind InternalError; `KeyLength`. A refusal leaves the context.
+    /// Fails, in this order, with `NoSubKey`, of the kind InternalError; `KeyLength`. After an error the context is unchanged.
     pub fn generate_mic_token(&mut self, alloc: Global, payload: &[u8]) -> Result<Octets, Error>
         ensures made { IfOk result (λ token. MakesMic self.old payload.now (Ok token)
             × (self.new ≡ record self.old { seq_number = next_number self.old.seq_number })) }

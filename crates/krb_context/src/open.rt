@@ -36,7 +36,7 @@ fn update_covered(state: &mut HmacState, buffers: &[SecurityBufferRef], plain: &
     }
 }
 
-/// The code of a confounder, the data and what is behind the plain text, where the plain text ends at `end`.
+/// Returns the checksum of a confounder, the data and the octets after the plain text; the plain text ends at `end`.
 #[tactic(auto, unfolding(crate::specs::Spelt::covered_code))]
 pub(crate) fn covered_code(
     sealing: &SealingKey,

@@ -1,4 +1,5 @@
-//! The option sets of requests (RFC 4120, sections 5.4.1 and 5.5.1) and of the checksum of an initiator's first token (RFC 4121, section 4.1.1.1).
+//! The option sets of requests (RFC 4120, sections 5.4.1 and 5.5.1) and of the checksum of an initiator's first token (RFC 4121,
+//! section 4.1.1.1).
 
 ghost use Rattle.std.specs.Prelude.{⊤, [], ◌∷◌, ◌≡◌, codes, if◌then◌else◌};
 ghost use Rattle.sspi_core.specs.Flags.{has_flag};
@@ -8,11 +9,11 @@ ghost use Rattle.krb_context.specs.Options.{ap_options_of, gss_flags_of};
 use bitflags::{Flag, Flags, bitflag_items};
 use sspi_core::ClientRequestFlags;
 
-/// What is asked of a KDC (RFC 4120, section 5.4.1), as the four octets of its bit string in big-endian order.
+/// The options of a request to a KDC (RFC 4120, section 5.4.1), as the four octets of its bit string in big-endian order.
 #[derive(Clone, Copy, Debug, PartialEq, Eq, PartialOrd, Ord, Hash)]
 pub struct KdcOptions(u32);
 
-/// What an AP-REQ asks for (RFC 4120, section 5.5.1), as the four octets of its bit string in big-endian order.
+/// The options of an AP-REQ (RFC 4120, section 5.5.1), as the four octets of its bit string in big-endian order.
 #[derive(Clone, Copy, Debug, PartialEq, Eq, PartialOrd, Ord, Hash)]
 pub struct ApOptions(u32);
 
@@ -164,7 +165,7 @@ impl ApOptions {
 }
 
 impl GssFlags {
-    /// What the flags of a request ask of a context. `NO_INTEGRITY` takes back `INTEGRITY`.
+    /// Returns the flags of a context that the flags of a request ask for. `NO_INTEGRITY` cancels `INTEGRITY`.
     pub fn from_client_flags(flags: ClientRequestFlags) -> GssFlags
         ensures { result.0 ≡ gss_flags_of flags.0 }
     {

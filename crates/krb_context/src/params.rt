@@ -1,4 +1,4 @@
-//! The suite, the keys and the filler of a context's messages.
+//! The suite, the keys and the extra count (EC) of a context's messages.
 
 ghost use Rattle.std.specs.Prelude.{◌≡◌, MatchOption, IfOk, None, Some};
 ghost use Rattle.krb_context.specs.Params.{default_params, suite_of, size_of, key_of};
@@ -10,9 +10,9 @@ use krb_messages::constants::{ACCEPTOR_SEAL_USAGE, INITIATOR_SEAL_USAGE};
 use sspi_core::Secret;
 use std::alloc::Global;
 
-/// The suite and the keys of a context, and the filler of its sealed messages.
+/// The suite and the keys of a context, and the extra count (EC) of its sealed messages.
 ///
-/// The context's suite is `encryption_type`, else AES-256. The context's key is the sub-session key, else the session key.
+/// The context's suite is `encryption_type`, otherwise AES-256. The context's key is the subkey, otherwise the session key.
 #[derive(Drop)]
 pub struct EncryptionParams {
     pub encryption_type: Option<CipherSuite>,
@@ -24,9 +24,9 @@ pub struct EncryptionParams {
     pub sspi_encrypt_key_usage: u32,
     /// Kept for who asks. The role of a context alone gives the usages of its messages.
     pub sspi_decrypt_key_usage: u32,
-    /// How many octets of filler a sealed message has.
+    /// The extra count (EC) of a sealed message: its padding, in octets.
     pub ec: u16,
-    /// Whether the sub-session key came in an AP-REP, so that the acceptor chose it (RFC 4121, section 4.2.2). Nothing but the option
+    /// True if the subkey came in an AP-REP, so that the acceptor chose it (RFC 4121, section 4.2.2). Only the option
     /// `SUBKEY_FLAG_BY_ORIGIN` reads it.
     pub acceptor_subkey: bool,
 }
@@ -46,14 +46,14 @@ impl EncryptionParams {
         }
     }
 
-    /// Those of an initiator before the exchange: no suite, no keys and no filler.
+    /// Returns the parameters of an initiator before the exchange: no suite, no keys and an extra count (EC) of 0.
     pub fn default_for_client() -> EncryptionParams
         ensures { result ≡ default_params 24 22 }
     {
         EncryptionParams::with_usages(INITIATOR_SEAL_USAGE, ACCEPTOR_SEAL_USAGE)
     }
 
-    /// Those of an initiator whose suite is known: no keys and no filler.
+    /// Returns the parameters of an initiator whose suite is known: no keys and an extra count (EC) of 0.
     pub fn of_suite(suite: CipherSuite) -> EncryptionParams
         ensures made { result ≡ record (default_params 24 22) { encryption_type = Some suite } }
         ensures suite { suite_of result ≡ suite }
@@ -63,14 +63,14 @@ impl EncryptionParams {
         params
     }
 
-    /// Those of an acceptor before the exchange: no suite, no keys and no filler.
+    /// Returns the parameters of an acceptor before the exchange: no suite, no keys and an extra count (EC) of 0.
     pub fn default_for_server() -> EncryptionParams
         ensures { result ≡ default_params 22 24 }
     {
         EncryptionParams::with_usages(ACCEPTOR_SEAL_USAGE, INITIATOR_SEAL_USAGE)
     }
 
-    /// A copy for this suite, with the same keys and filler.
+    /// Returns a copy for this suite, with the same keys and extra count (EC).
     pub fn copy_for(
         &self,
         alloc: Global,
@@ -94,7 +94,7 @@ impl EncryptionParams {
         }
     }
 
-    /// The context's suite: the one that was chosen, else AES-256.
+    /// Returns the context's suite: the one that was chosen, otherwise AES-256.
     pub fn suite(&self) -> CipherSuite
         ensures { result ≡ suite_of self.now }
     {
@@ -104,7 +104,7 @@ impl EncryptionParams {
         }
     }
 
-    /// The context's key: the sub-session key, else the session key.
+    /// Returns the context's key: the subkey, otherwise the session key.
     pub fn key(&self) -> Option<&Octets>
         ensures { MatchOption result (key_of self.now ≡ None) (λ key. key_of self.now ≡ Some key.now) }
     {

@@ -61,7 +61,7 @@ pub(crate) fn sign_usage(acceptor: bool) -> u32
     }
 }
 
-/// Whether tokens say that the acceptor chose the key.
+/// Returns whether tokens say that the acceptor chose the key.
 fn has_subkey_flag(rules: Rules, params: &EncryptionParams) -> bool
     ensures { result ≡ has_subkey_flag rules params.now }
 {

@@ -1,4 +1,4 @@
-//! What a context tells of itself, and the calls that it refuses.
+//! The values that a context reports about itself, and the calls that it refuses.
 
 ghost use Rattle.std.specs.Prelude.{◌≡◌, ◌↔◌, IfOk, IfErr, Ok, Err, None, Some, if◌then◌else◌};
 ghost use Rattle.sspi_core.specs.Checks.{Answers, Takes};
@@ -20,7 +20,7 @@ use sspi_core::{
 };
 use std::alloc::Global;
 
-/// What the package is: no capabilities, rpc id 65535, tokens of at most 48000 octets.
+/// Returns the description of the package: no capabilities, rpc id 65535, tokens of at most 48000 octets.
 pub fn package_info(alloc: Global) -> Result<PackageInfo, OutOfMemory>
     ensures { IfOk result (λ info. info ≡ kerberos_package) }
 {
@@ -61,8 +61,8 @@ fn own_name(alloc: Global, identity: &Option<CredentialsBuffers>) -> Result<User
 }
 
 impl Kerberos {
-    /// The sizes of tokens and messages, in octets: 48000 for a token of the exchange, 16 for a signature, no padding, and 60
-    /// and the filler for what a sealed message has beside its text. Refused as `Sequence` before the exchange is over.
+    /// Returns the sizes of tokens and messages, in octets: 48000 for a token of the exchange, 16 for a signature, no padding, and
+    /// 60 + EC for a sealed message in addition to its text. Fails with `Sequence` before the exchange is over.
     pub fn query_context_sizes(&self) -> Result<ContextSizes, Error>
         ensures { result ≡ (if is_final self.now.state then Ok (sizes_of self.now.encryption_params.ec) else Err (error_of causes.Sequence)) }
     {
@@ -77,8 +77,8 @@ impl Kerberos {
         })
     }
 
-    /// The admitted client; else the user of the password that the context speaks for, refused as `BadUser` where that is no user
-    /// name; else `NoIdentity`, of the kind NoCredentials.
+    /// Returns the admitted client, otherwise the user of the password that the context speaks for. Fails with `BadUser` if that is
+    /// not a user name, and with `NoIdentity`, of the kind NoCredentials, if there is neither.
     pub fn query_context_names(&self, alloc: Global) -> Result<ContextNames, Error>
         ensures named { IfOk result (λ names. name_of self.now ≡ Ok names.username) }
         ensures refused { IfErr result (λ error. Refuses places.Query (λ answer. answer ≡ name_of self.now) error) }
@@ -100,7 +100,7 @@ impl Kerberos {
         own_name(alloc, &self.auth_identity)
     }
 
-    /// The key of messages, where there is one; else `Sequence`.
+    /// Returns the key of messages. Fails with `Sequence` if there is none.
     pub fn query_context_session_key(&self, alloc: Global) -> Result<SessionKeys, Error>
         ensures key { IfOk result (λ keys. key_of self.now.encryption_params ≡ Some keys.session_key) }
         ensures refused { IfErr result (λ error. Refuses places.Elsewhere (Takes causes.Sequence (key_of self.now.encryption_params)) error) }
@@ -113,7 +113,7 @@ impl Kerberos {
         })
     }
 
-    /// What the package is; it is refused only if memory runs out.
+    /// Returns the description of the package. Fails only if memory runs out.
     pub fn query_context_package_info(&self, alloc: Global) -> Result<PackageInfo, Error>
         ensures info { IfOk result (λ info. info ≡ kerberos_package) }
         ensures memory { IfErr result (λ error. error ≡ error_of causes.Memory) }

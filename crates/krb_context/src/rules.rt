@@ -26,16 +26,16 @@ bitflag_items! {
         /// The flag AcceptorSubkey is written exactly where the sub-session key came in an AP-REP (RFC 4121, section 4.2.2).
         /// Heimdal without mutual authentication needs it.
         const SUBKEY_FLAG_BY_ORIGIN = 0x8;
-        /// An initiator's first message has the number that its authenticator showed (RFC 4120, section 5.5.1; RFC 4121, section
-        /// 4.2.1). Heimdal needs it, which loses the first message, and MIT krb5 and Java, which tell a gap.
+        /// An initiator's first message has the sequence number that its authenticator showed (RFC 4120, section 5.5.1; RFC 4121,
+        /// section 4.2.1). Without it Heimdal loses the first message, and MIT krb5 and Java report a gap.
         const FIRST_NUMBER_AS_SHOWN = 0x10;
         /// An AP-REP without a subkey leaves the authenticator's subkey as the key (RFC 4121, section 2). Services in Java need it.
         const AP_REP_WITHOUT_SUBKEY = 0x20;
-        /// The number of DCE style's last word is compared by its value, in any spelling (RFC 4120, section 5.5.2). Initiators of
-        /// MIT krb5 and of Heimdal need it, for half of all numbers.
+        /// The sequence number of DCE style's third leg is compared by its value, in any encoding (RFC 4120, section 5.5.2).
+        /// Initiators of MIT krb5 and of Heimdal need it, for half of all numbers.
         const THIRD_LEG_BY_VALUE = 0x40;
-        /// An initiator that asked for no mutual authentication is established behind its AP-REQ (RFC 4120, section 3.2.4). Whoever
-        /// sends messages one way needs it.
+        /// An initiator that asked for no mutual authentication is established after its AP-REQ (RFC 4120, section 3.2.4).
+        /// Applications that send messages one way need it.
         const ONE_WAY_IS_SETTLED = 0x80;
         /// The extra count of a sealed message is its own, up to what its body holds (RFC 4121, section 4.2.3). `gss_wrap` of MIT
         /// krb5 and of Heimdal in DCE style needs it.
@@ -49,8 +49,9 @@ bitflag_items! {
         /// The record of an authenticator has the tag of its cipher too, so that two log-ins of one client in one microsecond are two
         /// (RFC 4120, section 3.2.3). Clients that log in from several processes at once need it.
         const RECORDS_BY_TAG = 0x800;
-        /// An AS-REP and a TGS-REP are taken only as the answer to the request of this exchange: with its nonce, its client and its service,
-        /// and with a ticket that is valid now (RFC 4120, sections 3.1.5 and 3.3.4). Without it a recorded log-in can be played back.
+        /// An AS-REP and a TGS-REP are accepted only as the reply to the request of this exchange: with its nonce, its client and its
+        /// service, and with a ticket that is valid now (RFC 4120, sections 3.1.5 and 3.3.4). Without it a recorded log-in can be
+        /// replayed.
         const FRESH_REPLIES = 0x10000;
         /// An AP-REP is taken only with the time of the authenticator that it answers (RFC 4120, section 3.2.5). Without it a recorded
         /// AP-REP of the same session key can be played back.
@@ -61,8 +62,8 @@ bitflag_items! {
         /// A ticket that came through further realms is taken only where a KDC checked them: the flag TRANSITED-POLICY-CHECKED is
         /// set, or there are none (RFC 4120, section 2.7).
         const CHECKED_TRANSIT = 0x80000;
-        /// Where the acceptor has the bindings of its channel, a client is held to them: its authenticator's checksum is that of RFC
-        /// 4121, section 4.1.1, over the same bindings.
+        /// If the acceptor has the bindings of its channel, a client needs the same bindings: its authenticator's checksum is that of
+        /// RFC 4121, section 4.1.1, over them.
         const BOUND_TO_ITS_CHANNEL = 0x100000;
     }
 }
@@ -105,14 +106,14 @@ impl Rules {
         Rules(0)
     }
 
-    /// What RFC 4120 and RFC 4121 allow is taken, and what they ask to be checked is checked: every rule that there is.
+    /// Returns all rules: everything that RFC 4120 and RFC 4121 allow is accepted, and everything that they ask to check is checked.
     pub fn rfc() -> Rules
         ensures { result ≡ rfc_rules }
     {
         Rules(0x1f_0fff)
     }
 
-    /// Whether this rule is one of them.
+    /// Returns whether this set contains the rule.
     pub fn has(self, rule: Rules) -> bool
         ensures { result ≡ has_rule self rule.0 }
     {

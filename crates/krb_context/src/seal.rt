@@ -17,7 +17,7 @@ use krb_der::Octets;
 use sspi_core::{Message, Part};
 use std::alloc::{AllocError, Global};
 
-/// What is encrypted, with zeros for its filler. There is room for a checksum behind it.
+/// Returns the text to encrypt, with zeros for its EC octets. There is room for a checksum after it.
 fn inner_text(
     alloc: Global,
     confounder: &[u8; 16],
@@ -66,7 +66,7 @@ fn sealed_body(
     Ok(text)
 }
 
-/// The token: a header, and what is behind the data and before them.
+/// Returns the token: a header, the octets of the body after the data, and the octets before the data.
 fn token_of(
     alloc: Global,
     header: &[u8; 16],

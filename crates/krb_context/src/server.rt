@@ -19,7 +19,7 @@ use std::alloc::Global;
 pub struct ServerProperties {
     /// The primary name of the service.
     pub service_name: PrincipalName,
-    /// Who gets a ticket of its own for user-to-user exchanges (RFC 4120, section 3.7).
+    /// The user that gets a ticket of its own for user-to-user exchanges (RFC 4120, section 3.7).
     pub user: Option<CredentialsBuffers>,
     /// The admitted client.
     pub client: Option<Username>,
@@ -31,7 +31,7 @@ pub struct ServerProperties {
     pub additional_service_keys: AdditionalServiceKeys,
 }
 
-/// Whether each part is ASCII.
+/// Returns whether each part is ASCII.
 fn all_ascii(parts: &[&str]) -> bool
     ensures { result ≡ all_ascii (map (λ part. part.now) parts.now) }
 {
@@ -114,8 +114,8 @@ impl ServerProperties {
         })
     }
 
-    /// A further service and its key, behind those that are there. Refused as `NotAscii` exactly where a component is past
-    /// ASCII; a refusal leaves the properties.
+    /// Adds a further service and its key, after the existing ones. Fails with `NotAscii` exactly if a component is not ASCII;
+    /// after an error the properties are unchanged.
     pub fn add_service_key(
         &mut self,
         alloc: Global,
@@ -134,8 +134,8 @@ impl ServerProperties {
         Ok(())
     }
 
-    /// The key that opens tickets for a service, by the components of its name alone: the primary key where the primary name
-    /// has these components and there is one, else the key of the first further name with them.
+    /// Returns the key that opens tickets for a service, by the components of its name alone: the primary key if the primary name
+    /// has these components and there is one, otherwise the key of the first further name with these components.
     #[tactic(auto, unfolding(crate::specs::ServiceKeys::service_key))]
     pub fn ticket_decryption_key_for(&self, ticket_sname: &PrincipalName) -> Option<&Secret<Octets>>
         ensures { option_map (λ key. key.now) result ≡ service_key self.now ticket_sname.now.name_string }

@@ -17,7 +17,7 @@ use std::marker::Model;
 #[derive(Drop)]
 pub struct AdditionalServiceKeys {
     services: Vec<(PrincipalName, Secret<Octets>)>,
-    /// Where the first service with these components stands.
+    /// The index of the first service with these components.
     places: HashMap<Items<Name>, usize>,
     ghost indexed: { (components : List (List ℕ)) → get same_components places components ≡ first_place services.items components },
 }
@@ -31,7 +31,7 @@ impl Model for AdditionalServiceKeys {
     ghost view = { λ keys. keys.services.items };
 }
 
-/// Notes where a service with these components stands, unless another stands before it.
+/// Records the index of a service with these components, unless an earlier service has them.
 fn note_place(
     alloc: Global,
     places: &mut HashMap<Items<Name>, usize>,
@@ -102,7 +102,7 @@ impl AdditionalServiceKeys {
         copied(alloc, self.services.as_slice())
     }
 
-    /// One service more, behind the others. Where memory runs out they stay.
+    /// Adds one service, after the others. If memory runs out, the services are unchanged.
     pub fn push(
         &mut self,
         alloc: Global,

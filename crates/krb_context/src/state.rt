@@ -17,7 +17,7 @@ pub enum KerberosState {
 }
 
 impl KerberosState {
-    /// Whether an AP-REQ may come.
+    /// Returns whether an AP-REQ may come.
     pub fn is_waiting(self) -> bool
         ensures { result ≡ is_waiting self }
     {
@@ -27,7 +27,7 @@ impl KerberosState {
         )
     }
 
-    /// Whether the exchange is over.
+    /// Returns whether the exchange is over.
     pub fn is_final(self) -> bool
         ensures { result ≡ is_final self }
     {

@@ -1,4 +1,4 @@
-//! The octets of a token, where they stand among the buffers.
+//! The octets of a token, and their places among the buffers.
 
 ghost use Rattle.std.specs.Prelude.{◌≡◌, ◌+◌, ◌-◌, ◌≤◌, ◌<◌, ◌++◌, length, take, drop, IfOk, MatchOption, vec_len};
 ghost use Rattle.krb_context.specs.Spelled.{spelled, part_octets, has_part, rest_of};
@@ -57,7 +57,7 @@ pub(crate) fn token_text(message: &Message) -> TokenText<'_>
     }
 }
 
-/// The octets from one place to another of two texts, one behind the other.
+/// Appends the octets from one place to another of two texts, one after the other.
 fn append_range(
     out: &mut Vec<u8>,
     first: &[u8],

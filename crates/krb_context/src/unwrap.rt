@@ -67,7 +67,7 @@ fn check_number(window: &NumberWindow, header: &[u8; 16]) -> Result<(), Cause>
     }
 }
 
-/// The length of the filler that a text is opened by.
+/// Returns the extra count (EC) that a text is opened by.
 fn count_for(rules: Rules, ec: u16, text: &TokenText<'_>) -> u16
     ensures { result ≡ count_for rules ec text.now }
 {
@@ -79,7 +79,7 @@ fn count_for(rules: Rules, ec: u16, text: &TokenText<'_>) -> u16
 }
 
 impl EncryptionParams {
-    /// The header of a token, once it is checked, with this length of the filler.
+    /// Checks the header of a token, with this extra count (EC), and returns the header.
     fn head(
         &self,
         ec: u16,
@@ -162,13 +162,13 @@ fn put_opened(alloc: Global, message: &mut Message, opened: Octets)
 }
 
 impl Kerberos {
-    /// Takes the text of a message out of it: the plain data become the text, and the message's number is one that was
-    /// opened. Behind a token stand the octets of the stream, or of the plain data where there is no stream; with a stream
-    /// the plain data take the whole text whatever their limit was, and the stream is empty afterwards.
+    /// Opens a message: the plain data become its text, and its sequence number is recorded as opened. The octets of the stream
+    /// follow the token, or the plain data if there is no stream; with a stream the plain data hold the whole text whatever their
+    /// limit was, and the stream is empty afterwards.
     ///
-    /// The refusals, in their order: `Sequence` before the exchange is over and where there is no key; `Buffers` without plain data;
-    /// `Header`, `Direction`, `ExtraCount`, `KeyLength`, `Short`, `Room`, `Altered`, `Old`, `Repeated`. A refusal leaves
-    /// the message and the context.
+    /// Fails, in this order, with `Sequence` before the exchange is over or if there is no key; `Buffers` without plain data;
+    /// `Header`, `Direction`, `ExtraCount`, `KeyLength`, `Short`, `Room`, `Altered`, `Old`, `Repeated`. After an error the message
+    /// and the context are unchanged.
     pub fn decrypt_message(&mut self, alloc: Global, message: &mut Message) -> Result<(), Error>
         ensures opened { OnOk result ((p : List ℕ) × Unwraps self.old message.old (Ok p) × (message.new ≡ unwrapped p message.old)
             × (self.new ≡ record self.old { window = noted self.old.window (message_number message.old) })) }

@@ -6,12 +6,12 @@ ghost use Rattle.krb_context.specs.Window.{Window, new_window, number_verdict, n
 
 use std::marker::Model;
 
-/// How a message's number stands to those that were opened before.
+/// The verdict on a message's number, given the numbers that were opened before.
 #[derive(Clone, Copy, Debug, PartialEq, Eq)]
 pub enum NumberVerdict {
     /// It may be opened.
     Fresh,
-    /// It is 64 or more behind the newest, so nobody knows any more whether it was opened.
+    /// It is 64 or more below the newest, so it is unknown whether it was opened.
     Old,
     /// It was opened.
     Repeated,
@@ -20,12 +20,12 @@ pub enum NumberVerdict {
 /// The numbers of the messages that were opened, as far as they are within 64 of the newest.
 ///
 /// Numbers go round at 2^32: one that is less than half the way round ahead of the newest is newer, any other is older.
-/// Contracts see a window as the record `Window`, and say what it does for every list of places that it stands for.
+/// Contracts see a window as the record `Window`, and say what it does for every list of places that it represents.
 #[derive(Clone, Copy, Debug, PartialEq, Eq)]
 pub struct NumberWindow {
     /// The newest number, 0 where none was opened.
     pub newest: u32,
-    /// Bit `i` tells whether the number `i` below the newest was opened; 0 where none was.
+    /// Bit `i` is 1 if the number `i` below the newest was opened, otherwise 0; the mask is 0 if none was.
     pub mask: u64,
 }
 
@@ -73,7 +73,7 @@ impl NumberWindow {
         NumberWindow { newest: 0, mask: 0 }
     }
 
-    /// How a number stands to those that were opened.
+    /// Returns the verdict on a number, given the numbers that were opened.
     pub fn judge(&self, number: u32) -> NumberVerdict
         ensures exact { result ≡ number_verdict self.now number }
         ensures judges { (places : List ℤ) → StandsFor self.now places → result ≡ verdict_of places number }

@@ -68,13 +68,13 @@ fn ready_to_wrap<'a>(
 }
 
 impl Kerberos {
-    /// Seals the plain data of a message: the token gets a header and 44 octets of the sealed body and the filler, the data
-    /// the rest, as many octets as before. The confounder is 16 random octets. The context's number rises by one, going round
-    /// at 2^32, and stands in the header.
+    /// Encrypts the plain data of a message: the token gets a header and 44 + EC octets of the sealed body, the data get the rest,
+    /// as many octets as before. The confounder is 16 random octets. Increments the context's sequence number modulo 2^32; the new
+    /// number is in the header.
     ///
-    /// The refusals, in their order: `Sequence` before the exchange is over and where there is no key; `Buffers` without a
-    /// token or plain data, or with a stream; `KeyLength`; `TooSmall` where the token cannot hold 60 octets and the filler.
-    /// A refusal leaves the message and the context.
+    /// Fails, in this order, with `Sequence` before the exchange is over or if there is no key; `Buffers` without a token or plain
+    /// data, or with a stream; `KeyLength`; `TooSmall` if the token cannot hold 60 + EC octets. After an error the message and the
+    /// context are unchanged.
     pub fn encrypt_message(
         &mut self,
         alloc: Global,

@@ -206,7 +206,7 @@ impl TryCopy for KerbPaPacRequest {
 /// PA-PAC-OPTIONS (MS-KILE 2.2.10): the options that the client requests for the PAC.
 #[derive(Drop)]
 pub struct PaPacOptions {
-    /// The options. Bit 1: the client requests claims.
+    /// The options. Bit 1 is 'branch aware'.
     pub flags: Bits,
 }
 

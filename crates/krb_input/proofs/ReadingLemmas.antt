@@ -1,4 +1,4 @@
--- Where the reading of an input stands between two pieces, and where it ends.
+-- The state of the reading of an input between two pieces, and its end.
 use Rattle.std.proofs.Common.{◌≡◌, ℕ, ◌+◌, ◌-◌, ◌<◌, ◌≤◌, ◌⊎◌, inl, inr, ⊎_elim, true, false, List, [], ◌∷◌, ◌++◌, length, length-append, length-drop, take, drop, Option, Some, None, IfSome, refl, ap, sym, ◌∙◌, subst, append_assoc, arith}
 use Rattle.std.specs.Prelude.{nat_lt, ◌||◌, option_to_list, IsSome, IsTrue}
 use Rattle.std.specs.Io.KnownBytes.{Consumes, IsAtEnd, prepend_known}
@@ -34,7 +34,7 @@ takes-none at known = record {
   few = omega arith;
 }
 
--- one line more is taken
+-- one more line is taken
 pub takes-line : (at : ℕ) (old now after : Known) (front line : List ℕ) → Takes at old front now → is_unbroken line ≡ true → length line ≤ max_line → at + length front + length line + 1 ≤ max_input
     → declare_line now.so_far line ≡ Some after.so_far → after.lines ≡ now.lines + 1 → Takes at old (front ++ (line ++ 10 ∷ [])) after
 takes-line at old now after front line t unbroken fits within declares lines_is =
@@ -59,7 +59,7 @@ takes-line at old now after front line t unbroken fits within declares lines_is 
       few = omega (arith, len);
     }
 
--- these lines, and then those
+-- the lines of `front`, and then those of `back`
 pub takes-both : (at : ℕ) (old now after : Known) (front back : List ℕ) → Takes at old front now → Takes (at + length front) now back after → Takes at old (front ++ back) after
 takes-both at old now after front back t u =
     let len = length-append front back in
@@ -82,14 +82,14 @@ takes-both at old now after front back t u =
 lines-behind : (at : ℕ) (old now : Known) (front back : List ℕ) (t : Takes at old front now) → lines (front ++ back) ≡ t.taken_lines ++ lines back
 lines-behind at old now front back t = ap (λ (c : Cut). c.whole ++ unended c.rest) (t.cuts back) ∙ append_assoc t.taken_lines (cut back).whole (unended (cut back).rest)
 
--- behind what was taken the reading is as it is behind all
+-- the reading of all lines is the reading from the lines after the taken ones on
 pub reads-behind : (at total : ℕ) (old now : Known) (front back : List ℕ) → Takes at old front now → total ≡ at + length (front ++ back)
     → read_lines total at (old.lines + 1) old.so_far (lines (front ++ back)) ≡ read_lines total (at + length front) (now.lines + 1) now.so_far (lines back)
 reads-behind at total old now front back t is =
     let len = length-append front back in
     ap (λ l. read_lines total at (old.lines + 1) old.so_far l) (lines-behind at old now front back t) ∙ t.reads total (lines back) (omega (arith, len))
 
--- the reading stops behind what was taken
+-- the reading stops after the octets that were taken
 pub stops-behind : (at : ℕ) (old now new : Known) (front back : List ℕ) (stop : Stop) → Takes at old front now → StopsAt (at + length front) now back stop new → StopsAt at old (front ++ back) stop new
 stops-behind at old now new front back stop t s rest =
     let same : (front ++ back) ++ rest ≡ front ++ (back ++ rest) = append_assoc front back rest in
@@ -125,7 +125,7 @@ pub end_within : (octets : List ℕ) (o : Option ℕ) → o ≡ first_end octets
 end_within octets None is = tt
 end_within octets (Some at) is = (has_end octets at (sym is)).low
 
--- one line more was read ahead
+-- one more line was read ahead
 pub are-more : (octets rest : List ℕ) (items after : List (Option Item)) (ahead : Option Item) (end : ℕ) → first_end rest ≡ Some end → Declares (take end rest) ahead → after ≡ items ++ ahead ∷ []
     → ((more : List (Option Item)) → AreOf more (cut rest).whole → AreOf (items ++ more) (cut octets).whole)
     → (more : List (Option Item)) → AreOf more (cut (take (length rest - (end + 1)) (drop (end + 1) rest))).whole → AreOf (after ++ more) (cut octets).whole
@@ -142,7 +142,7 @@ are-more octets rest items after ahead end is declares grown so_far more are =
 pub are-all : (octets : List ℕ) (items after : List (Option Item)) → after ≡ items → AreOf (items ++ []) (cut octets).whole → AreOf after (cut octets).whole
 are-all octets items after same are = let Q : List (Option Item) → Type 0 = λ l. AreOf l (cut octets).whole in subst Q (sym same) (subst Q (append-nil items) are)
 
--- the next of what was read ahead is of the next line
+-- the next item that was read ahead is that of the next line
 pub next-of : (items left : List (Option Item)) (next : Option (Option Item)) (line : List ℕ) (more : List (List ℕ)) → items ≡ option_to_list next ++ left → (0 < length items → IsSome next) → AreOf items (line ∷ more)
     → IfSome next (λ ahead. Declares line ahead) × AreOf left more
 next-of [] left None line more is some are = (tt, subst (λ l. AreOf l more) is tt)
@@ -152,7 +152,7 @@ next-of (item ∷ items) left (Some ahead) line more is some are =
     let both : (item ≡ ahead) × (items ≡ left) = (cc, cc) in
     (subst (λ a. Declares line a) both.0 are.0, subst (λ l. AreOf l more) both.1 are.1)
 
--- where the next line stands of octets of which the first are taken
+-- the next line after the first `done` octets, which are taken, ends after `end` more octets
 pub record Next (octets : List ℕ) (done end : ℕ) : Type 0 where
   pub low : done + end + 1 ≤ length octets
   pub len : length (take end (drop done octets)) ≡ end
@@ -181,7 +181,7 @@ next-is octets done end fits is =
       whole = sym (take-append-drop done octets);
     }
 
--- what was read ahead, behind the next line
+-- the items that were read ahead, for the next line and for the lines after it
 pub are-next : (octets : List ℕ) (done end : ℕ) (items left : List (Option Item)) (next : Option (Option Item)) → Next octets done end → items ≡ option_to_list next ++ left → (0 < length items → IsSome next)
     → AreOf items (cut (drop done octets)).whole → IfSome next (λ ahead. Declares (take end (drop done octets)) ahead) × AreOf left (cut (drop (done + (end + 1)) octets)).whole
 are-next octets done end items left next n is some are =
@@ -212,7 +212,7 @@ past-of : (a b c d : ℕ) → (a < b) ⊎ (c < d) → (nat_lt a b || nat_lt c d)
 past-of a b c d (inl low) = rw (lt-ltb a b low) refl
 past-of a b c d (inr low) = grind (arith, common_steps, nat_tests, lt-ltb c d low)
 
--- a line, or what is begun of one, that is longer than it may be, or whose input is
+-- a line, or the beginning of one, that is longer than it may be, or whose input is
 pub stops-long : (at : ℕ) (known : Known) (octets : List ℕ) (o : Option ℕ) → 0 < length octets → first_end octets ≡ o
     → (max_line < length (line_to o octets)) ⊎ (max_input < at + length (part_to o octets)) → StopsAt at known octets LongStop known
 stops-long at known octets o some is past rest =
@@ -246,15 +246,15 @@ no_first octets (Some at) is e =
     let some : (cut octets).whole ≡ take at octets ∷ (cut (drop (at + 1) octets)).whole = ap (λ l. (cut l).whole) ends.splits ∙ ap (λ (c : Cut). c.whole) (cut_line (take at octets) (drop (at + 1) octets) ends.unbroken) in
     absurd (cc)
 
--- nothing of what is held is taken
+-- none of the held octets is taken
 pub whole-none : (known : Known) (pieces : Pieces) → TakesWhole known pieces known pieces
 whole-none known pieces = (0, omega arith, takes-none pieces.taken known, ap (λ n. record { held = pieces.held; taken = n }) (omega arith))
 
--- what is held behind the whole lines is one line's begin
+-- the held octets after the whole lines are the beginning of one line
 pub begun-rest : (pieces : Pieces) → is_unbroken pieces.held ≡ true → ((max_line < length pieces.held) ⊎ (max_input < pieces.taken + length pieces.held) → IsTrue false) → IsBegun pieces
 begun-rest pieces unbroken past = let fits = not-past max_line (length pieces.held) max_input (pieces.taken + length pieces.held) past in ((unbroken, fits.0), fits.1)
 
--- or it is longer than it may be
+-- the held octets after the whole lines are longer than a line or an input may be
 pub rest-long : (old new : Known) (before after : Pieces) → TakesWhole old before new after → is_unbroken after.held ≡ true → after.taken ≤ max_input → (max_line < length after.held) ⊎ (max_input < after.taken + length after.held)
     → StopsAt before.taken old before.held LongStop new
 rest-long old new before after t unbroken low past =
@@ -269,7 +269,7 @@ rest-long old new before after t unbroken low past =
     (stops-long (before.taken + length (take t.0 before.held)) new back None (⊎_elim (λ long. omega arith) (λ far. omega arith) past) none
     (⊎_elim (λ long. inl (omega arith)) (λ far. inr (omega arith)) past)))
 
--- what was taken of the input, and what it declares
+-- the octets of the input that were taken, and their declarations
 pub record Standing (left b : Option (List ℕ)) (pieces : Pieces) (known : Known) : Type 0 where
   pub handled : List ℕ
   pub consumed : Consumes left (ahead pieces b) handled
@@ -393,7 +393,7 @@ exit-rest left b pieces known new OutOfMemory s begun at_end ends = let fits = b
 exit-rest left b pieces known new Long s begun at_end ends = absurd ends
 exit-rest left b pieces known new Fault s begun at_end ends = absurd ends
 
--- no 0A stands in the front, and none behind it
+-- octets with no 0A in their first `count`, and none after them
 pub unbroken-behind : (octets behind : List ℕ) (count : ℕ) → is_unbroken (take count octets) ≡ true → behind ≡ drop count octets → first_end behind ≡ None → is_unbroken octets ≡ true
 unbroken-behind octets behind count front is none =
     subst (λ l. is_unbroken l ≡ true) (take-append-drop count octets)

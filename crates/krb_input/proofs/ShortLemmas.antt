@@ -1,4 +1,4 @@
--- A reading goes on behind a line that is short.
+-- A reading goes on after a line that is not too long.
 use Rattle.std.proofs.Common.{◌≡◌, ℕ, ◌+◌, ◌≤◌, min, false, List, ◌∷◌, length, Option, Some, refl, ap, ◌∙◌}
 use Rattle.std.proofs.lemmas.Bool.{le-ltb}
 use Rattle.krb_text.specs.Limits.{max_line, max_input, is_long}

@@ -3,7 +3,7 @@ use Rattle.std.specs.Prelude.{ℕ, ◌+◌, ◌%◌, ◌==◌, Bool, if◌then�
 use Rattle.std.specs.List.{filter}
 use Rattle.krb_script.specs.declared.item.Event.{Event}
 
--- whether a connection of this number is the worker's
+-- a connection with this number is the worker's
 abbrev pub is_of : ℕ → ℕ → Bool
 is_of worker id = id % 2 == worker
 
@@ -11,7 +11,7 @@ is_of worker id = id % 2 == worker
 abbrev pub events_of : ℕ → List Event → List Event
 events_of worker events = filter (λ (event : Event). is_of worker event.connection) events
 
--- their numbers, where the first event of the list has this number
+-- the numbers of a worker's events, if the first event of the list has the number n
 abbrev pub numbers_from : ℕ → ℕ → List Event → List ℕ
 numbers_from n worker [] = []
 numbers_from n worker (event ∷ events) =

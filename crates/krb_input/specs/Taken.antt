@@ -1,4 +1,4 @@
--- What is taken of an input.
+-- The octets that are taken of an input.
 use Rattle.std.specs.Prelude.{◌≡◌, ◌≤◌, ◌+◌, List, ℕ, Option, Some, length}
 use Rattle.std.specs.Io.KnownBytes.{Consumes}
 use Rattle.krb_text.specs.Limits.{max_line, max_input}
@@ -6,7 +6,7 @@ use Rattle.krb_text.specs.Lines.{cut}
 use Rattle.krb_script.specs.Script.{Reading, reading_at}
 use Rattle.krb_script.specs.declared.stop.Stop.TheVariants.{Whole}
 
--- what the lines with a 0A declare of the octets that were taken
+-- the reading of the lines with a 0A among the octets that were taken
 abbrev pub whole_reading : List ℕ → Reading
 whole_reading taken = reading_at (length taken) (cut taken).whole
 

@@ -1,4 +1,4 @@
-//! What is read of lines ahead of the time when they are taken, by two threads.
+//! Reads lines on two threads before they are taken.
 
 ghost use Rattle.std.specs.Prelude.{◌≡◌, ◌<◌, length, IfOk, IfSome};
 ghost use Rattle.krb_text.specs.Cutter.{first_end};
@@ -12,10 +12,10 @@ use std::alloc::{AllocError, Global};
 use std::marker::Model;
 use std::thread::{Threads, join};
 
-/// Fewer octets than these are read sooner by one thread than a second one is made.
+/// The number of bytes from which on a second thread is used: one thread reads fewer bytes sooner than a second one starts.
 const WORTH_SHARING: usize = 1 << 18;
 
-/// What a line declares, on the heap, since a place for each line is kept and most declarations are long. Contracts see the item.
+/// The item that a line declares, on the heap, since each line has a place and most declarations are long. Contracts see the item.
 #[derive(Drop)]
 pub struct HeldItem {
     item: Box<Item>,
@@ -46,7 +46,7 @@ impl HeldItem {
     }
 }
 
-/// Where the first line ends.
+/// Returns the position of the 0A of the first line.
 #[tactic(auto, using(crate::proofs::ReadingLemmas::end_within))]
 pub fn line_end(octets: &[u8]) -> Option<usize>
     ensures end { result ≡ first_end octets.now }
@@ -55,7 +55,7 @@ pub fn line_end(octets: &[u8]) -> Option<usize>
     newline(octets)
 }
 
-/// Whether the number behind a line's first word is odd, as far as its last digit tells.
+/// Returns whether the last digit of a line's second word is odd. That word is the connection's number, if the line names one.
 fn is_odd(line: &[u8]) -> bool {
     let Some(word) = memchr(b' ', line) else {
         return false;
@@ -67,7 +67,7 @@ fn is_odd(line: &[u8]) -> bool {
     }
 }
 
-/// What a line declares, where it names a connection of this worker.
+/// Reads the item of a line, if the line names a connection of this worker.
 fn item_for(alloc: Global, odd: bool, line: &[u8]) -> Option<HeldItem>
     ensures { Declares line.now result }
 {
@@ -80,7 +80,7 @@ fn item_for(alloc: Global, odd: bool, line: &[u8]) -> Option<HeldItem>
     }
 }
 
-/// What the whole lines at the head of these octets declare of this worker's connections, each at its line's place.
+/// Reads the items of the whole lines at the head of these octets that name this worker's connections, each at its line's position.
 fn items_for(alloc: Global, odd: bool, octets: &[u8]) -> Vec<Option<HeldItem>>
     ensures { AreOf result.items (cut octets.now).whole }
 {
@@ -96,7 +96,8 @@ fn items_for(alloc: Global, odd: bool, octets: &[u8]) -> Vec<Option<HeldItem>>
     items
 }
 
-/// The same for both workers, each by a thread of its own, where it is worth it; else nothing is read ahead.
+/// Reads the items of the whole lines at the head of these octets for both workers, each on its own thread. Reads nothing ahead
+/// if there are too few octets.
 pub fn items_ahead<R: Threads>(
     rt: &R,
     alloc: Global,

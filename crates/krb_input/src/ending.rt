@@ -1,6 +1,6 @@
-//! Where the reading of an input ends.
+//! The end of the reading of an input.
 
-/// Why no more lines are read.
+/// The reason why no more lines are read.
 #[derive(Clone, Copy, Debug, PartialEq, Eq)]
 pub enum Ending {
     /// The input is at its end.

@@ -1,4 +1,4 @@
-//! What the lines of an input declare.
+//! The declarations of the lines of an input.
 
 use crate::ahead::HeldItem;
 use krb_script::{Declaration, Event, FieldError, Item, Script, parse_item};
@@ -6,7 +6,7 @@ use krb_text::is_skipped;
 use std::alloc::Global;
 use std::marker::Model;
 
-/// What the lines so far declare, and how many they are.
+/// The declarations of the lines so far, and the number of these lines.
 #[derive(Drop)]
 pub struct Known {
     pub script: Script,
@@ -40,21 +40,21 @@ impl Known {
         }
     }
 
-    /// How many lines were taken.
+    /// Returns how many lines were taken.
     pub fn lines(&self) -> u64
         ensures { result ≡ self.now.lines }
     {
         self.lines
     }
 
-    /// Whether there was a line with the skew.
+    /// Returns whether there was a line with the skew.
     pub fn has_begun(&self) -> bool
         ensures { result ≡ is_some self.now.so_far.setup.skew }
     {
         self.script.has_begun()
     }
 
-    /// One event more.
+    /// Adds one event. Fails with `Bad` if there was no line with the skew.
     fn add(&mut self, event: Event) -> Result<(), FieldError>
         ensures given { GivesAfter (declare self.old.so_far (EventItem event)) result self.new.so_far }
         ensures err { OnErr result (self.new ≡ self.old) }
@@ -69,7 +69,7 @@ impl Known {
         }
     }
 
-    /// One line before the first event.
+    /// Adds the declaration of a line before the first event. Fails with `Bad` after an event.
     fn set_up(&mut self, declaration: Declaration) -> Result<(), FieldError>
         ensures given { GivesAfter (set_up_before self.old.so_far.events self.old.so_far.setup declaration) result self.new.so_far }
         ensures err { OnErr result (self.new ≡ self.old) }
@@ -94,7 +94,7 @@ impl Known {
         }
     }
 
-    /// A line that is not skipped. It is read here where it was not read ahead.
+    /// Takes a line that is not skipped, and reads it if it was not read ahead.
     fn take_content(
         &mut self,
         alloc: Global,
@@ -112,7 +112,7 @@ impl Known {
         }
     }
 
-    /// One line more, with what was read of it ahead, if it was. At `Err` nothing is taken.
+    /// Takes one more line, with the item that was read of it ahead, if any. After an error nothing is taken.
     pub fn take_line(
         &mut self,
         alloc: Global,

@@ -1,5 +1,5 @@
-//! The whole input of a service, read before its first event is answered: two threads read the lines of a large piece, and the
-//! events are parted between two workers.
+//! The whole input of a service, read before its first event is processed: two threads read the lines of a large piece, and the
+//! events are split between two workers.
 #![tactic(auto)]
 
 mod ahead;

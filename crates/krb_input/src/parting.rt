@@ -1,4 +1,4 @@
-//! The events of an input, parted between two workers.
+//! The events of an input, split between two workers.
 
 ghost use Rattle.std.specs.Prelude.{◌≡◌, IfOk};
 ghost use Rattle.krb_input.specs.Parted.{events_of, numbers_of};
@@ -7,7 +7,7 @@ use krb_der::OutOfMemory;
 use krb_script::Event;
 use std::alloc::Global;
 
-/// The events of worker 0 and those of worker 1, each in their order.
+/// Returns the events of worker 0 and those of worker 1, each in their order.
 pub fn parted(alloc: Global, events: Vec<Event>) -> Result<(Vec<Event>, Vec<Event>), OutOfMemory>
     ensures low { IfOk result (λ parts. parts.0.items ≡ events_of 0 events.items) }
     ensures high { IfOk result (λ parts. parts.1.items ≡ events_of 1 events.items) }
@@ -24,7 +24,7 @@ pub fn parted(alloc: Global, events: Vec<Event>) -> Result<(Vec<Event>, Vec<Even
     Ok((low, high))
 }
 
-/// The numbers of a worker's events, counted from 1 over all events.
+/// Returns the numbers of a worker's events, counted from 1 over all events.
 pub fn numbers(alloc: Global, events: &[Event], worker: u32) -> Result<Vec<u64>, OutOfMemory>
     ensures { IfOk result (λ numbers. numbers.items ≡ numbers_of worker events.now) }
 {

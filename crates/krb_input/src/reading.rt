@@ -1,4 +1,4 @@
-//! The reading of all lines.
+//! Reads all lines of an input.
 
 ghost use Rattle.std.specs.Prelude.{◌≡◌, ◌≢◌, ◌<◌, ◌≤◌, ◌+◌, ◌^◌, ◌↔◌, ◌⊎◌, true, None, length, take, drop, IfOk, OnOk, IfErr, IfSome, IsTrue};
 ghost use Rattle.krb_text.specs.Limits.{max_line, max_input};
@@ -17,7 +17,7 @@ use krb_text::{MAX_INPUT, MAX_LINE, Pieces, Source, newline};
 use std::alloc::Global;
 use std::thread::Threads;
 
-/// What either has of a line.
+/// Returns the item of a line that either worker read ahead, if any.
 fn either(
     _line: &[u8],
     one: Option<Option<HeldItem>>,
@@ -34,7 +34,8 @@ fn either(
     }
 }
 
-/// Whether a line of so many octets behind `at` others is longer than a line may be, or the input with its 0A than an input.
+/// Returns whether a line of `length` bytes after `at` others is longer than a line may be, or the input with the line's 0A is
+/// longer than an input may be.
 fn is_long(length: usize, at: u64) -> bool
     requires { (length < 2 ^ 32) × (at < 2 ^ 32) }
     ensures { IsTrue result ↔ ((max_line < length) ⊎ (max_input < at + length + 1)) }
@@ -49,7 +50,8 @@ fn behind(octets: &[u8], done: usize) -> &[u8]
     &octets[done..]
 }
 
-/// Takes the whole lines at the head of the octets that stand behind `at` others, and says how many octets these are.
+/// Takes the whole lines at the head of the octets, which come after `at` others in the input. Returns the length of these lines
+/// in bytes.
 fn take_lines<R: Threads>(
     rt: &R,
     alloc: Global,
@@ -89,7 +91,7 @@ fn take_lines<R: Threads>(
     }
 }
 
-/// Takes the whole lines of what is held, of which the first `before` octets have no 0A.
+/// Takes the whole lines of the held octets, the first `before` of which have no 0A.
 fn take_ended<R: Threads>(
     rt: &R,
     alloc: Global,
@@ -117,7 +119,8 @@ fn take_ended<R: Threads>(
     }
 }
 
-/// The same. At `Ok` one line is begun, and it and the input are within their limits.
+/// Takes the whole lines of the held octets, the first `before` of which have no 0A. After `Ok` the beginning of one line is held,
+/// and the line and the input are within their limits. Fails with `Long` otherwise.
 fn take_whole<R: Threads>(
     rt: &R,
     alloc: Global,
@@ -141,7 +144,7 @@ fn take_whole<R: Threads>(
     Ok(())
 }
 
-/// Takes what stands behind the last 0A, the last line if there is any.
+/// Takes the octets after the last 0A, the last line if there are any.
 fn take_rest(alloc: Global, known: &mut Known, rest: &[u8]) -> Ending
     requires { known.old.lines < 2 ^ 32 }
     ensures ends { EndsWith known.old rest.now known.new result }
@@ -157,7 +160,7 @@ fn take_rest(alloc: Global, known: &mut Known, rest: &[u8]) -> Ending
     }
 }
 
-/// Reads piece after piece, and takes what each line declares. Two threads read the lines of a large piece.
+/// Reads piece after piece, and takes the declaration of each line. Two threads read the lines of a large piece.
 pub fn read_all<R: Threads, S: Source>(
     rt: &R,
     alloc: Global,

@@ -1,4 +1,4 @@
--- Where the taking of lines ends.
+-- The end of the taking of lines.
 use Rattle.std.proofs.Common.{◌≡◌, ℕ, ◌+◌, ◌<◌, ◌≤◌, true, false, List, [], ◌∷◌, ◌++◌, length, length-append, Option, Some, None, refl, ap, sym, ◌∙◌, subst, append_assoc, arith}
 use Rattle.std.specs.Prelude.{IfSome}
 use Rattle.std.specs.Io.KnownBytes.{Consumes, Appends, IsAtEnd, prepend_known}
@@ -120,7 +120,7 @@ module _ {T : Type 0} (rules : Rules T) (new : T) (left front before now : Optio
       → Reaches rules new input (line ∷ c.more) s.text taker
   reaches octets taker s b input line c = record { first = s.first; lines_are = c.is; short = c.short; runs = s.runs }
 
-  -- one line more is taken
+  -- one more line is taken
   reaches-next : (octets : ℕ) (taker : T) (s : Standing rules new left front before now octets taker) (b : Option (List ℕ)) (input line written : List ℕ) (after : T) (c : Coming b input s.first line)
       → rules.takes taker line written after → Reaches rules new input c.more (s.text ++ written) after
   reaches-next octets taker s b input line written after c takes = record {

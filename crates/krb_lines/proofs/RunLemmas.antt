@@ -1,11 +1,11 @@
--- What one line more does to a run.
+-- A run after one more line.
 use Rattle.std.proofs.Common.{◌≡◌, ℕ, ◌+◌, false, List, [], ◌∷◌, ◌++◌, length, refl, ap, sym, ◌∙◌, subst, append_assoc, arith}
 use Rattle.std.proofs.lemmas.List.{append-nil}
 use Rattle.krb_text.specs.Limits.{is_long}
 use Rattle.krb_lines.specs.Answering.{octet_count, AreShort, Runs}
 use Rattle.krb_lines.specs.Rules.{Rules}
 
--- one line more after those that were taken
+-- one more line after those that were taken
 pub runs_push : {T : Type 0} (rules : Rules T) (before : T) (lines : List (List ℕ)) (text : List ℕ) (now : T) (line own : List ℕ) (after : T) → Runs rules before lines text now
     → rules.takes now line own after → Runs rules before (lines ++ line ∷ []) (text ++ own) after
 runs_push {T} rules before [] text now line own after r t = record {

@@ -1,4 +1,4 @@
--- What has been read and written between two lines.
+-- The octets that were read and the text that was written between two lines.
 use Rattle.std.proofs.Common.{◌≡◌, ℕ, ◌+◌, ◌<◌, ◌≤◌, min, true, false, List, [], ◌∷◌, ◌++◌, length, length-append, Option, Some, None, refl, ap, sym, ◌∙◌, subst, append_assoc, arith}
 use Rattle.std.specs.Prelude.{◌==◌}
 use Rattle.std.specs.Io.KnownBytes.{Consumes, Appends, prepend_known}
@@ -58,7 +58,7 @@ standing-first rules new left before reader r none =
 pub short-line : (total at : ℕ) (line : List ℕ) → length line ≤ max_line → min (at + length line + 1) total ≤ max_input → is_long total at line ≡ false
 short-line total at line l t = rw (le-ltb max_line (length line) l, le-ltb max_input (min (at + length line + 1) total) t) refl
 
--- one whole line more is answered
+-- one more whole line is answered
 pub standing-line : {T : Type 0} (rules : Rules T) (new : T) (left front before between now after_front : Option (List ℕ)) (old reader : Reader) (a b : Option (List ℕ)) (taker after : T) (line written : List ℕ)
     → front ≡ ahead old a → after_front ≡ ahead reader b → Standing rules new left front before between old.cutting.taken taker → TakesLine old reader a b line
     → rules.takes taker line written after → rules.lines after ≤ rules.lines taker + 1 → Appends between now written → Standing rules new left after_front before now reader.cutting.taken after

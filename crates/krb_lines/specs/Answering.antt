@@ -1,4 +1,4 @@
--- How a call of `serve_lines` ends, and what it has read and written then.
+-- The end of a call of `serve_lines`, and the octets that it has read and written then.
 use Rattle.std.specs.Prelude.{◌≡◌, ◌≤◌, ◌+◌, ℕ, false, true, List, [], ◌∷◌, ◌++◌, length, Option, Some, IfSome}
 use Rattle.std.specs.Io.KnownBytes.{Appends, Consumes}
 use Rattle.krb_text.specs.Limits.{max_line, max_input, is_long}
@@ -105,7 +105,7 @@ pub record EndsUnwritten {T : Type 0} (rules : Rules T) (new : T) (input text : 
   pub is : IsWholeText rules new input status whole
   pub front : IsFront text whole
 
--- what may have been taken and written of this input, by the status
+-- the octets taken of this input and the text written for it, by the status
 abbrev pub Written : {T : Type 0} → Rules T → T → List ℕ → List ℕ → Status → List ℕ → Type 0
 Written rules new input taken Done written = EndsDone rules new input written × (taken ≡ input)
 Written rules new input taken BadLine written = EndsBad rules new input written
@@ -119,7 +119,8 @@ Written rules new input taken BadWords written = (taken ≡ []) × (written ≡ 
 abbrev pub IsTaken : List ℕ → Option (List ℕ) → List ℕ → Type 0
 IsTaken input left_after taken = Consumes (Some input) left_after taken × (length taken ≤ max_input + 1)
 
--- of the input that the source had left, a front is taken, and the sink has taken what the status says, if they tell
+-- a front of the input that the source had left is taken, and the sink has taken the text that the status allows, if the octets
+-- of both are known
 abbrev pub AnswersLines : {T : Type 0} → Rules T → T → Option (List ℕ) → Option (List ℕ) → Option (List ℕ) → Option (List ℕ) → Status → Type 0
 AnswersLines rules new left left_after before after status =
     IfSome left (λ input. (taken written : List ℕ) × IsTaken input left_after taken × Appends before after written × Written rules new input taken status written)

@@ -1,4 +1,4 @@
--- Where the taking of lines ends, what it has read and written then, and the last line.
+-- The end of the taking of lines, the octets that it has read and written then, and the last line.
 use Rattle.std.specs.Prelude.{◌≡◌, ◌+◌, ℕ, false, List, [], ◌∷◌, Option, IfSome, length, if◌then◌else◌}
 use Rattle.std.specs.Io.KnownBytes.{Appends}
 use Rattle.krb_text.specs.Limits.{is_long}

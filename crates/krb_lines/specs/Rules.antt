@@ -1,8 +1,9 @@
--- How lines are taken.
+-- The rules by which lines are taken.
 use Rattle.std.specs.Prelude.{◌≡◌, ℕ, Bool, List}
 
--- a line is taken: this text is written for it, and this is known then; a line is bad; how many lines were taken, and how many
--- replies written; whether the input may end here, and the last line if it does
+-- `takes`: a line is taken, with the text that is written for it and the state after it; `refuses`: a line is bad; `lines`: how
+-- many lines were taken; `answered`: how many replies were written; `can_end`: whether the input may end here; `end_line`: the
+-- last line if it does
 pub record Rules (T : Type 0) : Type 1 where
   pub takes : T → List ℕ → List ℕ → T → Type 0
   pub refuses : T → List ℕ → Type 0

@@ -9,7 +9,8 @@ use arrayvec::ArrayString;
 use itoa::Buffer;
 use krb_text::Status;
 
-/// A word of at most 16 octets, which brings its space, a number and 0A: `bad line 3`, `long line 3` or `stopped 3`.
+/// Returns a line of a word of at most 16 bytes, which ends with its own space, a number and 0A: `bad line 3`, `long line 3` or
+/// `stopped 3`.
 pub fn numbered_line(word: &str, number: u64) -> ArrayString<ROOM>
     requires { length word.now ≤ 16 }
     ensures { result.bytes ≡ word.now ++ decimal number ++ codes "\n" }
@@ -22,7 +23,7 @@ pub fn numbered_line(word: &str, number: u64) -> ArrayString<ROOM>
     line
 }
 
-/// The last line of a taker that halts.
+/// Returns the last line of a taker that halts.
 pub(crate) fn closing<T: LineTaker>(taker: &T, halt: Halt) -> ArrayString<ROOM>
     requires { T.rules.lines taker.now < 2 ^ 32 }
     ensures { result.bytes ≡ closing T.rules taker.now halt }
@@ -36,7 +37,7 @@ pub(crate) fn closing<T: LineTaker>(taker: &T, halt: Halt) -> ArrayString<ROOM>
     }
 }
 
-/// The status of a taker that halts.
+/// Returns the status of a taker that halts.
 pub(crate) fn status_at<T: LineTaker>(taker: &T, halt: Halt) -> Status
     ensures status { result ≡ status_at T.rules taker.now halt }
     ensures words { result ≢ Status.BadWords }

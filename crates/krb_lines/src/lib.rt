@@ -1,9 +1,9 @@
 //! A server over lines of text.
 //!
-//! [`serve_lines`] reads an input line by line, hands each line to a [`LineTaker`], and writes the text that the taker makes of it
-//! before it reads on. It ends with one last line and a status, which the taker's counts say.
+//! [`serve_lines`] reads an input line by line, passes each line to a [`LineTaker`], and writes the text that the taker makes of it
+//! before it reads on. It ends with one last line and a status, which follow from the taker's counts.
 //!
-//! How a call ends, and what it has written then, is its contract: `specs/Answering.antt` has a line for each status.
+//! The contract says how a call ends, and what it has written then: `specs/Answering.antt` has a line for each status.
 #![tactic(auto)]
 
 mod closing;

@@ -108,7 +108,7 @@ pub fn serve_lines<T: LineTaker, S: Source, K: Sink>(
     ensures read_still { result ≢ Status.ReadFault → S.faults source.new ≡ S.faults source.old }
     ensures write_still { result ≢ Status.WriteFault → K.faults sink.new ≡ K.faults sink.old }
 
-    // What is taken of the input that the source had left, and what is written for it, by the status.
+    // The octets taken of the input that the source had left, and the text written for it, by the status.
     ensures text { AnswersLines T.rules taker.old (S.left source.old) (S.left source.new) (K.taken sink.old) (K.taken sink.new) result }
 {
     let mut reader = LineReader::new(alloc);

@@ -1,4 +1,4 @@
-//! What takes lines.
+//! A taker of lines.
 
 ghost use Rattle.std.specs.Prelude.{◌≡◌, ◌<◌, ◌≤◌, ◌+◌, ◌^◌, MatchResult, OnOk, OnErr, string_bytes};
 ghost use Rattle.krb_lines.specs.Rules.{Rules, AreCountsOf};
@@ -20,13 +20,13 @@ pub enum LineError {
 
 /// Takes an input line by line.
 pub trait LineTaker {
-    /// What is written for a line, which lines are bad, what is counted, and the last line.
+    /// The rules: the text that is written for a line, the lines that are bad, the counts, and the last line.
     ghost rules: { Rules Self };
 
-    /// What holds between two lines.
+    /// A condition that holds between two lines.
     ghost is_ready: { Self → Type 0 };
 
-    /// Takes one line more, and returns the text that is written for it. At an error the counts are as before.
+    /// Takes one more line, and returns the text that is written for it. After an error the counts are unchanged.
     fn take_line(&mut self, alloc: Global, line: &[u8]) -> Result<String, LineError>
         requires few { rules.lines self.old < 2 ^ 32 }
         requires ready { is_ready self.old }
@@ -37,19 +37,19 @@ pub trait LineTaker {
         ensures lines { rules.lines self.new ≤ rules.lines self.old + 1 }
         ensures again { OnOk result (is_ready self.new) };
 
-    /// How many lines were taken.
+    /// Returns how many lines were taken.
     fn lines(&self) -> u64
         ensures { result ≡ rules.lines self.now };
 
-    /// How many replies were written.
+    /// Returns how many replies were written.
     fn answered(&self) -> u64
         ensures { result ≡ rules.answered self.now };
 
-    /// Whether the input may end here.
+    /// Returns whether the input may end here.
     fn can_end(&self) -> bool
         ensures { result ≡ rules.can_end self.now };
 
-    /// The last line if the input ends here.
+    /// Returns the last line if the input ends here.
     fn end_line(&self) -> ArrayString<ROOM>
         ensures { result.bytes ≡ rules.end_line self.now };
 }

@@ -1,4 +1,4 @@
--- What is sealed to a key is found in one way.
+-- A text that is sealed to a key has one plain text.
 use Rattle.std.proofs.Common.{◌≡◌, ℕ, Bool, true, false, List, Result, ap}
 use Rattle.std.specs.Prelude.{◌&&◌}
 use Rattle.krb_der.specs.Layout.{Layout}

@@ -1,4 +1,4 @@
--- What a public call tells of its checks.
+-- The result of a public call, from the answer of its checks.
 use Rattle.std.proofs.Common.{◌≡◌, Result, ap, ◌∙◌}
 use Rattle.sspi_core.specs.declared.cause.Cause.{Cause}
 use Rattle.sspi_core.specs.declared.error.Error.{Error}

@@ -1,4 +1,4 @@
--- What a service answers: an AP-REP (RFC 4120, section 5.5.2), and a KRB-PRIV with the result of a change of a password
+-- The answers of a service: an AP-REP (RFC 4120, section 5.5.2), and a KRB-PRIV with the result of a change of a password
 -- (RFC 3244, section 2).
 use Rattle.std.specs.Prelude.{ℕ, ◌+◌, ◌*◌, List, [], ◌∷◌, Option, Some, None, Result, option_map}
 use Rattle.krb_crypto.specs.declared.suite.CipherSuite.{CipherSuite}
@@ -29,7 +29,7 @@ TellsSubKey suite key ap_rep = do
   part ← OpensApRep suite key ap_rep
   Takes NoSubKey (option_map (λ (subkey : EncryptionKey). subkey.key_value) part.subkey)
 
--- the suite that was chosen, else that of the sealed part
+-- the suite that was chosen, otherwise that of the encrypted part
 abbrev pub suite_or : Option CipherSuite → List ℕ → Option CipherSuite
 suite_or None etype = suite_of_integer etype
 suite_or (Some suite) etype = Some suite

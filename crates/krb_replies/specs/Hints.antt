@@ -1,4 +1,4 @@
--- The ETYPE-INFO2 of a KDC, which tells the client's encryption types and salts (RFC 4120, section 5.2.7.5).
+-- The ETYPE-INFO2 of a KDC, which lists the client's encryption types and salts (RFC 4120, section 5.2.7.5).
 use Rattle.std.specs.Prelude.{◌≡◌, ◌==◌, List, [], ◌∷◌, Option, Some, None}
 use Rattle.std.specs.List.{find}
 use Rattle.std.specs.Cmp.Lexicographic.{pointwise}

@@ -38,7 +38,7 @@ abbrev pub HasSuite : Bool → CipherSuite → List ℕ → Result CipherSuite C
 HasSuite false suite key_type answer = Gives suite answer
 HasSuite true suite key_type answer = Takes Etype (suite_of_integer key_type) answer
 
--- what is sealed beside the key
+-- the facts that are encrypted next to the key
 abbrev pub facts_in : EncKdcRepPart → ReplyFacts
 facts_in part = record {
   nonce = part.nonce;

@@ -1,4 +1,4 @@
--- The encryption type and the salt of a client's key, as a KDC tells them (RFC 4120, sections 3.1.3, 5.2.7.5 and 5.9.1).
+-- The encryption type and the salt of a client's key, as a KDC names them (RFC 4120, sections 3.1.3, 5.2.7.5 and 5.9.1).
 use Rattle.std.specs.Prelude.{◌≡◌, ℕ, List, [], ◌∷◌, Option, Some, None, Result, Ok, Err, unwrap_or}
 use Rattle.krb_der.specs.Layout.{items_layout}
 use Rattle.krb_crypto.specs.Suite.{suite_number}

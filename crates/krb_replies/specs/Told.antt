@@ -1,4 +1,4 @@
--- Further words for ordered checks: a computed answer, and what a public call tells of its checks.
+-- More relations of ordered checks: a computed answer, and the result of a public call from the answer of its checks.
 use Rattle.std.specs.Prelude.{◌≡◌, Result, Err}
 use Rattle.sspi_core.specs.declared.cause.Cause.{Cause}
 use Rattle.sspi_core.specs.declared.cause.Cause.TheVariants.{Memory}
@@ -11,6 +11,6 @@ use Rattle.sspi_core.specs.Kinds.{error_of}
 pub record Hands {A : Type 0} (outcome : Result A Cause) (answer : Result A Cause) : Type 0 where
   pub is : answer ≡ outcome
 
--- what a call answers is what the checks answer, each refusal with the kind of its cause, unless memory runs out
+-- The result of a call is the answer of the checks, each refusal with the kind of its cause, unless memory runs out.
 pub record Tells {A : Type 0} (checks : Result A Cause → Type 0) (result : Result A Error) : Type 0 where
   pub so : (result ≡ Err (error_of Memory) → ⊥) → (answer : Result A Cause) × checks answer × (result ≡ told Elsewhere answer)

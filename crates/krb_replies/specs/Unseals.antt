@@ -1,5 +1,5 @@
--- What is sealed to a key, and the record in it (RFC 4120, sections 3.1.5, 3.2.3, 3.2.5 and 3.3.4). Nothing here decrypts: a text is
--- opened as the one that is sealed to it.
+-- The plain text that is sealed to a key, and the record in it (RFC 4120, sections 3.1.5, 3.2.3, 3.2.5 and 3.3.4). Nothing here
+-- decrypts: a text is opened as the one that is sealed to it.
 use Rattle.std.specs.Prelude.{ℕ, nat_le, ◌==◌, List, length, Option, Result}
 use Rattle.krb_der.specs.Integer.{integer_value}
 use Rattle.krb_der.specs.Schema.{Spells}

@@ -1,4 +1,4 @@
-//! What is sealed in a reply of a KDC beside the key, and whether it answers the request (RFC 4120, sections 3.1.5, 3.3.4 and 5.4.2).
+//! The encrypted part of a KDC's reply besides the key, and checks against the request (RFC 4120, sections 3.1.5, 3.3.4 and 5.4.2).
 
 ghost use Rattle.std.specs.Prelude.{◌≡◌};
 ghost use Rattle.krb_replies.specs.Fresh.{is_number, has_value, repeats_nonce, is_valid_at};
@@ -7,23 +7,23 @@ use krb_der::{Bits, IntegerAsn1, Name, Time};
 use krb_messages::PrincipalName;
 use krb_replay::is_later;
 
-/// How far the clocks of a client and of a KDC may differ, in seconds.
+/// The largest difference between the clocks of a client and of a KDC, in seconds.
 const GRACE: u32 = 300;
 
-/// What is sealed in a reply of a KDC beside the key of its ticket (RFC 4120, section 5.4.2).
+/// The encrypted part of a KDC's reply besides the key of its ticket (RFC 4120, section 5.4.2).
 #[derive(Drop)]
 pub struct ReplyFacts {
-    /// The number of the request that is answered.
+    /// The nonce of the request that is answered.
     pub nonce: IntegerAsn1,
     /// The flags of the ticket (RFC 4120, section 5.3).
     pub flags: Bits,
-    /// When the client was first authenticated.
+    /// The time at which the client was first authenticated.
     pub authtime: Time,
-    /// From when the ticket is valid, where that is not `authtime`.
+    /// The time from which the ticket is valid, if that is not `authtime`.
     pub starttime: Option<Time>,
-    /// Until when it is valid.
+    /// The time until which the ticket is valid.
     pub endtime: Time,
-    /// Until when it may be renewed.
+    /// The time until which the ticket may be renewed.
     pub renew_till: Option<Time>,
     /// The realm of the service.
     pub srealm: Name,
@@ -31,15 +31,15 @@ pub struct ReplyFacts {
     pub sname: PrincipalName,
 }
 
-/// Whether an INTEGER is this number, in any spelling.
+/// Returns whether an INTEGER is this number, in any spelling.
 pub fn is_number(octets: &IntegerAsn1, number: i64) -> bool
     ensures { result ≡ is_number octets.now number }
 {
     octets.value() == Some(number)
 }
 
-/// Whether an INTEGER is this number, in any spelling, or the number less 2^32, as which its four octets are read where the first bit is
-/// set.
+/// Returns whether an INTEGER is this number, in any spelling, or the number less 2^32: its four octets are read as that if the
+/// first bit is set.
 pub fn has_value(number: u32, octets: &IntegerAsn1) -> bool
     ensures { result ≡ has_value number octets.now }
 {
@@ -48,7 +48,7 @@ pub fn has_value(number: u32, octets: &IntegerAsn1) -> bool
 }
 
 impl ReplyFacts {
-    /// Whether the reply has the nonce of a request, whose four octets these are, by its value.
+    /// Returns whether the reply has the nonce of a request, by its value. `asked` is the four octets of that nonce.
     pub fn repeats_nonce(&self, asked: &IntegerAsn1) -> bool
         ensures { result ≡ repeats_nonce asked.now self.now }
     {
@@ -58,7 +58,7 @@ impl ReplyFacts {
         }
     }
 
-    /// Whether the ticket is valid at this moment, in microseconds since 1970, give or take 300 seconds.
+    /// Returns whether the ticket is valid at this moment, in microseconds since 1970, give or take 300 seconds.
     pub fn is_valid_at(&self, moment: u64) -> bool
         ensures { result ≡ is_valid_at moment self.now }
     {

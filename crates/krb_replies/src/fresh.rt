@@ -1,4 +1,4 @@
-//! Whether a reply of a KDC answers the request of this exchange (RFC 4120, sections 3.1.5 and 3.3.4).
+//! Checks that a reply of a KDC answers the request of this exchange (RFC 4120, sections 3.1.5 and 3.3.4).
 
 ghost use Rattle.sspi_core.specs.declared.cause.Cause.TheVariants as causes;
 ghost use Rattle.sspi_core.specs.Checks.{Holds};
@@ -52,10 +52,10 @@ fn check_by(
     }
 }
 
-/// Checks that a reply answers its request at this moment, in microseconds since 1970, where that is a rule: whether it repeats the nonce
-/// and whether it has the names was found before.
+/// Checks that a reply answers its request at this moment, in microseconds since 1970, if that is a rule. The caller has compared
+/// before: `repeats` if the reply repeats the nonce, `names` if it has the names.
 ///
-/// Refused as `Nonce`, as `ReplyNames` and as `ReplyTime`, in this order: the last where its ticket is not valid, give or take 300 seconds.
+/// Fails with `Nonce`, `ReplyNames` and `ReplyTime`, in this order: the last if the ticket is not valid, give or take 300 seconds.
 pub fn check_answer(
     rules: Rules,
     repeats: bool,

@@ -15,7 +15,7 @@ use std::alloc::Global;
 /// The type of an ETYPE-INFO2, 19, by the octets of its INTEGER (RFC 4120, section 5.2.7).
 const ETYPE_INFO2: [u8; 1] = [0x13];
 
-/// The first ETYPE-INFO2 among elements of pre-authentication.
+/// Returns the first ETYPE-INFO2 among elements of pre-authentication.
 fn etype_info2(elements: &[PaData]) -> Option<&PaData>
     ensures { option_copied result ≡ etype_info2 elements.entry.now }
 {
@@ -27,7 +27,7 @@ fn etype_info2(elements: &[PaData]) -> Option<&PaData>
     None
 }
 
-/// Its entries.
+/// Returns the entries of an ETYPE-INFO2, None if there is none.
 pub(crate) fn entries_in(
     alloc: Global,
     elements: &[PaData],

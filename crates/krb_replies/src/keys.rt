@@ -1,4 +1,4 @@
-//! The keys that replies of a KDC bring.
+//! The keys in the replies of a KDC.
 
 ghost use Rattle.std.specs.Prelude.{◌≡◌, ◌&&◌, true};
 ghost use Rattle.sspi_core.specs.declared.cause.Cause.TheVariants as causes;
@@ -20,7 +20,7 @@ use krb_messages::constants::{AS_REP_USAGE, TGS_REP_USAGE};
 use sspi_core::{Cause, Error, Secret, take};
 use std::alloc::Global;
 
-/// The key that a reply of a KDC brings, and what is sealed in the reply beside it.
+/// The key in a reply of a KDC, and the rest of the reply's encrypted part.
 #[derive(Drop)]
 pub struct ReplyKey {
     /// The suite of the key.
@@ -42,14 +42,14 @@ fn is_tagged_26(plain: &Octets) -> bool
     }
 }
 
-/// Whether a plain text is read by the tag of an EncTGSRepPart.
+/// Returns whether a plain text is to be read by the tag of an EncTGSRepPart.
 fn is_allowed_tag(rules: Rules, plain: &Octets) -> bool
     ensures { result ≡ (has_rule rules as_rep_tagged_26 && is_tagged_26 plain.now) }
 {
     rules.has(Rules::AS_REP_TAGGED_26) && is_tagged_26(plain)
 }
 
-/// The fields of an EncTGSRepPart as those of an EncASRepPart.
+/// Reads the fields of an EncTGSRepPart as those of an EncASRepPart.
 fn read_tagged_26(alloc: Global, plain: &Octets) -> Result<EncAsRepPart, Cause>
     ensures { Answers (Finds causes.Inner (IsFirstPart true plain.now)) result }
 {
@@ -68,7 +68,7 @@ fn read_first(alloc: Global, is_tagged: bool, plain: &Octets) -> Result<EncAsRep
     }
 }
 
-/// What an AS-REP seals, by its tag.
+/// Reads the plain text of an AS-REP, by its tag.
 fn first_part(alloc: Global, rules: Rules, plain: &Octets) -> Result<EncAsRepPart, Cause>
     ensures { let is_tagged = has_rule rules as_rep_tagged_26 && is_tagged_26 plain.now in
         Answers (Finds causes.Inner (IsFirstPart is_tagged plain.now)) result }
@@ -100,7 +100,7 @@ fn suite_by(is_own: bool, suite: CipherSuite, key_type: &IntegerAsn1) -> Result<
     }
 }
 
-/// The suite of a key: the one that is handed in, or, where each key goes by its own, the one that its type names.
+/// Returns the suite of a key: `suite`, or, under the rule that each key goes by its own suite, the one that its type names.
 fn suite_of_key(
     rules: Rules,
     suite: CipherSuite,
@@ -112,7 +112,7 @@ fn suite_of_key(
     suite_by(is_own, suite, key_type)
 }
 
-/// The key in this suite, and all else of the part.
+/// Returns the key in this suite, with the rest of the part.
 fn key_in(suite: CipherSuite, part: EncKdcRepPart) -> ReplyKey
     ensures { result ≡ key_in suite part }
 {
@@ -133,7 +133,7 @@ fn key_in(suite: CipherSuite, part: EncKdcRepPart) -> ReplyKey
     }
 }
 
-/// The key in its suite.
+/// Returns the key in its suite.
 fn taken_key(rules: Rules, suite: CipherSuite, part: EncKdcRepPart) -> Result<ReplyKey, Cause>
     ensures { Answers (TakesKey rules suite part) result }
 {
@@ -141,8 +141,8 @@ fn taken_key(rules: Rules, suite: CipherSuite, part: EncKdcRepPart) -> Result<Re
     Ok(key_in(own, part))
 }
 
-/// The key that an AS-REP brings, as a chain of checks. What it seals may have application tag 26 where that is allowed, and the key goes
-/// by its own suite where that is.
+/// Returns the key in an AS-REP, as a chain of checks. The plain text may have application tag 26 if a rule allows that, and the
+/// key goes by its own suite if a rule says so.
 pub fn key_in_as_rep(
     alloc: Global,
     rules: Rules,
@@ -158,7 +158,7 @@ pub fn key_in_as_rep(
     taken_key(rules, suite, part)
 }
 
-/// The key that a TGS-REP brings, in the same way.
+/// Returns the key in a TGS-REP, as a chain of checks. The key goes by its own suite if a rule says so.
 pub fn key_in_tgs_rep(
     alloc: Global,
     rules: Rules,
@@ -174,7 +174,7 @@ pub fn key_in_tgs_rep(
     taken_key(rules, suite, part)
 }
 
-/// The octets of the key that an AS-REP brings, without rules.
+/// Returns the octets of the key in an AS-REP, without rules.
 fn session_key_in_as_rep(
     alloc: Global,
     suite: CipherSuite,
@@ -188,7 +188,7 @@ fn session_key_in_as_rep(
     Ok(brought.key)
 }
 
-/// The same of a TGS-REP.
+/// Returns the octets of the key in a TGS-REP, without rules.
 fn session_key_in_tgs_rep(
     alloc: Global,
     suite: CipherSuite,
@@ -202,11 +202,11 @@ fn session_key_in_tgs_rep(
     Ok(brought.key)
 }
 
-/// The session key of the ticket in an AS-REP, which is sealed under the key of this password and salt, in the parameters'
-/// suite (AES-256 where there is none), with usage 3 (RFC 4120, section 3.1.5).
+/// Returns the session key of the ticket in an AS-REP. The AS-REP is encrypted under the key of this password and salt, in the
+/// parameters' suite (AES-256 if they have none), with usage 3 (RFC 4120, section 3.1.5).
 ///
-/// Refused as DecryptFailure Short where the sealed part has under 28 octets, as MessageAltered Altered where nothing is
-/// sealed to it under that key, as InvalidToken Inner where what is sealed is no EncASRepPart.
+/// Fails with DecryptFailure Short if the encrypted part has under 28 octets, with MessageAltered Altered if it does not decrypt
+/// under that key, with InvalidToken Inner if its plain text is no EncASRepPart.
 #[tactic(auto, using(crate::proofs::Telling::tells))]
 pub fn extract_session_key_from_as_rep(
     alloc: Global,
@@ -223,8 +223,8 @@ pub fn extract_session_key_from_as_rep(
     tell(session_key_in_as_rep(alloc, suite, key.as_slice(), as_rep))
 }
 
-/// The same under a key of the caller's. Refused first as InvalidParameter KeyLength where that key has not the length of
-/// the suite's keys.
+/// Returns the session key of the ticket in an AS-REP that is encrypted under `key`. Fails with InvalidParameter KeyLength if the
+/// key has not the length of the suite's keys, then as `extract_session_key_from_as_rep`.
 #[tactic(auto, using(crate::proofs::Telling::tells))]
 pub fn extract_session_key_from_as_rep_with_key(
     alloc: Global,
@@ -237,11 +237,10 @@ pub fn extract_session_key_from_as_rep_with_key(
     tell(session_key_in_as_rep(alloc, enc_params.suite(), key, as_rep))
 }
 
-/// The session key of the ticket in a TGS-REP, which is sealed under the session key of the ticket that was shown, in the
-/// parameters' suite (AES-256 where there is none), with usage 8 (RFC 4120, section 3.3.4).
+/// Returns the session key of the ticket in a TGS-REP. The TGS-REP is encrypted under the session key of the ticket that was
+/// shown, in the parameters' suite (AES-256 if they have none), with usage 8 (RFC 4120, section 3.3.4).
 ///
-/// Refused as DecryptFailure Reply where nothing is sealed to it so, as InvalidToken Inner where what is sealed is no
-/// EncTGSRepPart.
+/// Fails with DecryptFailure Reply if it does not decrypt so, with InvalidToken Inner if its plain text is no EncTGSRepPart.
 #[tactic(auto, using(crate::proofs::Telling::tells))]
 pub fn extract_session_key_from_tgs_rep(
     alloc: Global,

@@ -1,9 +1,10 @@
-//! What a client takes from the answers that it gets: keys, salts, numbers, tickets.
+//! Readers of the answers that a client gets: keys, salts, numbers, tickets.
 //!
 //! Each call is a chain of ordered checks in `specs/`, one function a check: `Keys` for the keys in the replies of a KDC
-//! (RFC 4120, sections 3.1.5 and 3.3.4), `Salts` for the salts that it tells (section 5.2.7.5), `Answered` for what a service
-//! answers (section 5.5.2; RFC 3244, section 2), `Tickets` for the ticket of user-to-user, `Realms` for referrals (RFC 6806,
-//! section 8), `Fresh` for what ties a reply to its request (RFC 4120, sections 3.1.5 and 3.3.4). What is sealed is told by 'is sealed' alone: nothing in `specs/` decrypts.
+//! (RFC 4120, sections 3.1.5 and 3.3.4), `Salts` for the salts that a KDC names (section 5.2.7.5), `Answered` for the answers of a
+//! service (section 5.5.2; RFC 3244, section 2), `Tickets` for the ticket of user-to-user, `Realms` for referrals (RFC 6806,
+//! section 8), `Fresh` for the checks of a reply against its request (RFC 4120, sections 3.1.5 and 3.3.4). `specs/` speaks of
+//! encrypted parts by 'is sealed' alone: nothing in `specs/` decrypts.
 #![tactic(auto)]
 
 mod answered;

@@ -10,8 +10,8 @@ use krb_messages::PrincipalName;
 /// The service of a KDC, in letters of either case (RFC 4120, section 7.3).
 const KRBTGT: [u8; 6] = *b"krbtgt";
 
-/// The realm that a KDC refers to, by the name of the ticket that it gave (RFC 6806, section 8): the second of two
-/// components where the first is `krbtgt`, the case of letters ignored; else None.
+/// Returns the realm that a KDC refers to, by the name of the ticket that it gave (RFC 6806, section 8): the second of two
+/// components if the first is `krbtgt`, the case of letters ignored; otherwise None.
 #[tactic(auto, unfolding(crate::specs::Realms::referral_realm))]
 pub fn referral_target_realm(sname: &PrincipalName) -> Option<&Name>
     ensures { option_copied result ≡ referral_realm sname.entry.now }

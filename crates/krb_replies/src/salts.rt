@@ -1,4 +1,4 @@
-//! The encryption type and the salt of a client's key, as a KDC tells them.
+//! The encryption type and the salt of a client's key, as a KDC names them.
 
 ghost use Rattle.std.specs.Prelude.{◌≡◌, IfOk, unwrap_or, []};
 ghost use Rattle.sspi_core.specs.declared.cause.Cause.TheVariants as causes;
@@ -25,14 +25,14 @@ fn hints_in(alloc: Global, e_data: &Option<Octets>) -> Result<Items<PaData>, Cau
     }
 }
 
-/// A name as a text.
+/// Returns a name as a text.
 fn text_of(alloc: Global, name: &Name) -> Result<Text, OutOfMemory>
     ensures { IfOk result (λ text. text ≡ name.now) }
 {
     Text::from_str(alloc, name.as_str())
 }
 
-/// The salt of the first entry.
+/// Returns the salt of the first entry.
 fn first_salt(
     alloc: Global,
     entries: &Option<Items<EtypeInfo2Entry>>,
@@ -51,7 +51,7 @@ fn first_salt(
     }
 }
 
-/// The salt that an error names, as a chain of checks.
+/// Returns the salt that an error names, as a chain of checks.
 pub fn named_salt(alloc: Global, error: &KrbError) -> Result<Option<Text>, Cause>
     ensures { Answers (NamesSalt error.now) result }
 {
@@ -60,9 +60,9 @@ pub fn named_salt(alloc: Global, error: &KrbError) -> Result<Option<Text>, Cause
     first_salt(alloc, &entries)
 }
 
-/// The salt that a KRB-ERROR names: of the first entry of the first ETYPE-INFO2 in its `e-data`; None where there is none of
-/// these, or no salt in the entry. Refused as InvalidToken Shape where the `e-data` is no SEQUENCE OF PA-DATA, or its
-/// ETYPE-INFO2 none of entries (RFC 4120, sections 5.2.7.5 and 5.9.1).
+/// Returns the salt that a KRB-ERROR names: of the first entry of the first ETYPE-INFO2 in its `e-data`; None if there is none of
+/// these, or no salt in the entry. Fails with InvalidToken Shape if the `e-data` is no SEQUENCE OF PA-DATA, or its ETYPE-INFO2
+/// none of entries (RFC 4120, sections 5.2.7.5 and 5.9.1).
 #[tactic(auto, using(crate::proofs::Telling::tells))]
 pub fn extract_salt_from_krb_error(alloc: Global, error: &KrbError) -> Result<Option<Text>, Error>
     ensures { Tells (NamesSalt error.now) result }
@@ -70,7 +70,7 @@ pub fn extract_salt_from_krb_error(alloc: Global, error: &KrbError) -> Result<Op
     tell(named_salt(alloc, error))
 }
 
-/// The suite of the first entry, where it is known.
+/// Returns the suite of the first entry, if it is known.
 fn first_suite(entries: &Option<Items<EtypeInfo2Entry>>) -> Result<Option<CipherSuite>, Cause>
     ensures { Gives (first_suite entries.now) result }
 {
@@ -83,8 +83,8 @@ fn first_suite(entries: &Option<Items<EtypeInfo2Entry>>) -> Result<Option<Cipher
     }
 }
 
-/// The suite that an error names: of the first entry of the first ETYPE-INFO2 in its `e-data`, where it is known. Refused as `named_salt`
-/// refuses.
+/// Returns the suite that an error names: of the first entry of the first ETYPE-INFO2 in its `e-data`, if it is known. Fails as
+/// `named_salt`.
 pub fn named_suite(alloc: Global, error: &KrbError) -> Result<Option<CipherSuite>, Cause>
     ensures { Answers (NamesSuite error.now) result }
 {
@@ -102,7 +102,7 @@ fn elements_of(padata: &Option<Items<PaData>>) -> &[PaData]
     }
 }
 
-/// The type and the salt of the first entry; without an ETYPE-INFO2 those that are handed in.
+/// Returns the type and the salt of the first entry; without an ETYPE-INFO2 `etype` and `used_salt`.
 fn first_hint(
     alloc: Global,
     etype: &IntegerAsn1,
@@ -129,7 +129,7 @@ fn suite_for(etype: &IntegerAsn1) -> Result<CipherSuite, Cause>
     take(suite_of(etype), Cause::Etype)
 }
 
-/// The number of the suite and the salt, as a chain of checks.
+/// Returns the number of the suite and the salt, as a chain of checks.
 pub fn told_etype(alloc: Global, as_rep: &AsRep, used_salt: &str) -> Result<(u8, Text), Cause>
     ensures { Answers (TellsEtype used_salt.now as_rep.now) result }
 {
@@ -139,11 +139,11 @@ pub fn told_etype(alloc: Global, as_rep: &AsRep, used_salt: &str) -> Result<(u8,
     Ok((suite.number(), hint.1))
 }
 
-/// The encryption type, 17 or 18, and the salt of the key that an AS-REP is sealed under: those of the first entry of its
-/// first ETYPE-INFO2; without one the type of its sealed part and the salt that was used (RFC 4120, section 3.1.5).
+/// Returns the encryption type, 17 or 18, and the salt of the key that an AS-REP is encrypted under: those of the first entry of
+/// its first ETYPE-INFO2; without one the type of its encrypted part and the salt that was used (RFC 4120, section 3.1.5).
 ///
-/// Refused as InvalidToken Shape where the ETYPE-INFO2 is none of entries, as InvalidParameter EtypeEntry where it has none,
-/// Salt where its first has no salt, Etype where the type is another.
+/// Fails with InvalidToken Shape if the ETYPE-INFO2 is none of entries, with InvalidParameter EtypeEntry if it has no entry, Salt
+/// if its first entry has no salt, Etype if the type is another.
 #[tactic(auto, using(crate::proofs::Telling::tells))]
 pub fn extract_encryption_params_from_as_rep(
     alloc: Global,

@@ -35,9 +35,9 @@ fn take_ticket(alloc: Global, token: &[u8]) -> Result<Option<(Ticket, Oid<'_>)>,
     ticket_in(alloc, token)
 }
 
-/// The ticket in a framed TGT-REP and the object identifier of its mechanism, which lends from the token; None where the
-/// token is empty (draft-swift-win2k-krb-user2user, section 3). The token id is not compared. Refused as InvalidToken Shape where it is another token, or
-/// has more than 16,777,216 octets.
+/// Returns the ticket in a framed TGT-REP and the object identifier of its mechanism, which borrows from the token; None if the
+/// token is empty (draft-swift-win2k-krb-user2user, section 3). The token id is not compared. Fails with InvalidToken Shape if it
+/// is another token, or has more than 16,777,216 octets.
 #[tactic(auto, using(crate::proofs::Telling::tells))]
 pub fn extract_tgt_ticket_with_oid(
     alloc: Global,

@@ -1,4 +1,4 @@
-//! How long a token of the handshake may be.
+//! The maximum length of a token of the handshake.
 
 ghost use Rattle.std.specs.Prelude.{nat_le, length};
 ghost use Rattle.sspi_core.specs.declared.cause.Cause.TheVariants as causes;
@@ -9,7 +9,7 @@ use sspi_core::{Cause, hold};
 /// The longest token of the handshake, in octets.
 pub const MAX_TOKEN_LEN: usize = 16_777_216;
 
-/// Refused as `Shape` where the token has more octets.
+/// Fails with `Shape` if the token has more octets.
 pub fn check_token_length(token: &[u8]) -> Result<(), Cause>
     ensures { Holds causes.Shape (nat_le (length token.now) 16777216) result }
 {

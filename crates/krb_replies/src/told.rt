@@ -6,7 +6,7 @@ ghost use Rattle.sspi_core.specs.declared.error.Place.TheVariants as places;
 
 use sspi_core::{Cause, Error};
 
-/// The same answer, its refusal with the kind that belongs to the cause.
+/// Returns the answer with its error as that of a public call: the cause, and the kind that belongs to it.
 pub fn tell<T: Drop>(answer: Result<T, Cause>) -> Result<T, Error>
     ensures { result ≡ told places.Elsewhere answer }
 {

@@ -1,4 +1,4 @@
-//! What is sealed to a key, and the record in it.
+//! Decrypts a text under a key, and reads the record in its plain text.
 
 ghost use Rattle.std.specs.Prelude.{◌≡◌, ◌==◌, nat_le, IsTrue, length};
 ghost use Rattle.sspi_core.specs.declared.cause.Cause.TheVariants as causes;
@@ -14,32 +14,32 @@ use krb_messages::EncryptedData;
 use sspi_core::{Cause, hold, take};
 use std::alloc::Global;
 
-/// By which cause a sealed text is refused.
+/// The causes by which an encrypted text is refused.
 #[derive(Clone, Copy, Drop)]
 pub struct Refusals {
     /// The key has not the length of its suite's keys.
     pub key_length: Cause,
     /// The text has under 28 octets, those of a confounder and a checksum.
     pub short: Cause,
-    /// No plain text is sealed to it.
+    /// The text does not decrypt under the key.
     pub altered: Cause,
 }
 
-/// Under a key of the caller's own: each thing that can be wrong has its name.
+/// The causes under a key of the caller's own: each thing that can be wrong has its name.
 pub const OWN_KEY: Refusals = Refusals {
     key_length: Cause::KeyLength,
     short: Cause::Short,
     altered: Cause::Altered,
 };
 
-/// Under a session key that the peer has to know: the reply is not sealed under it.
+/// The causes under a session key that the peer has to know: the reply is not encrypted under it.
 pub const SESSION_KEY: Refusals = Refusals {
     key_length: Cause::Reply,
     short: Cause::Reply,
     altered: Cause::Reply,
 };
 
-/// The suite of an encryption type, whatever its spelling; None exactly where it is neither 17 nor 18 (RFC 3962, section 7).
+/// Returns the suite of an encryption type, whatever its spelling; None exactly if it is neither 17 nor 18 (RFC 3962, section 7).
 #[tactic(auto, unfolding(crate::specs::Unseals::suite_of_integer))]
 pub fn suite_of(etype: &IntegerAsn1) -> Option<CipherSuite>
     ensures { result ≡ suite_of_integer etype.now }
@@ -51,7 +51,7 @@ pub fn suite_of(etype: &IntegerAsn1) -> Option<CipherSuite>
     }
 }
 
-/// The record that the octets spell, or a refusal by this cause.
+/// Reads the record that the octets spell. Fails with `cause` if they spell none.
 pub fn read_or<T: Asn1>(alloc: Global, octets: &[u8], cause: Cause) -> Result<T, Cause>
     ensures { Answers (Finds cause (IsRead T.layout octets.now)) result }
 {
@@ -74,7 +74,7 @@ fn check_length(refusals: Refusals, text: &[u8]) -> Result<(), Cause>
     hold(SEALED_EXTRA_LEN <= text.len(), refusals.short)
 }
 
-/// The plain text that is sealed to a key of the suite's length.
+/// Decrypts a text under a key of the suite's length.
 fn decrypt_or(
     alloc: Global,
     refusals: Refusals,
@@ -97,7 +97,7 @@ fn decrypt_or(
     }
 }
 
-/// The plain text that is sealed so.
+/// Decrypts a text, after checks of the key's length and of the text's.
 pub(crate) fn unseal(
     alloc: Global,
     refusals: Refusals,
@@ -113,15 +113,15 @@ pub(crate) fn unseal(
     decrypt_or(alloc, refusals, suite, key, usage, text)
 }
 
-/// The record that a plain text is.
+/// Reads the record that a plain text is.
 pub(crate) fn read_inner<T: Asn1>(alloc: Global, octets: &Octets) -> Result<T, Cause>
     ensures { Answers (Finds causes.Inner (IsRead T.layout octets.now)) result }
 {
     read_or(alloc, octets.as_slice(), Cause::Inner)
 }
 
-/// The record that is sealed in a text under a key of a suite with this usage (RFC 4120, section 7.5.1). Refused by these
-/// causes where nothing is sealed so, in their order, and as Inner where what is sealed is another record.
+/// Decrypts a text under a key of a suite with this usage, and reads the record in it (RFC 4120, section 7.5.1). Fails with the
+/// causes in `refusals`, in their order, if the text does not decrypt so, and with Inner if its plain text is another record.
 pub fn open<T: Asn1>(
     alloc: Global,
     refusals: Refusals,
@@ -136,7 +136,7 @@ pub fn open<T: Asn1>(
     read_inner(alloc, &plain)
 }
 
-/// The plain text that is sealed so to a key that may be kept.
+/// Decrypts a text under a key that may be kept.
 fn unseal_kept(
     alloc: Global,
     kept: &mut KeptKey,
@@ -152,7 +152,7 @@ fn unseal_kept(
     kept.unseal(alloc, suite, key, usage, text)
 }
 
-/// The record that is sealed so to a key that may be kept.
+/// Decrypts a text under a key that may be kept, and reads the record in it.
 fn open_kept<T: Asn1>(
     alloc: Global,
     kept: &mut KeptKey,
@@ -173,8 +173,8 @@ fn suite_for(etype: &IntegerAsn1) -> Result<CipherSuite, Cause>
     take(suite_of(etype), Cause::Etype)
 }
 
-/// The record that is sealed to a key in an EncryptedData, and the suite that it names. The keys that open it are derived once for
-/// each key and usage, and kept for the next text.
+/// Decrypts an EncryptedData under a key, and returns the suite that it names and the record in it. The keys for decryption are
+/// derived once for each key and usage, and kept for the next text.
 pub fn open_data<T: Asn1>(
     alloc: Global,
     kept: &mut KeptKey,

@@ -1,4 +1,4 @@
--- How long the records are that are made.
+-- The lengths of the records of a client's requests.
 use Rattle.std.proofs.Common.{◌≡◌, ℕ, suc, ◌+◌, ◌*◌, ◌<◌, ◌≤◌, ◌^◌, ℤ, true, Bool, false, List, [], ◌∷◌, length, map, sym, ap, ◌∙◌, subst, arith, lit≤, lit<, length-append}
 use Rattle.std.specs.Prelude.{cond, ◌==◌, Some, None, Result, Ok, if◌then◌else◌}
 use Rattle.sspi_core.specs.declared.cause.Cause.{Cause}
@@ -40,7 +40,7 @@ time_short : (seconds : ℤ) → length (time_octets seconds) ≤ 15
 unfolding time_octets
 time_short seconds = lit≤ tt
 
--- the wish for a PAC
+-- the request for a PAC
 pub wish_complete : IsComplete kerb_pa_pac_request (kerb_pa_pac_request_layout.view (record { include_pac = true }))
 unfolding kerb_pa_pac_request kerb_pa_pac_request_row
 wish_complete = (tt, tt)
@@ -59,7 +59,7 @@ unfolding pa_enc_ts_enc pa_enc_ts_enc_row
 time_le moment =
     le_trans _ _ _ (tlv_le 0x30 _ _ (append_le _ _ _ _ (field_le 0xa0 0x18 (time_octets _) 15 (time_short _)) (append_le _ [] _ 0 (field_le 0xa1 0x02 _ 4 (lit≤ tt)) (lit≤ tt)))) (lit≤ tt)
 
--- the sealed time
+-- the encrypted time
 pub sealed_complete : (suite : CipherSuite) (cipher : List ℕ) → IsComplete encrypted_data (encrypted_data_layout.view (sealed_data suite cipher))
 unfolding encrypted_data encrypted_data_row
 sealed_complete suite cipher = (lit< tt, (tt, (tt, tt)))
@@ -109,7 +109,7 @@ time_item_le : (suite : CipherSuite) (key : List ℕ) (moment : ℕ) (confounder
 unfolding enc_timestamp
 time_item_le suite key moment confounder h = item_le _ (lit≤ tt) h
 
--- what an AS-REQ brings
+-- the pre-authentication of an AS-REQ
 pub plain_fits : Fits (items_layout pa_data_layout) (2 ^ 12) plain_pa_datas
 plain_fits = record {
   complete = (wish_item_complete, tt);
@@ -214,7 +214,7 @@ module _ (options : GenerateAsReqOptions) (moment : ℕ) (four : length options.
   pub body_fits : Fits kdc_req_body_layout (2 ^ 28) body
   body_fits = record { complete = body_complete; short = body_le }
 
--- the names in a body are those that were asked for
+-- the names in a body are the names of the options
 named : (b : Bool) (text name : List ℕ) → Takes NotAscii (if b then Some text else None) (Ok name) → name ≡ text
 named true text name h = same_ok name text h.is
 named false text name h = let e = h.is in absurd cc

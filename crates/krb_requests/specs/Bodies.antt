@@ -1,4 +1,4 @@
--- What an AS-REQ asks for (RFC 4120, section 5.4.1).
+-- AS-REQs, their bodies, and TGT-REQs (RFC 4120, section 5.4.1).
 use Rattle.std.specs.Prelude.{ℕ, ◌==◌, ◌+◌, ◌≤◌, ◌^◌, List, [], ◌∷◌, length, map, Some, None, Result, if◌then◌else◌}
 use Rattle.std.specs.List.{slice_split, flat_map}
 use Rattle.krb_der.specs.Der.{tlv}
@@ -39,7 +39,7 @@ as_req_body options moment realm cname sname host = record {
   additional_tickets = None;
 }
 
--- the body that options ask for; each name in it is one of ASCII
+-- the body of these options; each name in it is ASCII
 unfoldable pub MakesBody : GenerateAsReqOptions → ℕ → Result KdcReqBody Cause → Type 0
 MakesBody options moment = do
   realm ← Takes NotAscii (name_of options.realm.now)
@@ -65,8 +65,8 @@ MakesTgtReq sname = do
 abbrev pub component_octets : List (List ℕ) → List ℕ
 component_octets components = flat_map (λ component. tlv 0x1b component) components
 
--- options whose texts have at most 2^24 octets each; the components of the service's name together have a few more, so that one of them may be
--- a realm of that many
+-- options whose texts have at most 2^24 octets each; the components of the service's name have a few octets more together, so that
+-- one of them can be a realm of 2^24 octets
 pub record AreShort (options : GenerateAsReqOptions) : Type 0 where
   pub realm : length options.realm.now ≤ 2 ^ 24
   pub username : length options.username.now ≤ 2 ^ 24

@@ -13,11 +13,11 @@ use Rattle.sspi_core.specs.declared.cause.Cause.TheVariants.{KeyLength}
 use Rattle.sspi_core.specs.Checks.{Holds, Gives, ◌>>◌}
 use Rattle.krb_requests.specs.Pieces.{sealed_under}
 
--- a PAC is wanted: type 128
+-- the request for a PAC: type 128
 unfoldable pub pac_request : PaData
 pac_request = record { padata_type = 0x00 ∷ 0x80 ∷ []; padata_value = spelling kerb_pa_pac_request_layout (record { include_pac = true }) }
 
--- the whole second of a moment, and the microseconds behind it in four octets
+-- the whole second of a moment, and its microseconds in four octets
 abbrev pub timestamp : ℕ → PaEncTsEnc
 timestamp moment = record { patimestamp = pos (moment / 1000000); pausec = Some (to_be_bytes w32 (moment % 1000000)) }
 
@@ -28,7 +28,7 @@ enc_timestamp suite key moment confounder = record {
   padata_value = spelling encrypted_data_layout (sealed_under suite key 1 confounder (spelling pa_enc_ts_enc_layout (timestamp moment)));
 }
 
--- what an AS-REQ brings without pre-authentication, and with it
+-- the PA-DATA of an AS-REQ without pre-authentication, and with it
 abbrev pub plain_pa_datas : List PaData
 plain_pa_datas = pac_request ∷ []
 
@@ -38,7 +38,7 @@ timed_pa_datas suite key moment confounder = enc_timestamp suite key moment conf
 abbrev pub pa_datas : Bool → CipherSuite → List ℕ → ℕ → List ℕ → List PaData
 pa_datas with_pre_auth suite key moment confounder = if with_pre_auth then timed_pa_datas suite key moment confounder else plain_pa_datas
 
--- the same under any key: one that seals the time is as long as the keys of its suite
+-- the PA-DATA under any key: a key that encrypts the time is as long as the keys of its suite
 unfoldable pub MakesPaDatas : Bool → CipherSuite → List ℕ → ℕ → List ℕ → Result (List PaData) Cause → Type 0
 MakesPaDatas with_pre_auth suite key moment confounder = do
   Holds KeyLength (not with_pre_auth || length key == key_size suite)

@@ -15,7 +15,7 @@ use Rattle.krb_messages.specs.declared.principal_name.PrincipalName.{PrincipalNa
 abbrev pub encryption_key : CipherSuite → List ℕ → EncryptionKey
 encryption_key suite key = record { key_type = suite_number suite ∷ []; key_value = key }
 
--- what is sealed in a suite, without a version number of its key
+-- a text that is encrypted in a suite, without the version number of its key
 abbrev pub sealed_data : CipherSuite → List ℕ → EncryptedData
 sealed_data suite cipher = record { etype = suite_number suite ∷ []; kvno = None; cipher = cipher }
 
@@ -31,7 +31,7 @@ name_of text = if is_ascii text then Some text else None
 abbrev pub principal : ℕ → List (List ℕ) → PrincipalName
 principal name_type components = record { name_type = name_type ∷ []; name_string = components }
 
--- the same where each component can be one
+-- a name of this type with these components, if each component is ASCII
 abbrev pub principal_of : ℕ → List (List ℕ) → Option PrincipalName
 principal_of name_type components = if all_ascii components then Some (principal name_type components) else None
 
@@ -47,7 +47,7 @@ three_days_after moment = pos (moment / 1000000 + 259200)
 abbrev pub etypes : List (List ℕ)
 etypes = (suite_number Aes256CtsHmacSha196 ∷ []) ∷ (suite_number Aes128CtsHmacSha196 ∷ []) ∷ []
 
--- the record can be written, in at most so many octets
+-- the record can be written, in at most `limit` octets
 pub record Fits {A : Type 0} (layout : Layout A) (limit : ℕ) (value : A) : Type 0 where
   pub complete : IsComplete layout.kind (layout.view value)
   pub short : length (spelling layout value) ≤ limit

@@ -1,4 +1,4 @@
-//! What is asked for.
+//! AS-REQs and their bodies, and TGT-REQs.
 
 ghost use Rattle.std.specs.Prelude.{◌≡◌, ◌≤◌, ◌^◌, IfOk, length, map};
 ghost use Rattle.std.specs.List.{slice_split};
@@ -25,7 +25,7 @@ use krb_replies::tell;
 use sspi_core::{Cause, ClientRequestFlags, Error};
 use std::alloc::Global;
 
-/// The octets of the options.
+/// Returns the octets of the KDC options.
 fn as_req_options(flags: ClientRequestFlags) -> [u8; 4]
     ensures { result ≡ as_req_options flags.0 }
 {
@@ -36,7 +36,7 @@ fn as_req_options(flags: ClientRequestFlags) -> [u8; 4]
     }
 }
 
-/// The parts of a user's name.
+/// Returns the parts of a user's name, which is cut at each slash.
 fn user_components<'a>(alloc: Global, username: &'a str) -> Result<Vec<&'a str>, OutOfMemory>
     ensures { IfOk result (λ parts. map (λ part. part.now) parts.items ≡ user_components username.now) }
 {
@@ -50,7 +50,7 @@ fn client_name(alloc: Global, options: &GenerateAsReqOptions<'_>) -> Result<Prin
     principal_of(alloc, options.cname_type, &parts)
 }
 
-/// The body with these names.
+/// Returns the body with these names.
 #[tactic(auto, unfolding(crate::specs::Bodies::as_req_body))]
 fn body_with(
     alloc: Global,
@@ -91,7 +91,7 @@ fn body_with(
     maker.finish(made)
 }
 
-/// The octets of the nonce, of which there are four.
+/// Returns the four octets of the nonce.
 fn nonce_of(options: &GenerateAsReqOptions<'_>) -> [u8; 4]
     ensures octets { result ≡ options.now.nonce }
     ensures four { length result ≡ 4 }
@@ -114,7 +114,7 @@ fn given_body(
     Ok(body_with(alloc, options, moment, realm, cname, sname, host)?)
 }
 
-/// The body of an AS-REQ, as a chain of checks.
+/// Returns the body of an AS-REQ, as a chain of checks.
 pub fn as_req_body(
     alloc: Global,
     options: &GenerateAsReqOptions<'_>,
@@ -133,11 +133,11 @@ pub fn as_req_body(
     Ok(body)
 }
 
-/// The body of an AS-REQ: for this client and service, for three days from now, renewable as long, with a canonical name if
-/// possible, under AES-256 or else AES-128, with the machine's name as a NetBIOS address; the ticket may be forwarded where the
-/// client delegates.
+/// Returns the body of an AS-REQ: for this client and service, for three days from now, renewable for three days, with a
+/// canonical name if possible, under AES-256 or otherwise AES-128, with the machine's name as a NetBIOS address; the ticket is
+/// forwardable if the client delegates.
 ///
-/// Refused as InternalError NotAscii exactly where the realm, a component of either name or the machine's name is past ASCII.
+/// Fails with InternalError NotAscii exactly if the realm, a component of either name or the machine's name is not ASCII.
 #[tactic(auto, using(krb_replies::proofs::Telling::tells))]
 pub fn generate_as_req_kdc_body(
     alloc: Global,
@@ -168,7 +168,7 @@ fn as_req_with(
     maker.finish(made)
 }
 
-/// An AS-REQ (RFC 4120, section 5.4.1).
+/// Returns an AS-REQ with these parts (RFC 4120, section 5.4.1).
 pub fn generate_as_req(
     alloc: Global,
     pa_datas: Items<PaData>,
@@ -182,7 +182,7 @@ pub fn generate_as_req(
     Ok(made)
 }
 
-/// The TGT-REQ to the service of this name.
+/// Returns the TGT-REQ to the service of this name.
 fn tgt_req(alloc: Global, server_name: PrincipalName) -> Result<TgtReq, OutOfMemory>
     ensures { IfOk result (λ made. made ≡ tgt_req server_name) }
 {
@@ -211,9 +211,9 @@ fn made_tgt_req(alloc: Global, sname: &[&str]) -> Result<TgtReq, Cause>
     Ok(made)
 }
 
-/// A TGT-REQ to the service with these components, a name of type 2 (draft-swift-win2k-krb-user2user, section 3).
+/// Returns a TGT-REQ to the service with these components, a name of type 2 (draft-swift-win2k-krb-user2user, section 3).
 ///
-/// Refused as InternalError NotAscii exactly where a component is past ASCII.
+/// Fails with InternalError NotAscii exactly if a component is not ASCII.
 #[tactic(auto, using(krb_replies::proofs::Telling::tells))]
 pub fn generate_tgt_req(alloc: Global, sname: &[&str]) -> Result<TgtReq, Error>
     ensures made { Tells (MakesTgtReq (map (λ part. part.now) sname.now)) result }

@@ -1,7 +1,7 @@
-//! What a client asks a KDC for (RFC 4120, sections 5.2.7 and 5.4.1), and the parts that its records are made of.
+//! A client's requests to a KDC (RFC 4120, sections 5.2.7 and 5.4.1), and the parts of their records.
 //!
 //! Each generator's clause gives the whole record, by a definition in `specs/`: `PaDatas` for pre-authentication, `Bodies`
-//! for what is asked for. Its clause `within` says how long the record is, so that who calls it can write and send it.
+//! for the bodies of requests. Its clause `within` bounds the length of the record, so that a caller can write and send it.
 #![tactic(auto)]
 
 mod body;

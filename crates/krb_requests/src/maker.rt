@@ -1,11 +1,11 @@
-//! The parts of a record, with one answer for all of them.
+//! The parts of a record, with one result for all of them.
 
 ghost use Rattle.std.specs.Prelude.{◌≡◌, ◌∷◌, [], true, IfOk};
 
 use krb_der::{Blank, IntegerAsn1, Items, Octets, OutOfMemory, TryCopy};
 use std::alloc::Global;
 
-/// Makes the parts of a record one after another, and tells at the end whether there was memory for all of them:
+/// Makes the parts of a record one after another, and returns at the end whether there was memory for all of them:
 ///
 /// ```text
 /// let mut maker = Maker::new(alloc);
@@ -15,7 +15,7 @@ use std::alloc::Global;
 #[derive(Drop)]
 pub struct Maker {
     alloc: Global,
-    /// Whether there was memory for each part so far.
+    /// True if there was memory for each part so far.
     pub has_all: bool,
 }
 
@@ -52,7 +52,7 @@ impl Maker {
         }
     }
 
-    /// An INTEGER of these octets, or a blank one if memory runs out.
+    /// Returns an INTEGER of these octets, or a blank one if memory runs out.
     pub fn integer(&mut self, octets: &[u8]) -> IntegerAsn1
         ensures { self.new.has_all ≡ true → (self.old.has_all ≡ true) × (result ≡ octets.now) }
     {
@@ -65,7 +65,7 @@ impl Maker {
         }
     }
 
-    /// These octets, or none if memory runs out.
+    /// Returns these octets, or none if memory runs out.
     pub fn octets(&mut self, octets: &[u8]) -> Octets
         ensures { self.new.has_all ≡ true → (self.old.has_all ≡ true) × (result ≡ octets.now) }
     {
@@ -78,7 +78,7 @@ impl Maker {
         }
     }
 
-    /// An equal value, or a blank one if memory runs out.
+    /// Returns an equal value, or a blank one if memory runs out.
     pub fn copy<T: TryCopy + Blank>(&mut self, value: &T) -> T
         ensures { self.new.has_all ≡ true → (self.old.has_all ≡ true) × (result ≡ value.now) }
     {
@@ -91,7 +91,7 @@ impl Maker {
         }
     }
 
-    /// A list of one, or none if memory runs out.
+    /// Returns a list of one item, or an empty list if memory runs out.
     pub fn list_of_one<T: Drop>(&mut self, item: T) -> Items<T>
         ensures { self.new.has_all ≡ true → (self.old.has_all ≡ true) × (result ≡ item ∷ []) }
     {
@@ -104,7 +104,7 @@ impl Maker {
         }
     }
 
-    /// A list of two, or none if memory runs out.
+    /// Returns a list of two items, or an empty list if memory runs out.
     pub fn list_of_two<T: Drop>(&mut self, first: T, second: T) -> Items<T>
         ensures { self.new.has_all ≡ true → (self.old.has_all ≡ true) × (result ≡ first ∷ second ∷ []) }
     {
@@ -117,7 +117,7 @@ impl Maker {
         }
     }
 
-    /// What was made of the parts, if there was memory for each.
+    /// Returns the record of the parts. Fails with `OutOfMemory` if there was not memory for each part.
     pub fn finish<T: Drop>(self, value: T) -> Result<T, OutOfMemory>
         ensures { IfOk result (λ x. (x ≡ value) × (self.has_all ≡ true)) }
     {

@@ -1,4 +1,4 @@
-//! What the generators are told.
+//! The options of the generators.
 
 use krb_context::EncryptionParams;
 use krb_der::Octets;
@@ -9,9 +9,9 @@ use sspi_core::{ClientRequestFlags, Secret};
 pub struct GenerateAsPaDataOptions<'a> {
     pub password: &'a str,
     pub salt: &'a [u8],
-    /// Their suite is that of the key; without one, AES-256.
+    /// The parameters whose suite is the suite of the key; AES-256 if they have none.
     pub enc_params: &'a EncryptionParams,
-    /// Whether the time is sealed under the client's key.
+    /// True if the pre-authentication has the time, encrypted under the client's key.
     pub with_pre_auth: bool,
 }
 
@@ -21,11 +21,11 @@ pub struct GenerateKeytabPaDataOptions {
     pub key: Secret<Octets>,
     /// The encryption type of the key, 17 or 18 (RFC 3962, section 7).
     pub key_enctype: u8,
-    /// Whether the time is sealed under the key.
+    /// True if the pre-authentication has the time, encrypted under the key.
     pub with_pre_auth: bool,
 }
 
-/// What an AS-REQ asks for.
+/// The parts of an AS-REQ's body.
 #[derive(Clone, Copy)]
 pub struct GenerateAsReqOptions<'a> {
     pub realm: &'a str,
@@ -35,7 +35,7 @@ pub struct GenerateAsReqOptions<'a> {
     pub cname_type: u8,
     /// The components of the service's name.
     pub snames: &'a [&'a str],
-    /// The octets of the number that the reply repeats.
+    /// The octets of the nonce, which the reply repeats.
     pub nonce: [u8; 4],
     /// The name of the client's machine.
     pub hostname: &'a str,

@@ -24,13 +24,13 @@ use krb_replies::tell;
 use sspi_core::{Cause, Error, hold};
 use std::alloc::Global;
 
-/// The type of the client's time, as the octets of its INTEGER.
+/// The type of the client's encrypted time, by the octets of its INTEGER.
 const ENC_TIMESTAMP: [u8; 1] = [0x02];
 
-/// The type of a wish for a PAC.
+/// The type of a request for a PAC, by the octets of its INTEGER.
 const PAC_REQUEST: [u8; 2] = [0x00, 0x80];
 
-/// A PAC is wanted.
+/// Returns the request for a PAC.
 #[tactic(auto, unfolding(crate::specs::PaDatas::pac_request))]
 fn pac_request(alloc: Global) -> Result<PaData, OutOfMemory>
     ensures { IfOk result (λ made. made ≡ pac_request) }
@@ -42,7 +42,7 @@ fn pac_request(alloc: Global) -> Result<PaData, OutOfMemory>
     })
 }
 
-/// The whole second of a moment, and the microseconds behind it.
+/// Returns the whole second of a moment, and its microseconds.
 fn timestamp(alloc: Global, moment: u64) -> Result<PaEncTsEnc, OutOfMemory>
     requires { moment ≤ last_moment }
     ensures { IfOk result (λ made. made ≡ timestamp moment) }
@@ -54,7 +54,7 @@ fn timestamp(alloc: Global, moment: u64) -> Result<PaEncTsEnc, OutOfMemory>
     })
 }
 
-/// The time, sealed under the client's key.
+/// Returns the time, encrypted under the client's key.
 #[tactic(auto, unfolding(crate::specs::PaDatas::enc_timestamp))]
 fn enc_timestamp(
     alloc: Global,
@@ -93,7 +93,7 @@ fn plain_list(alloc: Global) -> Result<Items<PaData>, OutOfMemory>
     maker.finish(made)
 }
 
-/// What the first AS-REQ brings: a wish for a PAC.
+/// Returns the PA-DATA of the first AS-REQ: a request for a PAC.
 pub fn plain_pa_datas(alloc: Global) -> Result<Items<PaData>, OutOfMemory>
     ensures made { IfOk result (λ made. made ≡ plain_pa_datas) }
     ensures within { IfOk result (λ made. Fits (items_layout pa_data_layout) (2 ^ 12) made) }
@@ -111,7 +111,7 @@ fn timed_list(alloc: Global, time: PaData) -> Result<Items<PaData>, OutOfMemory>
     maker.finish(made)
 }
 
-/// What an AS-REQ brings with pre-authentication: the time, sealed under the client's key, and a wish for a PAC.
+/// Returns the PA-DATA of an AS-REQ with pre-authentication: the time, encrypted under the client's key, and a request for a PAC.
 pub fn timed_pa_datas(
     alloc: Global,
     suite: CipherSuite,
@@ -129,7 +129,7 @@ pub fn timed_pa_datas(
     Ok(made)
 }
 
-/// With pre-authentication and without.
+/// Returns the PA-DATA with pre-authentication or without.
 fn pa_datas(
     alloc: Global,
     with_pre_auth: bool,
@@ -176,7 +176,7 @@ fn sized_pa_datas(
     Ok(made)
 }
 
-/// The pre-authentication under any key, as a chain of checks.
+/// Returns the pre-authentication under a key of any length, as a chain of checks.
 #[tactic(auto, unfolding(crate::specs::PaDatas::MakesPaDatas))]
 fn keyed_pa_datas(
     alloc: Global,
@@ -195,8 +195,8 @@ fn keyed_pa_datas(
     Ok(made)
 }
 
-/// The pre-authentication of an AS-REQ under the key of a password and a salt: where it is wanted first the time, the whole
-/// second and its microseconds, sealed under that key with usage 1; always a wish for a PAC.
+/// Returns the pre-authentication of an AS-REQ under the key of a password and a salt. If `with_pre_auth` is true, the time is
+/// first, the whole second and its microseconds, encrypted under that key with usage 1. A request for a PAC is always there.
 #[tactic(auto, using(krb_replies::proofs::Telling::tells))]
 pub fn generate_pa_datas_for_as_req(
     alloc: Global,
@@ -222,8 +222,8 @@ pub fn generate_pa_datas_for_as_req(
     ))
 }
 
-/// The same under a key of the caller's. Refused as InvalidParameter KeyLength exactly where the time is to be sealed and the
-/// key has not the length of its suite's keys.
+/// Returns the pre-authentication of an AS-REQ under a key of the caller's. Fails with InvalidParameter KeyLength exactly if
+/// `with_pre_auth` is true and the key does not have the length of its suite's keys.
 #[tactic(auto, using(krb_replies::proofs::Telling::tells))]
 pub fn generate_pa_datas_for_as_req_with_key(
     alloc: Global,

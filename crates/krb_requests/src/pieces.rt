@@ -19,14 +19,14 @@ use std::alloc::Global;
 /// The seconds of three days.
 const THREE_DAYS: u64 = 259_200;
 
-/// An INTEGER of these octets.
+/// Returns an INTEGER of these octets.
 pub fn integer_of(alloc: Global, octets: &[u8]) -> Result<IntegerAsn1, OutOfMemory>
     ensures { IfOk result (λ integer. integer ≡ octets.now) }
 {
     Ok(IntegerAsn1::from_bytes_be(Vec::from_slice(alloc, octets)?))
 }
 
-/// A key with the number of its suite.
+/// Returns a key with the number of its suite.
 pub fn encryption_key(
     alloc: Global,
     suite: CipherSuite,
@@ -42,7 +42,7 @@ pub fn encryption_key(
     maker.finish(made)
 }
 
-/// What is sealed in a suite, without a version number of its key.
+/// Returns EncryptedData with the number of the suite and this encrypted text, without the version number of a key.
 pub fn sealed_data(
     alloc: Global,
     suite: CipherSuite,
@@ -57,7 +57,7 @@ pub fn sealed_data(
     })
 }
 
-/// The sealed text of a plain one.
+/// Encrypts a text.
 fn cipher_of(
     alloc: Global,
     suite: CipherSuite,
@@ -76,7 +76,7 @@ fn cipher_of(
     }
 }
 
-/// A plain text, sealed under a key of the suite's length for a use of the key (RFC 4120, section 7.5.1).
+/// Encrypts a text under a key of the suite's length, with a key usage number (RFC 4120, section 7.5.1).
 pub fn sealed_under(
     alloc: Global,
     suite: CipherSuite,
@@ -93,7 +93,7 @@ pub fn sealed_under(
     sealed_data(alloc, suite, cipher)
 }
 
-/// A text as a name. Refused as `NotAscii` exactly where it is past ASCII.
+/// Returns a text as a name. Fails with `NotAscii` exactly if the text is not ASCII.
 pub fn name_of(alloc: Global, text: &str) -> Result<Name, Cause>
     ensures { Answers (Takes causes.NotAscii (name_of text.now)) result }
 {
@@ -103,14 +103,14 @@ pub fn name_of(alloc: Global, text: &str) -> Result<Name, Cause>
     }
 }
 
-/// One component, None where it is past ASCII.
+/// Returns one component, or None if it is not ASCII.
 fn component(alloc: Global, part: &str) -> Result<Option<Name>, OutOfMemory>
     ensures { IfOk result (λ name. MatchOption name (is_ascii part.now ≡ false) (λ n. n ≡ part.now)) }
 {
     Ok(Name::new(Vec::from_slice(alloc, part.as_bytes())?))
 }
 
-/// The components, None where one is past ASCII.
+/// Returns the components, or None if one of them is not ASCII.
 fn components(alloc: Global, parts: &[&str]) -> Result<Option<Items<Name>>, OutOfMemory>
     ensures { IfOk result (λ names. MatchOption names (all_ascii (map (λ part. part.now) parts.now) ≡ false) (λ n. n ≡ map (λ part. part.now) parts.now)) }
 {
@@ -124,7 +124,7 @@ fn components(alloc: Global, parts: &[&str]) -> Result<Option<Items<Name>>, OutO
     Ok(Some(Items::new(names)))
 }
 
-/// Whether each part is ASCII.
+/// Returns whether each part is ASCII.
 fn all_ascii(parts: &[&str]) -> bool
     ensures { result ≡ all_ascii (map (λ part. part.now) parts.now) }
 {
@@ -136,7 +136,7 @@ fn all_ascii(parts: &[&str]) -> bool
     true
 }
 
-/// The name that these components make.
+/// Returns the name with these components.
 fn named(
     alloc: Global,
     name_type: u8,
@@ -150,7 +150,7 @@ fn named(
     })
 }
 
-/// A name of this type with these components (RFC 4120, section 6.2). Refused as `NotAscii` exactly where one of them is past
+/// Returns a name of this type with these components (RFC 4120, section 6.2). Fails with `NotAscii` exactly if one of them is not
 /// ASCII.
 pub fn principal_of(alloc: Global, name_type: u8, parts: &[&str]) -> Result<PrincipalName, Cause>
     ensures { Answers (Takes causes.NotAscii (principal_of name_type (map (λ part. part.now) parts.now))) result }
@@ -164,7 +164,7 @@ pub fn principal_of(alloc: Global, name_type: u8, parts: &[&str]) -> Result<Prin
     }
 }
 
-/// The whole second of a moment.
+/// Returns the whole second of a moment, which is in microseconds.
 pub fn whole_second(moment: u64) -> Time
     requires { moment ≤ last_moment }
     ensures { result ≡ whole_second moment }
@@ -172,7 +172,7 @@ pub fn whole_second(moment: u64) -> Time
     Time::new((moment / 1_000_000) as i64)
 }
 
-/// The whole second three days after a moment.
+/// Returns the whole second three days after a moment, which is in microseconds.
 pub fn three_days_after(moment: u64) -> Time
     requires { moment ≤ last_moment }
     ensures { result ≡ three_days_after moment }
@@ -180,7 +180,7 @@ pub fn three_days_after(moment: u64) -> Time
     Time::new((moment / 1_000_000 + THREE_DAYS) as i64)
 }
 
-/// The encryption types that a client takes, the stronger one first (RFC 3962, section 7).
+/// Returns the encryption types that a client accepts, the stronger one first (RFC 3962, section 7).
 pub fn etypes(alloc: Global) -> Result<Items<IntegerAsn1>, OutOfMemory>
     ensures { IfOk result (λ made. made ≡ etypes) }
 {

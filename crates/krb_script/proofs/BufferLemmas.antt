@@ -13,7 +13,7 @@ none_behind : (first : Option Buffer) → joined first None ≡ None
 none_behind None = refl
 none_behind (Some x) = refl
 
--- one field that tells no buffer, and nothing is told
+-- if one field declares no buffer, the fields declare no list of buffers
 pub none-among : (front : List (List ℕ)) (field : List ℕ) (rest : List (List ℕ)) → buffer_of field ≡ None → buffers_of (front ++ field ∷ rest) ≡ None
 none-among [] field rest none = ap (λ (o : Option Buffer). joined o (buffers_of rest)) none
 none-among (x ∷ front) field rest none = ap (joined (buffer_of x)) (none-among front field rest none) ∙ none_behind (buffer_of x)
@@ -31,12 +31,12 @@ joined_both (Some x) None last = refl
 joined_both (Some x) (Some xs) None = refl
 joined_both (Some x) (Some xs) (Some b) = refl
 
--- one field more
+-- one more field
 one_more : (front : List (List ℕ)) (field : List ℕ) → buffers_of (front ++ field ∷ []) ≡ both (buffers_of front) (buffer_of field)
 one_more [] field = only_last (buffer_of field)
 one_more (x ∷ front) field = ap (joined (buffer_of x)) (one_more front field) ∙ joined_both (buffer_of x) (buffers_of front) (buffer_of field)
 
--- a field that tells no buffer, by its place
+-- a field that declares no buffer, by its position
 pub fails-at : {T : Type 0} (octets : T → List ℕ) (fields : List T) (i : ℕ) (d : T) → i < length fields → buffer_of (octets (get_or fields i d)) ≡ None
     → buffers_of (map octets fields) ≡ None
 fails-at octets fields i d low none =
@@ -44,7 +44,7 @@ fails-at octets fields i d low none =
     ∙ ap buffers_of (map-append octets (take i fields) (get_or fields i d ∷ drop (i + 1) fields))
     ∙ none-among (map octets (take i fields)) (octets (get_or fields i d)) (map octets (drop (i + 1) fields)) none
 
--- one buffer more, by its place
+-- one more buffer, by the position of its field
 pub one-more-at : {T : Type 0} (octets : T → List ℕ) (fields : List T) (i : ℕ) (d : T) (xs : List Buffer) (b : Buffer) → i < length fields
     → buffers_of (map octets (take i fields)) ≡ Some xs → buffer_of (octets (get_or fields i d)) ≡ Some b
     → buffers_of (map octets (take (i + 1) fields)) ≡ Some (xs ++ b ∷ [])

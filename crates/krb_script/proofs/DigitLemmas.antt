@@ -12,7 +12,7 @@ use Rattle.hex.specs.declared.error.FromHexError.{FromHexError}
 use Rattle.hex.proofs.HexLemmas.{decode_of-even, decode_of-ok, decode_sized-ok, decode_sized-twice}
 use Rattle.krb_script.specs.Digits.{are_pairs}
 
--- looking at each digit, whatever those before it are
+-- a look at each digit, whatever the digits before it are
 fold_all : (text : List ℕ) (before : Bool) → fold (λ all octet. all && is_hex_digit octet) before text ≡ (before && list_all is_hex_digit text)
 fold_all [] true = refl
 fold_all [] false = refl
@@ -26,7 +26,7 @@ all_digits text = fold_all text true
 pub value_of : (digit : ℕ) → is_hex_digit digit ≡ true → (hex_digit_value digit ≡ Some (digit % 16 + 9 * (digit / 64))) × (digit % 16 + 9 * (digit / 64) < 16)
 value_of digit is = grind (arith, common_steps, nat_tests)
 
--- one digit of all
+-- each octet of a text of digits is a digit
 pub digit_at : (text : List ℕ) (i : ℕ) → list_all is_hex_digit text ≡ true → i < length text → is_hex_digit (slice_index text i) ≡ true
 digit_at [] i all low = absurd (omega arith)
 digit_at (octet ∷ text) zero all low = (and_parts (is_hex_digit octet) (list_all is_hex_digit text) all).0
@@ -46,7 +46,7 @@ even_of text is = eqb-true (length text % 2) 0 (and_parts (length text % 2 == 0)
 pub all_of : (text : List ℕ) → are_pairs text ≡ true → list_all is_hex_digit text ≡ true
 all_of text is = (and_parts (length text % 2 == 0) (list_all is_hex_digit text) is).1
 
--- what they stand for
+-- the octets of digits in pairs
 pub decoded : (text octets : List ℕ) → are_pairs text ≡ true → decode_pairs 0 text ≡ Ok octets → result_ok (decode_of text) ≡ Some octets
 decoded text octets is e = ap result_ok (decode_of-even text (even_of text is) ∙ e)
 
@@ -59,7 +59,7 @@ none_of text (Ok bytes) e not =
     cc (sym not ∙ are_pairs_of text ok.0 (list_all-from_AllPass is_hex_digit text ok.1))
 none_of text (Err error) e not = refl
 
--- other octets stand for nothing
+-- a text that is not digits in pairs has no octets
 pub not_decoded : (text : List ℕ) → are_pairs text ≡ false → result_ok (decode_of text) ≡ None
 not_decoded text not = none_of text (decode_of text) refl not
 
@@ -77,5 +77,5 @@ none_sized text (Err error) e other = refl
 pub not_sized : (text : List ℕ) → (length text ≡ 128 → ⊥) → result_ok (decode_sized text 64) ≡ None
 not_sized text other = none_sized text (decode_sized text 64) refl other
 
--- what 128 digits stand for, and that other texts stand for nothing
+-- 128 digits have 64 octets, and other texts have none
 pub ruleset sized = (sized_decoded, sized_not_decoded, not_sized, all_of)

@@ -1,4 +1,4 @@
--- What a field has for octets.
+-- The octets of a field.
 use Rattle.std.proofs.Common.{◌≡◌, ℕ, nat_lt, length, Bool, true, false, List, [], ◌∷◌, refl, tests, rules}
 use Rattle.std.specs.List.{list_all}
 use Rattle.std.specs.Char.{is_ascii_graphic}
@@ -8,7 +8,7 @@ use Rattle.std.proofs.lemmas.Str.{IsUtf8-from_is_utf8}
 use Rattle.krb_der.specs.Schema.{is_ascii}
 use Rattle.krb_script.specs.Fields.{is_name}
 
--- what can be printed is ASCII
+-- a printable octet is ASCII
 graphic_ascii : (octet : ℕ) → is_ascii_graphic octet ≡ true → nat_lt octet 0x80 ≡ true
 graphic_ascii octet graphic = grind (tests, rules)
 
@@ -16,7 +16,7 @@ pub graphic-ascii : (text : List ℕ) → list_all is_ascii_graphic text ≡ tru
 graphic-ascii [] all = refl
 graphic-ascii (octet ∷ text) all = let both = and_parts (is_ascii_graphic octet) (list_all is_ascii_graphic text) all in and_from _ _ (graphic_ascii octet both.0) (graphic-ascii text both.1)
 
--- a field that is taken as it stands is ASCII
+-- a field that is taken literally is ASCII
 pub name-ascii : (text : List ℕ) → is_name text ≡ true → is_ascii text ≡ true
 name-ascii text named = graphic-ascii text (and_parts (nat_lt 0 (length text)) (list_all is_ascii_graphic text) named).1
 

@@ -1,4 +1,4 @@
--- The first part of a text, as a search for its separator tells it.
+-- The first part of a text, as a search for its separator finds it.
 use Rattle.std.proofs.Common.{◌≡◌, ℕ, zero, suc, ◌+◌, ◌-◌, ◌<◌, Bool, true, false, List, [], ◌∷◌, ◌++◌, length, take, drop, Option, Some, None, IfSome, refl, ap, sym, ◌∙◌, append_assoc, arith}
 use Rattle.std.specs.Prelude.{◌==◌, map, slice_index, MatchOption}
 use Rattle.std.specs.List.{slice_split, onto_first}
@@ -17,7 +17,7 @@ one_part c (b ∷ text) h =
     slice_split-cons_no (λ x. x == c) b text (not_true _ (h 0 (omega arith)))
     ∙ ap (onto_first b) (one_part c text (λ k low is. h (suc k) (omega arith) is))
 
--- the first separator stands at this place
+-- the first separator is at this position
 first_part : (c : ℕ) (text : List ℕ) (at : ℕ) → at < length text → ((k : ℕ) → k < at → (slice_index text k == c) ≡ true → ⊥) → (slice_index text at == c) ≡ true
     → slice_split (λ b. b == c) text ≡ take at text ∷ slice_split (λ b. b == c) (drop (at + 1) text)
 first_part c [] at low before is = absurd (omega arith)
@@ -37,7 +37,7 @@ pub place_parts : (c : ℕ) (text : List ℕ) (r : Option ℕ) → IsFirstByte (
 place_parts c text None h = one_part c text (λ k low is. h k (omega arith) low is)
 place_parts c text (Some at) h = first_part c text at h.0.high (λ k low is. h.0.before k (omega arith) low is) h.1
 
--- one part more, and the last one
+-- one more part, and the last one
 pub one_more : {X : Type 0} (shown : X → List ℕ) (c : ℕ) (text rest : List ℕ) (at : ℕ) (before : List X) (x : X) (after : List X) → after ≡ before ++ x ∷ []
     → slice_split (λ b. b == c) text ≡ map shown before ++ slice_split (λ b. b == c) rest → slice_split (λ b. b == c) rest ≡ shown x ∷ slice_split (λ b. b == c) (drop (at + 1) rest)
     → slice_split (λ b. b == c) text ≡ map shown after ++ slice_split (λ b. b == c) (take (length rest - (at + 1)) (drop (at + 1) rest))

@@ -1,4 +1,4 @@
--- What stands at a place of a map.
+-- The value at a key of a map.
 use Rattle.std.proofs.Common.{◌≡◌, ℕ, Bool, true, false, cond, List, [], ◌∷◌, Option, Some, refl, sym, ap, ◌∙◌}
 use Rattle.std.specs.Map.{lookup, set_value}
 
@@ -10,7 +10,7 @@ set_first : {A : Type 0} (entry : ℕ × A) (entries put : List (ℕ × A)) (fou
 set_first entry entries put found x true rest e = ap (λ y. (entry.0, y) ∷ entries) (sym (some_same x entry.1 e))
 set_first entry entries put found x false rest e = ap (λ l. entry ∷ l) (rest e)
 
--- what stands there is put there
+-- the map is unchanged after the value at a key is set again
 pub set_same : {A : Type 0} (test : ℕ → Bool) (entries : List (ℕ × A)) (x : A) → lookup test entries ≡ Some x → set_value test entries x ≡ entries
 set_same test [] x e = refl
 set_same test (entry ∷ entries) x e =

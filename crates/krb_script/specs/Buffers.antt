@@ -1,4 +1,4 @@
--- The buffers of a message, as a line tells them.
+-- The buffers of a message, as a line declares them.
 use Rattle.std.specs.Prelude.{ℕ, Bool, nat_le, ◌==◌, ◌&&◌, if◌then◌else◌, List, [], ◌∷◌, codes, length, Option, Some, None}
 use Rattle.std.specs.List.{slice_split}
 use Rattle.std.specs.Str.{bytes_eq}
@@ -22,11 +22,11 @@ parts field = slice_split (λ b. b == 58) field
 abbrev pub hex_of : List ℕ → Option (List ℕ)
 hex_of text = result_ok (decode_of text)
 
--- SECBUFFER_READONLY_WITH_CHECKSUM: data that the checksum covers and that are not sealed
+-- SECBUFFER_READONLY_WITH_CHECKSUM: data that the checksum covers and that are not encrypted
 abbrev pub read_only : SecurityBufferFlags
 read_only = record { 0 = readonly_with_checksum }
 
--- a buffer by its letter: T the token, D the data that are sealed, R data that the checksum covers, S the stream
+-- a buffer by its letter: T the token, D the data to encrypt, R data that the checksum covers, S the stream
 abbrev pub lettered : List ℕ → List ℕ → ℕ → Option Buffer
 lettered letter octets limit =
     if bytes_eq letter (codes "T") then Some (record { kind = Token; flags = no_flags; octets = octets; limit = limit })
@@ -35,7 +35,7 @@ lettered letter octets limit =
     else if bytes_eq letter (codes "S") then Some (record { kind = Stream; flags = no_flags; octets = octets; limit = limit })
     else None
 
--- <letter>:<hex>:<limit>: as many octets at the most as the limit, which is at most 2^20
+-- <letter>:<hex>:<limit>: at most `limit` octets; the limit is at most 2^20
 abbrev pub buffer_in : List (List ℕ) → Option Buffer
 buffer_in (letter ∷ digits ∷ limit_text ∷ []) = do
   octets ← hex_of digits
@@ -46,7 +46,7 @@ buffer_in _ = None
 abbrev pub buffer_of : List ℕ → Option Buffer
 buffer_of field = buffer_in (parts field)
 
--- a buffer a field
+-- one buffer for each field
 abbrev pub buffers_of : List (List ℕ) → Option (List Buffer)
 buffers_of [] = Some []
 buffers_of (field ∷ rest) = do
@@ -54,7 +54,7 @@ buffers_of (field ∷ rest) = do
   more ← buffers_of rest
   Some (first ∷ more)
 
--- 1 to 16 buffers, among them one token, one stream and one buffer of data that are sealed at the most
+-- 1 to 16 buffers, among them at most one token, one stream and one buffer of data to encrypt
 abbrev pub message_of : List (List ℕ) → Option (List Buffer)
 message_of texts =
     if_so (nat_le 1 (length texts) && nat_le (length texts) 16) (buffers_of texts >>= (λ buffers. if_so (is_message buffers) (Some buffers)))

@@ -101,7 +101,7 @@ keytab_of (id_text ∷ principal_text ∷ enctype_text ∷ octets_text ∷ []) =
   Some (AttributeLine id (Credentials (Keytab identity)))
 keytab_of _ = None
 
--- the URL of an address, which is reached over TCP where it names no protocol
+-- the URL of an address, which is reached over TCP if it names no protocol
 abbrev pub url_of : List ℕ → Option Parts
 url_of text = do
   address ← name_of text
@@ -115,7 +115,7 @@ kdc_of (id_text ∷ address_text ∷ []) = do
   Some (AttributeLine id (Kdc url))
 kdc_of _ = None
 
--- what a line before the first event declares, by its word
+-- the declaration of a line before the first event, by its word
 unfoldable pub declaration_of : List ℕ → List (List ℕ) → Option Declaration
 declaration_of word rest =
     if bytes_eq word (codes "skew") then skew_of rest

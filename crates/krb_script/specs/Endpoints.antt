@@ -15,7 +15,7 @@ is_acceptor (Initiator target) = false
 abbrev pub new_endpoint : Role → ℕ → List ℕ → Endpoint
 new_endpoint role number host = record { role = role; number = number; host = host; keys = []; credentials = None; kdc_url = None }
 
--- what a line adds to an end that is declared: a key is an acceptor's; credentials and a URL stand once
+-- an end after a line adds to it: only an acceptor has keys; credentials and a URL are set at most once
 abbrev pub with_attribute : Endpoint → Attribute → Option Endpoint
 with_attribute endpoint (Key key) = if_so (is_acceptor endpoint.role) (Some (record endpoint { keys = endpoint.keys ++ key ∷ [] }))
 with_attribute endpoint (Credentials credentials) = if is_some endpoint.credentials then None else Some (record endpoint { credentials = Some credentials })

@@ -1,4 +1,4 @@
--- What a field of a line stands for.
+-- The values of the fields of a line.
 use Rattle.std.specs.Prelude.{ℕ, Bool, true, ◌&&◌, not, nat_lt, ◌==◌, if◌then◌else◌, List, [], ◌∷◌, length, fold, codes, Option, Some, None}
 use Rattle.std.specs.List.{list_all, list_any}
 use Rattle.std.specs.Char.{is_ascii_graphic}
@@ -11,15 +11,15 @@ use Rattle.krb_script.specs.Options.{if_so}
 use Rattle.sspi_core.specs.Flags as bits
 use Rattle.sspi_core.specs.declared.flags.ClientRequestFlags.{ClientRequestFlags}
 
--- the octets that hex digits of either case stand for
+-- the octets of pairs of hex digits of either case, of which there is at least one
 abbrev pub octets_of : List ℕ → Option (List ℕ)
 octets_of text = if length text == 0 then None else result_ok (decode_of text)
 
--- the same, where `-` stands for no octets
+-- the octets of pairs of hex digits of either case; `-` means no octets
 abbrev pub octets_or_none_of : List ℕ → Option (List ℕ)
 octets_or_none_of text = if bytes_eq text (codes "-") then Some [] else octets_of text
 
--- a text in UTF-8 by the hex digits of its octets, where `-` stands for the empty one
+-- a text in UTF-8 by the hex digits of its octets; `-` means the empty text
 abbrev pub text_of : List ℕ → Option (List ℕ)
 text_of text = do
   octets ← octets_or_none_of text
@@ -29,11 +29,11 @@ text_of text = do
 abbrev pub is_name : List ℕ → Bool
 is_name text = nat_lt 0 (length text) && list_all is_ascii_graphic text
 
--- a field that is taken as it stands
+-- a field that is taken literally
 abbrev pub name_of : List ℕ → Option (List ℕ)
 name_of text = if is_name text then Some text else None
 
--- the same, where `-` stands for no field
+-- a field that is taken literally; `-` means no field
 abbrev pub optional_name_of : List ℕ → Option (Option (List ℕ))
 optional_name_of text =
     if bytes_eq text (codes "-") then Some None
@@ -41,11 +41,11 @@ optional_name_of text =
       name ← name_of text
       Some (Some name)
 
--- the same, where `-` stands for the empty one
+-- a field that is taken literally; `-` means the empty field
 abbrev pub name_or_none_of : List ℕ → Option (List ℕ)
 name_or_none_of text = if bytes_eq text (codes "-") then Some [] else name_of text
 
--- each element stands once
+-- no element occurs twice
 abbrev pub is_distinct : List ℕ → Bool
 is_distinct [] = true
 is_distinct (x ∷ xs) = not (list_any (λ y. y == x) xs) && is_distinct xs
@@ -76,7 +76,7 @@ flag_bits text = fold (λ bits letter. bit_or bits (flag_bit letter)) 0 text
 abbrev pub flags_from : ℕ → ClientRequestFlags
 flags_from bits = record { 0 = bits }
 
--- flags by their letters, where `-` stands for none
+-- flags by their letters; `-` means no flags
 abbrev pub flags_of : List ℕ → Option ClientRequestFlags
 flags_of text =
     if bytes_eq text (codes "-") then Some (flags_from 0)

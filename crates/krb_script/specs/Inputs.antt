@@ -1,4 +1,4 @@
--- What an event brings to its connection.
+-- The input that an event brings to its connection.
 use Rattle.std.specs.Prelude.{ℕ, ◌-◌, ◌^◌, if◌then◌else◌, List, [], ◌∷◌, codes, Option, Some, None}
 use Rattle.std.specs.Str.{bytes_eq}
 use Rattle.krb_der.specs.Reading.{◌>>=◌}
@@ -61,7 +61,7 @@ verify_of (token_text ∷ payload_text ∷ []) = do
   Some (VerifyMic token payload)
 verify_of _ = None
 
--- what an event brings, by its word
+-- the input of an event, by its word
 unfoldable pub input_of : List (List ℕ) → Option Input
 input_of [] = None
 input_of (word ∷ rest) =

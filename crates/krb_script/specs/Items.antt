@@ -1,4 +1,4 @@
--- What a line declares: the table of lines.
+-- The item that a line declares: the table of lines.
 use Rattle.std.specs.Prelude.{ℕ, ◌-◌, ◌^◌, if◌then◌else◌, List, [], ◌∷◌, codes, Option, Some, None, option_map}
 use Rattle.std.specs.Str.{bytes_eq}
 use Rattle.krb_text.specs.Decimals.{decimal_up_to, u32_of}
@@ -22,7 +22,7 @@ event_of (id_text ∷ moment_text ∷ random_text ∷ flags_text ∷ input_texts
   Some (record { connection = id; moment = moment; random = random; flags = flags; input = input })
 event_of _ = None
 
--- what a line declares, if it stands in the table
+-- the item that a line declares, if the line is in the table
 abbrev pub item_of_fields : List (List ℕ) → Option Item
 item_of_fields [] = None
 item_of_fields (word ∷ rest) =

@@ -1,4 +1,4 @@
-//! The buffers of a message, as a line tells them.
+//! The buffers of a message, as a line declares them.
 
 ghost use Rattle.std.specs.Prelude.{◌≡◌, ◌≤◌, map, length, IfOk};
 ghost use Rattle.krb_script.specs.Buffers.{parts, lettered, buffer_in, buffer_of, buffers_of, message_of};
@@ -14,7 +14,7 @@ use std::alloc::{AllocError, Global};
 /// The most buffers of a message.
 const MAX_BUFFERS: usize = 16;
 
-/// The greatest limit of a buffer, in octets.
+/// The greatest limit of a buffer, in bytes.
 const MAX_LIMIT: u64 = 1_048_576;
 
 fn split_parts<'a>(alloc: Global, field: &'a [u8]) -> Result<Vec<&'a [u8]>, AllocError>
@@ -23,7 +23,7 @@ fn split_parts<'a>(alloc: Global, field: &'a [u8]) -> Result<Vec<&'a [u8]>, Allo
     split(alloc, b':', field)
 }
 
-/// A buffer by its letter.
+/// Returns a buffer by its letter. Fails with `Bad` if no buffer has the letter.
 fn lettered(letter: &[u8], octets: Octets, limit: usize) -> Result<SecurityBufferRef, FieldError>
     requires { length octets ≤ limit }
     ensures { Gives (lettered letter.now octets limit) result }
@@ -63,7 +63,7 @@ fn parse_buffer(alloc: Global, field: &[u8]) -> Result<SecurityBufferRef, FieldE
     parse_parts(alloc, &parts)
 }
 
-/// A buffer a field.
+/// Reads one buffer from each field.
 fn parse_buffers(alloc: Global, fields: &[&[u8]]) -> Result<Items<SecurityBufferRef>, FieldError>
     ensures { Gives (buffers_of (map (λ x. x.now) fields.now)) result }
 {
@@ -74,7 +74,7 @@ fn parse_buffers(alloc: Global, fields: &[&[u8]]) -> Result<Items<SecurityBuffer
     Ok(Items::new(buffers))
 }
 
-/// A message of 1 to 16 buffers.
+/// Reads a message of 1 to 16 buffers.
 pub(crate) fn parse_message(alloc: Global, fields: &[&[u8]]) -> Result<Message, FieldError>
     ensures { Gives (message_of (map (λ x. x.now) fields.now)) result }
 {

@@ -1,4 +1,4 @@
-//! What the lines before the first event declare.
+//! The declarations of the lines before the first event.
 
 ghost use Rattle.std.specs.Prelude.{map};
 ghost use Rattle.krb_script.specs.Declarations.{
@@ -30,7 +30,7 @@ use sspi_core::{
 use std::alloc::Global;
 use url::Url;
 
-/// What a line before the first event declares.
+/// The declaration of a line before the first event.
 #[derive(Drop)]
 pub enum Declaration {
     /// The clock skew that is allowed, in seconds.
@@ -41,11 +41,11 @@ pub enum Declaration {
     File(Text, ConfigFile),
     /// One end of a connection, at the connection's number.
     Endpoint(u32, Endpoint),
-    /// What is added to the end with this number.
+    /// An attribute that is added to the end with this number.
     Attribute(u32, Attribute),
 }
 
-/// The greatest skew that a line may tell: a day, in seconds.
+/// The greatest skew that a line may set: a day, in seconds.
 pub const MAX_SKEW: u64 = 86_400;
 
 fn parse_skew(fields: &[&[u8]]) -> Result<Declaration, FieldError>
@@ -80,7 +80,7 @@ fn parse_file(alloc: Global, fields: &[&[u8]]) -> Result<Declaration, FieldError
     Ok(Declaration::File(path, contents))
 }
 
-/// An acceptor's line, behind its word.
+/// Reads the line of an acceptor, after its word.
 fn parse_acceptor(alloc: Global, fields: &[&[u8]]) -> Result<Declaration, FieldError>
     ensures { Gives (acceptor_of (map (λ x. x.now) fields.now)) result }
 {
@@ -94,7 +94,7 @@ fn parse_acceptor(alloc: Global, fields: &[&[u8]]) -> Result<Declaration, FieldE
     Ok(Declaration::Endpoint(id, Endpoint::new(alloc, role, number, host)))
 }
 
-/// An initiator's.
+/// Reads the line of an initiator, after its word.
 fn parse_initiator(alloc: Global, fields: &[&[u8]]) -> Result<Declaration, FieldError>
     ensures { Gives (initiator_of (map (λ x. x.now) fields.now)) result }
 {
@@ -108,7 +108,7 @@ fn parse_initiator(alloc: Global, fields: &[&[u8]]) -> Result<Declaration, Field
     Ok(Declaration::Endpoint(id, Endpoint::new(alloc, role, number, host)))
 }
 
-/// A key's.
+/// Reads the line of a key, after its word.
 fn parse_key(alloc: Global, fields: &[&[u8]]) -> Result<Declaration, FieldError>
     ensures { Gives (key_of (map (λ x. x.now) fields.now)) result }
 {
@@ -121,7 +121,7 @@ fn parse_key(alloc: Global, fields: &[&[u8]]) -> Result<Declaration, FieldError>
     Ok(Declaration::Attribute(id, Attribute::Key(ServiceKey { service, octets })))
 }
 
-/// A user's with a password.
+/// Reads the line of a user with a password, after its word.
 fn parse_password(alloc: Global, fields: &[&[u8]]) -> Result<Declaration, FieldError>
     ensures { Gives (password_of (map (λ x. x.now) fields.now)) result }
 {
@@ -143,7 +143,7 @@ fn parse_password(alloc: Global, fields: &[&[u8]]) -> Result<Declaration, FieldE
     ))
 }
 
-/// A principal, by its name.
+/// Returns a principal, by its name.
 fn username(alloc: Global, text: &[u8]) -> Result<Username, FieldError>
     ensures { Gives (username_of text.now) result }
 {
@@ -155,7 +155,7 @@ fn username(alloc: Global, text: &[u8]) -> Result<Username, FieldError>
     }
 }
 
-/// A principal with a key, whose encryption type is 17 or 18 (RFC 3962, section 7).
+/// Returns a principal with a key, whose encryption type is 17 or 18 (RFC 3962, section 7).
 fn keytab_identity(
     enctype: &[u8],
     principal: Username,
@@ -181,7 +181,7 @@ fn keytab_identity(
     }
 }
 
-/// A user's with a key.
+/// Reads the line of a user with a key, after its word.
 fn parse_keytab(alloc: Global, fields: &[&[u8]]) -> Result<Declaration, FieldError>
     ensures { Gives (keytab_of (map (λ x. x.now) fields.now)) result }
 {
@@ -198,7 +198,7 @@ fn parse_keytab(alloc: Global, fields: &[&[u8]]) -> Result<Declaration, FieldErr
     ))
 }
 
-/// The URL of an address.
+/// Returns the URL of an address.
 fn url(alloc: Global, text: &[u8]) -> Result<Url, FieldError>
     ensures { Gives (url_of text.now) result }
 {
@@ -209,7 +209,7 @@ fn url(alloc: Global, text: &[u8]) -> Result<Url, FieldError>
     }
 }
 
-/// A KDC's.
+/// Reads the line of a KDC, after its word.
 fn parse_kdc(alloc: Global, fields: &[&[u8]]) -> Result<Declaration, FieldError>
     ensures { Gives (kdc_of (map (λ x. x.now) fields.now)) result }
 {
@@ -221,7 +221,7 @@ fn parse_kdc(alloc: Global, fields: &[&[u8]]) -> Result<Declaration, FieldError>
     Ok(Declaration::Attribute(id, Attribute::Kdc(url)))
 }
 
-/// What a line before the first event declares, by its word.
+/// Reads a line before the first event, by its word.
 #[tactic(auto, unfolding(crate::specs::Declarations::declaration_of))]
 pub(crate) fn parse_declaration(
     alloc: Global,

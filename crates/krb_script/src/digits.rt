@@ -11,14 +11,14 @@ use crate::fields::FieldError;
 use krb_der::Octets;
 use std::alloc::Global;
 
-/// Whether an octet is a digit of either case.
+/// Returns whether an octet is a hex digit of either case.
 fn is_digit(octet: u8) -> bool
     ensures { result ≡ is_hex_digit octet }
 {
     matches!(octet, b'0'..=b'9' | b'A'..=b'F' | b'a'..=b'f')
 }
 
-/// Whether all octets are digits. Each is looked at, whatever those before it are.
+/// Returns whether all octets are hex digits. Looks at each octet, whatever the octets before it are.
 fn is_each_digit(text: &[u8]) -> bool
     ensures { result ≡ fold (λ all octet. all && is_hex_digit octet) true text.now }
 {
@@ -32,7 +32,7 @@ fn are_digits(text: &[u8]) -> bool
     is_each_digit(text)
 }
 
-/// The value of a digit: bit 6 tells a letter, whose low four bits count from 1.
+/// Returns the value of a digit: bit 6 is set for a letter, whose low four bits count from 1.
 #[tactic(auto, using(crate::proofs::DigitLemmas::value_of))]
 fn digit_value(digit: u8) -> u8
     requires { is_hex_digit digit ≡ true }
@@ -59,7 +59,7 @@ pub(crate) fn are_pairs(text: &[u8]) -> bool
     text.len() % 2 == 0 && are_digits(text)
 }
 
-/// The octets that hex digits of either case stand for, of which there may be none.
+/// Decodes pairs of hex digits of either case, of which there may be none.
 #[tactic(auto, using(crate::proofs::DigitLemmas::decoded, crate::proofs::DigitLemmas::not_decoded, crate::proofs::DigitLemmas::all_of, crate::proofs::DigitLemmas::even_of))]
 pub(crate) fn decode(alloc: Global, text: &[u8]) -> Result<Octets, FieldError>
     ensures { Gives (result_ok (decode_of text.now)) result }

@@ -13,9 +13,9 @@ use url::Url;
 /// Which end a connection is.
 #[derive(Drop)]
 pub enum Role {
-    /// An acceptor of this service, by its name as it stands in the line, with a `/` between two components.
+    /// An acceptor of this service, by its name as it is in the line, with a `/` between two components.
     Acceptor(Name),
-    /// An initiator, and the name of whom it speaks to.
+    /// An initiator, and the name of the service that it speaks to.
     Initiator(Option<Name>),
 }
 
@@ -59,7 +59,7 @@ impl ServiceKeys {
         self.keys.as_slice()
     }
 
-    /// One key more, behind the others.
+    /// Appends one key. After an error the keys are as they were.
     pub(crate) fn push(&mut self, key: ServiceKey) -> Result<(), OutOfMemory>
         ensures ok { OnOk result (self.new ≡ self.old ++ key ∷ []) }
         ensures err { OnErr result (self.new ≡ self.old) }
@@ -78,17 +78,17 @@ pub struct Endpoint {
     pub host: Name,
     /// The keys of an acceptor.
     pub keys: ServiceKeys,
-    /// Who an initiator speaks for, and the user of an acceptor.
+    /// The user of an initiator or of an acceptor.
     pub credentials: Option<CredentialsBuffers>,
     pub kdc_url: Option<Url>,
 }
 
-/// What a line adds to an end that is declared.
+/// An attribute that a line adds to an end that is declared.
 #[derive(Drop)]
 pub enum Attribute {
     Key(ServiceKey),
     Credentials(CredentialsBuffers),
-    /// Where its KDC is.
+    /// The address of the end's KDC.
     Kdc(Url),
 }
 
@@ -107,7 +107,7 @@ impl Endpoint {
     ghost use Rattle.std.specs.Prelude.{OnErr};
     ghost use Rattle.krb_script.specs.Gives.{GivesAfter};
 
-    /// An end of which one line is known.
+    /// Returns an end of which one line is known.
     pub(crate) fn new(alloc: Global, role: Role, number: u32, host: Name) -> Endpoint
         ensures { result ≡ new_endpoint role number host }
     {
@@ -121,7 +121,8 @@ impl Endpoint {
         }
     }
 
-    /// A key is an acceptor's; credentials and a URL stand once. At `Err` it stays as it was.
+    /// Adds an attribute. Fails with `Bad` for a key of an initiator, and for a second set of credentials or a second URL. After an
+    /// error the end is as it was.
     pub(crate) fn add(&mut self, attribute: Attribute) -> Result<(), FieldError>
         ensures given { GivesAfter (with_attribute self.old attribute) result self.new }
         ensures err { OnErr result (self.new ≡ self.old) }

@@ -66,21 +66,21 @@ impl<T: Drop> From<AllocFailed<T>> for FieldError {
     }
 }
 
-/// The decimal number, if it is at most `limit`.
+/// Reads a decimal number. Fails with `Bad` if the field is no decimal number, or the number is more than `limit`.
 pub fn number(limit: u64, text: &[u8]) -> Result<u64, FieldError>
     ensures { Gives (decimal_up_to limit text.now) result }
 {
     decimal_up_to(limit, text).ok_or(FieldError::Bad)
 }
 
-/// A number of 32 bits.
+/// Reads a decimal number of 32 bits.
 pub fn number_u32(text: &[u8]) -> Result<u32, FieldError>
     ensures { Gives (u32_of text.now) result }
 {
     Ok(number(u64::from(u32::MAX), text)? as u32)
 }
 
-/// The octets that hex digits of either case stand for.
+/// Decodes pairs of hex digits of either case. Fails with `Bad` if there is no pair, or any other octet.
 pub fn octets(alloc: Global, text: &[u8]) -> Result<Octets, FieldError>
     ensures { Gives (octets_of text.now) result }
 {
@@ -90,7 +90,7 @@ pub fn octets(alloc: Global, text: &[u8]) -> Result<Octets, FieldError>
     decode(alloc, text)
 }
 
-/// The same, where `-` stands for no octets.
+/// Decodes pairs of hex digits of either case; `-` means no octets.
 pub fn octets_or_none(alloc: Global, text: &[u8]) -> Result<Octets, FieldError>
     ensures { Gives (octets_or_none_of text.now) result }
 {
@@ -109,7 +109,7 @@ fn is_utf8(octets: &[u8]) -> bool
     }
 }
 
-/// A text by its octets.
+/// Returns the text of octets in UTF-8. Fails with `Bad` if they are not UTF-8.
 fn utf8_text(octets: Octets) -> Result<Text, FieldError>
     ensures { Gives (if_so (is_utf8 octets) (Some octets)) result }
 {
@@ -122,7 +122,7 @@ fn utf8_text(octets: Octets) -> Result<Text, FieldError>
     }
 }
 
-/// A text in UTF-8 by the hex digits of its octets, where `-` stands for the empty one.
+/// Reads a text in UTF-8 by the hex digits of its octets; `-` means the empty text.
 pub fn text(alloc: Global, text: &[u8]) -> Result<Text, FieldError>
     ensures { Gives (text_of text.now) result }
 {
@@ -142,7 +142,7 @@ fn are_graphic(text: &[u8]) -> bool
     text.iter().all(|b| b.is_ascii_graphic())
 }
 
-/// A field that is taken as it stands.
+/// Reads a field that is taken literally. Fails with `Bad` if it is empty or has an octet outside 21 to 7E (hex).
 pub fn name(alloc: Global, text: &[u8]) -> Result<Name, FieldError>
     ensures { Gives (name_of text.now) result }
 {
@@ -155,7 +155,7 @@ pub fn name(alloc: Global, text: &[u8]) -> Result<Name, FieldError>
     }
 }
 
-/// The same, where `-` stands for no field.
+/// Reads a field that is taken literally; `-` means no field.
 pub fn optional_name(alloc: Global, text: &[u8]) -> Result<Option<Name>, FieldError>
     ensures { Gives (optional_name_of text.now) result }
 {
@@ -165,7 +165,7 @@ pub fn optional_name(alloc: Global, text: &[u8]) -> Result<Option<Name>, FieldEr
     Ok(Some(name(alloc, text)?))
 }
 
-/// A field as a text.
+/// Reads a field that is taken literally, as a text.
 pub fn named_text(alloc: Global, text: &[u8]) -> Result<Text, FieldError>
     ensures { Gives (name_of text.now) result }
 {
@@ -173,7 +173,7 @@ pub fn named_text(alloc: Global, text: &[u8]) -> Result<Text, FieldError>
     Ok(Text::from_str(alloc, name.as_str())?)
 }
 
-/// The same, where `-` stands for the empty text.
+/// Reads a field that is taken literally, as a text; `-` means the empty text.
 pub fn text_or_none(alloc: Global, text: &[u8]) -> Result<Text, FieldError>
     ensures { Gives (name_or_none_of text.now) result }
 {
@@ -183,7 +183,7 @@ pub fn text_or_none(alloc: Global, text: &[u8]) -> Result<Text, FieldError>
     named_text(alloc, text)
 }
 
-/// The 64 octets that 128 hex digits stand for.
+/// Decodes 128 hex digits to 64 octets.
 #[tactic(auto, using(crate::proofs::DigitLemmas::sized))]
 pub fn random_octets(text: &[u8]) -> Result<[u8; 64], FieldError>
     ensures { Gives (random_of text.now) result }
@@ -196,7 +196,7 @@ pub fn random_octets(text: &[u8]) -> Result<[u8; 64], FieldError>
     Ok(octets)
 }
 
-/// The bit of a flag's letter, and 0 for any other octet.
+/// Returns the bit of a flag's letter, and 0 for any other octet.
 fn flag_bit(letter: u8) -> u32
     ensures { result ≡ flag_bit letter }
 {
@@ -253,7 +253,7 @@ fn flags_from(bits: u32) -> ClientRequestFlags
     ClientRequestFlags::from_bits_retain(bits)
 }
 
-/// Flags by their letters, each once; `-` stands for none.
+/// Reads flags by their letters, each at most once; `-` means no flags.
 pub fn flags(text: &[u8]) -> Result<ClientRequestFlags, FieldError>
     ensures { Gives (flags_of text.now) result }
 {

@@ -1,4 +1,4 @@
-//! What an event brings to its connection.
+//! The input that an event brings to its connection.
 
 ghost use Rattle.std.specs.Prelude.{map};
 ghost use Rattle.krb_script.specs.Inputs.{token_of, start_of, reply_of, fault_of, wrap_of, unwrap_of, mic_of, verify_of, input_of};
@@ -10,24 +10,24 @@ use krb_der::Octets;
 use sspi_core::Message;
 use std::alloc::Global;
 
-/// What an event brings to its connection.
+/// The input that an event brings to its connection.
 #[derive(Drop)]
 pub enum Input {
-    /// A token of the peer's.
+    /// A token of the peer.
     Token(Octets),
     /// The beginning of an initiator's exchange.
     Start,
-    /// What a KDC answered to the request that the connection asked to have sent.
+    /// The reply of a KDC to the request that the connection asked to have sent.
     KdcReply(Octets),
     /// Sending that request failed, with this code.
     KdcFault(u32),
-    /// A message to seal.
+    /// A message to wrap.
     Wrap(Message),
-    /// A message to open.
+    /// A message to unwrap.
     Unwrap(Message),
-    /// A payload, to be signed by a MIC token.
+    /// A payload to be signed by a MIC token.
     MakeMic(Octets),
-    /// A MIC token of the peer's, and the payload that it signs.
+    /// A MIC token of the peer, and the payload that it signs.
     VerifyMic { token: Octets, payload: Octets },
 }
 
@@ -100,7 +100,7 @@ fn parse_verify(alloc: Global, fields: &[&[u8]]) -> Result<Input, FieldError>
     })
 }
 
-/// What an event brings, by its word.
+/// Reads the input of an event, by its word.
 #[tactic(auto, unfolding(crate::specs::Inputs::input_of))]
 pub(crate) fn parse_input(alloc: Global, fields: &[&[u8]]) -> Result<Input, FieldError>
     ensures { Gives (input_of (map (λ x. x.now) fields.now)) result }

@@ -1,4 +1,4 @@
-//! What a line declares.
+//! The items that lines declare.
 ghost use Rattle.std.specs.Prelude.{◌≡◌, ◌∷◌, map, IfOk};
 ghost use Rattle.krb_text.specs.Lines.{fields};
 ghost use Rattle.krb_script.specs.Items.{event_of, item_of_fields, item_of};
@@ -14,17 +14,17 @@ use std::alloc::{AllocError, Global};
 /// One event at a connection.
 #[derive(Drop)]
 pub struct Event {
-    /// The connection's number. No line need have declared it.
+    /// The connection's number. A line may, but need not, have declared it.
     pub connection: u32,
     /// Microseconds since 1970-01-01T00:00:00Z.
     pub moment: u64,
-    /// What the event may draw, taken from the front.
+    /// The random octets that the event may draw, from the front.
     pub random: [u8; 64],
     pub flags: ClientRequestFlags,
     pub input: Input,
 }
 
-/// What a line declares.
+/// The item that a line declares.
 #[derive(Drop)]
 pub enum Item {
     Declaration(Declaration),
@@ -65,7 +65,7 @@ fn parse_fields(alloc: Global, fields: &[&[u8]]) -> Result<Item, FieldError>
     }
 }
 
-/// What a line declares, if it stands in the table.
+/// Reads a line. Fails with `Bad` if the line is not in the table, and with `OutOfMemory` if memory runs out.
 pub fn parse_item(alloc: Global, line: &[u8]) -> Result<Item, FieldError>
     ensures { Gives (item_of line.now) result }
 {

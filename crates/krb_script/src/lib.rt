@@ -1,10 +1,10 @@
-//! What the lines of an input declare.
+//! The declarations of the lines of an input.
 //!
-//! [`parse_item`] says what a line declares, and a [`Script`] keeps what the lines before the first event declare: variables
-//! and files, and the ends of connections.
+//! [`parse_item`] reads the item that a line declares, and a [`Script`] keeps the declarations of the lines before the first
+//! event: the skew, variables and files, and the ends of connections.
 //!
-//! [`split`] cuts a text, and [`name`], [`number`], [`octets`], [`octets_or_none`], [`optional_name`] and [`random_octets`] read one field:
-//! for the lines of other programs, in the same manner.
+//! [`split`] cuts a text, and [`name`], [`number`], [`octets`], [`octets_or_none`], [`optional_name`] and [`random_octets`] read
+//! one field: other programs use them for their own lines.
 #![tactic(auto)]
 
 mod buffers;

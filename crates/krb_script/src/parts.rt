@@ -1,4 +1,4 @@
-//! A text by the octets that part it.
+//! The parts of a text between separators.
 
 ghost use Rattle.std.specs.Prelude.{◌≡◌, ◌<◌, ◌==◌, ◌+◌, ◌∷◌, [], length, take, drop, map, IfOk, IfSome, MatchOption};
 ghost use Rattle.std.specs.List.{slice_split};
@@ -6,7 +6,7 @@ ghost use Rattle.std.specs.List.{slice_split};
 use memchr::memchr;
 use std::alloc::{AllocError, Global};
 
-/// Where the first separator stands.
+/// Returns the position of the first separator.
 #[tactic(auto, using(crate::proofs::PartLemmas::place_within))]
 fn place_of(separator: u8, text: &[u8]) -> Option<usize>
     ensures within { IfSome result (λ at. at < length text.now) }
@@ -16,7 +16,7 @@ fn place_of(separator: u8, text: &[u8]) -> Option<usize>
     memchr(separator, text)
 }
 
-/// The parts of a text between the separators, which may be empty: one more than there are separators.
+/// Splits a text at the separators. The parts may be empty; there is one more part than separators.
 pub fn split<'a>(alloc: Global, separator: u8, text: &'a [u8]) -> Result<Vec<&'a [u8]>, AllocError>
     ensures { IfOk result (λ parts. map (λ x. x.now) parts.items ≡ slice_split (λ b. b == separator) text.now) }
 {

@@ -1,4 +1,4 @@
-//! What the lines before the first event declare.
+//! The declarations of the lines before the first event.
 ghost use Rattle.std.specs.Prelude.{◌≡◌};
 
 use crate::declaration::Declaration;
@@ -10,7 +10,7 @@ use std::alloc::Global;
 use std::collections::BTreeMap;
 use std::marker::Model;
 
-/// What is declared so far: the skew, variables and files in their order, and the ends of connections by their numbers.
+/// The declarations so far: the skew, variables and files in their order, and the ends of connections by their numbers.
 #[derive(Drop)]
 pub struct Script {
     skew: Option<u32>,
@@ -32,7 +32,7 @@ impl Script {
     ghost use Rattle.krb_script.specs.Script.{empty_setup, set_up, add, with_endpoint, with_addition, is_declared};
     ghost use Rattle.krb_script.specs.Gives.{GivesAfter};
 
-    /// Nothing is declared. It takes no memory yet.
+    /// Returns a script in which nothing is declared. It allocates no memory yet.
     pub fn new(alloc: Global) -> Script
         ensures { result ≡ empty_setup }
     {
@@ -44,14 +44,15 @@ impl Script {
         }
     }
 
-    /// Whether there was a line with the skew.
+    /// Returns whether there was a line with the skew.
     pub fn has_begun(&self) -> bool
         ensures { result ≡ is_some self.now.skew }
     {
         self.skew.is_some()
     }
 
-    /// The skew, which is 0 where no line tells it, the variables and files, and the ends of connections by their numbers.
+    /// Returns the skew in seconds, which is 0 if no line sets it, the variables and files, and the ends of connections by their
+    /// numbers.
     pub fn into_parts(self) -> (u32, Env, BTreeMap<u32, Endpoint>)
         ensures skew { result.0 ≡ unwrap_or self.skew 0 }
         ensures env { result.1 ≡ self.env }
@@ -76,7 +77,7 @@ impl Script {
         self.endpoints.contains_key(&id)
     }
 
-    /// One end more, whose number is new.
+    /// Adds one end. Fails with `Bad` if its number is not new.
     fn add_endpoint(&mut self, id: u32, endpoint: Endpoint) -> Result<(), FieldError>
         ensures given { GivesAfter (with_endpoint self.old id endpoint) result self.new }
         ensures err { OnErr result (self.new ≡ self.old) }
@@ -88,7 +89,7 @@ impl Script {
         Ok(())
     }
 
-    /// What is added to an end that is declared.
+    /// Adds an attribute to an end. Fails with `Bad` if no end with the number is declared, or if the end cannot have the attribute.
     fn add_to(&mut self, id: u32, attribute: Attribute) -> Result<(), FieldError>
         ensures given { GivesAfter (with_addition self.old id attribute) result self.new }
         ensures err { OnErr result (self.new ≡ self.old) }
@@ -99,7 +100,7 @@ impl Script {
         endpoint.add(attribute)
     }
 
-    /// One line behind that of the skew.
+    /// Adds the declaration of one line after that of the skew. Fails with `Bad` for another skew.
     fn add(&mut self, declaration: Declaration) -> Result<(), FieldError>
         ensures given { GivesAfter (add self.old declaration) result self.new }
         ensures err { OnErr result (self.new ≡ self.old) }
@@ -114,7 +115,8 @@ impl Script {
         Ok(())
     }
 
-    /// One line more before the first event, if the conditions hold. At `Err` it stays as it was.
+    /// Adds the declaration of one more line before the first event. Fails with `Bad` if its conditions do not hold. After an error
+    /// the script is as it was.
     pub fn set_up(&mut self, declaration: Declaration) -> Result<(), FieldError>
         ensures given { GivesAfter (set_up self.old declaration) result self.new }
         ensures err { OnErr result (self.new ≡ self.old) }

@@ -39,7 +39,7 @@ past_other receipts seat journal agreed index entry inside is other so_far = rec
   split = so_far.split ∙ ap (λ (es : List Entry). take agreed receipts ++ placed_from (index + 1) seat es) (rest_at journal index entry inside is) ∙ ap (λ (rs : List Receipt). take agreed receipts ++ rs) (placed_other (index + 1) seat entry (drop (index + 1) journal) (grind (arith, nat_tests)));
 }
 
--- the seat's own entry, which stands behind what agrees
+-- the seat's own entry, after the entries that agree
 own_split : (receipts : List Receipt) (seat : ℕ) (journal : List Entry) (agreed index : ℕ) (entry : Entry) → index < length journal → entry ≡ get_or journal index entry → entry.seat ≡ seat
     → AgreesUntil receipts seat journal agreed index → entries_of seat journal ≡ take agreed receipts ++ placed entry (index + 1) ∷ placed_from (index + 1 + 1) seat (drop (index + 1) journal)
 own_split receipts seat journal agreed index entry inside is own so_far =
@@ -82,7 +82,7 @@ differ_here receipts seat journal agreed index entry inside is own not_here so_f
       next = λ same. not_here (same ∙ ap (λ (rs : List Receipt). slice_get rs agreed) split ∙ get_behind (take agreed receipts) (placed entry (index + 1)) rest agreed long);
     }
 
--- behind the last entry
+-- after the last entry
 entries_end : (receipts : List Receipt) (seat : ℕ) (journal : List Entry) (agreed index : ℕ) → length journal ≤ index → AgreesUntil receipts seat journal agreed index → entries_of seat journal ≡ take agreed receipts
 entries_end receipts seat journal agreed index end so_far =
     so_far.split ∙ ap (λ (es : List Entry). take agreed receipts ++ placed_from (index + 1) seat es) (drop_all index journal end) ∙ append-nil (take agreed receipts)
@@ -134,7 +134,7 @@ numbered_push : (n : ℕ) (seats : List Seat) (seat : Seat) → AreNumbered n se
 numbered_push n [] seat a e = (omega (arith, e), tt)
 numbered_push n (x ∷ xs) seat a e = (a.0, numbered_push (n + 1) xs seat a.1 (omega (arith, e)))
 
--- new seats in the order of their numbers, with so many parts together
+-- new seats in the order of their numbers, which have `parts` parts together
 pub record AreMade (seats : List Seat) (number parts : ℕ) : Type 0 where
   pub count : length seats ≡ number
   pub numbered : AreNumbered 0 seats

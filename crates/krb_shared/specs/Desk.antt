@@ -1,4 +1,4 @@
--- What contracts see of a desk, and what a call does to one.
+-- The view of a desk in contracts, and the effect of a call on a desk.
 use Rattle.std.specs.Prelude.{◌≡◌, ℕ, ◌+◌, ◌-◌, List, [], ◌∷◌, ◌++◌, length}
 use Rattle.std.proofs.Common.{subst}
 use Rattle.krb_replay.specs.declared.ask.Ask.{Ask}
@@ -18,7 +18,7 @@ pub record Desk : Type 0 where
 abbrev pub history : Desk → History
 history desk = history_of desk.skew desk.journal
 
--- what every desk keeps: its journal is legal, and its book stands for the journal's history
+-- the invariant of a desk: its journal is legal, and its book represents the journal's history
 pub record IsKept (book : Book) (journal : List Entry) : Type 0 where
   pub legal : IsLegal book.skew journal
   pub stands : StandsFor book (history_of book.skew journal)

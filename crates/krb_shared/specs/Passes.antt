@@ -1,4 +1,4 @@
--- What contracts see of a pass, and what its calls do.
+-- The view of a pass in contracts, and the effect of its calls.
 use Rattle.std.specs.Prelude.{◌≡◌, ℕ, zero, suc, ◌+◌, List, [], ◌∷◌, ◌++◌, length, map}
 use Rattle.std.proofs.Common.{refl, sym, ap, ◌∙◌, subst, append_assoc}
 use Rattle.std.proofs.lemmas.List.{append-nil}
@@ -31,7 +31,8 @@ pub record PassAccount : Type 0 where
   pub front : List Entry
   pub receipts : List Receipt
 
--- the seat of a pass that has no call open: it holds the number, with so many calls, and these receipts are its calls in the front
+-- the seat of a pass that has no call open: it holds the number and the number of its calls, and these receipts are its calls in
+-- the front
 pub record IsSeated (seat : Place) (number seen : ℕ) (receipts : List Receipt) : Type 0 where
   pub idle : IsIdle seat
   pub others : seat.me.0.others ≡ []
@@ -101,7 +102,7 @@ left_goes_on a b c ask verdict same step = record {
 abbrev pub new_pass : TableId → ℕ → ℕ → ℕ → PassAccount
 new_pass table skew passes number = record { table = table; number = number; skew = skew; passes = passes; moment = 0; front = []; receipts = [] }
 
--- so many new passes, with the numbers from `number` on
+-- n new passes, with the numbers from `number` on
 abbrev pub new_passes : TableId → ℕ → ℕ → ℕ → ℕ → List PassAccount
 new_passes table skew passes number zero = []
 new_passes table skew passes number (suc n) = new_pass table skew passes number ∷ new_passes table skew passes (number + 1) n
@@ -110,7 +111,7 @@ new_passes table skew passes number (suc n) = new_pass table skew passes number 
 abbrev pub IsFresh : ℕ → Place → Type 0
 IsFresh number seat = IsIdle seat × (seat.me.0.others ≡ []) × (seat.me.0.held ≡ record { number = number; count = 0 } ∷ []) × (seat.me.0.front ≡ [])
 
--- the seat that still has these numbers, so many, and has seen nothing
+-- the seat that still has n numbers, from `number` on, and has seen nothing
 abbrev pub IsDealing : TableId → Terms → ℕ → ℕ → Place → Type 0
 IsDealing table terms number n seat = (seat.table_id ≡ table) × (seat.me ≡ (dealing terms number n, []))
 

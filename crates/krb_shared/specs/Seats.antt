@@ -57,7 +57,7 @@ pub record FirstDiffers (journal : List Entry) (seats : List Seat) (number call 
   pub found : slice_get seats number ≡ Some seat
   pub differ : DifferAt seat.receipts (entries_of seat.number journal) call
 
--- the seats stand in the order of their numbers, from this one on
+-- the seats are in the order of their numbers, from this one on
 abbrev pub AreNumbered : ℕ → List Seat → Type 0
 AreNumbered number [] = Unit {0}
 AreNumbered number (seat ∷ seats) = (seat.number ≡ number) × AreNumbered (number + 1) seats

@@ -77,7 +77,7 @@ impl Desk {
         self.enter(seat, call, asked, entered)
     }
 
-    /// The same with two copies of the ask, of which the book keeps one and the journal the other.
+    /// Works as `admit_as`, with two copies of the ask: the book keeps one and the journal keeps the other.
     pub(crate) fn enter(
         &mut self,
         seat: u32,

@@ -13,7 +13,7 @@ use krb_replay::{Ask, ReplayGate, Verdict};
 pub struct DeskGate<'a> {
     desk: &'a mut Desk,
     seat: u32,
-    /// How many entries the journal had when the gate was made: those behind them are the gate's.
+    /// How many entries the journal had when the gate was made: the later entries are the gate's.
     before: u64,
     ghost some_before: { before ≤ length desk.now.journal },
 }

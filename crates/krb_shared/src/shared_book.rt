@@ -17,7 +17,7 @@ use std::alloc::Global;
 use std::sync::ledger::{Book, Share};
 use std::sync::{Mutex, Wait};
 
-/// What lies under the lock: the desk, beside the ledger's book, whose total is the number of calls.
+/// The data under the lock: the desk, and the ledger's book, whose total is the number of calls.
 #[derive(Drop)]
 struct Locked<L: Calls> {
     desk: Desk,
@@ -103,7 +103,7 @@ impl<L: Calls> SharedBook<L> {
         self.admit_given(rt, seat, given)
     }
 
-    /// The same with an ask that is given away: the receipt keeps it.
+    /// Works as `admit`, with an owned ask: the receipt keeps the ask.
     pub(crate) fn admit_given<R: Wait>(
         &self,
         rt: &R,
@@ -113,7 +113,7 @@ impl<L: Calls> SharedBook<L> {
         ensures receipt { IfOk result (λ verdict. AddsReceipt L.skew seat.old ask verdict seat.new) }
         ensures err { OnErr result (seat.new ≡ seat.old) }
     {
-        // What can be copied before the lock is taken is.
+        // Copies are made before the lock is taken.
         seat.receipts.reserve(1)?;
         let asked = ask.copy(seat.alloc)?;
         let entered = ask.copy(seat.alloc)?;
@@ -136,7 +136,8 @@ impl<L: Calls> SharedBook<L> {
         Ok(verdict)
     }
 
-    /// Takes the book and all its seats back, and hands out the journal where it has exactly what the receipts say.
+    /// Ends the book and all its seats, and returns the journal. Fails with `Differs`, which has the journal too, if a seat's receipts
+    /// are not exactly its entries in the journal.
     pub fn close(self, seats: Items<Seat<L>>) -> Result<Journal, Differs>
         requires { AreAll L.parts seats }
         ensures journal { MatchResult result (IsJournal L.skew) (λ differs. IsJournal L.skew differs.journal) }
@@ -148,8 +149,8 @@ impl<L: Calls> SharedBook<L> {
         self.close_into(seats, &mut receipts)
     }
 
-    /// The same, which hands out the receipts of each seat too, for a caller who drops them elsewhere. Where there is no
-    /// memory for that, they are dropped here.
+    /// Works as `close`, and also appends the receipts of each seat to `receipts`, for a caller who drops them elsewhere. Receipts
+    /// for which there is no memory are dropped here.
     pub fn close_into(
         self,
         seats: Items<Seat<L>>,
@@ -203,7 +204,7 @@ fn seats_from<L: Calls>(
     Ok(made)
 }
 
-/// The parts of the seats, with their amounts, beside these. Their receipts come behind those that are there, if memory allows.
+/// Returns `rest` merged with the shares of all seats. Appends the seats' receipts to `receipts`, if memory allows.
 fn gathered<L: Calls>(
     rest: Share<L>,
     seats: Vec<Seat<L>>,

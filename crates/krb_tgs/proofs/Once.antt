@@ -1,4 +1,4 @@
--- What is asked of a ticket-granting service, and what a KDC's reply brings, have one answer at most.
+-- A request to a ticket-granting service, and the outcome of a KDC's reply, have one answer at most.
 use Rattle.std.proofs.Common.{ℕ, List, Option, None, Result, arith}
 use Rattle.krb_crypto.specs.declared.suite.CipherSuite.{CipherSuite}
 use Rattle.krb_messages.specs.declared.ticket.Ticket.{Ticket}

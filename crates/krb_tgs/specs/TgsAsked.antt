@@ -1,4 +1,4 @@
--- What a client asks of ticket-granting services, one behind the other (RFC 4120, sections 3.3 and 5.4.1; RFC 6806, section 8).
+-- The requests of a client to ticket-granting services, in turn (RFC 4120, sections 3.3 and 5.4.1; RFC 6806, section 8).
 use Rattle.std.specs.Prelude.{ℕ, ◌==◌, Bool, not, nat_lt, List, [], ◌∷◌, take, drop, length, Option, Some, None, Result, bytes_eq, unwrap_or, if◌then◌else◌}
 use Rattle.std.specs.Int.{w32, from_be_bytes}
 use Rattle.std.specs.Str.{str_to_ascii_lowercase}
@@ -37,7 +37,7 @@ drawn_nonce draw = take 4 (drop 4 draw.random)
 abbrev pub drawn_confounder : Draw → List ℕ
 drawn_confounder draw = take 16 (drop 8 draw.random)
 
--- who asks: the client of the reply that brought the ticket, with the channel's bindings
+-- the authenticator: the client of the reply that brought the ticket, with the channel's bindings
 abbrev pub tgs_authenticator : Wanted → KdcRep → Draw → Authenticator
 tgs_authenticator wanted rep draw = authenticator rep (Some (drawn_number draw)) None None wanted.channel_bindings draw.moment
 
@@ -59,7 +59,7 @@ tgs_req_for wanted shown realm tickets draw =
     tgs_req shown.suite shown.key (drawn_confounder draw) shown.rep.ticket (tgs_authenticator wanted shown.rep draw)
     (wanted_body wanted realm tickets draw (parts_of (target_parts wanted.target)).0 (parts_of (target_parts wanted.target)).1)
 
--- the same, sent to a realm's KDC
+-- the request of tgs_req_for, sent to a realm's KDC
 unfoldable pub tgs_request : Wanted → Grant → Option (List Ticket) → Draw → Kdc → NetworkRequest
 tgs_request wanted shown tickets draw kdc = request_to kdc (spelling tgs_req_layout (tgs_req_for wanted shown kdc.realm tickets draw))
 

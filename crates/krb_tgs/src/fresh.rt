@@ -1,4 +1,4 @@
-//! Whether a TGS-REP answers the TGS-REQ of this exchange (RFC 4120, section 3.3.4; RFC 6806, section 8).
+//! Checks that a TGS-REP answers the TGS-REQ of this exchange (RFC 4120, section 3.3.4; RFC 6806, section 8).
 
 ghost use Rattle.std.specs.Prelude.{◌≡◌, ◌∷◌, [], ◌&&◌};
 ghost use Rattle.std.specs.Option.{option_copied};
@@ -14,10 +14,10 @@ use krb_messages::PrincipalName;
 use krb_replies::{ReplyFacts, check_answer, has_value, referral_target_realm};
 use sspi_core::Cause;
 
-/// What a request to a ticket-granting service asked, as its reply has to repeat it.
+/// The parts of a request to a ticket-granting service that its reply has to repeat.
 #[derive(Drop)]
 pub struct TgsQuestion {
-    /// The number that was drawn for it.
+    /// The nonce that was drawn for the request.
     pub nonce: u32,
     /// The realm of the client.
     pub crealm: Name,
@@ -25,7 +25,7 @@ pub struct TgsQuestion {
     pub cname: PrincipalName,
 }
 
-/// Whether the components are this service and this host.
+/// Returns whether the components are this service and this host.
 fn are_parts(service: &str, host: &str, components: &Items<Name>) -> bool
     ensures { result ≡ same_components components.now (service.now ∷ host.now ∷ []) }
 {
@@ -35,7 +35,7 @@ fn are_parts(service: &str, host: &str, components: &Items<Name>) -> bool
     }
 }
 
-/// Whether the name that is sealed is that of the target, by its components.
+/// Returns whether the name in the encrypted part is that of the target, by its components.
 fn is_for_target(target: &Name, facts: &ReplyFacts) -> bool
     ensures { result ≡ is_for_target target.now facts.now }
 {
@@ -53,7 +53,7 @@ fn names_client(question: &TgsQuestion, rep: &KdcRep) -> bool
         && rep.cname.name_string == question.cname.name_string
 }
 
-/// Whether the ticket is one of the realm that was asked, for the target or for the ticket-granting service of another realm.
+/// Returns whether the ticket is one of this realm, for the target or for the ticket-granting service of another realm.
 fn names_service(target: &Name, realm: &Name, rep: &KdcRep, facts: &ReplyFacts) -> bool
     ensures { result ≡ names_service target.now realm.now rep.now facts.now }
 {
@@ -62,11 +62,11 @@ fn names_service(target: &Name, realm: &Name, rep: &KdcRep, facts: &ReplyFacts) 
         && (referral_target_realm(&rep.ticket.sname).is_some() || is_for_target(target, facts))
 }
 
-/// Checks that a TGS-REP answers this question about the target, which the KDC of this realm was asked, at this moment, in microseconds
-/// since 1970, where that is a rule.
+/// Checks that a TGS-REP answers this question about the target, which the KDC of this realm was asked, at this moment, in
+/// microseconds since 1970, if that is a rule.
 ///
-/// Refused as `Nonce` where it has another nonce; as `ReplyNames` where its client is another, or the service that is sealed in it is
-/// of another realm, or neither the target nor a referral; as `ReplyTime` where its ticket is not valid, give or take 300 seconds.
+/// Fails with `Nonce` if it has another nonce; with `ReplyNames` if its client is another, or the service in its encrypted part is
+/// of another realm, or neither the target nor a referral; with `ReplyTime` if its ticket is not valid, give or take 300 seconds.
 pub(crate) fn check_fresh(
     rules: Rules,
     target: &Name,
@@ -83,15 +83,15 @@ pub(crate) fn check_fresh(
     check_answer(rules, repeats, names, moment, facts)
 }
 
-/// Whether a reply has to answer its request, and is for the target.
+/// Returns whether a reply has to answer its request, and is for the target.
 fn ends_at_target(rules: Rules, target: &Name, facts: &ReplyFacts) -> bool
     ensures { result ≡ (has_rule rules fresh_replies && is_for_target target.now facts.now) }
 {
     rules.has(Rules::FRESH_REPLIES) && is_for_target(target, facts)
 }
 
-/// The realm that a ticket refers to, by its clear name; None where it is the target's. Where a reply has to answer its request, a ticket
-/// that is sealed for the target is the target's, even one for a service called `krbtgt`.
+/// Returns the realm that a ticket refers to, by its clear name; None if the ticket is the target's. If a reply has to answer its
+/// request, a ticket that is for the target by the encrypted part is the target's, even one for a service called `krbtgt`.
 pub fn referral_of<'a>(
     rules: Rules,
     target: &Name,

@@ -1,4 +1,4 @@
-//! What the replies of ticket-granting services bring (RFC 4120, section 3.3.4).
+//! The ticket and the key in a reply of a ticket-granting service (RFC 4120, section 3.3.4).
 
 ghost use Rattle.std.specs.Prelude.{IfOk};
 ghost use Rattle.sspi_core.specs.Checks.{Answers, Gives};
@@ -17,7 +17,7 @@ use sspi_core::{Cause, Secret};
 use sspi_generator::NetFault;
 use std::alloc::Global;
 
-/// What a TGS-REP brought.
+/// Returns the grant of a TGS-REP: its ticket, and this key.
 fn shown_by_tgs(next: ReplyKey, tgs_rep: TgsRep) -> Result<Grant, Cause>
     requires { IsSendable tgs_rep.0 }
     ensures made { Answers (Gives (record { suite = next.suite; key = next.key; facts = next.facts; rep = tgs_rep.0 })) result }
@@ -31,7 +31,7 @@ fn shown_by_tgs(next: ReplyKey, tgs_rep: TgsRep) -> Result<Grant, Cause>
     })
 }
 
-/// The session key that is sealed in a TGS-REP.
+/// Returns the session key in the encrypted part of a TGS-REP.
 fn next_key(
     alloc: Global,
     rules: Rules,
@@ -44,7 +44,7 @@ fn next_key(
     key_in_tgs_rep(alloc, rules, suite, key.as_ref().as_slice(), tgs_rep)
 }
 
-/// That key, where the reply answers the request.
+/// Returns the session key of a TGS-REP, if the reply answers the request.
 #[tactic(auto, unfolding(crate::specs::Taken::BringsFresh))]
 fn fresh_key(
     alloc: Global,
@@ -65,11 +65,12 @@ fn fresh_key(
     Ok(next)
 }
 
-/// What a TGS-REP of this KDC brings: its ticket, and the session key that is sealed in it under that of the ticket that was shown.
+/// Returns the grant in a TGS-REP of this KDC: its ticket, and the session key in its encrypted part, which is encrypted under the
+/// session key of the ticket that was shown.
 ///
-/// Refused as `granted_tgs_rep` refuses; then as `Reply` where nothing is sealed to it under that key, as `Inner` where what is
-/// sealed is no EncTGSRepPart; as `Etype` where the key goes by its own suite, and that is not known; where a reply has to answer its request,
-/// as `Nonce`, as `ReplyNames` and as `ReplyTime`.
+/// Fails as `granted_tgs_rep`; then with `Reply` if the encrypted part does not decrypt under that key, with `Inner` if its plain
+/// text is no EncTGSRepPart; with `Etype` if the key goes by its own suite, and that is not known; if a reply has to answer its
+/// request, with `Nonce`, `ReplyNames` and `ReplyTime`.
 #[tactic(auto, unfolding(crate::specs::Taken::TakesTgsRep))]
 pub fn take_tgs_rep(
     alloc: Global,

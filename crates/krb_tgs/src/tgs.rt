@@ -27,18 +27,18 @@ use sspi_core::{Cause, Draw, hold};
 use sspi_generator::NetworkRequest;
 use std::alloc::Global;
 
-/// The most referrals that are followed.
+/// The maximum number of referrals that are followed.
 const MAX_HOPS: u8 = 9;
 
 /// A request to a ticket-granting service.
 #[derive(Drop)]
 pub struct Begun {
     pub request: NetworkRequest,
-    /// Where it goes.
+    /// The KDC to which the request goes.
     pub kdc: Kdc,
 }
 
-/// Who asks. An authenticator without a checksum has no room to lack.
+/// Returns the authenticator of the client. An authenticator without a checksum cannot lack room for one, so only memory can fail.
 fn tgs_authenticator(
     alloc: Global,
     wanted: &Wanted,
@@ -65,7 +65,7 @@ fn tgs_authenticator(
     }
 }
 
-/// The request of this authenticator. The session key has its length and the names are of ASCII, so nothing is refused.
+/// Returns the request with this authenticator. The session key has its length and the names are ASCII, so only memory can fail.
 fn tgs_req_by(
     alloc: Global,
     wanted: &Wanted,
@@ -105,7 +105,7 @@ fn tgs_req_by(
     }
 }
 
-/// The request to the ticket-granting service of a realm.
+/// Returns the request to the ticket-granting service of a realm.
 fn tgs_req_for(
     alloc: Global,
     wanted: &Wanted,
@@ -149,7 +149,7 @@ fn tgs_request(
     request_to(alloc, kdc, octets)
 }
 
-/// The request, and where it goes.
+/// Returns the request, and the KDC to which it goes.
 fn sent_tgs_request(
     alloc: Global,
     wanted: &Wanted,
@@ -179,7 +179,7 @@ fn check_key(shown: &Grant) -> Result<(), Cause>
     )
 }
 
-/// The KDC of a realm, with `home` for the client's own.
+/// Returns the KDC of a realm. `home` is the client's own realm.
 fn kdc_of(alloc: Global, asker: &Asker, home: &Name, realm: &Name) -> Result<Kdc, Cause>
     ensures { Answers (FindsKdc (url_for asker.now.kdc_url home.now realm.now) asker.now.env realm.now) result }
 {
@@ -190,12 +190,12 @@ fn kdc_of(alloc: Global, asker: &Asker, home: &Name, realm: &Name) -> Result<Kdc
     }
 }
 
-/// Asks the ticket-granting service of a realm for the ticket that is wanted. Where the realm is `home`, the client's own, its KDC
-/// is the one that the client knows, if it knows one; any other is looked for. The draw's first octets are the number (four), the
-/// nonce (four) and the confounder (sixteen).
+/// Asks the ticket-granting service of a realm for the ticket that the client needs. If the realm is `home`, the client's own,
+/// its KDC is the one that the client knows, if it knows one; for any other realm a KDC is looked up. The draw's first octets are
+/// the sequence number (four), the nonce (four) and the confounder (sixteen).
 ///
-/// Refused as `KeyLength` where the session key has not the length of its suite's keys; then as `NoKdc` and as `Scheme`, as
-/// `find_kdc` refuses.
+/// Fails with `KeyLength` if the session key has not the length of its suite's keys; then with `NoKdc` and `Scheme`, as
+/// `find_kdc`.
 #[tactic(auto, unfolding(crate::specs::TgsAsked::AsksTgs))]
 pub fn ask_tgs(
     alloc: Global,
@@ -242,8 +242,8 @@ fn check_realm(asked: &Name, realm: &Name) -> Result<(), Cause>
 
 /// Follows a referral: asks the KDC of the realm that was named for the same ticket, with no additional ticket.
 ///
-/// Refused as `Hops` where nine were followed; as `SameRealm` where the realm that was asked names itself, the case of letters
-/// ignored; then as [`ask_tgs`] refuses.
+/// Fails with `Hops` if nine were followed; with `SameRealm` if the realm that was asked names itself, the case of letters
+/// ignored; then as [`ask_tgs`].
 #[tactic(auto, unfolding(crate::specs::TgsAsked::Follows))]
 pub fn follow(
     alloc: Global,

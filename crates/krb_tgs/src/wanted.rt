@@ -1,14 +1,14 @@
-//! What a client wants.
+//! The ticket that a client asks for.
 
 use krb_der::Name;
 use sspi_core::{ChannelBindings, ClientRequestFlags};
 
-/// What a client wants of ticket-granting services. A step never changes it.
+/// The ticket that a client asks ticket-granting services for. A step never changes it.
 #[derive(Drop)]
 pub struct Wanted {
     /// The service and its host, with a `/` between them.
     pub target: Name,
     pub flags: ClientRequestFlags,
-    /// The bindings of the channel below.
+    /// The bindings of the channel below the context.
     pub channel_bindings: Option<ChannelBindings>,
 }

@@ -11,7 +11,7 @@ use Rattle.sspi_generator.specs.Runs.{Finishes, Resolves, StartsDown, ResumesDow
 module _ {T C O : Type 0} (starts : T → Draw → GeneratorState NetworkRequest O → T → Type 0)
     (resumes : T → Result (List ℕ) NetFault → Draw → GeneratorState NetworkRequest O → T → Type 0)
     (sends : C → NetworkRequest → Result (List ℕ) NetFault → C → Type 0) (is_new is_waiting : T → Type 0) (turns : T → ℕ) where
-  -- each step that asks has fewer turns behind it, so there are draws enough
+  -- each step that asks has fewer turns after it, so there are enough draws
   finishes_in : (down : ResumesDown resumes is_waiting turns) (state : GeneratorState NetworkRequest O) (task : T) (client : C) (draws : List Draw) (out : O) (task' : T) (client' : C) (n : ℕ)
       → OnSuspended state (λ request. is_waiting task × (turns task < n)) → Finishes resumes sends state task client draws out task' client'
       → Finishes resumes sends state task client (take n draws) out task' client'

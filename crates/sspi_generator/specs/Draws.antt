@@ -1,4 +1,4 @@
--- What a step may be given.
+-- The draws that a step may be given.
 use Rattle.std.specs.Prelude.{◌≤◌, List, [], ◌∷◌}
 use Rattle.sspi_core.specs.Moments.{last_moment}
 use Rattle.sspi_core.specs.declared.draw.Draw.{Draw}

@@ -30,7 +30,7 @@ Resolves starts resumes sends task client [] out task' client' = ⊥
 Resolves {T} {C} {O} starts resumes sends task client (draw ∷ draws) out task' client' =
     (state : GeneratorState NetworkRequest O) × (next : T) × starts task draw state next × Finishes resumes sends state next client draws out task' client'
 
--- a step that asks leaves a task that waits, and fewer turns: at the start, and behind an answer
+-- a step that asks leaves a task that waits, and fewer turns: at the start, and after an answer
 abbrev pub StartsDown : {T O : Type 0} → (T → Draw → GeneratorState NetworkRequest O → T → Type 0) → (T → Type 0) → (T → Type 0) → (T → ℕ) → Type 0
 StartsDown {T} {O} starts is_new is_waiting turns = (task : T) (draw : Draw) (state : GeneratorState NetworkRequest O) (next : T) → is_new task → starts task draw state next
     → OnSuspended state (λ request. is_waiting next × (turns next < turns task))

@@ -1,4 +1,4 @@
-//! What runs a task.
+//! The runner of a task.
 
 ghost use Rattle.std.specs.Prelude.{◌≡◌, ◌<◌, ◌≤◌, ◌+◌, ◌⊎◌, ℕ, codes, List, IfOk, Option, None, Err, length, Some, Ok, Result, IsSome, IfSome, IsOkAnd};
 ghost use Rattle.sspi_core.specs.Kinds.{error_of};
@@ -40,7 +40,7 @@ impl<T: Task> Generator<T> {
         Generator { task }
     }
 
-    /// The task's first step.
+    /// Takes the task's first step.
     pub fn start(&mut self, draw: &Draw) -> GeneratorState<NetworkRequest, T::Out>
         requires new { T.is_new self.old }
         requires moment { IsInRange draw.now }
@@ -54,7 +54,7 @@ impl<T: Task> Generator<T> {
 }
 
 impl<T: Resumable> Generator<T> {
-    /// The task's step behind an answer.
+    /// Takes the task's step after an answer.
     pub fn resume(
         &mut self,
         reply: Result<Octets, NetFault>,
@@ -71,8 +71,8 @@ impl<T: Resumable> Generator<T> {
         self.task.resume(reply, draw)
     }
 
-    /// Runs the task to its end. The k-th step uses the k-th draw, of which there are more than the task has turns. Of the
-    /// client its count of faults is seen.
+    /// Runs the task to its end. The k-th step uses the k-th draw; there must be more draws than the task has turns.
+    /// Contracts see the client's count of faults.
     pub fn resolve_with_client(&mut self, client: &mut dyn NetworkClient, draws: &[Draw]) -> T::Out
         requires new { T.is_new self.old }
         requires enough { T.turns self.old < length draws.now }
@@ -89,7 +89,7 @@ impl<T: Resumable> Generator<T> {
         finish_lent(&mut self.task, client, rest, state)
     }
 
-    /// The same over a client whose answers are seen.
+    /// Runs the task to its end, as `resolve_with_client` does, over a client whose answers contracts see.
     pub fn resolve_with<C: NetworkClient>(&mut self, client: &mut C, draws: &[Draw]) -> T::Out
         requires new { T.is_new self.old }
         requires enough { T.turns self.old < length draws.now }
@@ -105,7 +105,7 @@ impl<T: Resumable> Generator<T> {
     }
 }
 
-/// Goes on from where a step ended.
+/// Continues a run after a step.
 fn finish<T: Resumable, C: NetworkClient>(
     task: &mut T,
     client: &mut C,
@@ -132,7 +132,7 @@ fn finish<T: Resumable, C: NetworkClient>(
 }
 
 impl<O: Drop, T: Task<Out = Result<O, Error>>> Generator<T> {
-    /// The end of a task that sends nothing: UnsupportedFunction Suspended exactly where it asks for something to be sent.
+    /// Returns the end of a task that sends nothing. Fails with UnsupportedFunction Suspended if the task asks to send something.
     pub fn resolve_to_result(&mut self, draw: &Draw) -> Result<O, Error>
         requires new { T.is_new self.old }
         requires moment { IsInRange draw.now }
@@ -146,7 +146,7 @@ impl<O: Drop, T: Task<Out = Result<O, Error>>> Generator<T> {
 }
 
 impl<O: Drop> Generator<Done<Result<O, Error>>> {
-    /// The value of a task that is over with one.
+    /// Returns the value of a task that is over with one.
     pub fn unwrap(self) -> O
         requires { IsOkDone self }
         ensures { self ≡ Some (Ok result) }
@@ -157,7 +157,7 @@ impl<O: Drop> Generator<Done<Result<O, Error>>> {
         }
     }
 
-    /// The same, with a message for who reads the code.
+    /// Returns the value of a task that is over with one, as `unwrap` does. The message is for readers of the code.
     pub fn expect(self, _message: &str) -> O
         requires { IsOkDone self }
         ensures { self ≡ Some (Ok result) }
@@ -182,7 +182,7 @@ impl<T> fmt::Display for Generator<T> {
     }
 }
 
-/// The same over any client that is lent.
+/// Continues a run after a step, with any client that is lent.
 fn finish_lent<T: Resumable>(
     task: &mut T,
     client: &mut dyn NetworkClient,

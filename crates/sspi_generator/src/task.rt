@@ -1,4 +1,4 @@
-//! Tasks, and how far they come in one step.
+//! Tasks and their steps.
 
 ghost use Rattle.std.specs.Prelude.{◌≡◌, ◌<◌, ℕ, List, Result, Err};
 ghost use Rattle.sspi_core.specs.declared.draw.Draw.{Draw};
@@ -12,7 +12,7 @@ use crate::network::{NetFault, NetworkRequest};
 use krb_der::Octets;
 use sspi_core::Draw;
 
-/// Where a step ends: at a request whose answer it waits for, or at its end.
+/// The end of a step: a request whose answer the task waits for, or the end of the task.
 #[derive(Drop)]
 pub enum GeneratorState<Y, O> {
     Suspended(Y),
@@ -21,7 +21,7 @@ pub enum GeneratorState<Y, O> {
 
 /// An exchange with the network, up to its first request. Its members say how it is seen by those that run any task.
 pub trait Task {
-    /// What the exchange ends with.
+    /// The result of the exchange.
     type Out: Drop;
 
     /// How often it may still suspend.
@@ -33,7 +33,7 @@ pub trait Task {
     /// It waits for an answer.
     ghost is_waiting: { Self → Type 0 };
 
-    /// What its start may do: the task before, the draw, where the step ends, and the task afterwards.
+    /// The possible effects of the start: the task before, the draw, the end of the step, and the task afterwards.
     ghost starts: { Self → Draw → GeneratorState NetworkRequest Self.Out → Self → Type 0 };
 
     /// An end because memory ran out: the step may be taken again.
@@ -42,7 +42,7 @@ pub trait Task {
     /// An end because the network failed.
     ghost is_fault: { Self.Out → Type 0 };
 
-    /// The first step.
+    /// Takes the first step.
     fn start(&mut self, draw: &Draw) -> GeneratorState<NetworkRequest, Self::Out>
         requires new { is_new self.old }
         requires moment { IsInRange draw.now }
@@ -51,17 +51,17 @@ pub trait Task {
         ensures want { OnCompleted result (λ out. is_want out → self.new ≡ self.old) }
         ensures fault { OnCompleted result (λ out. is_fault out → ⊥) };
 
-    /// How often it may still suspend.
+    /// Returns how often the task may still suspend.
     fn turns(&self) -> u32
         ensures { result ≡ turns self.now };
 }
 
-/// A task that may stop at its start, and goes on with an answer. One that always completes at its start is none.
+/// A task that may suspend at its start, and continues with an answer. A task that always completes at its start is not one.
 pub trait Resumable: Task {
-    /// What an answer may do: the task before, the answer, the draw, where the step ends, and the task afterwards.
+    /// The possible effects of an answer: the task before, the answer, the draw, the end of the step, and the task afterwards.
     ghost resumes: { Self → Result (List ℕ) NetFault → Draw → GeneratorState NetworkRequest Self.Out → Self → Type 0 };
 
-    /// The step that an answer allows.
+    /// Takes the step after an answer.
     fn resume(
         &mut self,
         reply: Result<Octets, NetFault>,

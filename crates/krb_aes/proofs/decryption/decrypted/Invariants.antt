@@ -5,7 +5,7 @@ use Rattle.krb_aes.specs.InverseRound.{inverse_state}
 use Rattle.krb_aes.specs.RoundKeys.{AreDecryptionKeys}
 use Rattle.krb_aes.proofs.decryption.decrypted.Given as goal
 
--- each text whose state the lanes stand for becomes the block
+-- each text whose state the lanes represent becomes the block
 abbrev pub invariant-loop-round : goal.invariant-loop-round
 invariant-loop-round l =
     (words : List ℕ) → AreDecryptionKeys l.keys words l.rounds → (b : List ℕ) → IsBlock b

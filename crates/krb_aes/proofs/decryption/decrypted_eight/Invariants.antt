@@ -5,7 +5,7 @@ use Rattle.krb_aes.specs.InverseRound.{inverse_state}
 use Rattle.krb_aes.specs.RoundKeys.{AreDecryptionKeys}
 use Rattle.krb_aes.proofs.decryption.decrypted_eight.Given as goal
 
--- each text whose state a block's lanes stand for becomes that block
+-- each text whose state a block's lanes represent becomes that block
 abbrev pub invariant-loop-round : goal.invariant-loop-round
 invariant-loop-round l =
     ((i : ℕ) → i < 4 → (words : List ℕ) → AreDecryptionKeys l.keys words l.rounds → (b : List ℕ) → IsBlock b
