@@ -15,14 +15,14 @@ pub enum Line<'a> {
         random: &'a str,
         token: &'a str,
     },
-    /// `message TOKEN`: what the client that was admitted last has sealed.
+    /// `message TOKEN`: an encrypted message of the client that was admitted last.
     Message {
         sealed: &'a str,
     },
 }
 
 impl<'a> Line<'a> {
-    /// None if the words are none of these.
+    /// Returns None if the words are no such line.
     pub fn parse(line: &'a str) -> Option<Line<'a>> {
         let mut words = line.split(' ');
         let line = match words.next()? {

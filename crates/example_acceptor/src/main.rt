@@ -1,8 +1,8 @@
 //! A server that embeds the acceptor.
 //!
 //! It reads lines of standard input: first the service with its key, then tokens of clients, and messages of the client that
-//! was admitted last. It writes who was admitted and what a message says, or which check failed first. A server looks at its
-//! clock and draws random octets; this one is told both, so that a recorded conversation can be tried again.
+//! was admitted last. It writes the admitted client and the text of a message, or the check that failed first. A server reads its
+//! clock and draws random bytes; this one reads both from its input, so that a recorded conversation can be repeated.
 #![tactic(auto)]
 
 mod line;
@@ -28,7 +28,7 @@ fn draw_of(moment: u64, random: &str) -> Result<Draw> {
     Ok(draw)
 }
 
-/// The service of the first line: one for the whole process, since its replay book serves all its clients.
+/// Returns the service of the first line: one for the whole process, since its replay book serves all its clients.
 fn service_of(alloc: Global, line: Option<&str>) -> Result<Box<Service>> {
     let Some(Line::Service { name, key }) = line.and_then(Line::parse) else {
         return Err(anyhow!("the first line is not: service NAME KEY"));
@@ -38,7 +38,7 @@ fn service_of(alloc: Global, line: Option<&str>) -> Result<Box<Service>> {
     Ok(boxed(alloc, service)?)
 }
 
-/// The octets in hex; a hyphen stands for none.
+/// Prints the bytes in hex, or a hyphen if there are none.
 fn print_octets(rt: &(impl Print + AllocGlobal), word: &str, octets: &[u8]) -> Result<()> {
     if octets.is_empty() {
         println!(rt; "{word} -")?;
@@ -48,7 +48,7 @@ fn print_octets(rt: &(impl Print + AllocGlobal), word: &str, octets: &[u8]) -> R
     Ok(())
 }
 
-/// Who was admitted, and what goes back to the client. A name may have any octets: those that are not printed are escaped.
+/// Prints the admitted client, and the reply to it. A name may have any bytes: those that are not printable are escaped.
 fn print_session(rt: &(impl Print + AllocGlobal), session: &Session) -> Result<()> {
     let client = session.client.as_ref().context("no client")?;
     let name = client.principal(rt.alloc())?;
@@ -61,7 +61,7 @@ fn print_refusal(rt: &impl Print, error: &Error) -> Result<()> {
     Ok(())
 }
 
-/// What a message says, or which check failed first.
+/// Prints the text of a message, or the check that failed first.
 fn print_text(
     rt: &(impl Print + AllocGlobal),
     outcome: &std::result::Result<Vec<u8>, Fault>,
@@ -73,7 +73,7 @@ fn print_text(
     }
 }
 
-/// Keeps the session on the heap.
+/// Prints a session, and puts it on the heap.
 fn admitted(rt: &(impl Print + AllocGlobal), session: Session) -> Result<Option<Box<Session>>> {
     let session = boxed(rt.alloc(), session)?;
     print_session(rt, &session)?;
@@ -85,7 +85,7 @@ fn refused(rt: &impl Print, error: &Error) -> Result<Option<Box<Session>>> {
     Ok(None)
 }
 
-/// The session of the client that sent this token, or none: then a line tells which check failed first.
+/// Returns the session of the client that sent this token, or None: then a line names the check that failed first.
 fn admit(
     rt: &(impl Print + AllocGlobal),
     service: &mut Service,

@@ -1,4 +1,4 @@
-//! What a server does with the library: it admits a client by its token, and opens its messages.
+//! A server's use of the library: it admits a client by its token, and decrypts its messages.
 
 ghost use Rattle.std.specs.Prelude.{None, Ok, IfOk};
 ghost use Rattle.krb_entrance.specs.Admits.{Admits};
@@ -7,10 +7,10 @@ ghost use Rattle.krb_sessions.specs.Orders.{UnwrapsInOrder};
 use krb_entrance::{Draw, Error, Fault, OutOfMemory, Service, Session};
 use std::alloc::Global;
 
-/// Admits the client that sent this token. The session has its whole name and what goes back to it.
+/// Admits the client that sent this token. The session has its whole name and the reply to it.
 ///
 /// # Errors
-/// The check that failed first. Write it to a log, and tell the client only that it was refused.
+/// The check that failed first. Write it to a log, and send the client only that it was refused.
 pub fn admit(
     alloc: Global,
     service: &mut Service,
@@ -27,7 +27,7 @@ fn room(alloc: Global, length: usize) -> Result<Vec<u8>, OutOfMemory> {
     Ok(vec![in alloc; 0; length]?)
 }
 
-/// The text of a message of the client. Each message is opened once.
+/// Returns the text of a message of the client. Each message is decrypted once.
 pub fn open(alloc: Global, session: &mut Session, sealed: &[u8]) -> Result<Vec<u8>, Fault>
     ensures opened { IfOk result (λ text. UnwrapsInOrder session.old.order session.old.connection sealed.now (Ok text.items)) }
 {

@@ -12,8 +12,8 @@ use krb_client::{
 use krb_der::boxed;
 use std::alloc::Global;
 
-/// A context before its exchange, on the heap: a call that can fail is lent it. It goes by the RFCs, so the KDC's replies have to answer the
-/// requests of this run.
+/// Returns a context before its exchange, on the heap, since calls that can fail borrow it. It has the rules of the RFCs, so the KDC's
+/// replies have to answer the requests of this run.
 fn context_of(alloc: Global, user: &User, number: [u8; 4]) -> Result<Box<Kerberos>, OutOfMemory> {
     let machine = Text::from_str(alloc, user.machine)?;
     let config = KerberosConfig::new(alloc, user.kdc, machine)?;
@@ -22,7 +22,7 @@ fn context_of(alloc: Global, user: &User, number: [u8; 4]) -> Result<Box<Kerbero
     boxed(alloc, context)
 }
 
-/// What is asked of the KDC.
+/// Returns the request for the KDC.
 fn change_of(alloc: Global, user: &User, password: &str) -> Result<ChangePassword, OutOfMemory>
     requires { length password.now ≤ 2 ^ 24 }
     ensures { IfOk result (λ change. length change.new_password ≤ 2 ^ 24) }
@@ -39,7 +39,7 @@ fn change_of(alloc: Global, user: &User, password: &str) -> Result<ChangePasswor
     })
 }
 
-/// The run that changes a password, on the heap.
+/// Returns the run that changes a password, on the heap.
 fn run_of(
     alloc: Global,
     context: &Kerberos,
@@ -55,7 +55,7 @@ fn run_of(
     }
 }
 
-/// What the run ends with. No context changes.
+/// Returns the result of the run. No context changes.
 fn end_of(
     run: Box<GeneratorChangePassword>,
     network: &mut dyn NetworkClient,
@@ -106,7 +106,7 @@ fn change_at(
     }
 }
 
-/// Changes the user's password at the KDC. The number is the first sequence number of this end, four random octets. There is a
+/// Changes the user's password at the KDC. The number is the first sequence number of this end, four random bytes. There is a
 /// draw for each step.
 pub fn change(
     alloc: Global,

@@ -10,10 +10,10 @@ use krb_client::{Cause, NetFault, NetworkClient, OutOfMemory};
 use krb_dialogue::{ClientRequestFlags, Dialogue, Draw, Error, Fault, Flags, Next, Session};
 use std::alloc::Global;
 
-/// What an encrypted message has beside its text: two headers, a confounder and a checksum (RFC 4121, section 4.2.4).
+/// The bytes of an encrypted message besides its text: two headers, a confounder and a checksum (RFC 4121, section 4.2.4).
 const OVERHEAD: usize = 60;
 
-/// Asks for a service that shows who it is, and for messages that are encrypted, each once and in their order.
+/// Returns flags that ask for a service that proves its identity, and for messages that are encrypted, each once and in their order.
 fn flags() -> ClientRequestFlags {
     ClientRequestFlags::MUTUAL_AUTH
         .union(ClientRequestFlags::REPLAY_DETECT)
@@ -22,8 +22,8 @@ fn flags() -> ClientRequestFlags {
         .union(ClientRequestFlags::INTEGRITY)
 }
 
-/// A log-in of this user at a service, as `host/server.example.com`. The number is the first sequence number of this end, four
-/// random octets.
+/// Returns a log-in of this user at a service, as `host/server.example.com`. The number is the first sequence number of this end, four
+/// random bytes.
 pub fn new_login(
     alloc: Global,
     user: &User,
@@ -36,7 +36,7 @@ pub fn new_login(
     Ok(dialogue)
 }
 
-/// Carries the request of the dialogue to its KDC, and the reply back.
+/// Sends the request of the dialogue to its KDC, and passes the reply to the dialogue.
 fn ask_kdc(
     alloc: Global,
     dialogue: &mut Dialogue,
@@ -50,7 +50,7 @@ fn ask_kdc(
     }
 }
 
-/// Asks KDCs as long as the dialogue says so, with a draw for each reply.
+/// Asks KDCs as long as the dialogue needs a reply, with a draw for each reply.
 fn ask_kdcs(
     alloc: Global,
     dialogue: &mut Dialogue,
@@ -79,7 +79,7 @@ pub fn start(
     ask_kdcs(alloc, dialogue, next, network, draws.replies)
 }
 
-/// Hears what the service answered.
+/// Takes the service's answer.
 pub fn hear(
     alloc: Global,
     dialogue: &mut Dialogue,
@@ -95,7 +95,7 @@ fn room(alloc: Global, length: usize) -> Result<Vec<u8>, OutOfMemory> {
     Ok(vec![in alloc; 0; length]?)
 }
 
-/// The token that goes to the service. A first call says how long it is.
+/// Returns the token for the service. The first call returns its length.
 pub fn token(alloc: Global, dialogue: &Dialogue) -> Result<Vec<u8>, Fault> {
     let mut token = Vec::new(alloc);
     if let Err(Fault::Room(length)) = dialogue.token(&mut token) {
@@ -106,7 +106,7 @@ pub fn token(alloc: Global, dialogue: &Dialogue) -> Result<Vec<u8>, Fault> {
     Ok(token)
 }
 
-/// A text as an encrypted message for the service. The confounder is 16 random octets.
+/// Returns a text as an encrypted message for the service. The confounder is 16 random bytes.
 pub fn seal(
     alloc: Global,
     session: &mut Session,

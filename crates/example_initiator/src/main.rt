@@ -1,8 +1,8 @@
 //! A client that embeds the initiator.
 //!
-//! It reads lines of standard input: a user at a machine, what each step may draw, what a KDC and a service answered, and what to
-//! do. It writes the requests that go to the KDC, the tokens that go to the service, and what was refused. A client looks at its
-//! clock, draws random octets and opens a socket; this one is told all three, so that a recorded conversation can be tried again.
+//! It reads lines of standard input: a user at a machine, the draws of each step, the answers of a KDC and of a service, and the
+//! commands. It writes the requests for the KDC, the tokens for the service, and the refusals. A client reads its clock, draws
+//! random bytes and opens a socket; this one reads all three from its input, so that a recorded conversation can be repeated.
 #![tactic(auto)]
 
 mod change;
@@ -21,10 +21,10 @@ use std::alloc::Global;
 use std::io;
 use steps::Steps;
 
-/// The most octets of a new password.
+/// The most bytes of a new password.
 const MAX_PASSWORD: usize = 16_777_216;
 
-/// What the lines have told so far.
+/// The state of the client after the lines so far.
 #[derive(Drop)]
 struct Client<'a> {
     user: Option<User<'a>>,
@@ -53,7 +53,7 @@ fn is_at(login: &Dialogue, target: &str) -> bool {
     }
 }
 
-/// What a step led to: the requests, and then the token for the service, or the refusal.
+/// Prints the result of a step: the requests, and then the token for the service, or the refusal.
 fn print_step(
     rt: &(impl Print + AllocGlobal),
     login: &Dialogue,
@@ -71,7 +71,7 @@ fn print_step(
     }
 }
 
-/// A log-in that has begun.
+/// Begins a log-in and prints its first step.
 fn log_in(
     rt: &(impl Print + AllocGlobal),
     user: &User,
@@ -87,7 +87,7 @@ fn log_in(
     Ok(login)
 }
 
-/// The service has answered.
+/// Takes the service's answer and prints the step.
 fn hear(
     rt: &(impl Print + AllocGlobal),
     login: Option<&mut Box<Dialogue>>,
@@ -133,7 +133,7 @@ impl<'a> Client<'a> {
         }
     }
 
-    /// The user logs in at a service.
+    /// Logs the user in at a service.
     fn log_in(&mut self, rt: &(impl Print + AllocGlobal), target: &str) -> Result<()> {
         let user = self.user.context("no user")?;
         let steps = self.steps.take();
@@ -141,7 +141,7 @@ impl<'a> Client<'a> {
         Ok(())
     }
 
-    /// The service has answered. A log-in whose context is established then becomes a session.
+    /// Takes the service's answer. A log-in whose context is established then becomes a session.
     fn hear(&mut self, rt: &(impl Print + AllocGlobal), target: &str, token: &[u8]) -> Result<()> {
         let steps = self.steps.take();
         let login = self.login.as_mut();
@@ -159,7 +159,7 @@ impl<'a> Client<'a> {
         }
     }
 
-    /// A message for the service.
+    /// Encrypts a message for the service and prints it.
     fn seal(
         &mut self,
         rt: &(impl Print + AllocGlobal),
@@ -173,14 +173,14 @@ impl<'a> Client<'a> {
         print_octets(rt, "sealed", &sealed)
     }
 
-    /// The user's password is changed.
+    /// Changes the user's password.
     fn change(&mut self, rt: &(impl Print + AllocGlobal), password: &str) -> Result<()> {
         let user = self.user.context("no user")?;
         let steps = self.steps.take();
         change_password(rt, &user, password, &mut self.network, &steps)
     }
 
-    /// Another user begins anew.
+    /// Sets another user, and drops the log-in and the session.
     fn set_user(&mut self, user: User<'a>) {
         self.user = Some(user);
         self.login = None;

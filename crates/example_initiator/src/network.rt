@@ -1,4 +1,4 @@
-//! Who carries requests to a KDC. A program of yours opens its sockets here; this one has been given what comes back.
+//! The network to a KDC. A program of yours opens its sockets here; this one has the recorded replies.
 
 ghost use Rattle.std.specs.Prelude.{◌≡◌};
 
@@ -8,7 +8,7 @@ use std::alloc::{AllocError, Global};
 use std::collections::VecDeque;
 use std::mem;
 
-/// Gives the replies that it was given, one after another, and keeps what it was asked. Behind the last one each request fails, with
+/// Returns the replies that were added, one after another, and keeps the requests. After the last reply each request fails, with
 /// the code 0. It counts its failures.
 #[derive(Drop)]
 pub struct Network {
@@ -28,19 +28,19 @@ impl Network {
         }
     }
 
-    /// One more reply, in hex, after those that are there.
+    /// Adds one more reply, in hex, after the existing ones.
     pub fn add(&mut self, reply: &str) -> Result<()> {
         let reply = hex::decode(self.alloc, reply.as_bytes())?;
         self.replies.push_back(Octets::new(reply))?;
         Ok(())
     }
 
-    /// What was asked since the last call.
+    /// Returns the requests since the last call.
     pub fn take_requests(&mut self) -> Vec<NetworkRequest> {
         mem::replace(&mut self.requests, Vec::new(self.alloc))
     }
 
-    /// Keeps what is asked.
+    /// Keeps a request.
     fn keep(&mut self, request: &NetworkRequest) -> std::result::Result<(), OutOfMemory>
         ensures { self.new.faults ≡ self.old.faults }
     {
@@ -53,7 +53,7 @@ impl Network {
 impl NetworkClient for Network {
     ghost faults = { λ network. network.faults };
 
-    // A network may answer anything, so nothing is said of it but that it counts its failures.
+    // A network may answer anything, so the contract has nothing but that it counts its failures.
     ghost sends = { λ old request answer new. Unit {0} };
 
     fn send(&mut self, request: &NetworkRequest) -> std::result::Result<Octets, NetFault> {

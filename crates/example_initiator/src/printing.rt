@@ -1,4 +1,4 @@
-//! What the client prints.
+//! The output of the client.
 
 use crate::network::Network;
 use anyhow::{Result, anyhow};
@@ -11,7 +11,7 @@ fn print_request(rt: &(impl Print + AllocGlobal), request: &NetworkRequest) -> R
     Ok(())
 }
 
-/// What was asked of the network since it was looked at last.
+/// Prints the requests to the network since the last call.
 pub fn print_requests(rt: &(impl Print + AllocGlobal), network: &mut Network) -> Result<()> {
     for request in network.take_requests().iter() {
         print_request(rt, request)?;
@@ -19,13 +19,13 @@ pub fn print_requests(rt: &(impl Print + AllocGlobal), network: &mut Network) ->
     Ok(())
 }
 
-/// Which check failed first.
+/// Prints the check that failed first.
 pub fn print_refusal(rt: &impl Print, error: &Error) -> Result<()> {
     println!(rt; "refused {error}")?;
     Ok(())
 }
 
-/// The octets in hex, a hyphen for none, or which check failed first.
+/// Prints the bytes in hex, a hyphen for none, or the check that failed first.
 pub fn print_octets(
     rt: &(impl Print + AllocGlobal),
     word: &str,
@@ -40,7 +40,7 @@ pub fn print_octets(
     Ok(())
 }
 
-/// Whether the password was changed.
+/// Prints that the password was changed, or the check that failed first.
 pub fn print_change(rt: &impl Print, outcome: &std::result::Result<(), Error>) -> Result<()> {
     match outcome {
         Ok(()) => {

@@ -1,4 +1,4 @@
-//! What each step may draw. A program of yours looks at its clock here, and asks the system for random octets.
+//! The draws of each step. A program of yours reads its clock here, and asks the system for random bytes.
 
 ghost use Rattle.std.specs.Prelude.{◌≡◌, true, IfSome};
 ghost use Rattle.sspi_generator.specs.Draws.{IsInRange, AreInRange};
@@ -36,7 +36,7 @@ impl Steps {
         }
     }
 
-    /// One more step, at a moment in microseconds since 1970-01-01T00:00:00Z, with 64 random octets in hex.
+    /// Adds one more step, at a moment in microseconds since 1970-01-01T00:00:00Z, with 64 random bytes in hex.
     pub fn add(&mut self, moment: u64, random: &str) -> Result<()> {
         let mut draw = Draw {
             moment,
@@ -47,13 +47,13 @@ impl Steps {
         Ok(())
     }
 
-    /// All steps, for a run that begins: none is used twice.
+    /// Takes all steps, for a run that begins: none is used twice.
     pub fn take(&mut self) -> Steps {
         let empty = Steps::new(self.alloc);
         mem::replace(self, empty)
     }
 
-    /// The draws of a log-in: None if there are none.
+    /// Returns the draws of a log-in: None if there are none.
     pub fn for_login(&self) -> Option<Draws<'_>> {
         match self.draws.as_slice() {
             [first, replies @ ..] => Some(Draws { first, replies }),
@@ -61,7 +61,7 @@ impl Steps {
         }
     }
 
-    /// A draw for each step of a change of a password.
+    /// Returns a draw for each step of a change of a password.
     pub fn for_change(&self) -> Option<[Draw; 4]>
         ensures in_range { IfSome result (λ draws. AreInRange draws) }
     {

@@ -1,4 +1,4 @@
--- What is known of a request that passed the checks before the gate.
+-- Facts about a request that passed the checks before the gate.
 use Rattle.std.proofs.Common.{◌≡◌, ℕ, ◌<◌, ◌≤◌, ◌^◌, ◌==◌, nat_le, Bool, true, false, IsTrue, List, ◌++◌, length, Some, Result, Ok, Err, refl, sym, ap, subst, arith, length-append}
 use Rattle.std.proofs.lemmas.Bool.Decides.{nat_tests}
 use Rattle.krb_der.specs.Der.{tlv}

@@ -21,7 +21,7 @@ stands_inside : (oid token_id message octets : List ℕ) → IsFrame oid token_i
 stands_inside oid token_id message octets frame =
     record { value = tlv 0x06 oid; is_value = record { short = oid_is_shorter oid (token_id ++ message) frame.is.short; is = refl }; parts = refl }
 
--- behind the mechanism's name stand the same octets, however a token is taken for a frame
+-- the octets after the mechanism's name are the same, whichever frame a token is read as
 pub same_behind : (o p i j m n octets : List ℕ) → IsFrame o i m octets → IsFrame p j n octets → i ++ m ≡ j ++ n
 same_behind o p i j m n octets first second =
     (oid_opens p j n octets second _ [] o (i ++ m) (stands o i m octets first) (stands_inside o i m octets first)).1

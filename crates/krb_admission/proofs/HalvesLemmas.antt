@@ -1,4 +1,4 @@
--- The two halves of an admission, apart and one behind the other.
+-- The two halves of an admission, separately and one after the other.
 use Rattle.std.proofs.Common.{◌≡◌, ℕ, Bool, true, false, if◌then◌else◌, List, Option, Some, None, Result, Ok, Err, refl, sym, ap, ap₂, ◌∙◌, subst}
 use Rattle.std.proofs.Math.Logic.{∥∥₁_elim}
 use Rattle.std.specs.Result.{IsErrAnd}
@@ -96,7 +96,7 @@ module _ {G : Type 0} (admits : G → Ask → Verdict → G → Type 0) (prepare
       let P : Bool → Type 0 = λ b. AdmitsWhere b admits prepared server old answer server old in
       subst P (sym late.0) (record { answer_is = is_err answer e is ∙ ap Err late.1; server_stays = refl; gate_stays = refl })
 
--- no verdict is want of memory, and nothing that was ready
+-- no verdict refuses with `Memory`, so if the prepared outcome does not, neither does the outcome after the verdict
 behind_refuses : (verdict : Verdict) (outcome : Result Admission Cause) → (outcome ≡ Err Memory → ⊥) → outcome_behind (refusal verdict) outcome ≡ Err Memory → ⊥
 behind_refuses verdicts.Admitted outcome ne z = ne z
 behind_refuses verdicts.Skew outcome ne z = absurd cc
@@ -122,7 +122,7 @@ pub never_memory : (prepared : Prepared) → ∥ IsPrepared prepared ∥₁ → 
 never_memory prepared is server server' verdict answer made z =
     behind_refuses verdict prepared.outcome (λ y. ∥∥₁_elim is no_proofs (λ there. ready_refuses prepared there prepared.outcome refl y)) (made_refuses server server' _ answer made z)
 
--- ---- one behind the other
+-- ---- one after the other
 
 waiting : (server : Kerberos) (dce : Bool) (token : List ℕ) (request : Request) → BeginsAdmission server dce token (Ok request) → is_waiting server.state ≡ true
 unfolding BeginsAdmission
@@ -196,7 +196,7 @@ finishes_has server dce draw request = then_has _ _ (completes_has server.rules 
 then_at : {A B : Type 0} (first : Result A Cause → Type 0) (next : A → Result B Cause → Type 0) (m : Result A Cause) (r : Result B Cause) → Once first → first m → Then first next r → Goes next m r
 then_at {A} {B} first next m r one h k = let P : Result A Cause → Type 0 = λ x. Goes next x r in subst P (one.same k.middle m k.held h) k.rest
 
--- what the checks behind the gate answer, also where the gate's refusal hides it
+-- the result of the checks after the gate, even if the gate's refusal hides it
 pub record Behind (server : Kerberos) (dce : Bool) (draw : Draw) (request : Request) (refused : Option Cause) (outcome : Result Admission Cause) : Type 0 where
   pub ready : Result Admission Cause
   pub finishes : FinishesAdmission server dce draw request ready

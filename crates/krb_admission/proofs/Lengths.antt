@@ -80,7 +80,7 @@ mechanism_short : (user_to_user : Bool) → length (mechanism user_to_user) ≤ 
 mechanism_short true = lit≤ tt
 mechanism_short false = lit≤ tt
 
--- what is framed, behind the mechanism's name
+-- the length of the contents of a frame: the mechanism's name, then the token id and the message
 pub framed_short : (user_to_user : Bool) (oid message : List ℕ) → oid ≡ mechanism user_to_user → length message ≤ 2 ^ 28 → length (tlv 0x06 oid ++ (ap_rep_id ++ message)) < 2 ^ 31
 framed_short user_to_user oid message e h =
     let name : length oid ≤ 10 = subst (λ (o : List ℕ). length o ≤ 10) (sym e) (mechanism_short user_to_user) in

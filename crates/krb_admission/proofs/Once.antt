@@ -126,7 +126,7 @@ closes_once : (server : Kerberos) (o : Result (Unit {0}) Cause) (r s : Result An
 closes_once server (Ok _) r s a b h k = (h.0 ∙ sym k.0, h.1 ∙ sym k.1)
 closes_once server (Err cause) r s a b h k = (h.0 ∙ sym k.0, h.1 ∙ sym k.1)
 
--- each token has one answer where the last word is awaited
+-- each token has one answer if the third leg is awaited
 pub concludes_once : (server : Kerberos) (token : List ℕ) (r s : Result Answer Cause) (a b : Kerberos) → Concludes server token r a → Concludes server token s b → (r ≡ s) × (a ≡ b)
 concludes_once server token r s a b h k =
     let C : Result (Unit {0}) Cause → Type 0 = λ o. Closes server o s b in

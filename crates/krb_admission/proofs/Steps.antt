@@ -32,7 +32,7 @@ goes_on {A} {B} first next b h = go h.middle h.held h.rest
     go (Ok a) p q = (a, p)
     go (Err e) p q = absurd cc
 
--- where the last word is awaited, no AP-REQ may come
+-- if the third leg is awaited, no AP-REQ may come
 not_waiting : (dce : Bool) (state : KerberosState) → awaits_last_word dce state ≡ true → is_waiting state ≡ false
 not_waiting dce TgtExchange h = absurd cc
 not_waiting dce Preauthentication h = absurd cc
@@ -47,18 +47,18 @@ waits_at dce ApExchange request (Ok u) next p q = let e = p.is in absurd cc
 waits_at dce ApExchange request (Err e) next p q = absurd cc
 waits_at dce Final request m next p q = refl
 
--- a request that passed the checks before the gate came where no last word is awaited
+-- a request passes the checks before the gate only if no third leg is awaited
 pub waits : (server : Kerberos) (dce : Bool) (token : List ℕ) (request : Request) → BeginsAdmission server dce token (Ok request) → awaits_last_word dce server.state ≡ false
 unfolding BeginsAdmission
 waits server dce token request h = waits_at dce server.state request h.middle _ h.held h.rest
 
 module _ {G : Type 0} (admits : G → Ask → Verdict → G → Type 0) (server : Kerberos) (dce : Bool) (token : List ℕ) (draw : Draw) (old : G) where
-  -- what is made of an AP-REQ
+  -- the answer to an AP-REQ, if no third leg is awaited
   ends : (outcome : Result Admission Cause) (answer : Result Answer Cause) (server' : Kerberos) → awaits_last_word dce server.state ≡ false → MakesAnswer server outcome answer server'
       → Ends (awaits_last_word dce server.state) server token outcome answer server'
   ends outcome answer server' last made = subst (λ (b : Bool). Ends b server token outcome answer server') (sym last) made
 
-  -- the last word, at which no gate is asked
+  -- the third leg, for which no gate is asked
   pub last_word : (answer : Result Answer Cause) (server' : Kerberos) → awaits_last_word dce server.state ≡ true → Concludes server token answer server' → Accepts admits server dce token draw old answer server' old
   unfolding DecidesAdmission BeginsAdmission
   last_word answer server' last concludes =
@@ -85,7 +85,7 @@ module _ {G : Type 0} (admits : G → Ask → Verdict → G → Type 0) (server 
     made = ends (Err e) (Err e) server last (refl, refl);
   }
 
-  -- a request that came to the gate: what is judged behind the gate's verdict, and what is made of it
+  -- a request that came to the gate: the outcome after the gate's verdict, and the answer made from it
   pub answered_at_gate : (request : Request) (ask : Ask) (verdict : Verdict) (new : G) (outcome : Result Admission Cause) (answer : Result Answer Cause) (server' : Kerberos)
       → awaits_last_word dce server.state ≡ false → BeginsAdmission server dce token (Ok request) → ask ≡ ask_of server.rules request draw.moment → admits old ask verdict new
       → (Passes (refusal verdict) >> FinishesAdmission server dce draw request) outcome → MakesAnswer server outcome answer server' → Accepts admits server dce token draw old answer server' new
@@ -111,7 +111,7 @@ module _ {G : Type 0} (admits : G → Ask → Verdict → G → Type 0) (server 
       let e = one_outcome_lem server dce token draw Admitted step.outcome (Ok admission) (subst (λ (v : Verdict). DecidesAdmission server dce token draw v step.outcome) admits_it step.judged) passes in
       subst (λ (r : Result Admission Cause). MakesAnswer server r answer server') e made
 
--- ---- no check behind the gate is refused because memory ran out
+-- ---- no check after the gate fails because memory ran out
 
 record Refuses {A : Type 0} (checks : Result A Cause → Type 0) : Type 0 where
   pub not : (e : Cause) → checks (Err e) → e ≡ Memory → ⊥

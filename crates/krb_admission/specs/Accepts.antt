@@ -1,4 +1,4 @@
--- The acceptor's step: the ordered checks with the gate among them, and what they leave; and the initiator's last word.
+-- The acceptor's step: the ordered checks with the gate among them, and the context after them; and the initiator's third leg.
 use Rattle.std.specs.Prelude.{◌≡◌, ℕ, Bool, true, false, List, Option, Some, None, Result, Ok, Err}
 use Rattle.krb_replay.specs.declared.ask.Ask.{Ask}
 use Rattle.krb_replay.specs.declared.ask.Verdict.{Verdict}
@@ -27,14 +27,14 @@ use Rattle.krb_admission.specs.ThirdLeg.{Concludes}
 abbrev pub asks_dce_style : ServerRequestFlags → Bool
 asks_dce_style flags = has_flag flags.0 use_dce_style
 
--- where an acceptor waits for the initiator's last word
+-- an acceptor awaits the initiator's third leg
 abbrev pub awaits_last_word : Bool → KerberosState → Bool
 awaits_last_word dce TgtExchange = false
 awaits_last_word dce Preauthentication = false
 awaits_last_word dce ApExchange = dce
 awaits_last_word dce Final = false
 
--- what a gate's verdict refuses
+-- the cause of a gate's refusal, none if it admits
 abbrev pub refusal : Verdict → Option Cause
 refusal verdicts.Admitted = None
 refusal verdicts.Skew = Some Skew
@@ -51,7 +51,7 @@ BeginsAdmission server dce token = do
   Allows server request
   Gives request
 
--- the checks behind the gate, and what admission makes
+-- the checks after the gate, and the admission
 unfoldable pub FinishesAdmission : Kerberos → Bool → Draw → Request → Result Admission Cause → Type 0
 FinishesAdmission server dce draw request = do
   client ← Completes server.rules request
@@ -64,23 +64,23 @@ DecidesAdmission server dce token draw verdict = do
   Passes (refusal verdict)
   FinishesAdmission server dce draw request
 
--- the gate takes one step for a request that reaches it, and else stays
+-- the gate takes one step for a request that reaches it, otherwise it is unchanged
 abbrev pub Asks : {G : Type 0} → (G → Ask → Verdict → G → Type 0) → Rules → ℕ → G → Result Request Cause → Verdict → G → Type 0
 Asks admits rules moment old (Ok request) verdict new = admits old (ask_of rules request moment) verdict new
 Asks admits rules moment old (Err cause) verdict new = new ≡ old
 
--- what the caller gets for an AP-REQ, and the context afterwards: a refusal leaves it
+-- the caller's answer to an AP-REQ, and the context afterwards: a refusal leaves it unchanged
 abbrev pub MakesAnswer : Kerberos → Result Admission Cause → Result Answer Cause → Kerberos → Type 0
 MakesAnswer server (Ok admission) answer server' = (answer ≡ Ok (answer_for admission)) × (server' ≡ settled server admission)
 MakesAnswer server (Err cause) answer server' = (answer ≡ Err cause) × (server' ≡ server)
 
--- the last word where it is awaited, and else the outcome of an AP-REQ
+-- the third leg if it is awaited, otherwise the outcome of an AP-REQ
 abbrev pub Ends : Bool → Kerberos → List ℕ → Result Admission Cause → Result Answer Cause → Kerberos → Type 0
 Ends true server token outcome answer server' = Concludes server token answer server'
 Ends false server token outcome answer server' = MakesAnswer server outcome answer server'
 
--- a token at an acceptor, over any gate. Where the last word is awaited no AP-REQ may come: the checks of one end at the
--- first of them, so that the gate is not asked
+-- a token at an acceptor, over any gate. If the third leg is awaited no AP-REQ may come: the first check of an AP-REQ fails, so the
+-- gate is not asked
 pub record Accepts {G : Type 0} (admits : G → Ask → Verdict → G → Type 0) (server : Kerberos) (dce : Bool) (token : List ℕ) (draw : Draw)
     (old : G) (answer : Result Answer Cause) (server' : Kerberos) (new : G) : Type 0 where
   pub verdict : Verdict

@@ -1,4 +1,4 @@
--- What an admission makes (RFC 4120, sections 3.2.4 and 3.2.5).
+-- The result of an admission (RFC 4120, sections 3.2.4 and 3.2.5).
 use Rattle.std.specs.Prelude.{◌≡◌, ℕ, ◌+◌, ◌-◌, ◌%◌, ◌^◌, ◌<◌, ◌≤◌, ℤ, length, Bool, true, false, List, [], ◌∷◌}
 use Rattle.std.specs.Prelude.{◌++◌, take, drop, Option, Some, None, option_map, unwrap_or, if◌then◌else◌}
 use Rattle.std.specs.Int.{w32, to_be_bytes}
@@ -34,7 +34,7 @@ use Rattle.krb_context.specs.Drawn.{drawn_key}
 abbrev pub key_with : CipherSuite → List ℕ → EncryptionKey
 key_with suite key = record { key_type = suite_number suite ∷ []; key_value = key }
 
--- what is sealed in an AP-REP (RFC 4120, section 5.5.2)
+-- the encrypted part of an AP-REP (RFC 4120, section 5.5.2)
 abbrev pub ap_rep_part : CipherSuite → ℤ → List ℕ → List ℕ → Option (List ℕ) → EncApRepPart
 ap_rep_part suite ctime cusec number subkey = record { ctime = ctime; cusec = cusec; subkey = option_map (key_with suite) subkey; seq_number = Some number }
 
@@ -61,7 +61,7 @@ kerberos_mechanism = 0x2a ∷ 0x86 ∷ 0x48 ∷ 0x86 ∷ 0xf7 ∷ 0x12 ∷ 1 ∷
 abbrev pub mechanism : Bool → List ℕ
 mechanism user_to_user = if user_to_user then kerberos_mechanism ++ 3 ∷ [] else kerberos_mechanism
 
--- the token id in front of an AP-REP (RFC 4121, section 4.1)
+-- the token id before an AP-REP (RFC 4121, section 4.1)
 abbrev pub ap_rep_id : List ℕ
 ap_rep_id = 2 ∷ 0 ∷ []
 
@@ -69,7 +69,7 @@ ap_rep_id = 2 ∷ 0 ∷ []
 abbrev pub next_number_octets : ℕ → List ℕ
 next_number_octets number = to_be_bytes w32 ((number + 1) % 2 ^ 32)
 
--- what the AP-REP to a request seals: its authenticator's time, the drawn subkey, and the number after the context's own
+-- the encrypted part of the AP-REP to a request: its authenticator's time, the drawn subkey, and the number after the context's own
 abbrev pub reply_part : ℕ → Draw → Request → EncApRepPart
 reply_part number draw request =
     ap_rep_part request.suite request.authenticator.ctime request.authenticator.cusec (next_number_octets number) (Some (drawn_key request.suite draw))
@@ -79,15 +79,15 @@ unfoldable pub reply_message : ℕ → Draw → Request → List ℕ
 reply_message number draw request =
     spelling ap_rep_layout (ap_rep request.suite request.part.key.key_value (drawn_confounder request.suite draw) (reply_part number draw request))
 
--- an AP-REP as a token: bare in DCE style (MS-KILE, section 3.4.5.1), else framed
+-- an AP-REP as a token: bare in DCE style (MS-KILE, section 3.4.5.1), otherwise framed
 abbrev pub token_with : Bool → Bool → List ℕ → List ℕ
 token_with dce user_to_user message = if dce then message else framed (mechanism user_to_user) ap_rep_id message
 
--- behind an AP-REP the initiator has the last word in DCE style, and else the context is established
+-- after an AP-REP the context awaits the initiator's third leg in DCE style; otherwise it is established
 abbrev pub state_behind : Bool → KerberosState
 state_behind dce = if dce then ApExchange else Final
 
--- mutual-required: the drawn key is the sub-session key, the own number stays, and the AP-REP is the answer
+-- mutual-required: the drawn key is the subkey, the acceptor's sequence number is unchanged, and the AP-REP is the answer
 unfoldable pub mutual_admission : Bool → Bool → ℕ → Draw → Request → Option UserName → Admission
 mutual_admission dce user_to_user number draw request client = record {
   client = client;
@@ -105,7 +105,8 @@ abbrev pub subkey_suite : CipherSuite → Option EncryptionKey → CipherSuite
 subkey_suite suite None = suite
 subkey_suite suite (Some key) = unwrap_or (suite_of_integer key.key_type) suite
 
--- the own number from an authenticator's: the one before its low four octets, zero octets standing in front of a shorter one
+-- the acceptor's sequence number from an authenticator's: one less than the value of its low four octets, modulo 2^32; a shorter one
+-- is extended by zero octets on the left
 abbrev pub number_before : ℕ → Option (List ℕ) → ℕ
 number_before number None = number
 number_before number (Some octets) = (number_of octets % 2 ^ 32 + (2 ^ 32 - 1)) % 2 ^ 32
@@ -123,7 +124,7 @@ one_way_admission number request client = record {
   token = [];
 }
 
--- what admitting the client makes
+-- the admission of the client
 abbrev pub admission_of : Bool → Bool → ℕ → Draw → Request → Option UserName → Admission
 admission_of dce user_to_user number draw request client =
     if is_mutual request.message.ap_options then mutual_admission dce user_to_user number draw request client else one_way_admission number request client
@@ -148,7 +149,7 @@ abbrev pub or_else : {A : Type 0} → Option A → Option A → Option A
 or_else None other = other
 or_else (Some x) other = Some x
 
--- an acceptor that has admitted a client: all else of it stays
+-- an acceptor that has admitted a client: everything else in it is unchanged
 unfoldable pub settled : Kerberos → Admission → Kerberos
 settled server admission = record server {
   state = admission.state;

@@ -1,4 +1,4 @@
--- What RFC 4120 and RFC 4121 ask of a ticket and its authenticator besides, each where a rule asks for it.
+-- The further requirements of RFC 4120 and RFC 4121 on a ticket and its authenticator, each only if a rule asks for it.
 use Rattle.std.specs.Prelude.{ℕ, ◌==◌, ◌%◌, ◌^◌, bit_and, pos, nat_le, Bool, true, false, not, ◌&&◌, ◌||◌, List, [], ◌∷◌, length, take, drop, Option, Some, None, Result, bytes_eq, if◌then◌else◌}
 use Rattle.std.specs.Int.{w16, w32, from_le_bytes}
 use Rattle.krb_der.specs.Reading.{number_of}
@@ -51,16 +51,16 @@ abbrev pub hash_told : Option Checksum → List ℕ
 hash_told None = []
 hash_told (Some checksum) = if is_gss checksum then take 16 (drop 4 checksum.checksum) else []
 
--- the hash that a client is held to
+-- the hash of the bindings that a client must have
 abbrev pub channel_held : Kerberos → Option (List ℕ)
 channel_held server = if has_rule server.rules bound_to_its_channel then server.channel else None
 
--- where a client is held to bindings, its checksum tells some
+-- if a client must have bindings, its checksum contains some
 abbrev pub tells_bindings : Option (List ℕ) → Option Checksum → Bool
 tells_bindings None checksum = true
 tells_bindings (Some hash) checksum = is_gss_if_there checksum
 
--- and they are those of the channel
+-- if a client must have bindings, they are those of the channel
 abbrev pub is_bound : Option (List ℕ) → Option Checksum → Bool
 is_bound None checksum = true
 is_bound (Some hash) checksum = bytes_eq (hash_told checksum) hash
@@ -83,8 +83,8 @@ abbrev pub gss_flags : Option Checksum → Option ℕ
 gss_flags None = None
 gss_flags (Some checksum) = if is_gss checksum then low_word (drop 20 checksum.checksum) else None
 
--- a KRB-CRED, from octet 24 of a checksum on: the option 1 and its length, in two octets each, the lowest first, and the KRB-CRED (RFC 4121,
--- section 4.1.1)
+-- a KRB-CRED, from octet 24 of a checksum on: the option 1 and its length, in two octets each, the lowest first, and the KRB-CRED
+-- (RFC 4121, section 4.1.1)
 abbrev pub cred_in : List ℕ → List ℕ
 cred_in (a ∷ b ∷ c ∷ d ∷ rest) =
     if a == 1 && (b == 0 && nat_le (from_le_bytes w16 (c ∷ d ∷ [])) (length rest)) then take (from_le_bytes w16 (c ∷ d ∷ [])) rest else []

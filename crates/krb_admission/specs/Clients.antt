@@ -6,7 +6,7 @@ use Rattle.krb_context.specs.declared.rules.Rules.{Rules}
 use Rattle.krb_messages.specs.declared.principal_name.PrincipalName.{PrincipalName}
 use Rattle.sspi_core.specs.Usernames.{UserName, UserPrincipal, user_name, parsed}
 
--- NT-PRINCIPAL: the first component, at the realm in lower case. NT-ENTERPRISE: the first component as it stands (RFC 4120, section 6.2)
+-- NT-PRINCIPAL: the first component, at the realm in lower case. NT-ENTERPRISE: the first component unchanged (RFC 4120, section 6.2)
 abbrev pub named_by : List ℕ → List ℕ → List ℕ → Option UserName
 named_by [] first realm = None
 named_by (t ∷ []) first realm =
@@ -21,7 +21,7 @@ client_by name_type (first ∷ rest) realm = named_by name_type first realm
 unfoldable pub client_of : PrincipalName → List ℕ → Option UserName
 client_of name realm = client_by name.name_type name.name_string realm
 
--- where clients of any name are admitted, only NT-PRINCIPAL of one component makes a user name, so that none stands for another client
+-- if clients of any name are admitted, only NT-PRINCIPAL of one component gives a user name, so that none names another client
 abbrev pub account_by : List ℕ → List (List ℕ) → List ℕ → Option UserName
 account_by (t ∷ []) (account ∷ []) realm = if t == 1 then user_name (UserPrincipal account (str_to_ascii_lowercase realm)) else None
 account_by name_type name_string realm = None
@@ -34,6 +34,6 @@ abbrev pub has_component : List (List ℕ) → Bool
 has_component [] = false
 has_component (first ∷ rest) = true
 
--- the client has a name that is known here: a user name, or where any is taken one with a component
+-- the client has a name that is known here: a user name, or if any name is admitted, one with a component
 abbrev pub is_known_client : Rules → PrincipalName → List ℕ → Bool
 is_known_client rules name realm = if has_rule rules clients_of_any_name then has_component name.name_string else is_some (client_of name realm)

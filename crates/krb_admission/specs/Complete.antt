@@ -1,4 +1,4 @@
--- The checks whose refusal is answered behind the gate's: the client's name, the options, the subkey.
+-- The checks whose failure is reported after the gate's refusal: the client's name, the options, the subkey.
 use Rattle.std.specs.Prelude.{ℕ, ◌+◌, ◌-◌, ◌/◌, ◌^◌, ◌==◌, bit_and, Bool, true, false, not, ◌&&◌, List, [], ◌∷◌, length, Option, Some, None, Result, if◌then◌else◌}
 use Rattle.krb_der.specs.declared.bits.Bits.{Bits}
 use Rattle.krb_crypto.specs.Suite.{key_size}

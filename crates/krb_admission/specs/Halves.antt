@@ -17,7 +17,7 @@ use Rattle.krb_admission.specs.declared.admission.Answer.{Answer}
 use Rattle.krb_admission.specs.Requests.{ask_of}
 use Rattle.krb_admission.specs.Accepts.{BeginsAdmission, FinishesAdmission, MakesAnswer, refusal}
 
--- a request that came to the gate, what the checks after it will answer, the moment to ask the gate at, and the rules that it came by
+-- a request that came to the gate, the result of the checks after the gate, the moment to ask the gate at, and the rules of its checks
 pub record Prepared : Type 0 where
   pub request : Request
   pub outcome : Result Admission Cause
@@ -51,12 +51,12 @@ question prepared = ask_of prepared.rules prepared.request prepared.moment
 abbrev pub ticket_times : EncTicketPart → TicketTimes
 ticket_times part = record { authtime = part.authtime; starttime = part.starttime; endtime = part.endtime; renew_till = part.renew_till }
 
--- the gate's refusal, and else what the checks behind it answer
+-- the gate's refusal, otherwise the result of the checks after it
 abbrev pub outcome_behind : Option Cause → Result Admission Cause → Result Admission Cause
 outcome_behind None outcome = outcome
 outcome_behind (Some cause) outcome = Err cause
 
--- the gate takes one step, and the context is settled where it admits and no check behind it refuses
+-- the gate takes one step, and the context is settled if the gate admits and no check after it fails
 pub record PassesGate {G : Type 0} (admits : G → Ask → Verdict → G → Type 0) (prepared : Prepared) (server : Kerberos) (old : G) (answer : Result Answer Cause)
     (server' : Kerberos) (new : G) : Type 0 where
   pub verdict : Verdict
@@ -77,12 +77,12 @@ AdmitsWhere false admits prepared server old answer server' new = RefusesOnly Se
 abbrev pub AdmitsPrepared : {G : Type 0} → (G → Ask → Verdict → G → Type 0) → Prepared → Kerberos → G → Result Answer Cause → Kerberos → G → Type 0
 AdmitsPrepared admits prepared server old answer server' new = AdmitsWhere (is_waiting server.state) admits prepared server old answer server' new
 
--- the second half behind the first, whose refusal is the answer
+-- the second half after the first; a refusal by the first is the answer
 abbrev pub AdmitsNext : {G : Type 0} → (G → Ask → Verdict → G → Type 0) → Result Prepared Cause → Kerberos → G → Result Answer Cause → Kerberos → G → Type 0
 AdmitsNext admits (Ok prepared) server old answer server' new = AdmitsPrepared admits prepared server old answer server' new
 AdmitsNext admits (Err cause) server old answer server' new = RefusesOnly cause server old answer server' new
 
--- both halves, one behind the other, at one context
+-- both halves, one after the other, at one context
 pub record JudgesAndAdmits {G : Type 0} (admits : G → Ask → Verdict → G → Type 0) (server : Kerberos) (dce : Bool) (token : List ℕ) (draw : Draw)
     (old : G) (answer : Result Answer Cause) (server' : Kerberos) (new : G) : Type 0 where
   pub half : Result Prepared Cause

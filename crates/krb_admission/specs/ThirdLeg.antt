@@ -1,4 +1,4 @@
--- The third leg of DCE style: the initiator's last word, an AP-REP in answer to the acceptor's (MS-KILE, section 3.4.5.1).
+-- The third leg of DCE style: the initiator's AP-REP in answer to the acceptor's (MS-KILE, section 3.4.5.1).
 use Rattle.std.specs.Prelude.{◌≡◌, ℕ, ◌==◌, ◌^◌, ◌&&◌, ◌||◌, nat_le, Bool, false, List, [], length, Result, Ok, Err}
 use Rattle.std.specs.Cmp.Lexicographic.{pointwise}
 use Rattle.krb_messages.specs.Layouts.{ap_rep_layout}
@@ -33,35 +33,35 @@ TellsLast server token = do
   key ← Takes Reply server.encryption_params.session_key
   TellsNumber (suite_of server.encryption_params) key message
 
--- where it is allowed, a number is compared by its value, in any spelling (RFC 4120, section 5.5.2)
+-- with the rule `third_leg_by_value`, a number is compared by its value, in any encoding (RFC 4120, section 5.5.2)
 abbrev pub is_spelling : Rules → ℕ → List ℕ → Bool
 is_spelling rules awaited number = has_rule rules third_leg_by_value && has_value awaited number
 
--- a number repeats that of the acceptor's AP-REP by its octets, or in another spelling
+-- a number repeats that of the acceptor's AP-REP by its octets, or in another encoding
 abbrev pub repeats : Rules → ℕ → List ℕ → Bool
 repeats rules own number = pointwise ◌==◌ number (next_number_octets own) || is_spelling rules (next_number own) number
 
--- the last word repeats the number of the acceptor's AP-REP, the one after the acceptor's own
+-- the third leg repeats the sequence number of the acceptor's AP-REP, the one after the acceptor's own
 unfoldable pub IsLastWord : Kerberos → List ℕ → Result (Unit {0}) Cause → Type 0
 IsLastWord server token = do
   properties ← Takes Sequence server.server
   number ← TellsLast server token
   Holds Number (repeats server.rules server.seq_number number)
 
--- the context is established, and its sealed messages have 16 octets of filler
+-- the context is established, and its sealed messages have an extra count (EC) of 16
 abbrev pub concluded : Kerberos → Kerberos
 concluded server = record server { state = Final; encryption_params = record server.encryption_params { ec = 16 } }
 
--- its answer: nothing goes back, and nobody is admitted anew
+-- the answer to the third leg: no token, and nobody is admitted anew
 abbrev pub last_answer : Answer
 last_answer = record { status = Complete; token = []; admits = false }
 
--- what the caller gets, and the context afterwards: a refusal leaves it
+-- the caller's answer, and the context afterwards: a refusal leaves it unchanged
 abbrev pub Closes : Kerberos → Result (Unit {0}) Cause → Result Answer Cause → Kerberos → Type 0
 Closes server (Ok _) answer server' = (answer ≡ Ok last_answer) × (server' ≡ concluded server)
 Closes server (Err cause) answer server' = (answer ≡ Err cause) × (server' ≡ server)
 
--- a token where the last word is awaited
+-- a token when the third leg is awaited
 pub record Concludes (server : Kerberos) (token : List ℕ) (answer : Result Answer Cause) (server' : Kerberos) : Type 0 where
   pub outcome : Result (Unit {0}) Cause
   pub judged : IsLastWord server token outcome

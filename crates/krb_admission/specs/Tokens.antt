@@ -1,4 +1,4 @@
--- The message in a token of the handshake: bare in DCE style (MS-KILE, section 3.4.5.1), else behind the mechanism's name
+-- The message in a token of the handshake: bare in DCE style (MS-KILE, section 3.4.5.1), otherwise after the mechanism's name
 -- (RFC 4121, section 4.1).
 use Rattle.std.specs.Prelude.{ℕ, nat_le, Bool, true, false, List, [], ◌∷◌, length, Result}
 use Rattle.krb_messages.specs.Frame.{IsFrame}
@@ -9,7 +9,7 @@ use Rattle.sspi_core.specs.declared.cause.Cause.{Cause}
 use Rattle.sspi_core.specs.declared.cause.Cause.TheVariants.{Shape}
 use Rattle.sspi_core.specs.Checks.{Finds, Holds, ◌>>◌}
 
--- the token id in front of an AP-REQ (RFC 4121, section 4.1)
+-- the token id before an AP-REQ (RFC 4121, section 4.1)
 abbrev pub ap_req_id : List ℕ
 ap_req_id = 1 ∷ 0 ∷ []
 

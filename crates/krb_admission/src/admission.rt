@@ -1,4 +1,4 @@
-//! What an admission makes.
+//! The result of an admission.
 
 ghost use Rattle.std.specs.Prelude.{◌≡◌, ◌+◌, ◌<◌, ◌≤◌, ◌^◌, ◌%◌, option_map, length, IfOk};
 ghost use Rattle.krb_der.specs.Reading.{number_of};
@@ -35,39 +35,39 @@ use krb_replies::suite_of;
 use sspi_core::{Draw, Secret, SecurityStatus, Username};
 use std::alloc::Global;
 
-/// What a token that passes its checks is answered by.
+/// The answer to a token that passes its checks.
 #[derive(Drop)]
 pub struct Answer {
     pub status: SecurityStatus,
-    /// What goes back to the client; empty where it asked for nothing.
+    /// The token for the client; empty if the client asked for none.
     pub token: Octets,
-    /// Whether it was an AP-REQ: a client is admitted. The last word admits nobody anew.
+    /// True for an AP-REQ: a client is admitted. False for the third leg, which admits nobody anew.
     pub admits: bool,
 }
 
-/// What an admission brings to a context, ready before the gate is asked.
+/// The changes that an admission makes to a context, prepared before the gate is asked.
 #[derive(Drop)]
 pub struct Admission {
-    /// The user name of the client, where it has one here.
+    /// The user name of the client, if it has one here.
     pub client: Option<Username>,
     pub suite: CipherSuite,
     pub session_key: Octets,
     pub sub_session_key: Option<Octets>,
-    /// Whether that key is in the AP-REP.
+    /// True if `sub_session_key` is in the AP-REP.
     pub acceptor_subkey: bool,
     pub seq_number: u32,
     pub state: KerberosState,
     pub token: Octets,
 }
 
-/// What an acceptor brings to an admission.
+/// The values of an acceptor that an admission uses.
 #[derive(Drop)]
 pub(crate) struct Acceptor<'a> {
-    /// Whether tokens are bare, and the initiator has the last word.
+    /// True in DCE style: tokens are bare, and the initiator sends a third leg.
     pub(crate) dce: bool,
-    /// Whether a TGT-REQ was taken.
+    /// True if a TGT-REQ was accepted.
     pub(crate) user_to_user: bool,
-    /// The context's own number.
+    /// The context's own sequence number.
     pub(crate) number: u32,
     pub(crate) draw: &'a Draw,
 }
@@ -119,7 +119,7 @@ fn reply_message(
     Ok(reply.write(alloc)?)
 }
 
-/// A message behind the mechanism's name.
+/// Frames an AP-REP: returns the mechanism's name, the token id and the message.
 #[tactic(auto, unfolding(krb_messages::specs::Frame::framed))]
 fn framed_reply(alloc: Global, user_to_user: bool, message: &Octets) -> Result<Octets, OutOfMemory>
     requires { length message.now ≤ 2 ^ 28 }
@@ -147,7 +147,7 @@ fn reply_token(alloc: Global, acceptor: &Acceptor, request: &Request) -> Result<
     }
 }
 
-/// Where a context is behind its AP-REP.
+/// Returns the state of a context after its AP-REP.
 fn state_behind(dce: bool) -> KerberosState
     ensures { result ≡ state_behind dce }
 {
@@ -217,7 +217,7 @@ pub(crate) fn number_low(octets: &[u8]) -> u32
     word
 }
 
-/// The own number from an authenticator's.
+/// Returns this end's sequence number from an authenticator's: one less, modulo 2^32; `number` if there is none.
 fn number_before(number: u32, octets: &Option<IntegerAsn1>) -> u32
     ensures { result ≡ number_before number octets.now }
 {
@@ -250,7 +250,7 @@ fn one_way_admission(
     })
 }
 
-/// What admitting the client makes.
+/// Makes the admission of the client.
 pub(crate) fn admission_of(
     alloc: Global,
     acceptor: &Acceptor,
@@ -296,7 +296,7 @@ fn secret(key: Option<Octets>) -> Option<Secret<Octets>>
     }
 }
 
-/// Puts what an admission brings into the context. This cannot fail.
+/// Applies an admission to the context. This cannot fail.
 #[tactic(auto, unfolding(crate::specs::Admission::settled))]
 pub(crate) fn settle(server: &mut Kerberos, admission: Admission) -> Answer
     ensures server { server.new ≡ settled server.old admission }

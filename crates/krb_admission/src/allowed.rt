@@ -1,4 +1,4 @@
-//! What is asked of a ticket and its authenticator where a rule says so, and what the client asked for.
+//! The checks of a ticket and its authenticator that the rules ask for, and the requests in a client's checksum.
 
 ghost use Rattle.std.specs.Prelude.{◌≡◌};
 ghost use Rattle.sspi_core.specs.declared.cause.Cause.TheVariants as causes;
@@ -70,7 +70,7 @@ fn is_transit_checked(rules: Rules, part: &EncTicketPart) -> bool
         || is_policy_checked(&part.flags)
 }
 
-/// Whether it is a checksum over bindings and flags.
+/// Returns whether this is a checksum over bindings and flags.
 fn is_gss(checksum: &Checksum) -> bool
     ensures { result ≡ is_gss checksum.now }
 {
@@ -80,7 +80,7 @@ fn is_gss(checksum: &Checksum) -> bool
         && octets[..4] == [16, 0, 0, 0]
 }
 
-/// The hash that a client is held to.
+/// Returns the MD5 of the bindings that a client must have, None if it needs none.
 pub(crate) fn channel_held(server: &Kerberos) -> Option<[u8; 16]>
     ensures { result ≡ channel_held server.now }
 {
@@ -179,7 +179,7 @@ pub(crate) fn first_number(octets: &Option<IntegerAsn1>) -> u32
     }
 }
 
-/// Where a client is held to bindings, whether its checksum tells some.
+/// Returns whether the client's checksum contains bindings; true if the client needs none.
 fn tells_bindings(channel: Option<[u8; 16]>, checksum: &Option<Checksum>) -> bool
     ensures { result ≡ tells_bindings channel checksum.now }
 {
@@ -189,7 +189,7 @@ fn tells_bindings(channel: Option<[u8; 16]>, checksum: &Option<Checksum>) -> boo
     }
 }
 
-/// Whether they are those of the channel.
+/// Returns whether the client's bindings are those of the channel; true if the client needs none.
 fn is_bound(channel: Option<[u8; 16]>, checksum: &Option<Checksum>) -> bool
     ensures { result ≡ is_bound channel checksum.now }
 {
@@ -223,7 +223,7 @@ fn check_bound(channel: Option<[u8; 16]>, checksum: &Option<Checksum>) -> Result
     hold(is_bound(channel, checksum), Cause::Bindings)
 }
 
-/// The ticket and the authenticator are as the rules ask, and bound to the channel that the client is held to.
+/// Checks that the ticket and the authenticator are as the rules ask, and bound to the channel if the client must be.
 #[tactic(auto, unfolding(crate::specs::Allowed::Allows))]
 pub(crate) fn allow(rules: Rules, channel: Option<[u8; 16]>, request: &Request) -> Result<(), Cause>
     ensures { (server : Kerberos) → server.rules ≡ rules → channel_held server ≡ channel → Allows server request.now result }

@@ -34,7 +34,7 @@ fn key_with(alloc: Global, suite: CipherSuite, key: &[u8]) -> Result<EncryptionK
     })
 }
 
-/// What an AP-REP seals.
+/// Makes the part of an AP-REP that is encrypted.
 pub(crate) fn ap_rep_part(
     alloc: Global,
     suite: CipherSuite,
@@ -72,7 +72,7 @@ fn ap_rep_with(alloc: Global, suite: CipherSuite, cipher: Octets) -> Result<ApRe
     })
 }
 
-/// The octets, sealed under a session key of the suite's length.
+/// Encrypts the octets under a session key of the suite's length.
 fn seal(
     alloc: Global,
     suite: CipherSuite,
@@ -97,7 +97,7 @@ fn seal(
     }
 }
 
-/// An AP-REP in which the part is sealed under the session key.
+/// Makes an AP-REP with the part encrypted under the session key.
 pub(crate) fn seal_ap_rep(
     alloc: Global,
     suite: CipherSuite,
@@ -115,12 +115,12 @@ pub(crate) fn seal_ap_rep(
     ap_rep_with(alloc, suite, cipher)
 }
 
-/// An AP-REP with this time and number, and with the parameters' sub-session key where there is one, sealed under the
-/// session key in the parameters' suite (AES-256 where there is none).
+/// Makes an AP-REP with this time and sequence number, and with the parameters' subkey if there is one, encrypted under the
+/// session key in the parameters' suite (AES-256 if there is none).
 ///
 /// `ctime` and `cusec` are those of the authenticator that is answered, in seconds since 1970-01-01T00:00:00Z and in
-/// microseconds; `seq_number` has its highest octet first. Refused as InvalidParameter KeyLength exactly where the session key
-/// has not the length of the suite's keys; else it fails only if memory runs out.
+/// microseconds; `seq_number` has its highest octet first. Fails with InvalidParameter KeyLength exactly if the session key
+/// does not have the length of the suite's keys; otherwise fails only if memory runs out.
 pub fn generate_ap_rep(
     alloc: Global,
     session_key: &Secret<Octets>,

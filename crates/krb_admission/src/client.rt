@@ -25,7 +25,7 @@ fn principal(alloc: Global, account: &Name, realm: &Name) -> Result<Option<Usern
     }
 }
 
-/// The name as it stands.
+/// Returns the user name that this name spells, None if it spells none.
 fn enterprise(alloc: Global, name: &Name) -> Result<Option<Username>, OutOfMemory>
     ensures { IfOk result (λ user. user ≡ parsed name.now) }
 {
@@ -95,7 +95,7 @@ pub(crate) fn user_of(
     }
 }
 
-/// Whether the client of this user name, if it has one, is known here.
+/// Returns whether the client with this name, and this user name if it has one, is known here.
 pub(crate) fn is_known_client(rules: Rules, cname: &PrincipalName, user: &Option<Username>) -> bool
     ensures { (crealm : List ℕ) → user.now ≡ user_of rules cname.now crealm → result ≡ is_known_client rules cname.now crealm }
 {
@@ -106,10 +106,10 @@ pub(crate) fn is_known_client(rules: Rules, cname: &PrincipalName, user: &Option
     }
 }
 
-/// The name of a client: for NT-PRINCIPAL (1) its first component at the realm in lower case, for NT-ENTERPRISE (10) its
-/// first component as it stands. Further components are not looked at.
+/// Returns the user name of a client: for NT-PRINCIPAL (1) its first component at the realm in lower case, for NT-ENTERPRISE
+/// (10) its first component unchanged. Further components are ignored.
 ///
-/// InvalidToken ClientName: there is no component, the name's type is another, or what comes out is no user name.
+/// Fails with InvalidToken ClientName if there is no component, the name's type is another, or the result is not a user name.
 pub fn client_upn(alloc: Global, cname: &PrincipalName, crealm: &Name) -> Result<Username, Error>
     ensures name { IfOk result (λ name. client_of cname.now crealm.now ≡ Some name) }
     ensures client_name { result ≡ Err (error_of causes.ClientName) → client_of cname.now crealm.now ≡ None }

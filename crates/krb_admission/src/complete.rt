@@ -15,7 +15,7 @@ use krb_replies::suite_of;
 use sspi_core::{Cause, Username, hold};
 use std::alloc::Global;
 
-/// Whether there are four octets and no unknown bit.
+/// Returns whether the options have four octets and no unknown bit.
 fn is_known_options(options: &Bits) -> bool
     ensures { result ≡ is_known_options options.now }
 {
@@ -25,7 +25,7 @@ fn is_known_options(options: &Bits) -> bool
     }
 }
 
-/// Whether an AP-REP is asked for.
+/// Returns whether the options ask for an AP-REP.
 pub(crate) fn is_mutual(options: &Bits) -> bool
     ensures { result ≡ is_mutual options.now }
 {
@@ -35,7 +35,7 @@ pub(crate) fn is_mutual(options: &Bits) -> bool
     }
 }
 
-/// Whether the key is of a known type, and as long as its type's keys are.
+/// Returns whether the key is of a known type, and as long as its type's keys are.
 fn is_good_key(key: &EncryptionKey) -> bool
     ensures { result ≡ is_good_key key.now }
 {
@@ -90,7 +90,7 @@ fn completed(
     Ok(user)
 }
 
-/// What the checks after the gate will answer.
+/// Makes the checks after the gate in advance, and returns their result.
 pub(crate) fn complete(
     alloc: Global,
     rules: Rules,

@@ -49,7 +49,7 @@ fn begin(
     Ok(request)
 }
 
-/// The checks behind the gate, and what admission makes, ready before the gate is asked.
+/// Makes the checks after the gate and the admission, before the gate is asked.
 fn finish(
     alloc: Global,
     server: &Kerberos,
@@ -74,11 +74,11 @@ fn finish(
 }
 
 /// Judges an AP-REQ without a gate: the first half of [`judge_token`](crate::judge_token). All that needs memory or a cipher
-/// is done here, and nothing is changed. In DCE style the token is bare, and else framed.
+/// is done here, and nothing is changed. In DCE style the token is bare, otherwise it is framed.
 ///
-/// The refusals, in their order: Sequence where the context waits for no AP-REQ, as where it waits for the initiator's last
-/// word; those of the checks of RFC 4120, section 3.2.3, before the gate, as `specs/Requests` has them. A TGT-REQ is no AP-REQ: Shape.
-/// What the checks behind the gate refuse is told by [`admit`], behind the gate's refusal.
+/// Fails, in this order, with Sequence if the context awaits no AP-REQ, for example if it awaits the initiator's third leg; with
+/// the causes of the checks of RFC 4120, section 3.2.3, before the gate, in `specs/Requests`. A TGT-REQ is not an AP-REQ: Shape.
+/// [`admit`] reports failures of the checks after the gate, after the gate's refusal.
 pub fn judge(
     alloc: Global,
     server: &mut Kerberos,
@@ -142,7 +142,7 @@ pub fn judge_with(
     })
 }
 
-/// What the gate's verdict refuses.
+/// Returns the cause of the gate's refusal, None if the gate admits.
 fn refusal(verdict: Verdict) -> Option<Cause>
     ensures { result ≡ refusal verdict }
 {
@@ -155,7 +155,7 @@ fn refusal(verdict: Verdict) -> Option<Cause>
     }
 }
 
-/// What the gate's verdict leaves of what was ready.
+/// Applies the gate's verdict to the prepared admission.
 fn settle_behind(
     server: &mut Kerberos,
     refused: Option<Cause>,
@@ -175,8 +175,8 @@ fn settle_behind(
 /// Admits what was judged, at the context that it was judged at: the second half of [`judge_token`](crate::judge_token). The gate
 /// is asked, and what follows it takes no memory and no cipher, so that many threads may have one gate under a lock.
 ///
-/// The refusals, in their order: Sequence where the context waits for no AP-REQ any more, as after another admission, and no
-/// gate is asked then; the gate's, Skew, NotYet, Expired or Replayed; those of `specs/Complete`.
+/// Fails, in this order, with Sequence if the context no longer awaits an AP-REQ, for example after another admission, and then
+/// no gate is asked; with the gate's refusal, Skew, NotYet, Expired or Replayed; with the causes of `specs/Complete`.
 pub fn admit<G: ReplayGate>(
     alloc: Global,
     judged: Judged,
@@ -184,7 +184,7 @@ pub fn admit<G: ReplayGate>(
     gate: &mut G,
 ) -> Result<Answer, Cause>
     ensures step { (result ≡ Err causes.Memory → ⊥) → AdmitsPrepared G.admits judged server.old gate.old result server.new gate.new }
-    // It is the gate alone that may run out of memory: context and gate are as before then.
+    // Only the question to the gate and the gate may run out of memory: context and gate are then as before.
     ensures memory { result ≡ Err causes.Memory → (server.new ≡ server.old) × G.is_same gate.old gate.new }
 {
     check_state(server)?;

@@ -11,15 +11,15 @@ use sspi_core::Cause;
 use std::alloc::Global;
 use std::marker::Model;
 
-/// An AP-REQ that passed every check before the gate, with what the checks behind it will answer. [`judge`](crate::judge) alone
-/// makes one, and [`admit`](crate::admit) uses it up. What it tells is told by the ticket and the authenticator that were opened;
-/// **nobody is admitted yet**.
+/// An AP-REQ that passed every check before the gate, with the result of the checks after it. Only [`judge`](crate::judge) and
+/// [`judge_with`](crate::judge_with) make one, and [`admit`](crate::admit) consumes it. Its values come from the opened ticket and
+/// authenticator; **nobody is admitted yet**.
 ///
 /// It lends no key.
 #[derive(Drop)]
 pub struct Judged {
     pub(crate) request: Box<Request>,
-    /// What the checks behind the gate will answer.
+    /// The result of the checks after the gate.
     pub(crate) outcome: Result<Admission, Cause>,
     /// The moment to ask the gate at.
     pub(crate) moment: u64,
@@ -34,7 +34,7 @@ impl Model for Judged {
 
     ghost view = { λ judged. record { request = judged.request.value; outcome = judged.outcome; moment = judged.moment; rules = judged.rules } };
 
-    // What it tells has passed the checks before the gate.
+    // The values passed the checks before the gate.
     ghost invariant = { λ judged. ∥ IsPrepared (record { request = judged.request.value; outcome = judged.outcome; moment = judged.moment; rules = judged.rules }) ∥₁ };
 }
 
@@ -73,14 +73,14 @@ impl Judged {
         &self.request.part.crealm
     }
 
-    /// The service's name, as it stands in the clear part of the ticket: the key of that service opened it.
+    /// Returns the service's name, from the clear part of the ticket: the key of that service opened the ticket.
     pub fn service_name(&self) -> &PrincipalName
         ensures { result.now ≡ self.now.request.message.ticket.sname }
     {
         &self.request.message.ticket.sname
     }
 
-    /// The realm that issued the ticket, as it stands in its clear part, which is sealed by nothing.
+    /// Returns the realm that issued the ticket, from the ticket's clear part, which no key protects.
     pub fn service_realm(&self) -> &Name
         ensures { result.now ≡ self.now.request.message.ticket.realm }
     {
@@ -153,15 +153,15 @@ impl Judged {
         tag(&self.request)
     }
 
-    /// By how many microseconds the client's clock is ahead of the moment of the call that judged it; behind it, negative ones.
-    /// The client's time counts in whole seconds, as for the gate.
+    /// Returns by how many microseconds the client's clock is ahead of the moment of the call that judged the AP-REQ; negative if
+    /// the clock is slow. The client's time counts in whole seconds, as for the gate.
     pub fn clock_distance(&self) -> i128
         ensures { result ≡ in_microseconds self.now.request.authenticator.ctime -ℤ pos self.now.moment }
     {
         self.request.authenticator.ctime.microseconds() - i128::from(self.moment)
     }
 
-    /// What the gate will be asked, for a store outside that is to be asked first (`TellingGate` of `krb_replay`).
+    /// Returns the question to the gate, for an external store that is asked first (`TellingGate` of `krb_replay`).
     pub fn question(&self, alloc: Global) -> Result<Ask, OutOfMemory>
         ensures { IfOk result (λ ask. ask ≡ question self.now) }
     {

@@ -40,21 +40,21 @@ pub fn completeness<G: ReplayGate>()
         → DecidesAdmission server dce token draw Admitted (Ok admission) → MakesAnswer server (Ok admission) answer server' }
 {}
 
-/// Where no last word is awaited, a token is answered as `judge` and `admit` answer it, one behind the other at one context,
-/// whatever the gate: the same refusals in the same order, with the gate's verdict in its place.
+/// If no third leg is awaited, a token is answered as by `judge` and `admit`, one after the other at one context, with any
+/// gate: the same refusals in the same order, with the gate's verdict in its place.
 pub fn admission_has_two_halves<G: ReplayGate>()
     ensures { (server server' : Kerberos) (dce : Bool) (token : List ℕ) (draw : Draw) (old new : G) (answer : Result Answer Cause)
         → awaits_last_word dce server.state ≡ false
         → Accepts G.admits server dce token draw old answer server' new ↔ JudgesAndAdmits G.admits server dce token draw old answer server' new }
 {}
 
-/// Each context and last word of an initiator has at most one answer, and one context afterwards.
+/// Each context and third leg of an initiator has at most one answer, and one context afterwards.
 pub fn one_last_word()
     ensures { (server : Kerberos) (token : List ℕ) (r s : Result Answer Cause) (a b : Kerberos)
         → Concludes server token r a → Concludes server token s b → (r ≡ s) × (a ≡ b) }
 {}
 
-/// Without rules, the number of a last word is compared by its octets.
+/// Without rules, the sequence number of a third leg is compared by its octets.
 pub fn without_rules_last_words_are_compared_by_octets()
     ensures { (own : ℕ) (number : List ℕ) → repeats no_rules own number ≡ pointwise ◌==◌ number (next_number_octets own) }
 {}

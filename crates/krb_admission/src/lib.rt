@@ -3,10 +3,10 @@
 //!
 //! [`judge_token`] judges a token at an acceptor's context, over any replay gate, and says what the context is
 //! afterwards and what the client is answered. The checks are one chain, `DecidesAdmission` of `specs/Accepts`, each with a
-//! function of its own; those of the third leg of DCE style are another, `IsLastWord` of `specs/ThirdLeg`. Who writes a
-//! server calls `krb_server`, which stands on this.
+//! function of its own; those of the third leg of DCE style are another, `IsLastWord` of `specs/ThirdLeg`. A server calls
+//! `krb_server`, which is built on this crate.
 //!
-//! An AP-REQ is admitted in two halves, [`judge`] without a gate and [`admit`] at one. [`Judged`] stands between them.
+//! An AP-REQ is admitted in two halves: [`judge`] without a gate and [`admit`] at one. `judge` returns a [`Judged`] for `admit`.
 #![tactic(auto)]
 
 mod admission;

@@ -28,7 +28,7 @@ const TAG_LENGTH: usize = 12;
 #[derive(Drop)]
 pub struct Request {
     pub message: ApReq,
-    /// What is sealed in the ticket.
+    /// The decrypted part of the ticket.
     pub part: EncTicketPart,
     /// The authenticator's suite.
     pub suite: CipherSuite,
@@ -64,7 +64,7 @@ fn service_key<'a>(server: &'a ServerProperties, name: &PrincipalName) -> Result
     }
 }
 
-/// What is sealed in the ticket. The keys that open it are kept.
+/// Decrypts the encrypted part of the ticket. The keys that open it are kept.
 fn open_ticket(
     alloc: Global,
     server: &ServerProperties,
@@ -79,8 +79,8 @@ fn open_ticket(
     Ok(part)
 }
 
-/// What is sealed in the authenticator, and its suite. Its key comes with the ticket and opens this text alone, so it is derived for
-/// that, and nothing of it is kept.
+/// Decrypts the authenticator, and returns its suite and the authenticator. The key comes with the ticket and opens this text
+/// alone, so it is derived for this text, and nothing of it is kept.
 fn open_once(
     alloc: Global,
     key: &Octets,
@@ -188,7 +188,7 @@ pub(crate) fn ask_of(
     })
 }
 
-/// The same question, of copies.
+/// Returns the question to the gate, made of copies: the request is unchanged.
 pub(crate) fn copy_ask(
     alloc: Global,
     rules: Rules,

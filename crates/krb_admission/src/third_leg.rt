@@ -1,4 +1,4 @@
-//! The third leg of DCE style: the initiator's last word, an AP-REP in answer to the acceptor's (MS-KILE, section 3.4.5.1).
+//! The third leg of DCE style: the initiator's AP-REP in answer to the acceptor's (MS-KILE, section 3.4.5.1).
 
 ghost use Rattle.std.specs.Prelude.{◌≡◌, Err, Result};
 ghost use Rattle.std.specs.Result.{result_map_both};
@@ -16,7 +16,7 @@ use krb_replies::{check_token_length, extract_seq_number_from_ap_rep, has_value,
 use sspi_core::{Cause, Secret, SecurityStatus, hold};
 use std::alloc::Global;
 
-/// The filler of sealed messages in DCE style, in octets.
+/// The extra count (EC) of sealed messages in DCE style, in octets.
 const EXTRA_COUNT: u16 = 16;
 
 /// The service of an acceptor.
@@ -61,7 +61,7 @@ fn number_in(
     }
 }
 
-/// The number in the last word.
+/// Returns the sequence number in the third leg.
 fn last_number(alloc: Global, server: &Kerberos, token: &[u8]) -> Result<Octets, Cause>
     ensures { Answers (TellsLast server.now token.now) result }
 {
@@ -70,14 +70,14 @@ fn last_number(alloc: Global, server: &Kerberos, token: &[u8]) -> Result<Octets,
     number_in(alloc, server, key, &message)
 }
 
-/// Whether an INTEGER has this number for its value, where that is allowed.
+/// Returns whether the rules allow a comparison by value and an INTEGER has this number as its value.
 fn is_spelling(rules: Rules, awaited: u32, octets: &IntegerAsn1) -> bool
     ensures { result ≡ is_spelling rules awaited octets.now }
 {
     rules.has(Rules::THIRD_LEG_BY_VALUE) && has_value(awaited, octets)
 }
 
-/// Whether a number repeats the one after the own.
+/// Returns whether a number repeats the one after this end's own.
 fn repeats(rules: Rules, own: u32, number: Octets) -> bool
     ensures { result ≡ repeats rules own number }
 {
@@ -115,7 +115,7 @@ fn establish(alloc: Global, server: &mut Kerberos) -> Answer
     }
 }
 
-/// Judges the initiator's last word.
+/// Judges the initiator's third leg.
 pub(crate) fn conclude(alloc: Global, server: &mut Kerberos, token: &[u8]) -> Result<Answer, Cause>
     ensures step { (result ≡ Err causes.Memory → ⊥) → Concludes server.old token.now result server.new }
     ensures memory { result ≡ Err causes.Memory → server.new ≡ server.old }

@@ -1,4 +1,4 @@
-//! The acceptor's step: an AP-REQ, or the initiator's last word.
+//! The acceptor's step: an AP-REQ, or the initiator's third leg.
 
 ghost use Rattle.std.specs.Prelude.{◌≡◌, false, Err, Result};
 ghost use Rattle.sspi_core.specs.declared.cause.Cause.TheVariants as causes;
@@ -23,7 +23,7 @@ fn awaits_last_word(dce: bool, state: KerberosState) -> bool
     }
 }
 
-/// An AP-REQ is judged, and then admitted.
+/// Judges an AP-REQ, and then admits it.
 fn judge_and_admit<G: ReplayGate>(
     alloc: Global,
     server: &mut Kerberos,
@@ -40,20 +40,19 @@ fn judge_and_admit<G: ReplayGate>(
     admit(alloc, judged, server, gate)
 }
 
-/// Judges a token: the initiator's last word where it is awaited, and else an AP-REQ, whose client is admitted, or refused by
-/// the first check that it fails. This is what `accept_security_context` of `krb_server` does of every token but a TGT-REQ.
+/// Judges a token: the initiator's third leg if it is awaited, otherwise an AP-REQ, whose client is admitted, or refused by
+/// the first check that it fails. `accept_security_context` of `krb_server` does this with every token but a TGT-REQ.
 ///
-/// In DCE style tokens are bare, and else framed. An AP-REP in DCE style is not the end: the context then awaits the
-/// initiator's last word, an AP-REP with the same number, at which the gate is not asked; its messages have 16 octets of
-/// filler from there on (MS-KILE, section 3.4.5.1).
+/// In DCE style tokens are bare, otherwise they are framed. In DCE style the exchange does not end with the AP-REP: the context
+/// then awaits the initiator's third leg, an AP-REP with the same sequence number, for which the gate is not asked; after it the
+/// context's sealed messages have an extra count (EC) of 16 octets (MS-KILE, section 3.4.5.1).
 ///
-/// The moment of `draw` is the gate's question, in microseconds since 1970-01-01T00:00:00Z. Where the client asks for an
-/// AP-REP, the first random octets of `draw` become the sub-session key, as many as the suite's key has, and the 16 behind
-/// them the AP-REP's confounder.
+/// The gate is asked at the moment of `draw`, in microseconds since 1970-01-01T00:00:00Z. If the client asks for an AP-REP, the
+/// first random octets of `draw` become the subkey, as many as the suite's key has, and the next 16 the AP-REP's confounder.
 ///
-/// The refusals of an AP-REQ, in their order: Sequence where the context waits for no token; those of the checks of RFC 4120,
-/// section 3.2.3, as `specs/Requests` has them, the gate's, and those of `specs/Complete`. A TGT-REQ is no AP-REQ: Shape. The
-/// refusals of the last word are those of `specs/ThirdLeg`: Shape, Reply, Inner, NoNumber, Number.
+/// An AP-REQ fails, in this order, with Sequence if the context awaits no token; with the causes of the checks of RFC 4120,
+/// section 3.2.3, in `specs/Requests`, the gate's, and those of `specs/Complete`. A TGT-REQ is not an AP-REQ: Shape. A third leg
+/// fails with the causes of `specs/ThirdLeg`: Shape, Reply, Inner, NoNumber, Number.
 pub fn judge_token<G: ReplayGate>(
     alloc: Global,
     server: &mut Kerberos,
@@ -62,9 +61,9 @@ pub fn judge_token<G: ReplayGate>(
     token: &[u8],
     draw: &Draw,
 ) -> Result<Answer, Cause>
-    // Anything but memory that runs out is what the ordered checks and the gate answer.
+    // Any result but `Memory` is that of the ordered checks and the gate.
     ensures step { (result ≡ Err causes.Memory → ⊥) → Accepts G.admits server.old dce token.now draw.now gate.old result server.new gate.new }
-    // Where memory runs out, context and gate are as before.
+    // If memory runs out, context and gate are as before.
     ensures memory { result ≡ Err causes.Memory → (server.new ≡ server.old) × G.is_same gate.old gate.new }
 {
     if awaits_last_word(dce, server.state) {

@@ -1,4 +1,4 @@
--- What is known behind a step of an AS exchange within a run that was not refused.
+-- The facts that are known after a step of an AS exchange within a run that was not refused.
 use Rattle.std.proofs.Common.{◌≡◌, inl, inr, ℕ, true, List, Result, Ok, refl, sym, ap, ◌∙◌, subst}
 use Rattle.std.specs.Prelude.{◌⊎◌}
 use Rattle.sspi_core.proofs.Chain.{passed, gave, held, follows}
@@ -120,7 +120,7 @@ module _ {P O : Type 0} (within : AsPhase → P) where
         same = ap (λ (s : NetworkRequest × SealedTime). s.1.body) (gave _ _ key.rest_held);
       }
 
--- a ticket was taken from this reply, with this salt where it tells none, and the run went on with it
+-- a ticket was taken from this reply, with this salt if the reply names none, and the run went on with it
 pub record WentOn {P O : Type 0} (next : Grant → Result (Turn P O) Cause → Type 0) (asker : Asker) (protocol : NetworkProtocol) (body : KdcReqBody) (moment : ℕ) (used : List ℕ)
     (reply : Result (List ℕ) NetFault) (turn : Turn P O) : Type 0 where
   pub grant : Grant

@@ -1,4 +1,4 @@
--- Steps of ordered checks that want for memory.
+-- Steps of ordered checks in which memory runs out.
 use Rattle.std.proofs.Common.{◌≡◌, Result}
 use Rattle.std.specs.Result.{IsErrAnd}
 use Rattle.sspi_core.specs.declared.cause.Cause.{Cause}

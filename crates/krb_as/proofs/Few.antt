@@ -33,7 +33,7 @@ pub asked : {P O : Type 0} (request made : NetworkRequest) (next phase : P) → 
 asked request made next phase e = cc
 
 module _ {P : Type 0} (O : Type 0) (within : AsPhase → P) (left : P → ℕ) (n : ℕ) (asker : Asker) where
-  -- the first request is behind it
+  -- fewer turns are left after the first request
   pub first_down : (body : KdcReqBody) → ((kdc : Kdc) → left (within (AwaitsError kdc body)) < n) → (request : NetworkRequest) (phase : P)
       → BeginsWithin {O = O} within asker body (Ok (Asks request phase)) → left phase < n
   first_down body few request phase h =
@@ -41,7 +41,7 @@ module _ {P : Type 0} (O : Type 0) (within : AsPhase → P) (left : P → ℕ) (
       subst (λ (p : P). left p < n) (asked {O = O} request first.request _ phase (sym first.is)) (few first.kdc)
 
   module _ (next : Grant → Result (Turn P O) Cause → Type 0) (reply : Result (List ℕ) NetFault) (draw : Draw) (request : NetworkRequest) (phase : P) where
-    -- and the second, or what the run goes on with behind a ticket that came at once
+    -- fewer turns are left after the second request, or after the step that follows a ticket that came at once
     pub second_down : (kdc : Kdc) (body : KdcReqBody) → ((sealed : SealedTime) → left (within (AwaitsAsRep sealed)) < n)
         → ((grant : Grant) → next grant (Ok (Asks request phase)) → left phase < n)
         → TakesReplyWithin within next asker (AwaitsError kdc body) reply draw (Ok (Asks request phase)) → left phase < n
@@ -51,7 +51,7 @@ module _ {P : Type 0} (O : Type 0) (within : AsPhase → P) (left : P → ℕ) (
         go (inl second) = subst (λ (p : P). left p < n) (asked {O = O} request second.request _ phase (sym second.is)) (few second.sealed)
         go (inr went) = early went.on.grant went.on.rest
 
-    -- what the run goes on with behind the ticket
+    -- fewer turns are left after the step that follows the ticket
     pub grant_down : (sealed : SealedTime) → ((grant : Grant) → next grant (Ok (Asks request phase)) → left phase < n)
         → TakesReplyWithin within next asker (AwaitsAsRep sealed) reply draw (Ok (Asks request phase)) → left phase < n
     grant_down sealed few h = let on = as_rep_taken within next asker reply draw (Asks request phase) sealed h in few on.grant on.rest

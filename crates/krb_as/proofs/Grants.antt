@@ -1,4 +1,4 @@
--- What was found in an AS-REP, and the end with that AS-REP, are the checks of the whole step.
+-- The checks of an AS-REP and the end with that AS-REP are together the checks of the whole step.
 use Rattle.std.proofs.Common.{◌≡◌, ℕ, List, Result, Ok, Err, refl, sym, ap, ◌∙◌, subst}
 use Rattle.sspi_core.proofs.Chain.{follows, gives}
 use Rattle.sspi_core.specs.declared.cause.Cause.{Cause}

@@ -1,4 +1,4 @@
--- What a reply of a KDC brings can be written again, and is not longer than the reply.
+-- The parts of a KDC's reply can be written again, and are not longer than the reply.
 use Rattle.std.proofs.Common.{◌≡◌, ℕ, ◌+◌, ◌≤◌, ◌^◌, List, [], ◌++◌, length, map, Result, Ok, Err, refl, ap, subst, arith, length-append}
 use Rattle.std.specs.Prelude.{IfOk, option_map}
 use Rattle.std.specs.Option.{option_map_or}

@@ -74,7 +74,7 @@ TakesAsRep asker sealed moment reply = do
   as_rep ← Grants sealed.kdc.protocol as_rep_layout reply
   BringsGrant asker sealed.body moment sealed.salt as_rep
 
--- what a reply leads to. No salt was used where the first reply is an AS-REP, so that is the one that the credentials have
+-- the turn after a reply. No salt was used if the first reply is an AS-REP, so the salt is then the one that the credentials have
 abbrev pub TakesReply : Asker → AsPhase → Result (List ℕ) NetFault → Draw → Result (Turn AsPhase Grant) Cause → Type 0
 TakesReply asker (AwaitsError kdc body) reply draw answer =
     TakesFirst asker.rules kdc.protocol (AsksSecond (λ phase. phase) asker kdc body draw)
@@ -88,7 +88,7 @@ BeginsWithin within asker body = do
   sent ← BeginsExchange asker body
   Gives (Asks sent.0 (within sent.1))
 
--- behind the ticket the run goes on
+-- the run goes on after the ticket
 unfoldable pub TakesReplyWithin : {P O : Type 0} → (AsPhase → P) → (Grant → Result (Turn P O) Cause → Type 0) → Asker → AsPhase
     → Result (List ℕ) NetFault → Draw → Result (Turn P O) Cause → Type 0
 TakesReplyWithin within next asker phase reply draw = do

@@ -1,4 +1,4 @@
--- Who asks a KDC, and with which key (RFC 4120, section 3.1.1; RFC 3962, section 4).
+-- The client that asks a KDC, and its key (RFC 4120, section 3.1.1; RFC 3962, section 4).
 use Rattle.std.specs.Prelude.{ℕ, ◌==◌, List, [], ◌++◌, length, Option, Some, None, unwrap_or, if◌then◌else◌}
 use Rattle.krb_crypto.specs.Suite.{key_size, suite_of_etype}
 use Rattle.krb_crypto.specs.Password.{password_key}
@@ -38,7 +38,7 @@ suite_told asker named = suite_for (unwrap_or named asker.suite) asker.credentia
 abbrev pub time_suite : Asker → Option CipherSuite → CipherSuite
 time_suite asker named = if has_rule asker.rules suite_of_each_key then suite_told asker named else asker_suite asker
 
--- the salt where nobody names one: the domain and then the user
+-- the salt if no KDC names one: the domain and then the user
 abbrev pub default_salt : CredentialsBuffers → List ℕ
 default_salt (Password identity) = identity.domain ++ identity.user
 default_salt (Key identity) = []

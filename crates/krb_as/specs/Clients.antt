@@ -1,4 +1,4 @@
--- The client of credentials, as a KDC is told of it (RFC 4120, sections 5.4.1 and 6.2; RFC 6806, section 5).
+-- The client of credentials, as it is named to a KDC (RFC 4120, sections 5.4.1 and 6.2; RFC 6806, section 5).
 use Rattle.std.specs.Prelude.{ℕ, ◌≤◌, ◌^◌, List, length, Result}
 use Rattle.krb_conf.specs.Names.{name_type, client_name}
 use Rattle.krb_conf.specs.Realm.{client_realm}
@@ -11,8 +11,8 @@ use Rattle.sspi_core.specs.Checks.{Takes, Gives, ◌>>=◌}
 use Rattle.krb_requests.specs.Pieces.{name_of}
 use Rattle.krb_as.specs.declared.client.Client.{Client}
 
--- the name that credentials have, the domain beside it, and the type of the name: with a password the user as it stands, with a key of a
--- keytab the user principal name or the account
+-- the name that credentials have, its domain, and the type of the name: for a password the user as it is, for a key of a keytab the
+-- user principal name or the account
 abbrev pub stated : CredentialsBuffers → List ℕ × List ℕ × ℕ
 stated (Password identity) = (identity.user, identity.domain, name_type identity.user)
 stated (Key identity) = client_name identity.principal

@@ -1,4 +1,4 @@
--- What a client asks a KDC for first (RFC 4120, sections 5.4.1 and 7.3; RFC 3244, section 2).
+-- The body of a client's first request to a KDC (RFC 4120, sections 5.4.1 and 7.3; RFC 3244, section 2).
 use Rattle.std.specs.Prelude.{ℕ, List, [], ◌∷◌, codes, take, Some, None}
 use Rattle.sspi_core.specs.declared.draw.Draw.{Draw}
 use Rattle.krb_exchange.specs.declared.kdc_req.KdcReqBody.{KdcReqBody}

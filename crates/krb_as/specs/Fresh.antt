@@ -18,7 +18,7 @@ abbrev pub is_asked : Option PrincipalName → PrincipalName → Bool
 is_asked None name = false
 is_asked (Some asked) name = same_components asked.name_string name.name_string
 
--- an enterprise name stands for another name, which the KDC may put in its place where it is asked to canonicalize, as each AS-REQ of this
+-- an enterprise name represents another name, by which the KDC may replace it if it is asked to canonicalize, as each AS-REQ of this
 -- client asks (RFC 6806, sections 5 and 6)
 abbrev pub is_alias : Option PrincipalName → Bool
 is_alias None = false

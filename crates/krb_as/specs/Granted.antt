@@ -1,4 +1,4 @@
--- What a reply of a KDC has to send on (RFC 4120, section 5.4.2).
+-- The parts of a KDC's reply that are sent on (RFC 4120, section 5.4.2).
 use Rattle.std.specs.Prelude.{◌≤◌, ◌^◌, length}
 use Rattle.krb_messages.specs.Layouts.{principal_name_layout, ticket_layout}
 use Rattle.krb_exchange.specs.declared.kdc_rep.AsRep.{AsRep}

@@ -1,4 +1,4 @@
--- Where the requests for a realm go (RFC 4120 7.2.3; MS-KKDCP 2.1).
+-- The KDC that the requests for a realm go to (RFC 4120 7.2.3; MS-KKDCP 2.1).
 use Rattle.std.specs.Prelude.{◌≡◌, ℕ, List, Option, Result, option_and_then}
 use Rattle.std.specs.Option.{option_or}
 use Rattle.url.specs.Parts.{Parts}
@@ -10,7 +10,7 @@ use Rattle.sspi_core.specs.declared.cause.Cause.TheVariants.{NoKdc, Scheme}
 use Rattle.sspi_core.specs.Checks.{Finds, Takes, Gives, ◌>>=◌}
 use Rattle.krb_as.specs.declared.kdc.Kdc.{Kdc}
 
--- the URL of a realm's KDC: the one that is known, else the one that variables and files name
+-- the URL of a realm's KDC: the one that is known, otherwise the one that variables and files name
 abbrev pub kdc_url : Option Parts → Env → List ℕ → Option Parts
 kdc_url own env realm = option_or own (option_and_then url_of (kdc_host env.vars env.files realm))
 

@@ -1,4 +1,4 @@
--- What the replies of a KDC bring an exchange (RFC 4120, sections 3.1.3 to 3.1.5).
+-- The replies of a KDC in an exchange (RFC 4120, sections 3.1.3 to 3.1.5).
 use Rattle.std.specs.Prelude.{ℕ, Bool, true, false, List, Result, Ok, Err, unwrap_or}
 use Rattle.krb_der.specs.Reading.{number_of}
 use Rattle.krb_der.specs.Layout.{Layout}
@@ -26,7 +26,7 @@ abbrev pub reply_in : {A : Type 0} → KrbResult A → Result A Cause
 reply_in (Reply reply) = Ok reply
 reply_in (Refusal error) = Err (Kdc (number_of error.error_code))
 
--- an error that answers the first request of an AS exchange: it may name the salt, and else leaves the default one
+-- the salt after an error that answers the first request of an AS exchange: the one that the error names, otherwise the default one
 unfoldable pub LeavesSalt : List ℕ → KrbError → Result (List ℕ) Cause → Type 0
 LeavesSalt default error = do
   salt ← NamesSalt error

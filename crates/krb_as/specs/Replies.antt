@@ -1,4 +1,4 @@
--- What the reply of a KDC brings (RFC 4120 7.2; MS-KKDCP 2.2.2), check by check.
+-- The content of a KDC's reply (RFC 4120 7.2; MS-KKDCP 2.2.2), check by check.
 use Rattle.std.specs.Prelude.{◌≡◌, ℕ, nat_le, Bool, List, length, drop, Result, Ok, Err}
 use Rattle.krb_der.specs.Schema.{Spells}
 use Rattle.krb_der.specs.Layout.{Layout}
@@ -45,7 +45,7 @@ Strips Udp octets answer = Gives octets answer
 Strips Http octets answer = Unproxies octets answer
 Strips Https octets answer = Unproxies octets answer
 
--- what stands behind four octets, which are not looked at
+-- the octets after the first four, and those four are not looked at
 unfoldable pub Skips : List ℕ → Result (List ℕ) Cause → Type 0
 Skips octets = do
   Holds ReplyShort (nat_le 4 (length octets))

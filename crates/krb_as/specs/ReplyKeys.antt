@@ -11,7 +11,7 @@ use Rattle.krb_replies.specs.Keys.{BringsFirst}
 use Rattle.krb_replies.specs.declared.keys.ReplyKey.{ReplyKey}
 use Rattle.krb_as.specs.Askers.{client_key}
 
--- the AS-REP tells the suite and the salt of the client's key, and is sealed under that key; used is the salt of the request
+-- the AS-REP names the suite and the salt of the client's key, and is encrypted under that key; used is the salt of the request
 unfoldable pub TakesReplyKey : Rules → CredentialsBuffers → List ℕ → AsRep → Result ReplyKey Cause → Type 0
 TakesReplyKey rules credentials used as_rep = do
   hint ← TellsEtype used as_rep

@@ -9,7 +9,7 @@ use Rattle.sspi_core.specs.declared.protocol.NetworkProtocol.TheVariants.{Tcp, U
 use Rattle.sspi_generator.specs.declared.network.NetworkRequest.{NetworkRequest}
 use Rattle.krb_as.specs.declared.kdc.Kdc.{Kdc}
 
--- a message for a proxy: behind its length, and the realm whose KDC is to have it
+-- a message for a proxy: the message after its length, and the realm whose KDC is to have it
 abbrev pub proxied : List ℕ → List ℕ → KdcProxyMessage
 proxied realm message = record { kerb_message = with_length message; target_domain = Some realm; dclocator_hint = None }
 

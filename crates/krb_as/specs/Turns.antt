@@ -48,7 +48,7 @@ IsWant out = out ≡ Err (error_of Memory)
 abbrev pub IsFault : {O : Type 0} → Result O Error → Type 0
 IsFault out = (code : ℕ) × (out ≡ Err (error_of (Network code)))
 
--- whoever sends wanted for memory
+-- the network client ran out of memory
 abbrev pub is_want : Result (List ℕ) NetFault → Bool
 is_want (Ok octets) = false
 is_want (Err (Failed code)) = false

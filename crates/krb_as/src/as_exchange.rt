@@ -28,17 +28,17 @@ use sspi_core::{Cause, CredentialsBuffers, Draw, Error};
 use sspi_generator::{GeneratorState, NetFault, NetworkRequest, Resumable, Task};
 use std::alloc::Global;
 
-/// How far the exchange has come.
+/// The state of the exchange.
 #[derive(Drop)]
 pub enum ExchangePhase {
-    /// It is not started, and is to ask for this.
+    /// Not started, with the body of the first request.
     New(KdcReqBody),
-    /// It waits for a reply.
+    /// Waiting for a reply.
     InAsExchange(AsPhase),
     Over,
 }
 
-/// What the exchange ends with.
+/// The result of the exchange.
 #[derive(Drop)]
 pub struct AsDone {
     pub as_rep: AsRep,
@@ -46,8 +46,8 @@ pub struct AsDone {
     pub salt: Text,
 }
 
-/// The AS exchange: a request without pre-authentication, whose error may name the salt, and one with it. Where the rules allow that
-/// there is no pre-authentication, the first request's answer may be the AS-REP.
+/// The AS exchange: a request without pre-authentication, whose error may name the salt, and one with it. If the rules allow an
+/// exchange without pre-authentication, the answer to the first request may be the AS-REP.
 #[derive(Drop)]
 pub struct AsExchange {
     alloc: Global,
@@ -56,8 +56,8 @@ pub struct AsExchange {
 }
 
 impl AsExchange {
-    /// An exchange with the KDC of a realm, which is at the client's own URL if it has one, and else where `detect_kdc_url` finds
-    /// it. The body is one that can be sent, as `generate_as_req_kdc_body` makes it of texts that are not too long.
+    /// Makes an exchange with the KDC of a realm: at the client's own URL if it has one, otherwise where `detect_kdc_url` finds it.
+    /// The body is one that can be sent, as `generate_as_req_kdc_body` makes it of texts that are not too long.
     pub fn new(
         alloc: Global,
         client: &Kerberos,
@@ -80,7 +80,7 @@ impl AsExchange {
     }
 }
 
-/// The start.
+/// Returns the first turn, with the first request.
 #[tactic(auto, unfolding(crate::specs::AsPhases::BeginsWithin))]
 fn ask_first(
     alloc: Global,
@@ -96,7 +96,7 @@ fn ask_first(
     Ok(Turn::Asks(request, ExchangePhase::InAsExchange(phase)))
 }
 
-/// What the start leads to in a phase that is new.
+/// Returns the first turn of an exchange whose phase is new.
 fn started(
     alloc: Global,
     asker: &Asker,
@@ -116,7 +116,7 @@ fn started(
     }
 }
 
-/// What follows an error.
+/// Returns the turn after an error.
 #[tactic(auto, unfolding(crate::specs::AsPhases::AsksSecond))]
 fn ask_second(
     alloc: Global,
@@ -137,7 +137,7 @@ fn ask_second(
     Ok(Turn::Asks(request, ExchangePhase::InAsExchange(phase)))
 }
 
-/// The end with an AS-REP, where there is a salt.
+/// Returns the end with an AS-REP, if there is a salt.
 fn end_in(salt: Result<Text, Cause>, as_rep: AsRep) -> Result<Turn<ExchangePhase, AsDone>, Cause>
     ensures step { result ≡ end_in as_rep salt }
     ensures down { (asker : Asker) (turns : ℕ) → IfOk result (λ turn. GoesDown (IsAwaiting asker) turns_left turns turn) }
@@ -148,7 +148,7 @@ fn end_in(salt: Result<Text, Cause>, as_rep: AsRep) -> Result<Turn<ExchangePhase
     }
 }
 
-/// The salt of the credentials, since none was used, where an AS-REP may come at once.
+/// Returns the salt of the credentials, since none was used, if an AS-REP may come at once.
 #[tactic(auto, unfolding(crate::specs::AsExchanges::LeavesEarly))]
 fn early_salt(alloc: Global, asker: &Asker) -> Result<Text, Cause>
     ensures { Answers (LeavesEarly asker.now.rules (default_salt asker.now.credentials)) result }
@@ -157,7 +157,7 @@ fn early_salt(alloc: Global, asker: &Asker) -> Result<Text, Cause>
     Ok(default_salt(alloc, &asker.credentials)?)
 }
 
-/// The end with an AS-REP that came at once.
+/// Returns the end with an AS-REP that came at once.
 fn end_early(
     alloc: Global,
     asker: &Asker,
@@ -170,7 +170,7 @@ fn end_early(
     end_in(salt, as_rep)
 }
 
-/// What follows an error, or an AS-REP in its place.
+/// Returns the turn after an error, or after an AS-REP in its place.
 fn take_either(
     alloc: Global,
     asker: &Asker,
@@ -192,7 +192,7 @@ fn take_either(
     }
 }
 
-/// What follows the first reply.
+/// Returns the turn after the first reply.
 #[tactic(auto, unfolding(crate::specs::Replied::TakesFirst))]
 fn take_first(
     alloc: Global,
@@ -213,7 +213,7 @@ fn take_first(
     take_either(alloc, asker, kdc, body, first, draw)
 }
 
-/// What follows the second reply.
+/// Returns the turn after the second reply.
 #[tactic(auto, unfolding(crate::specs::AsExchanges::EndsWithAsRep))]
 fn take_as_rep(
     alloc: Global,
@@ -228,7 +228,7 @@ fn take_as_rep(
     Ok(Turn::Ends(AsDone { as_rep, salt }))
 }
 
-/// What an answer leads to in a phase that awaits one.
+/// Returns the turn after an answer, in a phase that awaits one.
 fn in_phase(
     alloc: Global,
     asker: &Asker,
@@ -252,7 +252,7 @@ fn in_phase(
     }
 }
 
-/// What an answer leads to. Where the client wanted for memory, so does the step.
+/// Returns the turn after an answer. Fails with `Memory` if the network client ran out of memory.
 fn next(
     alloc: Global,
     asker: &Asker,

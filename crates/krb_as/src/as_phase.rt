@@ -46,17 +46,17 @@ use sspi_core::{Cause, Draw, Secret};
 use sspi_generator::{NetFault, NetworkRequest};
 use std::alloc::Global;
 
-/// What an AS exchange waits for.
+/// The state of an AS exchange: the answer that it waits for.
 #[derive(Drop)]
 pub enum AsPhase {
-    /// The error that answers the first request, which was sent there and asked for this.
+    /// The error that answers the first request, with the KDC that the request was sent to and its body.
     AwaitsError(Kdc, KdcReqBody),
     /// The AS-REP that answers the second one.
     AwaitsAsRep(SealedTime),
 }
 
 impl AsPhase {
-    /// The KDC that both requests go to.
+    /// Returns the KDC that both requests go to.
     pub fn kdc(&self) -> &Kdc
         ensures { result.now ≡ kdc_of self.entry.now }
     {
@@ -66,7 +66,7 @@ impl AsPhase {
         }
     }
 
-    /// How often the exchange may still ask.
+    /// Returns how often the exchange may still ask.
     pub fn turns(&self) -> u32
         ensures left { result ≡ turns_left self.now }
         ensures few { result ≤ 1 }
@@ -78,7 +78,7 @@ impl AsPhase {
     }
 }
 
-/// The first request to this KDC.
+/// Makes the first request to this KDC.
 fn sent_first(alloc: Global, kdc: Kdc, body: KdcReqBody) -> Result<(NetworkRequest, AsPhase), Cause>
     requires body { Fits kdc_req_body_layout (2 ^ 28) body }
     requires realm { length kdc.realm ≤ 2 ^ 24 }
@@ -90,8 +90,8 @@ fn sent_first(alloc: Global, kdc: Kdc, body: KdcReqBody) -> Result<(NetworkReque
     Ok((request, AsPhase::AwaitsError(kdc, body)))
 }
 
-/// The start of an AS exchange: a request without pre-authentication to the KDC of the realm, at the URL that is known, else at
-/// the one that is found. Refused as `NoKdc`, then as `Scheme`, as `find_kdc` refuses.
+/// Starts an AS exchange: makes a request without pre-authentication to the KDC of the realm, at the URL that is known, otherwise
+/// at the one that is found. Fails with `NoKdc`, then with `Scheme`, as `find_kdc` does.
 #[tactic(auto, unfolding(crate::specs::AsPhases::BeginsExchange))]
 pub fn begin_exchange(
     alloc: Global,
@@ -108,7 +108,7 @@ pub fn begin_exchange(
     sent_first(alloc, kdc, body)
 }
 
-/// The second request to this KDC, under this key.
+/// Makes the second request to this KDC, under this key.
 fn sent_second(
     alloc: Global,
     asker: &Asker,
@@ -142,11 +142,11 @@ fn sent_second(
     ))
 }
 
-/// What follows an error that answers the first request: a request with the same body to the same KDC, with the time sealed under the
-/// client's key. The confounder is the first 16 random octets of the draw.
+/// Makes the second request, after an error that answers the first one: a request with the same body to the same KDC, with the time
+/// encrypted under the client's key. The confounder is the first 16 random bytes of the draw.
 ///
-/// Refused as `left_salt` refuses the error, and then as `KeyLength` where the key is a keytab's and has not the length of its suite's
-/// keys. The suite is `left_suite`'s, which refuses nothing that `left_salt` takes.
+/// Fails as `left_salt` does for the error, then with `KeyLength` if the key is a keytab's and does not have the length of its
+/// suite's keys. The suite is that of `left_suite`, which accepts each error that `left_salt` accepts.
 #[tactic(auto, unfolding(crate::specs::AsPhases::SealsTime))]
 pub(crate) fn seal_time(
     alloc: Global,
@@ -168,7 +168,7 @@ pub(crate) fn seal_time(
     sent_second(alloc, asker, kdc, body, suite, salt, key, draw)
 }
 
-/// The phase after the second request.
+/// Returns the turn with the second request.
 #[tactic(auto, unfolding(crate::specs::AsPhases::AsksSecond))]
 fn ask_second(
     alloc: Global,
@@ -189,7 +189,7 @@ fn ask_second(
     Ok(Turn::Asks(request, AsPhase::AwaitsAsRep(sealed)))
 }
 
-/// The end with the ticket of an AS-REP, where its key was taken.
+/// Returns the end with the ticket of an AS-REP, if its key was taken.
 fn grant_in(taken: Result<ReplyKey, Cause>, as_rep: AsRep) -> Result<Turn<AsPhase, Grant>, Cause>
     requires { IsSendable as_rep.0 }
     ensures step { result ≡ grant_in as_rep taken }
@@ -207,7 +207,7 @@ fn grant_in(taken: Result<ReplyKey, Cause>, as_rep: AsRep) -> Result<Turn<AsPhas
     }
 }
 
-/// The key of an AS-REP that came at once, with the salt of the credentials where it tells none, since none was used.
+/// Returns the key of an AS-REP that came at once, with the salt of the credentials if it names none, since none was used.
 fn unsalted_key(alloc: Global, asker: &Asker, as_rep: &AsRep) -> Result<ReplyKey, Cause>
     ensures { Answers (TakesReplyKey asker.now.rules asker.now.credentials (default_salt asker.now.credentials) as_rep.now) result }
 {
@@ -215,7 +215,7 @@ fn unsalted_key(alloc: Global, asker: &Asker, as_rep: &AsRep) -> Result<ReplyKey
     reply_key(alloc, asker, &salt, as_rep)
 }
 
-/// That key, where the AS-REP answers the request.
+/// Returns the key of an AS-REP that came at once, if the AS-REP answers the request.
 #[tactic(auto, unfolding(crate::specs::Fresh::TakesFreshKey))]
 fn fresh_unsalted_key(
     alloc: Global,
@@ -231,7 +231,7 @@ fn fresh_unsalted_key(
     Ok(taken)
 }
 
-/// That key, where the AS-REP may come at once.
+/// Returns the key of an AS-REP that came at once, if the AS-REP answers the request and may come at once.
 #[tactic(auto, unfolding(crate::specs::Replied::TakesEarly))]
 fn early_key(
     alloc: Global,
@@ -247,7 +247,7 @@ fn early_key(
     fresh_unsalted_key(alloc, asker, body, moment, as_rep)
 }
 
-/// The ticket of an AS-REP that came at once, where it may.
+/// Returns the ticket of an AS-REP that came at once, if it may.
 fn early_grant(
     alloc: Global,
     asker: &Asker,
@@ -264,7 +264,7 @@ fn early_grant(
     grant_in(taken, as_rep)
 }
 
-/// What follows an error, or an AS-REP in its place.
+/// Returns the turn after an error, or after an AS-REP in its place.
 fn take_either(
     alloc: Global,
     asker: &Asker,
@@ -288,7 +288,7 @@ fn take_either(
     }
 }
 
-/// What follows the first reply.
+/// Returns the turn after the first reply.
 #[tactic(auto, unfolding(crate::specs::Replied::TakesFirst))]
 fn take_first(
     alloc: Global,
@@ -310,7 +310,7 @@ fn take_first(
     take_either(alloc, asker, kdc, body, first, draw)
 }
 
-/// The key of the second reply, where it answers the request.
+/// Returns the key of the second reply, if the reply answers the request.
 #[tactic(auto, unfolding(crate::specs::Fresh::TakesFreshKey))]
 fn fresh_kept_key(
     alloc: Global,
@@ -327,7 +327,7 @@ fn fresh_kept_key(
     Ok(taken)
 }
 
-/// The ticket of the second reply.
+/// Returns the ticket of the second reply.
 fn kept_grant(
     alloc: Global,
     asker: &Asker,
@@ -345,7 +345,7 @@ fn kept_grant(
     grant_in(taken, as_rep)
 }
 
-/// What follows the second reply.
+/// Returns the turn after the second reply.
 #[tactic(auto, unfolding(crate::specs::AsPhases::TakesAsRep))]
 fn take_as_rep(
     alloc: Global,
@@ -363,13 +363,13 @@ fn take_as_rep(
     kept_grant(alloc, asker, sealed, moment, as_rep)
 }
 
-/// What a reply leads to: the second request after the first reply, and after the second one the ticket that it brings. Where the
-/// rules allow that there is no pre-authentication, a first reply that is an AS-REP brings the ticket.
+/// Returns the turn after a reply: after the first reply the second request, after the second reply the ticket that it brings. If the
+/// rules allow an exchange without pre-authentication, a first reply that is an AS-REP brings the ticket.
 ///
-/// The first reply is refused as `read_reply` refuses. An error is then refused as `left_salt` refuses, and as `KeyLength` where the key
-/// is a keytab's and has not the length of its suite's keys; an AS-REP as `EarlyAsRep` where it is not allowed, and as `reply_key`
-/// refuses. The second reply is refused as `granted_as_rep` refuses, and then as `reply_key` refuses. Where a reply has to answer its
-/// request, either AS-REP is then refused as `Nonce`, as `ReplyNames` and as `ReplyTime`.
+/// Fails for the first reply as `read_reply` does. Then fails for an error as `left_salt` does, and with `KeyLength` if the key is a
+/// keytab's and does not have the length of its suite's keys; for an AS-REP with `EarlyAsRep` if it is not allowed, and as `reply_key`
+/// does. Fails for the second reply as `granted_as_rep` does, and then as `reply_key` does. If a reply has to answer its request, then
+/// fails for either AS-REP with `Nonce`, with `ReplyNames` and with `ReplyTime`.
 pub fn take_reply(
     alloc: Global,
     asker: &Asker,

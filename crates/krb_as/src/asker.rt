@@ -1,4 +1,4 @@
-//! Who asks a KDC, and with which key.
+//! The client that asks a KDC, and its key.
 
 ghost use Rattle.std.specs.Prelude.{◌≡◌, ◌==◌, IfOk, Some, None, length, if◌then◌else◌};
 ghost use Rattle.krb_crypto.specs.Suite.{key_size};
@@ -16,12 +16,12 @@ use sspi_core::{Cause, CredentialsBuffers};
 use std::alloc::Global;
 use url::Url;
 
-/// Who asks, and whose KDC. A step never changes it.
+/// The client that asks, and its KDC. A step never changes them.
 #[derive(Drop)]
 pub struct Asker {
     /// The URL of the KDC, if it is known.
     pub kdc_url: Option<Url>,
-    /// Where it is looked for else.
+    /// The variables and files in which the KDC is looked for otherwise.
     pub env: Env,
     /// The realm that is asked.
     pub realm: Name,
@@ -32,7 +32,7 @@ pub struct Asker {
     pub rules: Rules,
 }
 
-/// The URL that the client has.
+/// Returns the KDC's URL that the client has.
 fn own_url(client: &Kerberos) -> Result<Option<Url>, OutOfMemory>
     ensures { IfOk result (λ url. url ≡ client.now.config.kdc_url) }
 {
@@ -43,7 +43,7 @@ fn own_url(client: &Kerberos) -> Result<Option<Url>, OutOfMemory>
 }
 
 impl Asker {
-    /// A client that asks the KDC of a realm, at its own URL if it has one, and under its suite.
+    /// Makes a client that asks the KDC of a realm, at its own URL if it has one, and under its suite.
     pub fn new(
         client: &Kerberos,
         credentials: CredentialsBuffers,
@@ -63,7 +63,7 @@ impl Asker {
     }
 }
 
-/// The suite of the client's key: the context's for a password, the key's own for a keytab.
+/// Returns the suite of the client's key: the context's for a password, the key's own for a keytab.
 fn suite_for(suite: CipherSuite, credentials: &CredentialsBuffers) -> CipherSuite
     ensures { result ≡ suite_for suite credentials.now }
 {
@@ -122,7 +122,7 @@ fn key_for(
     }
 }
 
-/// The salt where no KDC names one: the domain and then the user. A key of a keytab needs none.
+/// Returns the salt if no KDC names one: the domain and then the user. A key of a keytab needs none.
 pub fn default_salt(alloc: Global, credentials: &CredentialsBuffers) -> Result<Text, OutOfMemory>
     ensures { IfOk result (λ salt. salt ≡ default_salt credentials.now) }
 {
@@ -134,22 +134,22 @@ pub fn default_salt(alloc: Global, credentials: &CredentialsBuffers) -> Result<T
     Ok(Text::new(salt))
 }
 
-/// The suite of the client's key.
+/// Returns the suite of the client's key.
 pub fn asker_suite(asker: &Asker) -> CipherSuite
     ensures { result ≡ asker_suite asker.now }
 {
     suite_for(asker.suite, &asker.credentials)
 }
 
-/// The suite of the client's key where a KDC named this one, if it is known, for a password's. A keytab's key has its own.
+/// Returns the suite of the client's key: the named one, if it is known, for a password's key; a keytab's key has its own.
 pub(crate) fn suite_told(asker: &Asker, named: Option<CipherSuite>) -> CipherSuite
     ensures { result ≡ suite_told asker.now named }
 {
     suite_for(named.unwrap_or(asker.suite), &asker.credentials)
 }
 
-/// The client's key in a suite, with a salt. Refused as `KeyLength` exactly where it is a keytab's and not as long as the keys of the
-/// suite.
+/// Returns the client's key in a suite, with a salt. Fails with `KeyLength` if and only if it is a keytab's key and not as long as
+/// the keys of the suite.
 pub fn sized_key(
     alloc: Global,
     asker: &Asker,
@@ -163,7 +163,7 @@ pub fn sized_key(
     key_for(alloc, suite, salt, &asker.credentials)
 }
 
-/// A context that asks with these credentials, in the realm of their client.
+/// Makes the asker of a context with these credentials, in the realm of their client.
 pub fn asker_of(
     alloc: Global,
     context: &Kerberos,

@@ -1,4 +1,4 @@
-//! What a client asks a KDC for first.
+//! The body of a client's first request to a KDC.
 
 ghost use Rattle.std.specs.Prelude.{◌≡◌, ◌≤◌, ◌^◌, IfOk, length, map};
 ghost use Rattle.sspi_core.specs.Moments.{last_moment};
@@ -17,9 +17,9 @@ use std::alloc::Global;
 /// A service to which a KDC gives a first ticket.
 #[derive(Clone, Copy, Debug, PartialEq, Eq)]
 pub enum FirstService {
-    /// That of the client's realm, which gives further tickets: `krbtgt` and the realm (RFC 4120, section 7.3).
+    /// The service of the client's realm that gives further tickets: `krbtgt` and the realm (RFC 4120, section 7.3).
     TicketGranting,
-    /// That which changes passwords: `kadmin`, `changepw` (RFC 3244, section 2).
+    /// The service that changes passwords: `kadmin`, `changepw` (RFC 3244, section 2).
     PasswordChange,
 }
 
@@ -33,8 +33,8 @@ fn service_components(service: FirstService, realm: &str) -> [&str; 2]
     }
 }
 
-/// The body of a client's first AS-REQ (RFC 4120, section 5.4.1), as `generate_as_req_kdc_body` makes it with what a step
-/// draws. No name of a [`Client`] is past ASCII, so that call has nothing to refuse.
+/// Returns the body of a client's first AS-REQ (RFC 4120, section 5.4.1), as `generate_as_req_kdc_body` makes it with the draw of
+/// a step. No name of a [`Client`] is past ASCII, so that call has nothing to refuse.
 pub fn first_body(
     alloc: Global,
     client: &Client,

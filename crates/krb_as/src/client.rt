@@ -1,4 +1,4 @@
-//! Who asks a KDC.
+//! The client that asks a KDC.
 
 ghost use Rattle.std.specs.Prelude.{◌≡◌, ◌≢◌, ◌≤◌, ◌^◌, Err, IfOk, length};
 ghost use Rattle.sspi_core.specs.declared.cause.Cause.TheVariants as causes;
@@ -15,10 +15,10 @@ use krb_requests::name_of;
 use sspi_core::{Cause, CredentialsBuffers};
 use std::alloc::Global;
 
-/// The most octets of a text that is handed in.
+/// The maximum length, in bytes, of a text that a caller passes.
 const MAX_TEXT: usize = 16_777_216;
 
-/// A client, as a KDC is told of it.
+/// A client, as it is named to a KDC.
 #[derive(Drop)]
 pub struct Client {
     /// Its components are cut at each slash.
@@ -30,7 +30,7 @@ pub struct Client {
     pub host: Name,
 }
 
-/// The name of credentials, and the domain beside it.
+/// Returns the name that credentials have, with its domain and its type.
 fn stated(credentials: &CredentialsBuffers) -> ClientPrincipalName<'_>
     ensures name { result.name.now ≡ (stated credentials.entry.now).0 }
     ensures domain { result.realm_domain.now ≡ (stated credentials.entry.now).1 }
@@ -69,8 +69,8 @@ fn type_in(credentials: &CredentialsBuffers) -> u8
     stated(credentials).name_type
 }
 
-/// The client with these names. No name is longer than 2^24 octets, which is a condition of whoever hands it in; exactly where one is,
-/// there is no client, and the answer is `Memory`.
+/// Makes the client with these names. Callers must pass names of at most 2^24 bytes. Fails with `Memory` if and only if a name is
+/// longer.
 fn sendable(name: Name, name_type: u8, realm: Name, host: Name) -> Result<Client, Cause>
     ensures made { Answers (Gives (record { name = name; name_type = name_type; realm = realm; host = host })) result }
     ensures short { IfOk result (λ client. IsShort client) }
@@ -90,11 +90,11 @@ fn sendable(name: Name, name_type: u8, realm: Name, host: Name) -> Result<Client
     })
 }
 
-/// The client of credentials on a machine of this name: with a password the user, with a key of a keytab its principal, each
-/// in the realm that `get_client_principal_realm` finds for it.
+/// Returns the client of credentials on a machine with this name: for a password the user, for a key of a keytab its principal,
+/// each in the realm that `get_client_principal_realm` finds for it.
 ///
-/// Refused as `NotAscii` exactly where the name, the realm or the machine's name is past ASCII. That each of them has at most 2^24
-/// octets is a condition: of longer ones no client is made, and the answer is `Memory`.
+/// Fails with `NotAscii` if and only if the name, the realm or the machine's name is past ASCII. Each of them must have at most 2^24
+/// bytes: no client is made of longer ones, and the call fails with `Memory`.
 #[tactic(auto, unfolding(crate::specs::Clients::NamesClient))]
 pub fn client_of(
     alloc: Global,
@@ -111,7 +111,7 @@ pub fn client_of(
     sendable(name, type_in(credentials), realm, host)
 }
 
-/// A copy of a name of at most 2^24 octets, which is a condition: there is no copy of a longer one.
+/// Returns a copy of a name, which must have at most 2^24 bytes: there is no copy of a longer one.
 pub fn short_name(alloc: Global, name: &Name) -> Result<Name, OutOfMemory>
     ensures copied { IfOk result (λ copy. copy ≡ name.now) }
     ensures short { IfOk result (λ copy. length copy ≤ 2 ^ 24) }

@@ -1,4 +1,4 @@
-//! Whether an AS-REP answers the AS-REQ of this exchange (RFC 4120, section 3.1.5; RFC 6806, section 6).
+//! The check that an AS-REP answers the AS-REQ of this exchange (RFC 4120, section 3.1.5; RFC 6806, section 6).
 
 ghost use Rattle.std.specs.Prelude.{◌≡◌};
 ghost use Rattle.krb_context.specs.Rules.{has_rule, fresh_replies};
@@ -23,7 +23,7 @@ fn is_asked(asked: &Option<PrincipalName>, name: &PrincipalName) -> bool
     }
 }
 
-/// Whether the KDC may put another name in the place of this one.
+/// Returns whether the KDC may replace this name by another one.
 fn is_alias(name: &Option<PrincipalName>) -> bool
     ensures { result ≡ is_alias name.now }
 {
@@ -46,10 +46,10 @@ fn names_service(body: &KdcReqBody, facts: &ReplyFacts) -> bool
     facts.srealm.as_slice() == body.realm.as_slice() && is_asked(&body.sname, &facts.sname)
 }
 
-/// Checks that an AS-REP answers the request with this body at this moment, in microseconds since 1970, where that is a rule.
+/// Checks that an AS-REP answers the request with this body at this moment, in microseconds since 1970, if that is a rule.
 ///
-/// Refused as `Nonce` where it has another nonce; as `ReplyNames` where its client or the service that is sealed in it is another; as
-/// `ReplyTime` where its ticket is not valid, give or take 300 seconds.
+/// Fails with `Nonce` if the AS-REP has another nonce; with `ReplyNames` if its client, or the service that is encrypted in it, is
+/// another; with `ReplyTime` if its ticket is not valid, give or take 300 seconds.
 pub(crate) fn check_fresh(
     rules: Rules,
     body: &KdcReqBody,

@@ -1,4 +1,4 @@
-//! Where the requests for a realm go.
+//! The KDC that the requests for a realm go to.
 
 ghost use Rattle.std.specs.Prelude.{◌≡◌, IfOk};
 ghost use Rattle.sspi_core.specs.declared.cause.Cause.TheVariants as causes;
@@ -15,10 +15,10 @@ use url::Url;
 /// A KDC of a realm, or a proxy that reaches it.
 #[derive(Drop)]
 pub struct Kdc {
-    /// How it is spoken to. Its URL has this scheme.
+    /// The protocol that carries requests. Its URL has this scheme.
     pub protocol: NetworkProtocol,
     pub url: Url,
-    /// The realm, which a proxy is told.
+    /// The realm, which is sent to a proxy.
     pub realm: Name,
 }
 
@@ -32,7 +32,7 @@ impl TryCopy for Kdc {
     }
 }
 
-/// The URL that is known, or else the one that is found.
+/// Returns the URL that is known, otherwise the one that is found.
 fn url_for(
     alloc: Global,
     own: &Option<Url>,
@@ -56,7 +56,7 @@ fn known_url(alloc: Global, own: &Option<Url>, env: &Env, realm: &Name) -> Resul
     }
 }
 
-/// The protocol that a URL names.
+/// Returns the protocol that a URL names.
 fn protocol_of(url: &Url) -> Result<NetworkProtocol, Cause>
     ensures { Finds causes.Scheme (λ protocol. url.now.scheme ≡ scheme_of protocol) result }
 {
@@ -66,9 +66,9 @@ fn protocol_of(url: &Url) -> Result<NetworkProtocol, Cause>
     }
 }
 
-/// The KDC of a realm: at the URL that is known for it, else at the one that `krb_conf::detect_kdc_url` finds.
+/// Returns the KDC of a realm: at the URL that is known for it, otherwise at the one that `krb_conf::detect_kdc_url` finds.
 ///
-/// Refused as `NoKdc` where there is no URL, then as `Scheme` where its scheme is not tcp, udp, http or https.
+/// Fails with `NoKdc` if there is no URL, then with `Scheme` if its scheme is not tcp, udp, http or https.
 #[tactic(auto, unfolding(crate::specs::Kdcs::FindsKdc))]
 pub fn find_kdc(alloc: Global, own: &Option<Url>, env: &Env, realm: &Name) -> Result<Kdc, Cause>
     ensures { Answers (FindsKdc own.now env.now realm.now) result }

@@ -18,18 +18,18 @@ use krb_replies::{ReplyFacts, ReplyKey, key_in_as_rep, told_etype};
 use sspi_core::{Cause, CredentialsBuffers, Secret};
 use std::alloc::Global;
 
-/// The second request of an AS exchange: the time is sealed in it under the client's key.
+/// The second request of an AS exchange: the time is encrypted in it under the client's key.
 #[derive(Drop)]
 pub struct SealedTime {
-    /// Where it was sent.
+    /// The KDC that the request was sent to.
     pub kdc: Kdc,
-    /// What it asked for.
+    /// The body of the request.
     pub body: KdcReqBody,
     /// The suite of the key.
     pub suite: CipherSuite,
     /// The salt of the key.
     pub salt: Text,
-    /// The client's key. Most AS-REPs are sealed under it too.
+    /// The client's key. Most AS-REPs are encrypted under it too.
     pub key: Secret<Octets>,
 }
 
@@ -40,13 +40,13 @@ pub struct Grant {
     pub suite: CipherSuite,
     /// The session key of the ticket.
     pub key: Secret<Octets>,
-    /// What was sealed beside the key.
+    /// The facts that are encrypted next to the key.
     pub facts: ReplyFacts,
     /// The reply that brought the ticket.
     pub rep: KdcRep,
 }
 
-/// The key that is sealed under the key of the credentials.
+/// Returns the key that is encrypted under the key of the credentials.
 fn brought_key(
     alloc: Global,
     rules: Rules,
@@ -70,14 +70,14 @@ fn brought_key(
     }
 }
 
-/// The number of the suite and the salt that an AS-REP tells.
+/// Returns the number of the suite and the salt that an AS-REP names.
 fn told_hint(alloc: Global, used: &Text, as_rep: &AsRep) -> Result<(u8, Text), Cause>
     ensures { Answers (TellsEtype used.now as_rep.now) result }
 {
     told_etype(alloc, as_rep, used.as_str())
 }
 
-/// The key that an AS-REP brings, by the suite and the salt that were told.
+/// Returns the key that an AS-REP brings, by the suite and the salt in the hint.
 fn told_key(
     alloc: Global,
     asker: &Asker,
@@ -97,13 +97,13 @@ fn told_key(
     )
 }
 
-/// The key that an AS-REP brings, which is sealed under the key of the credentials with the suite and the salt that it tells,
-/// and with the salt of the request where it tells none.
+/// Returns the key that an AS-REP brings. The key is encrypted under the key of the credentials with the suite and the salt that
+/// the AS-REP names, and with the salt of the request if it names none.
 ///
-/// Refused as `Shape`, `EtypeEntry`, `Salt` and `Etype` as `told_etype` refuses; as `KeyLength` where the key is a keytab's and
-/// has not the length of the suite's keys; as `Short` where the sealed part has under 28 octets, as `Altered` where nothing is
-/// sealed to it under that key, as `Inner` where what is sealed is no EncASRepPart, nor one with tag 26 where that is allowed; as `Etype`
-/// where the key that it brings goes by its own suite, and that is not known.
+/// Fails with `Shape`, `EtypeEntry`, `Salt` and `Etype` as `told_etype` does; with `KeyLength` if the key is a keytab's and
+/// does not have the length of the suite's keys; with `Short` if the encrypted part has under 28 bytes; with `Altered` if it cannot
+/// be decrypted under that key; with `Inner` if the decrypted bytes are no EncASRepPart, nor one with tag 26 if that is allowed; with
+/// `Etype` if the key that it brings goes by its own suite, and that is not known.
 #[tactic(auto, unfolding(crate::specs::ReplyKeys::TakesReplyKey))]
 pub fn reply_key(
     alloc: Global,
@@ -117,7 +117,7 @@ pub fn reply_key(
     told_key(alloc, asker, &hint, as_rep)
 }
 
-/// Whether the key that the time was sealed under is the one that was told.
+/// Returns whether the time was encrypted under the key with the suite and the salt in the hint.
 fn is_kept(sealed: &SealedTime, hint: &(u8, Text)) -> bool
     ensures suite { result ≡ true → sealed.now.suite ≡ suite_of_etype hint.now.0 }
     ensures salt { result ≡ true → sealed.now.salt ≡ hint.now.1 }
@@ -125,7 +125,7 @@ fn is_kept(sealed: &SealedTime, hint: &(u8, Text)) -> bool
     sealed.suite == CipherSuite::of_etype(hint.0) && sealed.salt.as_str() == hint.1.as_str()
 }
 
-/// The key that an AS-REP brings, by the suite and the salt that were told. A password's key is made again only where these are others.
+/// Returns the key that an AS-REP brings, by the suite and the salt in the hint. Derives a password's key again only if these differ.
 fn kept_or_told_key(
     alloc: Global,
     asker: &Asker,
@@ -145,7 +145,7 @@ fn kept_or_told_key(
     }
 }
 
-/// The same key as that of `reply_key`, refused as it refuses, behind a request that the time was sealed in.
+/// Returns the key that `reply_key` returns, after a request with the encrypted time. Fails as `reply_key` does.
 #[tactic(auto, unfolding(crate::specs::ReplyKeys::TakesReplyKey))]
 pub(crate) fn kept_reply_key(
     alloc: Global,

@@ -36,8 +36,8 @@ ghost use Rattle.sspi_generator.specs.Runs.{Resolves};
 
 use sspi_generator::NetworkClient;
 
-/// A message that is carried as a request is, is unwrapped as a reply to the same message. Over UDP a reply has four octets more
-/// than a request: there, the message behind its length is unwrapped to it.
+/// A message that is carried as a request is, and unwrapped as a reply, is unwrapped to itself. Over UDP a reply has four bytes more
+/// than a request: there, the message after its length is unwrapped to the message.
 pub fn what_is_carried_is_unwrapped()
     ensures message { (protocol : NetworkProtocol) (realm message : List ℕ) → protocol ≢ protocols.Udp → IsTrue (is_ascii realm)
         → length message < 2 ^ 23 → length realm < 2 ^ 22 → Unwraps protocol (Ok (carried protocol realm message)) (Ok message) }
@@ -51,7 +51,7 @@ pub fn one_answer()
 {}
 
 /// Each step of an AS exchange has at most one outcome: a request and what awaits its answer, the end, or one refusal. It is
-/// determined by who asks, how far the exchange has come, the reply and the draw.
+/// determined by the asker, the phase of the exchange, the reply and the draw.
 pub fn one_outcome()
     ensures starts { (asker : Asker) (phase : ExchangePhase) (r s : Result (Turn ExchangePhase AsDone) Cause) → Starts asker phase r → Starts asker phase s → r ≡ s }
     ensures resumes { (asker : Asker) (phase : ExchangePhase) (reply : Result (List ℕ) NetFault) (draw : Draw)
@@ -73,7 +73,7 @@ pub fn without_rules_the_time_is_in_the_own_suite()
         → LeavesSuite (has_rule asker.rules suite_of_each_key) asker error answer → answer ≡ Ok (asker_suite asker) }
 {}
 
-/// A run of an AS exchange asks twice at most, whoever sends: it ends with what it ends with over the first three of its draws.
+/// A run of an AS exchange asks twice at most, with any network client: it ends over the first three of its draws as over all of them.
 pub fn exchanges_ask_twice_at_most<C: NetworkClient>()
     ensures { (exchange exchange' : AsExchange)
         (client client' : C) (draws : List Draw) (out : Result AsDone Error) → IsNew exchange

@@ -1,16 +1,16 @@
 //! The AS exchange of a client with a KDC (RFC 4120, section 3.1), and what each exchange with a KDC has in common.
 //!
-//! - [`client_of`] makes the client of credentials, [`asker_of`] who asks for it, and [`first_body`] the body of its AS-REQ for one
+//! - [`client_of`] makes the client of credentials, [`asker_of`] the asker for it, and [`first_body`] the body of its AS-REQ for one
 //!   of the two services that answer with a first ticket.
-//! - [`find_kdc`] tells where the requests for a realm go and by which protocol, [`request_to`] gives the octets that are sent
-//!   there, and [`unwrap_reply`] the message that the octets of a reply bring (RFC 4120, section 7.2; MS-KKDCP, section 2.2.2).
+//! - [`find_kdc`] returns the KDC that the requests for a realm go to and its protocol, [`request_to`] makes the bytes that are sent
+//!   there, and [`unwrap_reply`] returns the message in the bytes of a reply (RFC 4120, section 7.2; MS-KKDCP, section 2.2.2).
 //!   Nothing here sends anything.
 //! - [`begin_exchange`] makes the first request and [`take_reply`] the second one, and takes the ticket of the AS-REP. An [`AsPhase`]
-//!   is what stands between them. Each run that begins with an AS exchange contains it.
-//! - [`AsExchange`] is the exchange as a task of its own, whose AS-REP [`reply_key`] opens with the key of the credentials;
-//!   [`granted`] takes any reply, and [`go_on`] turns what the checks of a step answer into the step of a task.
+//!   is the state between them. Each run that begins with an AS exchange contains it.
+//! - [`AsExchange`] is the exchange as a task of its own, whose AS-REP [`reply_key`] decrypts with the key of the credentials;
+//!   [`granted`] takes any reply, and [`go_on`] turns the result of a step's checks into the step of a task.
 //!
-//! Each step is one chain of ordered checks in `specs/`. That it has one outcome at most is a law in [`laws`].
+//! Each step is one chain of ordered checks in `specs/`. A law in [`laws`] says that it has at most one outcome.
 #![tactic(auto)]
 
 mod as_exchange;

@@ -1,4 +1,4 @@
-//! What a reply brings.
+//! The content of a reply.
 
 ghost use Rattle.std.specs.Prelude.{◌≡◌, ℕ, nat_le, IsTrue, length, drop, Err};
 ghost use Rattle.sspi_core.specs.declared.cause.Cause.TheVariants as causes;
@@ -38,7 +38,7 @@ fn read_proxy_message(alloc: Global, octets: &Octets) -> Result<KdcProxyMessage,
     }
 }
 
-/// The message in a KDC-PROXY-MESSAGE.
+/// Returns the message in a KDC-PROXY-MESSAGE.
 fn unproxied(alloc: Global, octets: &Octets) -> Result<Octets, Cause>
     ensures { Answers (Unproxies octets.now) result }
 {
@@ -56,7 +56,7 @@ fn stripped(alloc: Global, protocol: NetworkProtocol, octets: Octets) -> Result<
     }
 }
 
-/// The octets behind the first four.
+/// Returns the bytes after the first four.
 fn rest_of(alloc: Global, octets: &Octets) -> Result<Octets, Cause>
     requires { IsTrue (nat_le 4 (length octets.now)) }
     ensures { Answers (Gives (drop 4 octets.now)) result }
@@ -64,7 +64,7 @@ fn rest_of(alloc: Global, octets: &Octets) -> Result<Octets, Cause>
     Ok(Octets::from_slice(alloc, &octets.as_slice()[4..])?)
 }
 
-/// What stands behind four octets.
+/// Checks the length, and returns the bytes after the first four.
 fn behind_front(alloc: Global, octets: &Octets) -> Result<Octets, Cause>
     ensures { Answers (Skips octets.now) result }
 {
@@ -73,7 +73,7 @@ fn behind_front(alloc: Global, octets: &Octets) -> Result<Octets, Cause>
     rest_of(alloc, octets)
 }
 
-/// The message in the octets of a reply.
+/// Returns the message in the bytes of a reply.
 fn unpacked(alloc: Global, protocol: NetworkProtocol, octets: Octets) -> Result<Octets, Cause>
     ensures { Answers (Unpacks protocol octets) result }
 {
@@ -81,22 +81,21 @@ fn unpacked(alloc: Global, protocol: NetworkProtocol, octets: Octets) -> Result<
     behind_front(alloc, &carried)
 }
 
-/// The message that the reply of a KDC brings. Over HTTP and HTTPS it is the kerb-message of a KDC-PROXY-MESSAGE; over every
-/// protocol it stands behind four octets, which are not looked at.
+/// Returns the message that the reply of a KDC brings. Over HTTP and HTTPS it is the kerb-message of a KDC-PROXY-MESSAGE; over every
+/// protocol it follows four bytes, which are not looked at.
 ///
-/// Refused as `Network` where the network failed; as `Shape` where a reply over HTTP or HTTPS is no KDC-PROXY-MESSAGE; as
-/// `ReplyShort` where there are under four octets; as `Shape` where there are more than 2^24, in the place of the first of
-/// these two `Shape`.
+/// Fails with `Network` if the network failed; with `Shape` if a reply over HTTP or HTTPS has more than 2^24 bytes or is no
+/// KDC-PROXY-MESSAGE; with `ReplyShort` if there are under four bytes; with `Shape` if there are more than 2^24.
 pub fn unwrap_reply(
     alloc: Global,
     protocol: NetworkProtocol,
     reply: Result<Octets, NetFault>,
 ) -> Result<Octets, Cause>
     ensures message { Answers (Unwraps protocol reply) result }
-    // A fault of the network is answered for one, and for nothing else.
+    // Fails with `Network` if and only if the network failed.
     ensures network { (code : ℕ) → result ≡ Err (causes.Network code) → reply ≡ Err (Failed code) }
     ensures failed { (code : ℕ) → reply ≡ Err (Failed code) → result ≡ Err (causes.Network code) }
-    // Where it ran out of memory, so does this.
+    // Fails with `Memory` if the network client ran out of memory.
     ensures memory { reply ≡ Err OutOfMemory → result ≡ Err causes.Memory }
 {
     match reply {
@@ -116,8 +115,8 @@ fn read_message<T: Asn1>(alloc: Global, message: &Octets) -> Result<KrbResult<T>
     }
 }
 
-/// The reply of a KDC that was asked for, or the KRB-ERROR in its place. Refused as `unwrap_reply` refuses, and then as `Shape`
-/// where the message is neither.
+/// Returns the reply of a KDC that was asked for, or the KRB-ERROR in its place. Fails as `unwrap_reply` does, and then with `Shape`
+/// if the message is neither.
 pub fn read_reply<T: Asn1>(
     alloc: Global,
     protocol: NetworkProtocol,

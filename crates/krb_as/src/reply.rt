@@ -31,7 +31,7 @@ fn reply_in<T>(answer: KrbResult<T>) -> Result<T, Cause>
     }
 }
 
-/// The salt that was named, or else the default one.
+/// Returns the salt that was named, otherwise the default one.
 fn salt_or(
     alloc: Global,
     salt: Option<Text>,
@@ -45,9 +45,10 @@ fn salt_or(
     }
 }
 
-/// The salt that an error leaves which answers the first request: the one that it names, of whatever code it is, or else the default one.
+/// Returns the salt after an error that answers the first request: the one that the error names, whatever its code, otherwise the
+/// default one.
 ///
-/// Refused as `Shape` where the error's data or its first ETYPE-INFO2 is out of the grammar.
+/// Fails with `Shape` if the error's data or its first ETYPE-INFO2 is out of the grammar.
 #[tactic(auto, unfolding(crate::specs::Replied::LeavesSalt))]
 pub fn left_salt(
     alloc: Global,
@@ -60,7 +61,7 @@ pub fn left_salt(
     salt_or(alloc, salt, credentials)
 }
 
-/// The suite of that key by what the error names, where it is known.
+/// Returns the suite of the client's key, by the suite that the error names if it is known.
 #[tactic(auto, unfolding(crate::specs::Replied::TellsSuite))]
 fn told_suite(alloc: Global, asker: &Asker, error: &KrbError) -> Result<CipherSuite, Cause>
     ensures { Answers (TellsSuite asker.now error.now) result }
@@ -84,8 +85,8 @@ fn suite_by(
     }
 }
 
-/// The suite of the key that the time is sealed under: the asker's, or, where each key goes by its own, the one that the error names.
-/// Refused as `left_salt` refuses the same error.
+/// Returns the suite of the key that the time is encrypted under: the asker's, or, if each key goes by its own, the one that the
+/// error names. Fails as `left_salt` does for the same error.
 pub(crate) fn left_suite(
     alloc: Global,
     asker: &Asker,
@@ -98,8 +99,8 @@ pub(crate) fn left_suite(
     suite_by(alloc, is_told, asker, error)
 }
 
-/// The first reply of an AS exchange: an error, or an AS-REP in its place. Refused as `read_reply` refuses. A reply is not longer than
-/// 2^24 octets, so none of its parts is.
+/// Returns the first reply of an AS exchange: an error, or an AS-REP in its place. Fails as `read_reply` does. A reply is not longer
+/// than 2^24 bytes, so none of its parts is.
 pub(crate) fn first_reply(
     alloc: Global,
     protocol: NetworkProtocol,
@@ -111,14 +112,14 @@ pub(crate) fn first_reply(
     read_reply::<AsRep>(alloc, protocol, reply)
 }
 
-/// Whether an AS-REP may come in the place of that error. Refused as `EarlyAsRep` where it may not.
+/// Checks that an AS-REP may come in the place of an error. Fails with `EarlyAsRep` if it may not.
 pub(crate) fn check_early(rules: Rules) -> Result<(), Cause>
     ensures { Holds causes.EarlyAsRep (has_rule rules no_preauthentication) result }
 {
     hold(rules.has(Rules::NO_PREAUTHENTICATION), Cause::EarlyAsRep)
 }
 
-/// The reply that was asked for. Refused as `read_reply` refuses, and as `Kdc` with the code of a KRB-ERROR in its place.
+/// Returns the reply that was asked for. Fails as `read_reply` does, and with `Kdc` and the code of a KRB-ERROR in its place.
 #[tactic(auto, unfolding(crate::specs::Replied::Grants))]
 pub fn granted<T: Asn1>(
     alloc: Global,
@@ -131,7 +132,7 @@ pub fn granted<T: Asn1>(
     reply_in(answer)
 }
 
-/// The AS-REP that was asked for. Refused as `granted` refuses. A reply is not longer than 2^24 octets, so none of its parts is.
+/// Returns the AS-REP that was asked for. Fails as `granted` does. A reply is not longer than 2^24 bytes, so none of its parts is.
 pub fn granted_as_rep(
     alloc: Global,
     protocol: NetworkProtocol,
@@ -143,7 +144,7 @@ pub fn granted_as_rep(
     granted::<AsRep>(alloc, protocol, reply)
 }
 
-/// The TGS-REP that was asked for, in the same way.
+/// Returns the TGS-REP that was asked for. Fails as `granted` does. A reply is not longer than 2^24 bytes, so none of its parts is.
 pub fn granted_tgs_rep(
     alloc: Global,
     protocol: NetworkProtocol,

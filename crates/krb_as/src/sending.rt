@@ -54,8 +54,8 @@ fn carried(
     }
 }
 
-/// The request that brings a message to a KDC. Over UDP its payload is the message; over TCP the message behind its length in
-/// four big-endian octets (RFC 4120 7.2.2); over HTTP and HTTPS a KDC-PROXY-MESSAGE with the message behind its length and
+/// Makes the request that brings a message to a KDC. Over UDP its payload is the message; over TCP the message after its length in
+/// four big-endian bytes (RFC 4120 7.2.2); over HTTP and HTTPS a KDC-PROXY-MESSAGE with the message after its length and
 /// with the realm (MS-KKDCP 2.2.2).
 pub fn request_to(alloc: Global, kdc: &Kdc, message: Octets) -> Result<NetworkRequest, OutOfMemory>
     requires message { length message < 2 ^ 30 }

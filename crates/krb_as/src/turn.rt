@@ -1,4 +1,4 @@
-//! Where a step of an exchange leads.
+//! The turn of an exchange after a step.
 
 ghost use Rattle.std.specs.Prelude.{◌≡◌, Err};
 ghost use Rattle.sspi_core.specs.declared.cause.Cause.TheVariants as causes;
@@ -8,7 +8,7 @@ use krb_der::Octets;
 use sspi_core::{Cause, Error};
 use sspi_generator::{GeneratorState, NetFault, NetworkRequest};
 
-/// What a step that is not refused leads to.
+/// The result of a step that does not fail.
 #[derive(Drop)]
 pub enum Turn<P, O> {
     /// A request, and the phase that awaits its answer.
@@ -17,14 +17,14 @@ pub enum Turn<P, O> {
     Ends(O),
 }
 
-/// Whether whoever sends wanted for memory: then the step is to do so too, and may be taken again.
+/// Returns whether the network client ran out of memory: then the step is to fail with `Memory` too, and may be taken again.
 pub fn is_want(reply: &Result<Octets, NetFault>) -> bool
     ensures { result ≡ is_want reply.now }
 {
     matches!(reply, Err(NetFault::OutOfMemory))
 }
 
-/// Puts the phase that a step leads to in the place of the one before. Where memory ran out, that one stays.
+/// Replaces the phase with the one after the step. The phase is unchanged if memory ran out.
 pub fn go_on<P: Drop, O: Drop>(
     phase: &mut P,
     over: P,

@@ -1,4 +1,4 @@
--- How long an AP-REQ can be.
+-- The length of an AP-REQ.
 use Rattle.std.proofs.Common.{ℕ, ◌+◌, ◌≤◌, ◌^◌, List, [], ◌∷◌, length, arith, lit≤, lit<, ◌≡◌, sym, subst}
 use Rattle.std.specs.Int.{w32, to_be_bytes}
 use Rattle.krb_der.specs.Schema.{IsComplete}

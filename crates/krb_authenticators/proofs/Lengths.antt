@@ -1,4 +1,4 @@
--- How long an authenticator can be.
+-- The length of an authenticator.
 use Rattle.std.proofs.Common.{◌≡◌, ℕ, ◌+◌, ◌<◌, ◌≤◌, ◌^◌, ℤ, Bool, true, false, List, [], ◌∷◌, ◌++◌, length, take, drop, get_or, Option, Some, None, option_map, IfSome, if◌then◌else◌, map, nat_lt, arith, lit≤, lit<, refl, sym, subst, Result, Ok, Err, IfOk, length-append, length-drop}
 use Rattle.std.proofs.lemmas.List.{length-take}
 use Rattle.std.specs.Int.{w32, to_be_bytes}
@@ -27,7 +27,7 @@ le_trans a b c h k = omega arith
 pub below : (a b : ℕ) → a ≤ b → b < 2 ^ 31 → a < 2 ^ 31
 below a b h k = omega arith
 
--- what holds of a value holds of what was made equal to it
+-- a statement about a value holds for every result that is equal to the value
 pub ok_is : {A E : Type 0} (P : A → Type 0) (x : A) (result : Result A E) → IfOk result (λ made. made ≡ x) → P x → IfOk result P
 ok_is P x (Ok made) e h = subst P (sym e) h
 ok_is P x (Err fault) e h = tt

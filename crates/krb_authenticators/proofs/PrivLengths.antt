@@ -1,4 +1,4 @@
--- How long a request for a new password can be.
+-- The length of a request for a new password.
 use Rattle.std.proofs.Common.{ℕ, ◌≤◌, ◌^◌, List, [], ◌∷◌, length, lit≤, lit<, ◌≡◌, sym, subst}
 use Rattle.krb_der.specs.Schema.{IsComplete}
 use Rattle.krb_der.proofs.Lengths.{tlv_le, field_le, append_le}

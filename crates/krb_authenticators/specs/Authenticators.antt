@@ -17,7 +17,7 @@ use Rattle.krb_authenticators.specs.Checksums.{with_hash}
 use Rattle.krb_authenticators.specs.Bindings.{bindings_hash, AreShortBindings}
 use Rattle.krb_requests.specs.Pieces.{Fits}
 
--- the microseconds behind the whole second of a moment, in four octets
+-- the microseconds of a moment after its whole second, in four octets
 abbrev pub microseconds : ℕ → List ℕ
 microseconds moment = to_be_bytes w32 (moment % 1000000)
 
@@ -32,7 +32,7 @@ subkey key = encryption_key key.key_type key.key_value
 abbrev pub is_gss : List ℕ → Bool
 is_gss type = pointwise ◌==◌ type (0x00 ∷ 0x80 ∷ 0x03 ∷ [])
 
--- the hash of the bindings stands in a checksum of that type, and in no other
+-- the value of a checksum with the hash of the bindings, which a checksum of that type has, and no other
 abbrev pub bound : List ℕ → List ℕ → List ℕ → List ℕ
 bound type value hash = if is_gss type then with_hash value hash else value
 
@@ -41,14 +41,14 @@ checksum None options = record { cksumtype = options.checksum_type; checksum = o
 checksum (Some bindings) options =
     record { cksumtype = options.checksum_type; checksum = bound options.checksum_type options.checksum_value (bindings_hash bindings) }
 
--- bindings are to be put into a checksum that ends before the octets of their hash do
+-- bindings have to go into a checksum that ends before the octets of their hash
 abbrev pub lacks_room : Option ChannelBindings → Option ChecksumOptions → Bool
 lacks_room None checksum = false
 lacks_room (Some bindings) None = false
 lacks_room (Some bindings) (Some options) = is_gss options.checksum_type && nat_lt (length options.checksum_value) 20
 
--- the sign that channel bindings are there: KERB_AP_OPTIONS, 143, with the flag KERB_AP_OPTIONS_CBT, 4000 hex, in four
--- octets, the lowest first (MS-KILE, section 3.2.5.8)
+-- the sign for channel bindings: KERB_AP_OPTIONS, 143, with the flag KERB_AP_OPTIONS_CBT, 4000 hex, in four octets, the lowest
+-- first (MS-KILE, section 3.2.5.8)
 abbrev pub bindings_sign : List AuthorizationDataElement
 bindings_sign = record { ad_type = 0x00 ∷ 0x8f ∷ []; ad_data = 0x00 ∷ 0x40 ∷ 0x00 ∷ 0x00 ∷ [] } ∷ []
 
@@ -75,7 +75,7 @@ pub record IsShortChecksum (options : ChecksumOptions) : Type 0 where
   pub type : length options.checksum_type ≤ 2 ^ 24
   pub value : length options.checksum_value ≤ 2 ^ 24
 
--- what an authenticator is made of can be written
+-- the parts of an authenticator can be written
 pub record AreShort (rep : KdcRep) (sub_key : Option EncKey) (options : Option ChecksumOptions) (channel_bindings : Option ChannelBindings) : Type 0 where
   pub realm : length rep.crealm ≤ 2 ^ 24
   pub name : Fits principal_name_layout (2 ^ 24) rep.cname

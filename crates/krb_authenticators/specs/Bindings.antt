@@ -8,11 +8,11 @@ use Rattle.sspi_core.specs.declared.bindings.ChannelBindings.{ChannelBindings}
 abbrev pub four : ℕ → List ℕ
 four number = to_le_bytes w32 number
 
--- octets behind their length
+-- octets after their length
 abbrev pub counted : List ℕ → List ℕ
 counted octets = four (length octets) ++ octets
 
--- what is hashed
+-- the octets that are hashed
 abbrev pub bindings_octets : ChannelBindings → List ℕ
 bindings_octets bindings =
     four bindings.initiator_addr_type ++ (counted bindings.initiator

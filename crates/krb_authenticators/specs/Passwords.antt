@@ -19,7 +19,8 @@ use Rattle.krb_requests.specs.Pieces.{sealed_under, Fits}
 use Rattle.krb_authenticators.specs.Authenticators.{number_octets}
 use Rattle.krb_authenticators.specs.ApRequests.{ap_req, service_usage}
 
--- what a KRB-PRIV seals (RFC 4120, section 5.7.1): the password, its number, and who sends it, an address of type 20, NetBIOS
+-- the encrypted part of a KRB-PRIV (RFC 4120, section 5.7.1): the password, its sequence number, and the sender's address of
+-- type 20, NetBIOS
 abbrev pub priv_part : List ℕ → ℕ → List ℕ → EncKrbPrivPart
 priv_part password number address = record {
   user_data = password;
@@ -47,7 +48,7 @@ chosen_key (Some key) = key.key_value
 abbrev pub are_sized : CipherSuite → List ℕ → List ℕ → Bool
 are_sized suite key subkey = length key == key_size suite && length subkey == key_size suite
 
--- the AP-REQ without options, and behind it the KRB-PRIV under the authenticator's subkey
+-- the AP-REQ without options, and after it the KRB-PRIV under the authenticator's subkey
 abbrev pub priv_request : CipherSuite → List ℕ → List ℕ → List ℕ → Ticket → Authenticator → EncKrbPrivPart → KrbPrivMessage
 priv_request suite key first second ticket authenticator part = record {
   ap_message = Request (ap_req suite key service_usage first 0 ticket authenticator);

@@ -30,7 +30,7 @@ always = 0x00810000
 abbrev pub tgs_options : ℕ → ℕ
 tgs_options flags = bit_or (bit_or always (option_of flags (asked.delegate, 0x40000000))) (option_of flags (asked.use_session_key, 0x00000008))
 
--- what is asked for: a ticket for this service on this host, in this realm
+-- the body: a request for a ticket for this service on this host, in this realm
 abbrev pub tgs_body : List ℕ → List ℕ → List ℕ → Option (List Ticket) → ℕ → ℕ → List ℕ → KdcReqBody
 tgs_body realm service host tickets flags moment nonce = record {
   kdc_options = record { unused = 0; octets = to_be_bytes w32 (tgs_options flags) };
@@ -85,18 +85,18 @@ tgs_req suite key confounder ticket authenticator body = tgs_req_with body (ap_r
 abbrev pub is_askable : List ℕ → List ℕ → List ℕ → Bool
 is_askable realm service host = is_ascii realm && (is_ascii service && is_ascii host)
 
--- why nothing can be asked of this service and host
+-- the reason why a request for this service and host is refused
 abbrev pub refusal_of : List ℕ → List ℕ → List ℕ → CipherSuite → List ℕ → Option Cause
 refusal_of realm service host suite key =
     if is_askable realm service host then (if length key == key_size suite then None else Some KeyLength) else Some NotAscii
 
--- why nothing can be asked: there is no target, or one of the names is past ASCII, or the session key has not the length of
--- the suite's keys; the first of these that holds
+-- the reason why a request is refused: there is no target, or one of the names is not ASCII, or the session key does not have the
+-- length of the suite's keys; the first of these that holds
 abbrev pub tgs_refusal : List ℕ → Option (List ℕ × List ℕ) → CipherSuite → List ℕ → Option Cause
 tgs_refusal realm None suite key = Some Target
 tgs_refusal realm (Some target) suite key = refusal_of realm target.0 target.1 suite key
 
--- the request for a target that is there
+-- the request for a target, if there is one
 abbrev pub IsTgsReq : CipherSuite → List ℕ → List ℕ → Ticket → Authenticator → (List ℕ → List ℕ → KdcReqBody) → Option (List ℕ × List ℕ) → TgsReq → Type 0
 IsTgsReq suite key confounder ticket authenticator body None made = ⊥
 IsTgsReq suite key confounder ticket authenticator body (Some target) made = made ≡ tgs_req suite key confounder ticket authenticator (body target.0 target.1)

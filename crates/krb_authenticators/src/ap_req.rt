@@ -22,7 +22,7 @@ use krb_requests::{Maker, sealed_under};
 use sspi_core::{Cause, Error, Secret};
 use std::alloc::Global;
 
-/// An AP-REQ of these parts.
+/// Returns an AP-REQ of these parts.
 fn ap_req_with(
     alloc: Global,
     options: u32,
@@ -45,7 +45,7 @@ fn ap_req_with(
     maker.finish(made)
 }
 
-/// The authenticator, sealed under a session key of the suite's length.
+/// Encrypts the authenticator under a session key of the suite's length.
 fn sealed_authenticator(
     alloc: Global,
     suite: CipherSuite,
@@ -63,7 +63,7 @@ fn sealed_authenticator(
     sealed_under(alloc, suite, key, usage, confounder, plain.as_slice())
 }
 
-/// An AP-REQ in which the authenticator is sealed under a session key of the suite's length.
+/// Returns an AP-REQ in which the authenticator is encrypted under a session key of the suite's length.
 pub(crate) fn seal_ap_req(
     alloc: Global,
     suite: CipherSuite,
@@ -84,7 +84,8 @@ pub(crate) fn seal_ap_req(
     ap_req_with(alloc, options, Box::into_inner(ticket), sealed)
 }
 
-/// The same where the key may have another length.
+/// Returns an AP-REQ in which the authenticator is encrypted under the session key. Fails with `KeyLength` exactly if the key does
+/// not have the length of the suite's keys.
 fn ap_req_under(
     alloc: Global,
     usage: u32,
@@ -120,9 +121,9 @@ fn ap_req_under(
     )?)
 }
 
-/// An AP-REQ for a ticket-granting service: the authenticator is sealed under the ticket's session key in the parameters'
-/// suite (AES-256 where there is none), with usage 7, and no option is set. Refused as InvalidParameter KeyLength exactly
-/// where the key has not the length of the suite's keys; else it fails only if memory runs out.
+/// Returns an AP-REQ for a ticket-granting service: the authenticator is encrypted under the ticket's session key in the
+/// parameters' suite (AES-256 if there is none), with usage 7, and no option is set. Fails with InvalidParameter KeyLength exactly
+/// if the key does not have the length of the suite's keys; otherwise it fails only if memory runs out.
 pub fn generate_tgs_ap_req(
     alloc: Global,
     ticket: Ticket,
@@ -150,9 +151,9 @@ pub fn generate_tgs_ap_req(
     )
 }
 
-/// An AP-REQ for a service, with these options: the authenticator is sealed under the ticket's session key in the parameters'
-/// suite (AES-256 where there is none), with usage 11. Refused as InvalidParameter KeyLength exactly where the key has not
-/// the length of the suite's keys; else it fails only if memory runs out.
+/// Returns an AP-REQ for a service, with these options: the authenticator is encrypted under the ticket's session key in the
+/// parameters' suite (AES-256 if there is none), with usage 11. Fails with InvalidParameter KeyLength exactly if the key does not
+/// have the length of the suite's keys; otherwise it fails only if memory runs out.
 pub fn generate_ap_req(
     alloc: Global,
     ticket: Ticket,

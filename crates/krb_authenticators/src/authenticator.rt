@@ -43,7 +43,7 @@ fn is_gss(checksum_type: &Octets) -> bool
     checksum_type.as_slice() == GSS_CHECKSUM_TYPE.as_slice()
 }
 
-/// Whether bindings are to be put into a checksum that has no room for their hash.
+/// Returns whether bindings have to go into a checksum that has no room for their hash.
 fn lacks_room(bindings: Option<&ChannelBindings>, checksum: &Option<ChecksumOptions>) -> bool
     ensures { result ≡ lacks_room (option_copied bindings.entry) checksum.now }
 {
@@ -64,7 +64,7 @@ fn with_hash(value: Octets, hash: [u8; 16]) -> Octets
     Octets::new(octets)
 }
 
-/// The value of a checksum, with the hash of the bindings where it is to have it.
+/// Returns the value of a checksum, with the hash of the bindings if the checksum is of type 8003 hex.
 fn bound(checksum_type: &Octets, value: Octets, bindings: &ChannelBindings) -> Octets
     requires bindings { AreShortBindings bindings.now }
     requires room { is_gss checksum_type.now ≡ true → 20 ≤ length value }
@@ -110,7 +110,7 @@ fn checksum_if(
     }
 }
 
-/// The sign that there are channel bindings.
+/// Returns the sign that there are channel bindings.
 fn bindings_sign(alloc: Global) -> Result<AuthorizationData, OutOfMemory>
     ensures { IfOk result (λ made. made ≡ bindings_sign) }
 {
@@ -150,7 +150,7 @@ fn subkey_if(alloc: Global, key: &Option<EncKey>) -> Result<Option<EncryptionKey
     }
 }
 
-/// A number of 32 bits as an INTEGER.
+/// Returns a number of 32 bits as an INTEGER.
 pub(crate) fn number(alloc: Global, number: u32) -> Result<IntegerAsn1, OutOfMemory>
     ensures { IfOk result (λ made. made ≡ number_octets number) }
 {
@@ -166,7 +166,7 @@ fn number_if(alloc: Global, seq_num: Option<u32>) -> Result<Option<IntegerAsn1>,
     }
 }
 
-/// The optional fields of an authenticator that take memory.
+/// The optional fields of an authenticator that need memory.
 #[derive(Drop)]
 struct Extras {
     subkey: Option<EncryptionKey>,
@@ -191,7 +191,7 @@ fn extras_of(
     })
 }
 
-/// An authenticator of these parts.
+/// Returns an authenticator of these parts.
 fn put_together(
     alloc: Global,
     rep: &KdcRep,
@@ -227,13 +227,13 @@ fn put_together(
     maker.finish(made)
 }
 
-/// An authenticator: who asks, and when.
+/// Returns an authenticator: the client, and the time.
 ///
-/// It has the realm and the name of the reply's client, the whole second of `now` and the microseconds behind it, and the
-/// number, the key and the checksum of the options where they have one. With channel bindings it has their sign, and their
-/// hash stands in octets 4 to 19 of a checksum of type 8003 hex (RFC 4121, section 4.1.1). Refused as InvalidParameter
-/// Checksum exactly where bindings are to be put into a checksum of that type with less than 20 octets; else it fails only if memory
-/// runs out.
+/// An authenticator has the realm and the name of the reply's client, the whole second of `now` and its microseconds, and the
+/// sequence number, the subkey and the checksum of the options if they have one. With channel bindings it has their sign, and
+/// their hash is in octets 4 to 19 of a checksum of type 8003 hex (RFC 4121, section 4.1.1). Fails with InvalidParameter Checksum
+/// exactly if bindings have to go into a checksum of that type with less than 20 octets; otherwise it fails only if memory runs
+/// out.
 pub fn generate_authenticator(
     alloc: Global,
     options: GenerateAuthenticatorOptions<'_>,

@@ -7,7 +7,7 @@ ghost use Rattle.krb_authenticators.specs.Bindings.{counted, bindings_hash, AreS
 use md5::{Digest, Md5};
 use sspi_core::ChannelBindings;
 
-/// Adds octets behind their length.
+/// Adds the length of the octets in four octets, the lowest first, and then the octets.
 fn add_counted(hasher: &mut Md5, octets: &[u8])
     requires { length octets.now < 2 ^ 32 }
     ensures { (m : List ℕ) → Holds hasher.old m → Holds hasher.new (m ++ counted octets.now) }
@@ -16,8 +16,8 @@ fn add_counted(hasher: &mut Md5, octets: &[u8])
     hasher.update(octets);
 }
 
-/// The MD5 of channel bindings: type, length and octets of the initiator's address, the same of the acceptor's, and length
-/// and octets of the application's data, each number in four octets, the lowest first.
+/// Returns the MD5 of channel bindings: type, length and octets of the initiator's address, then of the acceptor's address, and
+/// length and octets of the application's data, each number in four octets, the lowest first.
 #[tactic(auto, unfolding(crate::specs::Bindings::bindings_hash))]
 pub fn bindings_hash(bindings: &ChannelBindings) -> [u8; 16]
     requires { AreShortBindings bindings.now }

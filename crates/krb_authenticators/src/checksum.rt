@@ -46,7 +46,7 @@ impl From<[u8; 24]> for ChecksumValues {
     }
 }
 
-/// The octets with these flags in them.
+/// Returns the octets with these flags in them.
 fn with_flags(octets: [u8; 24], flags: u32) -> [u8; 24]
     ensures { result ≡ with_flags octets flags }
 {

@@ -1,4 +1,5 @@
-//! What a client shows to a service or to a ticket-granting service: authenticators, and the messages that carry one.
+//! The messages that authenticate a client to a service or to a ticket-granting service: authenticators, and the messages that
+//! carry one.
 //!
 //! Each record is computed by a definition in `specs/`: `Checksums` and `Bindings` for the checksum of flags and channel
 //! bindings (RFC 4121, section 4.1.1), `Authenticators` and `ApRequests` (RFC 4120, section 5.5.1), `TgsRequests` (section

@@ -1,4 +1,4 @@
-//! What an authenticator is made of.
+//! The parts of an authenticator and of a TGS-REQ.
 
 use krb_context::EncryptionParams;
 use krb_crypto::CipherSuite;
@@ -22,33 +22,33 @@ pub struct ChecksumOptions {
     pub checksum_value: Octets,
 }
 
-/// What may follow the flags of a checksum (RFC 4121, section 4.1.1). It is kept, and nothing reads it.
+/// An extension after the flags of a checksum (RFC 4121, section 4.1.1). It is kept, and nothing reads it.
 #[derive(Drop)]
 pub struct AuthenticatorChecksumExtension {
     pub extension_type: u32,
     pub extension_value: Octets,
 }
 
-/// What an authenticator is made of.
+/// The parts of an authenticator.
 #[derive(Drop)]
 pub struct GenerateAuthenticatorOptions<'a> {
-    /// The reply that brought the ticket: the client's realm and name are its own.
+    /// The reply with the ticket: the authenticator has the client's realm and name from it.
     pub kdc_rep: &'a KdcRep,
-    /// The number of the first message that the client is to send.
+    /// The sequence number of the first message that the client will send.
     pub seq_num: Option<u32>,
     /// A key that the client chose.
     pub sub_key: Option<EncKey>,
     pub checksum: Option<ChecksumOptions>,
-    /// Bindings of the channel below. A checksum of type 8003 hex takes up their hash.
+    /// Bindings of the channel below. A checksum of type 8003 hex has their hash.
     pub channel_bindings: Option<&'a ChannelBindings>,
     /// Kept and not read.
     pub extensions: Items<AuthenticatorChecksumExtension>,
 }
 
-/// What a TGS-REQ is made of.
+/// The parts of a TGS-REQ.
 #[derive(Drop)]
 pub struct GenerateTgsReqOptions<'a> {
-    /// The realm whose service is wanted.
+    /// The realm of the service.
     pub realm: &'a str,
     /// The service and its host, with a `/` between them.
     pub service_principal: &'a str,
@@ -56,11 +56,11 @@ pub struct GenerateTgsReqOptions<'a> {
     pub session_key: &'a Secret<Octets>,
     /// The ticket for the ticket-granting service.
     pub ticket: Ticket,
-    /// Who asks. Its checksum becomes that of the request.
+    /// The authenticator of the client. Its checksum is replaced by the checksum of the request's body.
     pub authenticator: Authenticator,
-    /// Tickets under whose session keys the new one may be sealed.
+    /// Tickets under whose session keys the KDC may encrypt the new ticket.
     pub additional_tickets: Option<Items<Ticket>>,
     pub enc_params: &'a EncryptionParams,
-    /// `DELEGATE` asks for a forwardable ticket, `USE_SESSION_KEY` for one under an additional ticket's session key.
+    /// `DELEGATE` requests a forwardable ticket, `USE_SESSION_KEY` a ticket under an additional ticket's session key.
     pub context_requirements: ClientRequestFlags,
 }

@@ -27,7 +27,7 @@ use krb_requests::{Maker, sealed_under};
 use sspi_core::{Cause, Error, Secret};
 use std::alloc::Global;
 
-/// What a KRB-PRIV seals.
+/// Returns the part that a KRB-PRIV encrypts.
 fn priv_part(
     alloc: Global,
     password: &[u8],
@@ -52,7 +52,7 @@ fn priv_part(
     maker.finish(made)
 }
 
-/// A KRB-PRIV with this sealed part.
+/// Returns a KRB-PRIV with this encrypted part.
 fn krb_priv_with(alloc: Global, enc_part: EncryptedData) -> Result<KrbPriv, OutOfMemory>
     ensures { IfOk result (λ made. made ≡ krb_priv_with enc_part) }
 {
@@ -65,7 +65,7 @@ fn krb_priv_with(alloc: Global, enc_part: EncryptedData) -> Result<KrbPriv, OutO
     maker.finish(made)
 }
 
-/// The part, sealed under a key of the suite's length.
+/// Encrypts the part under a key of the suite's length.
 fn sealed_part(
     alloc: Global,
     suite: CipherSuite,
@@ -89,7 +89,7 @@ fn sealed_part(
     )
 }
 
-/// A KRB-PRIV in which the part is sealed.
+/// Returns a KRB-PRIV in which the part is encrypted.
 fn krb_priv(
     alloc: Global,
     suite: CipherSuite,
@@ -106,7 +106,7 @@ fn krb_priv(
     krb_priv_with(alloc, sealed)
 }
 
-/// The key that the client chose; none where it chose none.
+/// Returns the octets of the client's subkey, or no octets if there is no subkey.
 fn chosen_key(subkey: &Option<EncryptionKey>) -> &[u8]
     ensures { result.now ≡ chosen_key subkey.now }
 {
@@ -116,20 +116,20 @@ fn chosen_key(subkey: &Option<EncryptionKey>) -> &[u8]
     }
 }
 
-/// Whether both keys have the length of the suite's.
+/// Returns whether both keys have the length of the suite's keys.
 fn are_sized(suite: CipherSuite, key: &[u8], subkey: &[u8]) -> bool
     ensures { result ≡ are_sized suite key.now subkey.now }
 {
     key.len() == suite.key_size() && subkey.len() == suite.key_size()
 }
 
-/// The request to the service that changes passwords: an AP-REQ without options, and behind it the new password in a KRB-PRIV
-/// under the authenticator's subkey.
+/// Returns the request to the service that changes passwords: an AP-REQ without options, and after it the new password in a
+/// KRB-PRIV under the authenticator's subkey.
 ///
-/// Both are sealed in the parameters' suite (AES-256 where there is none), the authenticator under the ticket's session key
-/// with usage 11 and the first confounder, the password with usage 13 and the second one. `seq_num` numbers the KRB-PRIV, and
-/// `address` is the sender's NetBIOS name. Refused as InvalidParameter KeyLength exactly where one of the two keys has not the
-/// length of the suite's keys, or the authenticator has no subkey; else it fails only if memory runs out.
+/// Both are encrypted in the parameters' suite (AES-256 if there is none), the authenticator under the ticket's session key with
+/// usage 11 and the first confounder, the password with usage 13 and the second confounder. `seq_num` is the sequence number of
+/// the KRB-PRIV, and `address` is the sender's NetBIOS name. Fails with InvalidParameter KeyLength exactly if one of the two keys
+/// does not have the length of the suite's keys, or the authenticator has no subkey; otherwise it fails only if memory runs out.
 pub fn generate_krb_priv_request(
     alloc: Global,
     ticket: Ticket,

@@ -57,7 +57,7 @@ const PAC_OPTIONS: [u8; 2] = [0x00, 0xa7];
 /// The KDC may send the request on to one that has the whole account (MS-KILE, section 2.2.10).
 const BRANCH_AWARE: [u8; 4] = [0x40, 0x00, 0x00, 0x00];
 
-/// The option, where the flag is set.
+/// Returns the option if the flag is set, otherwise 0.
 fn option_if(flags: ClientRequestFlags, flag: ClientRequestFlags, option: KdcOptions) -> u32
     ensures { result ≡ option_of flags.0 (flag.0, option.0) }
 {
@@ -68,7 +68,7 @@ fn option_if(flags: ClientRequestFlags, flag: ClientRequestFlags, option: KdcOpt
     }
 }
 
-/// What the ticket is to be like.
+/// Returns the KDC options of the request.
 fn tgs_options(flags: ClientRequestFlags) -> u32
     ensures { result ≡ tgs_options flags.0 }
 {
@@ -81,7 +81,7 @@ fn tgs_options(flags: ClientRequestFlags) -> u32
         )
 }
 
-/// An ASCII text as a name.
+/// Returns an ASCII text as a name.
 fn name(alloc: Global, text: &str) -> Result<Name, OutOfMemory>
     requires { IsTrue (is_ascii text.now) }
     ensures { IfOk result (λ made. made ≡ text.now) }
@@ -92,7 +92,7 @@ fn name(alloc: Global, text: &str) -> Result<Name, OutOfMemory>
     }
 }
 
-/// The name of a service on a host.
+/// Returns the name of a service on a host.
 fn service_name(alloc: Global, service: Name, host: Name) -> Result<PrincipalName, OutOfMemory>
     ensures { IfOk result (λ made. made ≡ principal 2 (service ∷ host ∷ [])) }
 {
@@ -104,7 +104,7 @@ fn service_name(alloc: Global, service: Name, host: Name) -> Result<PrincipalNam
     maker.finish(made)
 }
 
-/// What is asked for, of these parts.
+/// Returns the body of these parts.
 fn body_with(
     alloc: Global,
     realm: Name,
@@ -139,7 +139,7 @@ fn body_with(
     maker.finish(made)
 }
 
-/// What is asked for: a ticket for this service on this host.
+/// Returns the body of a request for a ticket for this service on this host.
 fn tgs_body(
     alloc: Global,
     realm: &str,
@@ -161,7 +161,7 @@ fn tgs_body(
     body_with(alloc, realm, sname, tickets, flags, now, nonce)
 }
 
-/// The checksum of a body.
+/// Returns the checksum of a body.
 fn body_checksum(alloc: Global, body: &KdcReqBody) -> Result<Checksum, OutOfMemory>
     requires { Fits kdc_req_body_layout (2 ^ 27) body.now }
     ensures { IfOk result (λ made. made ≡ body_checksum body.now) }
@@ -176,7 +176,7 @@ fn body_checksum(alloc: Global, body: &KdcReqBody) -> Result<Checksum, OutOfMemo
     maker.finish(made)
 }
 
-/// An authenticator over this body.
+/// Returns the authenticator with the checksum of this body.
 fn over(
     alloc: Global,
     body: &KdcReqBody,
@@ -191,7 +191,7 @@ fn over(
     Ok(authenticator)
 }
 
-/// The AP-REQ in a TGS-REQ.
+/// Returns the AP-REQ as PA-DATA of a TGS-REQ.
 fn pa_tgs_req(alloc: Global, request: &ApReq) -> Result<PaData, OutOfMemory>
     requires { Fits ap_req_layout (2 ^ 28) request.now }
     ensures { IfOk result (λ made. made ≡ pa_tgs_req request.now) }
@@ -216,7 +216,7 @@ fn branch_aware(alloc: Global) -> Result<PaPacOptions, OutOfMemory>
     })
 }
 
-/// The options for a PAC.
+/// Returns the options for a PAC.
 fn pac_options(alloc: Global) -> Result<PaData, OutOfMemory>
     ensures { IfOk result (λ made. made ≡ pac_options) }
 {
@@ -230,7 +230,7 @@ fn pac_options(alloc: Global) -> Result<PaData, OutOfMemory>
     maker.finish(made)
 }
 
-/// A TGS-REQ of these parts.
+/// Returns a TGS-REQ of these parts.
 fn tgs_req_with(
     alloc: Global,
     body: Box<KdcReqBody>,
@@ -251,7 +251,7 @@ fn tgs_req_with(
     maker.finish(made)
 }
 
-/// An AP-REQ whose authenticator is over this body, sealed under a session key of the suite's length.
+/// Returns an AP-REQ whose authenticator, encrypted under a session key of the suite's length, has the checksum of this body.
 fn ap_req_over(
     alloc: Global,
     suite: CipherSuite,
@@ -281,7 +281,7 @@ fn ap_req_over(
     )
 }
 
-/// A TGS-REQ whose authenticator, sealed under a session key of the suite's length, is over its body.
+/// Returns a TGS-REQ whose authenticator, encrypted under a session key of the suite's length, has the checksum of its body.
 fn tgs_req_of(
     alloc: Global,
     suite: CipherSuite,
@@ -305,7 +305,7 @@ fn tgs_req_of(
     tgs_req_with(alloc, body, &request)
 }
 
-/// The service and the host of a target.
+/// Returns the service and the host of a target, or None if there is no such target.
 fn target_of(target: &str) -> Option<(&str, &str)>
     ensures { MatchOption result (target_parts target.entry.now ≡ None) (λ parts. target_parts target.entry.now ≡ Some (parts.0.now, parts.1.now)) }
 {
@@ -321,7 +321,7 @@ fn is_askable(realm: &str, service: &str, host: &str) -> bool
     is_ascii(realm.as_bytes()) && is_ascii(service.as_bytes()) && is_ascii(host.as_bytes())
 }
 
-/// Why nothing can be asked of this service and host.
+/// Returns the cause to refuse a request for this service and host, if there is one: `NotAscii`, then `KeyLength`.
 fn refusal_of(
     realm: &str,
     service: &str,
@@ -340,7 +340,8 @@ fn refusal_of(
     None
 }
 
-/// The service and the host of a request that can be made; else why it cannot be.
+/// Returns the service and the host of a target. Fails with the cause to refuse the request: `Target`, `NotAscii`, then
+/// `KeyLength`.
 fn asked_parts<'a>(
     realm: &str,
     target: &'a str,
@@ -360,7 +361,7 @@ fn asked_parts<'a>(
     }
 }
 
-/// The request for this service on this host, which is not refused.
+/// Returns the request for this service on this host, if it is not refused.
 fn tgs_req_for(
     alloc: Global,
     options: GenerateTgsReqOptions<'_>,
@@ -410,15 +411,15 @@ fn tgs_req_for(
     )
 }
 
-/// A TGS-REQ for a service: an AP-REQ with the ticket and the authenticator, whose checksum becomes the MD5 of the written
-/// body.
+/// Returns a TGS-REQ for a service: an AP-REQ with the ticket and the authenticator, whose checksum is replaced by the MD5 of the
+/// written body.
 ///
-/// The target of `service_principal` stands round its first `/`. The body asks for it until three days after the whole second
-/// of `now`, with the etypes 18 and 17, the options RENEWABLE and CANONICALIZE, FORWARDABLE with `DELEGATE` and
-/// ENC-TKT-IN-SKEY with `USE_SESSION_KEY`. The authenticator is sealed in the parameters' suite (AES-256 where there is none),
-/// with usage 7. Refused in this order: InvalidParameter Target exactly where there is no such target, InternalError NotAscii
-/// exactly where the realm or a part of the target is past ASCII, InvalidParameter KeyLength exactly where the session key has
-/// not the length of the suite's keys; else it fails only if memory runs out.
+/// The target is the service before the first `/` of `service_principal`, and the host after it. The body requests a ticket
+/// until three days after the whole second of `now`, with the etypes 18 and 17, the options RENEWABLE and CANONICALIZE,
+/// FORWARDABLE with `DELEGATE` and ENC-TKT-IN-SKEY with `USE_SESSION_KEY`. The authenticator is encrypted in the parameters' suite
+/// (AES-256 if there is none), with usage 7. Fails in this order: with InvalidParameter Target exactly if there is no such target,
+/// with InternalError NotAscii exactly if the realm or a part of the target is not ASCII, with InvalidParameter KeyLength exactly
+/// if the session key does not have the length of the suite's keys; otherwise it fails only if memory runs out.
 pub fn generate_tgs_req(
     alloc: Global,
     options: GenerateTgsReqOptions<'_>,

@@ -1,4 +1,4 @@
--- What an initiator hands out, as the call on its handle answers it.
+-- The octets that an initiator returns, as the call on its handle returns them.
 use Rattle.std.proofs.Common.{◌≡◌, ℕ, List}
 use Rattle.std.specs.Prelude.{Option, Some, Result, Ok}
 use Rattle.krb_c.specs.Dialogues.{HandsNot}
@@ -10,7 +10,7 @@ use Rattle.krb_sessions.specs.Gives.{Faults}
 use Rattle.sspi_core.specs.declared.cause.Cause.{Cause}
 use Rattle.sspi_core.specs.declared.error.Place.TheVariants.{Elsewhere}
 
--- a fault of the dialogue's is why the octets are not handed out
+-- a fault of the dialogue's is why the octets are not returned
 pub hands_not : (gives : Dialogue → Result (List ℕ) Cause) (initiator : Option Dialogue) (room : ℕ) (dialogue : Dialogue) (fault : Fault)
     → initiator ≡ Some dialogue → Faults Elsewhere (λ answer. answer ≡ gives dialogue) (λ octets. gives dialogue ≡ Ok octets) room fault
     → HandsNot gives initiator room (failure_of fault)

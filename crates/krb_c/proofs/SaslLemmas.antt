@@ -1,4 +1,4 @@
--- What an end answers, as the call on its handle answers it, and settings that make no server.
+-- The results of an end, as the call on its handle returns them, and settings that make no server.
 use Rattle.std.proofs.Common.{◌≡◌, ℕ, ◌<◌, List, Bool, true, false, refl, arith}
 use Rattle.std.proofs.lemmas.Bool.Decides.{nat_tests}
 use Rattle.std.specs.Prelude.{◌&&◌, nat_le, Ok, Err}

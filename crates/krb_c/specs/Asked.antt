@@ -1,4 +1,4 @@
--- What a client asked for, and the flags of its ticket, by what the calls answer.
+-- The flags that a client asked for, and the flags of its ticket, by the results of the calls.
 use Rattle.std.specs.Prelude.{◌≡◌, ℕ, List, [], ◌∷◌, ◌++◌, take, Option, Some, None}
 use Rattle.std.specs.Int.{w32, from_be_bytes}
 use Rattle.krb_admission.specs.Allowed.{gss_flags, delegation_told}
@@ -34,7 +34,7 @@ pub record AsksForNone {A : Type 0} (asks : A → Option ℕ) (found : Option A)
   pub none : asks one ≡ None
   pub error_is : error ≡ error_of Checksum
 
--- why no flags are told
+-- why no flags are returned
 abbrev pub AsksNot : {A : Type 0} → (A → Option ℕ) → Option A → Failure → Type 0
 AsksNot asks found (Refused error) = AsksForNone asks found error
 AsksNot asks found (Room count) = ⊥
@@ -45,7 +45,7 @@ AsksNot asks found Handle = found ≡ None
 abbrev pub flags_number : List ℕ → ℕ
 flags_number octets = from_be_bytes w32 (take 4 (octets ++ 0 ∷ 0 ∷ 0 ∷ 0 ∷ []))
 
--- the flags of the client's ticket are told
+-- the flags of the client's ticket are returned
 pub record TellsTicketFlags (session : Option Session) (flags : ℕ) : Type 0 where
   pub client : Client
   pub known : client_of session ≡ Some client
@@ -55,11 +55,11 @@ pub record TellsTicketFlags (session : Option Session) (flags : ℕ) : Type 0 wh
 abbrev pub IsTag : Candidate → List ℕ → Type 0
 IsTag candidate octets = octets ≡ tag_of candidate.judged.request
 
--- the KRB-CRED by which the candidate hands on a ticket of its own (RFC 4121, section 4.1.1)
+-- the KRB-CRED with which the candidate delegates a ticket of its own (RFC 4121, section 4.1.1)
 abbrev pub IsDelegation : Candidate → List ℕ → Type 0
 IsDelegation candidate octets = octets ≡ delegation_told candidate.judged.request.authenticator.cksum
 
--- why octets of the candidate's, which are there, are not handed out
+-- why octets of the candidate's, which are there, are not returned
 abbrev pub LendsNot : (Candidate → List ℕ → Type 0) → Option Candidate → ℕ → Failure → Type 0
 LendsNot gives judged room (Refused error) = ⊥
 LendsNot gives judged room (Room count) = ShowsShort gives judged room count

@@ -1,4 +1,4 @@
--- What the calls do to the handles that they take, by what they answer.
+-- The effects of the calls on their handles, by the results of the calls.
 use Rattle.std.specs.Prelude.{◌≡◌, true, ℕ, ◌≤◌, List, [], ◌∷◌, ◌++◌, length, Option, Some, None, Result, Ok, IfOk, IfErr, OnOk, OnErr}
 use Rattle.krb_c.specs.declared.reply.Failure.{Failure}
 use Rattle.krb_c.specs.declared.reply.Failure.TheVariants.{Refused, Room, Argument, Handle}
@@ -26,14 +26,14 @@ use Rattle.sspi_core.specs.declared.error.Place.{Place}
 use Rattle.sspi_core.specs.declared.error.Place.TheVariants.{Elsewhere}
 use Rattle.sspi_core.specs.Kinds.{error_of}
 
--- a service of this name and key, whose book was asked nothing
+-- a service of this name and key, with an empty book
 pub record IsNew (name key : List ℕ) (skew : ℕ) (service : Service) : Type 0 where
   pub properties : service.keys.properties ≡ new_properties (components name) None skew (Some key)
   pub limit : service.keys.token_limit ≡ token_limit
   pub skew_is : service.book.skew ≡ skew
   pub book : StandsFor service.book no_history
 
--- the acceptor that is made, where the handle was empty
+-- the acceptor that is made, if the handle was empty
 pub record Makes (name key : List ℕ) (skew : ℕ) (old : Option Service) (count : ℕ) (new : Option Service) : Type 0 where
   pub service : Service
   pub was_empty : old ≡ None
@@ -72,7 +72,7 @@ pub record Reserves (records : ℕ) (old : Option Service) (count : ℕ) (new : 
   pub keys : after.keys ≡ before.keys
   pub none_written : count ≡ 0
 
--- a new book with this skew, which was asked nothing
+-- a new, empty book with this skew
 pub record BeginsBook (skew : ℕ) (old : Option Service) (count : ℕ) (new : Option Service) : Type 0 where
   pub before : Service
   pub after : Service
@@ -124,7 +124,7 @@ Turns unfit token draw old to new (Room count) = ⊥
 Turns unfit token draw old to new Argument = unfit × (new ≡ old)
 Turns unfit token draw old to new Handle = IsMisplaced old to × (new ≡ old)
 
--- octets of the session's go into the room
+-- octets of the session's go into the buffer
 pub record Serves (gives : Session → List ℕ → Type 0) (after : Session → Session) (old : Option Session) (room : List ℕ) (count : ℕ)
     (new : Option Session) (out : List ℕ) : Type 0 where
   pub session : Session
@@ -138,13 +138,13 @@ pub record SessionRefuses {A : Type 0} (place : Place) (checks : Session → Res
   pub was : old ≡ Some session
   pub refuses : Refuses place (checks session) error
 
--- the room is too short for what the session gives
+-- the buffer is too short for the octets that the session returns
 pub record SessionIsShort (gives : Session → List ℕ → Type 0) (old : Option Session) (room count : ℕ) : Type 0 where
   pub session : Session
   pub was : old ≡ Some session
   pub is_short : IsShort (gives session) room count
 
--- why the octets are not handed out: an argument is unfit, the session refuses, the room is too short, or there is no session
+-- why the octets are not returned: an argument is unfit, the session refuses, the buffer is too short, or there is no session
 abbrev pub ServesNot : {A : Type 0} → Type 0 → Place → (Session → Result A Cause → Type 0) → (Session → List ℕ → Type 0) → Option Session → ℕ
     → Failure → Type 0
 ServesNot unfit place checks gives old room (Refused error) = SessionRefuses place checks old error
@@ -152,7 +152,7 @@ ServesNot unfit place checks gives old room (Room count) = SessionIsShort gives 
 ServesNot unfit place checks gives old room Argument = unfit
 ServesNot unfit place checks gives old room Handle = old ≡ None
 
--- how many records an acceptor keeps
+-- the number of records that an acceptor keeps
 abbrev pub kept_of : Option Service → ℕ
 kept_of None = 0
 kept_of (Some service) = length service.book.kept
@@ -206,7 +206,7 @@ HasNoKind code = (kind : ErrorKind) → kind_code kind ≡ code → ⊥
 abbrev pub HasNoCause : ℕ → Type 0
 HasNoCause code = (cause : Cause) → cause_code cause ≡ code → ⊥
 
--- why a text is not handed out: an argument is unfit, or the room is too short
+-- why a text is not returned: an argument is unfit, or the buffer is too short
 abbrev pub NamesNot : Type 0 → (List ℕ → Type 0) → ℕ → Failure → Type 0
 NamesNot unfit gives room (Refused error) = ⊥
 NamesNot unfit gives room (Room count) = IsShort gives room count

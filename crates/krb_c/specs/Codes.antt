@@ -108,7 +108,7 @@ cause_code ReplyNames = 61
 cause_code ReplyTime = 62
 cause_code Transited = 63
 
--- the number that a cause has beside
+-- the number that a cause carries
 abbrev pub number_of : Cause → ℕ
 number_of (Network code) = code
 number_of (Kdc code) = code

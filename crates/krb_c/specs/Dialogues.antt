@@ -1,4 +1,4 @@
--- What the calls do to an initiator in its handle, by what they answer.
+-- The effects of the calls on an initiator in its handle, by the results of the calls.
 use Rattle.std.specs.Prelude.{◌≡◌, ℕ, List, length, true, false, Option, Some, None, Result, Ok}
 use Rattle.std.specs.Int.{from_be_bytes, w32}
 use Rattle.krb_c.specs.declared.reply.Failure.{Failure}
@@ -21,7 +21,7 @@ use Rattle.sspi_core.specs.Kinds.{error_of}
 abbrev pub flags_from : ℕ → ClientRequestFlags
 flags_from bits = record { 0 = bits }
 
--- the initiator that is made, where the handle was empty
+-- the initiator that is made, if the handle was empty
 pub record MakesInitiator (target machine : List ℕ) (flags : ℕ) (number : List ℕ) (old : Option Dialogue) (count : ℕ) (new : Option Dialogue) : Type 0 where
   pub dialogue : Dialogue
   pub was_empty : old ≡ None
@@ -38,25 +38,25 @@ pub record Sets (becomes : Dialogue → Dialogue → Type 0) (old : Option Dialo
   pub is_set : becomes before after
   pub none_written : count ≡ 0
 
--- octets of the dialogue's go into the room
+-- octets of the dialogue's go into the buffer
 pub record HandsOut (gives : Dialogue → Result (List ℕ) Cause) (initiator : Option Dialogue) (room : List ℕ) (count : ℕ) (out : List ℕ) : Type 0 where
   pub dialogue : Dialogue
   pub was : initiator ≡ Some dialogue
   pub delivers : Delivers (λ octets. gives dialogue ≡ Ok octets) room count out
 
--- there are none to be handed out
+-- there are none to return
 pub record HasNone (gives : Dialogue → Result (List ℕ) Cause) (initiator : Option Dialogue) (error : Error) : Type 0 where
   pub dialogue : Dialogue
   pub was : initiator ≡ Some dialogue
   pub refuses : Refuses Elsewhere (λ answer. answer ≡ gives dialogue) error
 
--- the room is too short for them
+-- the buffer is too short for them
 pub record HandsShort (gives : Dialogue → Result (List ℕ) Cause) (initiator : Option Dialogue) (room count : ℕ) : Type 0 where
   pub dialogue : Dialogue
   pub was : initiator ≡ Some dialogue
   pub is_short : IsShort (λ octets. gives dialogue ≡ Ok octets) room count
 
--- why the octets are not handed out
+-- why the octets are not returned
 abbrev pub HandsNot : (Dialogue → Result (List ℕ) Cause) → Option Dialogue → ℕ → Failure → Type 0
 HandsNot gives initiator room (Refused error) = HasNone gives initiator error
 HandsNot gives initiator room (Room count) = HandsShort gives initiator room count
@@ -80,7 +80,7 @@ pub record IsUnsettled (old : Option Dialogue) (error : Error) : Type 0 where
   pub unsettled : is_established dialogue ≡ false
   pub error_is : error ≡ error_of Sequence
 
--- why the session is not handed over
+-- why the session is not moved
 abbrev pub HandsNotOver : Option Dialogue → Option Session → Failure → Type 0
 HandsNotOver old to (Refused error) = IsUnsettled old error
 HandsNotOver old to (Room count) = ⊥

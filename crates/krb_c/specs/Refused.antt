@@ -1,4 +1,4 @@
--- The token that tells a client why it is refused.
+-- The token that names to a client the cause of its refusal.
 use Rattle.std.specs.Prelude.{◌≡◌, ◌⊎◌, ℕ, List, Ok}
 use Rattle.krb_c.specs.Calls.{HasNoCause}
 use Rattle.krb_c.specs.Codes.{cause_code}
@@ -24,7 +24,7 @@ pub record HasNoToken (code : ℕ) (service realm : List ℕ) (moment : ℕ) (er
   pub has_code : cause_code cause ≡ code
   pub refuses : Refuses Elsewhere (TellsRefusal cause service realm moment) error
 
--- why no token is handed out
+-- why no token is returned
 abbrev pub TokenNot : ℕ → List ℕ → List ℕ → ℕ → ℕ → Failure → Type 0
 TokenNot code service realm moment room (Refused error) = HasNoToken code service realm moment error
 TokenNot code service realm moment room (Room count) = IsShort (IsErrorToken code service realm moment) room count

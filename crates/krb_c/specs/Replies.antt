@@ -1,4 +1,4 @@
--- What a call answers, as C has it.
+-- The reply to a call, as C has it.
 use Rattle.std.specs.Prelude.{ℕ, Result, Ok, Err}
 use Rattle.krb_c.specs.Codes.{kind_code, cause_code, number_of}
 use Rattle.krb_c.specs.declared.reply.Reply.{Reply}
@@ -21,7 +21,7 @@ failure_of (RoomFault count) = Room count
 abbrev pub plain_reply : ℕ → ℕ → Reply
 plain_reply status length = record { status = status; kind = 0; cause = 0; number = 0; length = length }
 
--- 2 where memory ran out, and 1 for each other refusal
+-- 2 if memory ran out, and 1 for each other refusal
 abbrev pub refusal_status : Cause → ℕ
 refusal_status Memory = 2
 refusal_status _ = 1
@@ -44,12 +44,12 @@ reply_of (Err (Room length)) = plain_reply 3 length
 reply_of (Err Argument) = plain_reply 4 0
 reply_of (Err Handle) = plain_reply 5 0
 
--- the reply to a call that tells a number
+-- the reply to a call that returns a number
 abbrev pub number_reply : Result ℕ Failure → Reply
 number_reply (Ok number) = record { status = 0; kind = 0; cause = 0; number = number; length = 0 }
 number_reply (Err failure) = reply_of (Err failure)
 
--- what comes next, as a number of C's
+-- the next turn, as a number of C's
 abbrev pub next_code : Next → ℕ
 next_code AskKdc = 0
 next_code SendToken = 1

@@ -36,7 +36,7 @@ ServesAs layers most context = do
   server ← Serves context layers most
   Gives (Server server)
 
--- all checks of one that becomes a client's, which wants the layer of this octet, and the end
+-- all checks of a context that becomes a client's, with the layer of this octet, and the end
 unfoldable pub WishesAs : ℕ → ℕ → List ℕ → Kerberos → Result SaslEnd SaslError → Type 0
 WishesAs octet most user context = do
   wanted ← Takes Layers (layer_of octet)
@@ -68,7 +68,7 @@ BecomesNot unfit makes from to (Room count) = ⊥
 BecomesNot unfit makes from to Argument = unfit
 BecomesNot unfit makes from to Handle = IsMisplaced from to
 
--- what an end gives, and the end after it: a server's offer
+-- the result of a call on an end, and the end after it: a server's offer
 pub record GivesOffer (before : SaslEnd) (token : List ℕ) (after : SaslEnd) : Type 0 where
   pub server : SaslServer
   pub was : before ≡ Server server
@@ -130,7 +130,7 @@ HasNoServer found = (server : SaslServer) → found ≡ Some (Server server) →
 abbrev pub HasNoClient : Option SaslEnd → Type 0
 HasNoClient found = (client : SaslClient) → found ≡ Some (Client client) → ⊥
 
--- octets of an end's go into the room
+-- octets of an end's go into the buffer
 pub record HandsOut (gives : SaslEnd → List ℕ → SaslEnd → Type 0) (old : Option SaslEnd) (room : List ℕ) (count : ℕ) (new : Option SaslEnd) (out : List ℕ) : Type 0 where
   pub before : SaslEnd
   pub after : SaslEnd
@@ -138,18 +138,18 @@ pub record HandsOut (gives : SaslEnd → List ℕ → SaslEnd → Type 0) (old :
   pub now : new ≡ Some after
   pub delivers : Delivers (λ octets. gives before octets after) room count out
 
--- the room is too short for octets that an end gives
+-- the buffer is too short for the octets that an end returns
 abbrev pub IsShortFor : (SaslEnd → List ℕ → SaslEnd → Type 0) → SaslEnd → ℕ → ℕ → Type 0
 IsShortFor gives before room count = IsShort (λ octets. (after : SaslEnd) × gives before octets after) room count
 
--- why an end hands nothing out
+-- why an end returns nothing
 abbrev pub EndHandsNot : Type 0 → (SaslEnd → SaslError → Type 0) → (SaslEnd → List ℕ → SaslEnd → Type 0) → SaslEnd → ℕ → SaslFailure → Type 0
 EndHandsNot absent refuses gives before room (Refused refusal) = refuses before refusal
 EndHandsNot absent refuses gives before room (Room count) = IsShortFor gives before room count
 EndHandsNot absent refuses gives before room Argument = ⊥
 EndHandsNot absent refuses gives before room Handle = absent
 
--- it is there, and refuses, or the room is too short for what it gives
+-- an end is there, and refuses, or the buffer is too short for its octets
 pub record EndRefuses (refuses : SaslEnd → SaslError → Type 0) (old : Option SaslEnd) (refusal : SaslError) : Type 0 where
   pub before : SaslEnd
   pub was : old ≡ Some before
@@ -160,14 +160,14 @@ pub record EndIsShort (gives : SaslEnd → List ℕ → SaslEnd → Type 0) (old
   pub was : old ≡ Some before
   pub is_short : IsShortFor gives before room count
 
--- why nothing of an end in its handle is handed out: an argument is unfit, no end for the call is there, it refuses, or the room is short
+-- why an end in its handle returns nothing: an argument is unfit, no end for the call is there, it refuses, or the buffer is too short
 abbrev pub HandsNot : Type 0 → Type 0 → (SaslEnd → SaslError → Type 0) → (SaslEnd → List ℕ → SaslEnd → Type 0) → Option SaslEnd → ℕ → SaslFailure → Type 0
 HandsNot unfit absent refuses gives old room (Refused refusal) = EndRefuses refuses old refusal
 HandsNot unfit absent refuses gives old room (Room count) = EndIsShort gives old room count
 HandsNot unfit absent refuses gives old room Argument = unfit
 HandsNot unfit absent refuses gives old room Handle = absent
 
--- what a token that is refused leaves of an end: where it is refused for what it says, the place of its number is kept
+-- the end after a token that is refused: if its text is refused, the place of its number is kept
 abbrev pub left_end : SaslFailure → List ℕ → SaslEnd → SaslEnd
 left_end (Refused refusal) token before = with_channel before (left_by refusal (channel_of before) token)
 left_end _ token before = before

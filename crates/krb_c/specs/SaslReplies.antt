@@ -1,4 +1,4 @@
--- What a call on an end with a security layer answers, as C has it.
+-- The reply to a call on an end with a security layer, as C has it.
 use Rattle.std.specs.Prelude.{ℕ, Result, Ok, Err}
 use Rattle.krb_c.specs.Replies.{plain_reply, reply_to}
 use Rattle.krb_c.specs.declared.reply.Reply.{Reply}
@@ -20,7 +20,7 @@ failure_of (RoomFault count) = Room count
 abbrev pub layer_reply : ℕ → Reply
 layer_reply number = record { status = 6; kind = 0; cause = 0; number = number; length = 0 }
 
--- the reply to a refusal: one of the context is told as the context's own
+-- the reply to a refusal: one of the context is returned as the context's own
 abbrev pub refusal_reply : SaslError → Reply
 refusal_reply Layers = layer_reply 1
 refusal_reply State = layer_reply 2

@@ -1,4 +1,4 @@
--- What the ticket of an admitted client says, by what the calls answer.
+-- The facts in the ticket of an admitted client, by the results of the calls.
 use Rattle.std.specs.Prelude.{◌≡◌, ℕ, List, length, ℤ, pos, Option, Some, None, option_map, option_and_then}
 use Rattle.krb_c.specs.declared.reply.Failure.{Failure}
 use Rattle.krb_c.specs.declared.reply.Failure.TheVariants.{Refused, Room, Argument, Handle}
@@ -10,7 +10,7 @@ use Rattle.krb_sessions.specs.Principals.{principal_text}
 use Rattle.sspi_core.specs.declared.cause.Cause.TheVariants.{Memory}
 use Rattle.sspi_core.specs.Kinds.{error_of}
 
--- who the client of a session is; an initiator's session has none
+-- the client of a session; an initiator's session has none
 abbrev pub client_in : Session → Option Client
 client_in session = option_map (λ client. client.value) session.client
 
@@ -21,36 +21,36 @@ client_of found = option_and_then client_in found
 abbrev pub IsPrincipal : Client → List ℕ → Type 0
 IsPrincipal client text = text ≡ principal_text client.name.name_string client.realm
 
--- why the name is not put into a room
+-- why the name is not put into a buffer
 abbrev pub PrincipalNot : Client → ℕ → Failure → Type 0
 PrincipalNot client room (Refused error) = error ≡ error_of Memory
 PrincipalNot client room (Room count) = IsShort (IsPrincipal client) room count
 PrincipalNot client room _ = ⊥
 
--- octets of the client's go into the room
+-- octets of the client's go into the buffer
 pub record Tells (gives : Client → List ℕ → Type 0) (session : Option Session) (room : List ℕ) (count : ℕ) (out : List ℕ) : Type 0 where
   pub client : Client
   pub known : client_of session ≡ Some client
   pub delivers : Delivers (gives client) room count out
 
--- the room is too short for them
+-- the buffer is too short for them
 pub record TellsShort (gives : Client → List ℕ → Type 0) (session : Option Session) (room count : ℕ) : Type 0 where
   pub client : Client
   pub known : client_of session ≡ Some client
   pub is_short : IsShort (gives client) room count
 
--- why they are not handed out
+-- why they are not returned
 abbrev pub TellsNot : (Client → List ℕ → Type 0) → Option Session → ℕ → Failure → Type 0
 TellsNot gives session room (Refused error) = error ≡ error_of Memory
 TellsNot gives session room (Room count) = TellsShort gives session room count
 TellsNot gives session room Argument = ⊥
 TellsNot gives session room Handle = client_of session ≡ None
 
--- the KRB-CRED by which the client handed on a ticket of its own (RFC 4121, section 4.1.1)
+-- the KRB-CRED with which the client delegated a ticket of its own (RFC 4121, section 4.1.1)
 abbrev pub IsHandedOn : Client → List ℕ → Type 0
 IsHandedOn client octets = octets ≡ client.delegation
 
--- why it is not handed out
+-- why it is not returned
 abbrev pub HandsOnNot : Option Session → ℕ → Failure → Type 0
 HandsOnNot session room (Refused error) = ⊥
 HandsOnNot session room (Room count) = TellsShort IsHandedOn session room count
@@ -70,7 +70,7 @@ times_of client = record {
   renew_till = or_time client.renew_till (pos 0);
 }
 
--- the times are told
+-- the times are returned
 pub record TellsTimes (session : Option Session) (count : ℕ) (out : Times) : Type 0 where
   pub client : Client
   pub known : client_of session ≡ Some client

@@ -1,4 +1,4 @@
--- Candidates that are shown and admitted where machines share a store.
+-- Candidates that are shown, and admitted if machines share a store.
 use Rattle.std.specs.Prelude.{◌≡◌, ℕ, ◌==◌, Bool, not, List, length, Option, Some, None}
 use Rattle.krb_admission.specs.Halves.{question}
 use Rattle.krb_c.specs.declared.reply.Failure.{Failure}
@@ -22,23 +22,23 @@ IsClientText candidate text = text ≡ principal_text candidate.judged.request.p
 abbrev pub IsServiceText : Candidate → List ℕ → Type 0
 IsServiceText candidate text = text ≡ principal_text candidate.judged.request.message.ticket.sname.name_string candidate.judged.request.message.ticket.realm
 
--- what a store keeps of the candidate
+-- the record of the candidate in a store
 abbrev pub IsStored : Candidate → List ℕ → Type 0
 IsStored candidate octets = octets ≡ record_octets (question candidate.judged).entry
 
--- octets of the candidate's go into the room
+-- octets of the candidate's go into the buffer
 pub record Shows (gives : Candidate → List ℕ → Type 0) (judged : Option Candidate) (room : List ℕ) (count : ℕ) (out : List ℕ) : Type 0 where
   pub candidate : Candidate
   pub was : judged ≡ Some candidate
   pub delivers : Delivers (gives candidate) room count out
 
--- the room is too short for them
+-- the buffer is too short for them
 pub record ShowsShort (gives : Candidate → List ℕ → Type 0) (judged : Option Candidate) (room count : ℕ) : Type 0 where
   pub candidate : Candidate
   pub was : judged ≡ Some candidate
   pub is_short : IsShort (gives candidate) room count
 
--- why they are not handed out
+-- why they are not returned
 abbrev pub ShowsNot : (Candidate → List ℕ → Type 0) → Option Candidate → ℕ → Failure → Type 0
 ShowsNot gives judged room (Refused error) = error ≡ error_of Memory
 ShowsNot gives judged room (Room count) = ShowsShort gives judged room count
@@ -61,7 +61,7 @@ pub record ToldInTo (judged : Option Candidate) (to : Option Session) (skew mome
   pub is_told_in : IsToldIn candidate (told_gate candidate.judged skew moment (is_set seen)) guest
   pub counted : count ≡ length guest.answer
 
--- it is turned away, by the clock, by what the store told, or by a check after them
+-- it is turned away, by the clock, by the store's answer, or by a check after them
 pub record TurnsTold (judged : Option Candidate) (to : Option Session) (skew moment seen : ℕ) (spent : Option Candidate) (error : Error) : Type 0 where
   pub candidate : Candidate
   pub was_judged : judged ≡ Some candidate

@@ -21,7 +21,7 @@ use krb_der::boxed;
 use krb_entrance::{Draw, Error, Service, Session};
 use std::alloc::Global;
 
-/// What one admission may use: microseconds since 1970-01-01T00:00:00Z, and 64 fresh random octets.
+/// The input of one admission: microseconds since 1970-01-01T00:00:00Z, and 64 fresh random bytes.
 #[repr(C)]
 #[derive(Clone, Copy)]
 pub struct Moment {
@@ -29,7 +29,7 @@ pub struct Moment {
     pub random: [u8; 64],
 }
 
-/// The session of the client that sent this token, in a box that is there before the token is looked at.
+/// Returns the session of the client that sent this token, in a box that is allocated before the token is read.
 fn admit(
     alloc: Global,
     service: &mut Service,
@@ -90,12 +90,13 @@ fn accept(
     accept_at(alloc, acceptor, to, token, &draw)
 }
 
-/// Admits the client that sent this token, and makes its session in the empty handle `to`: it has what the token said of the client, and
-/// no key of the acceptor's. The length is that of what goes back to the client, which `mk_session_answer` gives: 0 where the client asked
-/// for nothing.
+/// Admits the client that sent this token, and makes its session in the empty handle `to`: it has what the token said of the client,
+/// and no key of the acceptor's. The length is that of the reply to the client, which `mk_session_answer` returns: 0 if the client did
+/// not ask for mutual authentication.
 ///
-/// REFUSED says which check failed first, as `mk_judge` and then `mk_admit` say it. ARGUMENT where the moment is past the end of 9999-12-28; HANDLE where the acceptor
-/// is empty, or `to` is not. Then `to` stays empty. Where memory runs out no record is made, so the token may come again.
+/// Fails with REFUSED and the first check that failed, as `mk_judge` and then `mk_admit` have it; with ARGUMENT if the moment is past
+/// the end of 9999-12-28; with HANDLE if the acceptor is empty, or `to` is not. Then `to` stays empty. If memory runs out no record
+/// is made, so the token may be sent again.
 #[unsafe(no_mangle)]
 pub extern "C" fn mk_accept(
     alloc: Global,

@@ -58,10 +58,10 @@ fn make(
 }
 
 /// Makes an acceptor in an empty handle: a service with this name in UTF-8, as `host/server.example.com`, and its key of 16
-/// or 32 octets, whose one replay book takes clocks that are wrong by up to this many seconds.
+/// or 32 bytes, whose one replay book accepts clocks that are wrong by up to this many seconds.
 ///
-/// ARGUMENT where the name is not UTF-8 or the key has another length; HANDLE where the handle is not empty; InternalError
-/// NotAscii where the name is past ASCII. The handle stays empty then.
+/// Fails with ARGUMENT if the name is not UTF-8 or the key has another length; with HANDLE if the handle is not empty; with
+/// InternalError `NotAscii` if the name is not ASCII. The handle stays empty then.
 #[unsafe(no_mangle)]
 pub extern "C" fn mk_acceptor_new(
     alloc: Global,
@@ -115,10 +115,10 @@ fn add(alloc: Global, acceptor: &mut Acceptor, name: &[u8], key: &[u8]) -> Resul
     }
 }
 
-/// Gives the acceptor a further service with this name and key, as `mk_acceptor_new` takes them.
+/// Adds a further service with this name and key to the acceptor, as `mk_acceptor_new` takes them.
 ///
-/// A ticket is opened by the key of the name that it is for. Of two keys with one name the first is taken. A call that is
-/// not done leaves the acceptor.
+/// A ticket is decrypted with the key of the name that it is for. Of two keys with one name the first is used. A call that
+/// fails leaves the acceptor unchanged.
 #[unsafe(no_mangle)]
 pub extern "C" fn mk_acceptor_key(
     alloc: Global,
@@ -166,7 +166,7 @@ pub extern "C" fn mk_acceptor_reserve(
     reply_of(reserve(alloc, acceptor, records))
 }
 
-/// How many records of admitted clients are kept: 0 for an empty handle.
+/// Returns the number of records of admitted clients that are kept: 0 for an empty handle.
 #[unsafe(no_mangle)]
 pub extern "C" fn mk_acceptor_kept(alloc: Global, acceptor: &mut Acceptor) -> u64
     ensures kept { result ≡ kept_of acceptor.old.place.value }
@@ -198,10 +198,10 @@ fn begin_book(alloc: Global, acceptor: &mut Acceptor, skew: u32) -> Result<usize
     }
 }
 
-/// Begins a new book, which was asked nothing and has this skew, for a process whose clock was wrong: a book goes by the greatest moment
-/// that it was asked at. **All that was admitted can be admitted again**, as after a restart.
+/// Begins a new, empty book, which has this skew, for a process whose clock was wrong: a book uses the greatest moment that it was
+/// asked at. **All that was admitted can be admitted again**, as after a restart.
 ///
-/// What is not done leaves the acceptor.
+/// A call that fails leaves the acceptor unchanged.
 #[unsafe(no_mangle)]
 pub extern "C" fn mk_acceptor_new_book(alloc: Global, acceptor: &mut Acceptor, skew: u32) -> Reply
     ensures { (answer : Result ℕ Failure) × (result ≡ reply_of answer)
@@ -225,7 +225,7 @@ fn limit_tokens(alloc: Global, acceptor: &mut Acceptor, most: usize) -> Result<u
     Ok(0)
 }
 
-/// Sets how many octets a token may have: a longer one is refused as Shape, and not looked at. An acceptor begins with 65,536.
+/// Sets how many bytes a token may have: a longer one is refused as `Shape`, and not read. An acceptor begins with 65,536.
 #[unsafe(no_mangle)]
 pub extern "C" fn mk_acceptor_limit_tokens(
     alloc: Global,
@@ -240,7 +240,7 @@ pub extern "C" fn mk_acceptor_limit_tokens(
     reply_of(limit_tokens(alloc, acceptor, most))
 }
 
-/// Ends an acceptor: its memory is given back, and the handle is empty. An empty handle stays so.
+/// Ends an acceptor: its memory is freed, and the handle is empty. An empty handle stays so.
 #[unsafe(no_mangle)]
 pub extern "C" fn mk_acceptor_free(alloc: Global, acceptor: &mut Acceptor)
     ensures { acceptor.new.place.value ≡ None }

@@ -1,4 +1,4 @@
-//! What a client asked for, and the flags of its ticket.
+//! The flags that a client asked for, and the flags of its ticket.
 
 ghost use Rattle.std.specs.Prelude.{◌≡◌, ℕ, length, Some, None, Result, IfOk, IfErr, OnErr};
 ghost use Rattle.krb_c.specs.declared.reply.Failure.{Failure};
@@ -36,10 +36,10 @@ fn judged_flags(alloc: Global, judged: &mut Judgement) -> Result<u32, Failure>
     answer
 }
 
-/// The GSS flags that the client asked for, in the reply's number: octets 20 to 23 of its checksum, the lowest first (RFC 4121, section
-/// 4.1.1).
+/// Returns the GSS flags that the client asked for, in the reply's number: octets 20 to 23 of its checksum, the lowest first (RFC
+/// 4121, section 4.1.1).
 ///
-/// REFUSED as Checksum where its checksum has none.
+/// Fails with REFUSED as `Checksum` if its checksum has none.
 #[unsafe(no_mangle)]
 pub extern "C" fn mk_judged_flags(alloc: Global, judged: &mut Judgement) -> Reply
     ensures told { (answer : Result ℕ Failure) × (result ≡ number_reply answer)
@@ -76,7 +76,7 @@ fn session_flags(alloc: Global, session: &mut Connection) -> Result<u32, Failure
     answer
 }
 
-/// The GSS flags that the client asked for, as `mk_judged_flags` tells them. HANDLE for an initiator's session.
+/// Returns the GSS flags that the client asked for, as `mk_judged_flags` does. Fails with HANDLE for an initiator's session.
 #[unsafe(no_mangle)]
 pub extern "C" fn mk_session_flags(alloc: Global, session: &mut Connection) -> Reply
     ensures told { (answer : Result ℕ Failure) × (result ≡ number_reply answer)
@@ -87,7 +87,7 @@ pub extern "C" fn mk_session_flags(alloc: Global, session: &mut Connection) -> R
     number_reply(session_flags(alloc, session))
 }
 
-/// The first 32 flags of a bit string as a number, bit 0 the highest.
+/// Returns the first 32 flags of a bit string as a number, bit 0 the highest.
 fn flags_number(octets: &[u8]) -> u32
     ensures { result ≡ flags_number octets.now }
 {
@@ -123,8 +123,8 @@ fn session_ticket_flags(alloc: Global, session: &mut Connection) -> Result<u32, 
     answer
 }
 
-/// The flags of the client's ticket, in the reply's number: the first 32, bit 0 the highest (RFC 4120, section 5.3). HANDLE for an
-/// initiator's session.
+/// Returns the flags of the client's ticket, in the reply's number: the first 32, bit 0 the highest (RFC 4120, section 5.3). Fails
+/// with HANDLE for an initiator's session.
 #[unsafe(no_mangle)]
 pub extern "C" fn mk_session_ticket_flags(alloc: Global, session: &mut Connection) -> Reply
     ensures told { (answer : Result ℕ Failure) × (result ≡ number_reply answer)
@@ -160,8 +160,8 @@ fn judged_tag(alloc: Global, judged: &mut Judgement, out: &mut [u8]) -> Result<u
     answer
 }
 
-/// The last twelve octets of the sealed authenticator: two log-ins never share them but by chance, one in 2^96, and a replay has those
-/// of the first.
+/// Writes the last twelve bytes of the encrypted authenticator: two log-ins share them only by chance, one in 2^96, and a replay has
+/// those of the first.
 #[unsafe(no_mangle)]
 pub extern "C" fn mk_judged_tag(alloc: Global, judged: &mut Judgement, out: &mut [u8]) -> Reply
     ensures told { (answer : Result ℕ Failure) × (result ≡ reply_of answer)

@@ -6,7 +6,7 @@ ghost use Rattle.krb_c.specs.Codes.{kind_code, cause_code, number_of};
 
 use krb_entrance::{Cause, ErrorKind};
 
-/// The number of a kind.
+/// Returns the number of a kind.
 pub(crate) fn kind_code(kind: ErrorKind) -> u32
     ensures { result ≡ kind_code kind }
 {
@@ -41,7 +41,7 @@ pub(crate) fn kind_code(kind: ErrorKind) -> u32
     }
 }
 
-/// The number of a cause.
+/// Returns the number of a cause.
 pub(crate) fn cause_code(cause: Cause) -> u32
     ensures { result ≡ cause_code cause }
 {
@@ -112,7 +112,7 @@ pub(crate) fn cause_code(cause: Cause) -> u32
     }
 }
 
-/// The number that a cause has beside, and 0 where it has none.
+/// Returns the number that a cause carries, and 0 if it has none.
 pub(crate) fn number_of(cause: Cause) -> u32
     ensures { result ≡ number_of cause }
 {
@@ -123,7 +123,7 @@ pub(crate) fn number_of(cause: Cause) -> u32
     }
 }
 
-/// The kind with this number.
+/// Returns the kind with this number.
 pub(crate) fn kind_at(code: u32) -> Option<ErrorKind>
     ensures has { IfSome result (λ kind. kind_code kind ≡ code) }
     ensures none { IfNone result (HasNoKind code) }
@@ -160,7 +160,7 @@ pub(crate) fn kind_at(code: u32) -> Option<ErrorKind>
     }
 }
 
-/// A cause with this number.
+/// Returns a cause with this number.
 pub(crate) fn cause_at(code: u32) -> Option<Cause>
     ensures has { IfSome result (λ cause. cause_code cause ≡ code) }
     ensures none { IfNone result (HasNoCause code) }

@@ -43,7 +43,7 @@ fn copy(alloc: Global, acceptor: &mut Acceptor, to: &mut Acceptor) -> Result<usi
     }
 }
 
-/// Makes in an empty handle an acceptor with the same services, keys and limit, whose book was asked nothing: for another thread that
+/// Makes in an empty handle an acceptor with the same services, keys and limit, and an empty book: for another thread that
 /// calls `mk_judge` and `mk_judge_bound`. **`mk_accept` and `mk_admit` are for the first alone**: a copy's book admits again what the
 /// first's has admitted.
 #[unsafe(no_mangle)]

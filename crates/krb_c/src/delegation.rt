@@ -1,4 +1,4 @@
-//! The tickets that clients hand on.
+//! The tickets that clients delegate.
 
 ghost use Rattle.std.specs.Prelude.{◌≡◌, ℕ, length, Some, Result, IfOk, IfErr, OnErr};
 ghost use Rattle.krb_c.specs.declared.reply.Failure.{Failure};
@@ -41,8 +41,9 @@ fn judged_delegation(
     answer
 }
 
-/// Writes the KRB-CRED by which the client hands on a ticket of its own (RFC 4121, section 4.1.1; RFC 4120, section 5.8.1): no octets if it
-/// asked for no delegation, or its checksum has no whole one. It is not decrypted here. **The client is not admitted yet.**
+/// Writes the KRB-CRED with which the client delegates a ticket of its own (RFC 4121, section 4.1.1; RFC 4120, section 5.8.1): no
+/// bytes if it asked for no delegation, or its checksum has no whole one. It is not decrypted here. **The client is not admitted
+/// yet.**
 ///
 /// HANDLE: there is no candidate.
 #[unsafe(no_mangle)]
@@ -92,7 +93,7 @@ fn session_delegation(
     answer
 }
 
-/// Writes the KRB-CRED by which the client handed on a ticket of its own, as `mk_judged_get_delegation` does.
+/// Writes the KRB-CRED with which the client delegated a ticket of its own, as `mk_judged_get_delegation` does.
 ///
 /// HANDLE: there is no session, or it is one of an initiator.
 #[unsafe(no_mangle)]

@@ -1,4 +1,4 @@
-//! The token that tells a client why it is refused.
+//! The token that names to a client the cause of its refusal.
 
 ghost use Rattle.std.specs.Prelude.{◌≡◌, ℕ, Ok, length, Result, IfOk, IfErr, OnErr};
 ghost use Rattle.sspi_core.specs.declared.error.Place.TheVariants as places;
@@ -16,7 +16,7 @@ use krb_entrance::{Cause, Error, Octets, put};
 use krb_refusals::error_token;
 use std::alloc::Global;
 
-/// The token of this cause.
+/// Returns the token of this cause.
 fn token_of(
     alloc: Global,
     cause: Cause,
@@ -56,13 +56,15 @@ fn write_token(
     }
 }
 
-/// Writes the GSS token that tells a client why it is refused, a KRB-ERROR (RFC 4120, section 5.9.1), for the cause of a reply: its client
-/// prints it, as 'Clock skew too great'. The service is named as `host/server.example.com`, with its realm; the moment is the acceptor's.
-/// Skew, NotYet, Expired and Replayed have their own codes, and every other cause the general one. It is not protected: anybody can make it.
+/// Writes the GSS token that names to a client the cause of its refusal, a KRB-ERROR (RFC 4120, section 5.9.1), for the cause of a
+/// reply: its client prints it, as 'Clock skew too great'. The service is named as `host/server.example.com`, with its realm; the
+/// moment is the acceptor's. Skew, NotYet, Expired and Replayed have their own codes, and every other cause the general one. It is not
+/// protected: anybody can make it.
 ///
 /// # Errors
 /// ARGUMENT: no cause has the number, or a text is not UTF-8.
-/// REFUSED as Moment: the moment is after the end of 9999-12-28. As Room: a text has over 65,536 octets. As NotAscii: a text is not ASCII.
+/// REFUSED as Moment: the moment is after the end of 9999-12-28. As Room: a text has over 65,536 bytes. As NotAscii: a text is not
+/// ASCII.
 #[unsafe(no_mangle)]
 pub extern "C" fn mk_error_token(
     alloc: Global,

@@ -1,4 +1,4 @@
-//! What an initiator hands out.
+//! The bytes that an initiator returns.
 
 ghost use Rattle.std.specs.Prelude.{◌≡◌, ℕ, length, Result, IfOk, IfErr, OnErr};
 ghost use Rattle.krb_dialogue.specs.HandedOut.{url_in, payload_in, token_in, peer_in};
@@ -27,7 +27,7 @@ fn url(alloc: Global, initiator: &mut Initiator, out: &mut [u8]) -> Result<usize
     }
 }
 
-/// The URL of the KDC that is asked, as `tcp://kdc.example.com:88`. OutOfSequence Sequence where none is asked.
+/// Writes the URL of the KDC that is asked, as `tcp://kdc.example.com:88`. Fails with OutOfSequence `Sequence` if none is asked.
 #[unsafe(no_mangle)]
 pub extern "C" fn mk_initiator_url(
     alloc: Global,
@@ -60,7 +60,7 @@ fn request(alloc: Global, initiator: &mut Initiator, out: &mut [u8]) -> Result<u
     }
 }
 
-/// The octets that are sent there. OutOfSequence Sequence where no KDC is asked.
+/// Writes the bytes that are sent there. Fails with OutOfSequence `Sequence` if no KDC is asked.
 #[unsafe(no_mangle)]
 pub extern "C" fn mk_initiator_request(
     alloc: Global,
@@ -93,8 +93,8 @@ fn token(alloc: Global, initiator: &mut Initiator, out: &mut [u8]) -> Result<usi
     }
 }
 
-/// The token that goes to the service; no octets where nothing more is said. OutOfSequence Sequence where there is none. It stays until
-/// the next step.
+/// Writes the token for the service; no bytes if nothing more is sent. Fails with OutOfSequence `Sequence` if there is none. The token
+/// is kept until the next step.
 #[unsafe(no_mangle)]
 pub extern "C" fn mk_initiator_token(
     alloc: Global,
@@ -127,7 +127,8 @@ fn peer(alloc: Global, initiator: &mut Initiator, out: &mut [u8]) -> Result<usiz
     }
 }
 
-/// The service that has shown who it is, as `host/server.example.com`. OutOfSequence Sequence before the context is established.
+/// Writes the service that has proved its identity, as `host/server.example.com`. Fails with OutOfSequence `Sequence` before the
+/// context is established.
 #[unsafe(no_mangle)]
 pub extern "C" fn mk_initiator_peer(
     alloc: Global,

@@ -1,4 +1,4 @@
-//! An initiator: it is made, its session is handed over, and it ends.
+//! An initiator: it is made, its session is moved out of it, and it ends.
 
 ghost use Rattle.std.specs.Prelude.{◌≡◌, ◌≢◌, ◌⊎◌, ℕ, length, None, Result, IfOk, IfErr, OnErr};
 ghost use Rattle.std.specs.Int.{from_be_bytes, w32};
@@ -67,11 +67,11 @@ fn make(
     }
 }
 
-/// Makes in an empty handle an initiator at the machine of this name for a service, as `host/server.example.com`. The flags are bits of
-/// `ClientRequestFlags`, and the number has 4 random octets: it is the first sequence number of this end.
+/// Makes in an empty handle an initiator at the machine of this name for a service, as `host/server.example.com`. The flags are bits
+/// of `ClientRequestFlags`, and the number has 4 random bytes: it is the first sequence number of this end.
 ///
-/// ARGUMENT where a text is not UTF-8, or the number has not 4 octets; HANDLE where the handle is not empty; InternalError NotAscii
-/// where the service's name is past ASCII. The handle stays empty then.
+/// Fails with ARGUMENT if a text is not UTF-8, or the number has not 4 bytes; with HANDLE if the handle is not empty; with
+/// InternalError `NotAscii` if the service's name is not ASCII. The handle stays empty then.
 #[unsafe(no_mangle)]
 pub extern "C" fn mk_initiator_new(
     alloc: Global,
@@ -121,8 +121,8 @@ fn hand_over(
 
 /// Moves the session of an initiator that is established into the empty handle `to`. The initiator's handle is empty then.
 ///
-/// OutOfSequence Sequence where it is not established; HANDLE where there is no initiator, or `to` is not empty. Then nothing is
-/// changed.
+/// Fails with OutOfSequence `Sequence` if it is not established; with HANDLE if there is no initiator, or `to` is not empty. Then
+/// nothing is changed.
 #[unsafe(no_mangle)]
 pub extern "C" fn mk_initiator_session(
     alloc: Global,
@@ -139,7 +139,7 @@ pub extern "C" fn mk_initiator_session(
     reply_of(hand_over(alloc, initiator, to))
 }
 
-/// Ends an initiator: its memory is given back, and the handle is empty. An empty handle stays so.
+/// Ends an initiator: its memory is freed, and the handle is empty. An empty handle stays so.
 #[unsafe(no_mangle)]
 pub extern "C" fn mk_initiator_free(alloc: Global, initiator: &mut Initiator)
     ensures { initiator.new.place.value ≡ None }

@@ -23,7 +23,7 @@ use krb_der::{Text, boxed};
 use krb_entrance::{Candidate, Draw, Error, Octets, Order, Service, Session};
 use std::alloc::Global;
 
-/// A candidate in a box.
+/// Returns a candidate in a box.
 fn candidate_of(
     alloc: Global,
     service: &Service,
@@ -77,11 +77,12 @@ fn judge(
     judge_at(alloc, acceptor, to, token, &draw)
 }
 
-/// The first half of `mk_accept`: the checks before the book, with all their ciphers. It reads the acceptor's names and keys
-/// alone, so it may be given another acceptor than `mk_admit`: each thread one of its own with the same keys, and the one with
-/// the book under a lock. **Nobody is admitted yet.** What passed is in `to`, which is empty before.
+/// Does the first half of `mk_accept`: the checks before the book, with all their ciphers. It only reads the acceptor's names and
+/// keys, so it may be called with another acceptor than `mk_admit`: each thread one of its own with the same keys, and the one with
+/// the book under a lock. **Nobody is admitted yet.** The candidate is put into `to`, which is empty before.
 ///
-/// REFUSED says which check failed first. It takes AP-REQs alone. ARGUMENT and HANDLE as at `mk_accept`. Then `to` stays empty.
+/// Fails with REFUSED and the first check that failed. It takes AP-REQs alone. Fails with ARGUMENT and HANDLE as `mk_accept` does.
+/// Then `to` stays empty.
 #[unsafe(no_mangle)]
 pub extern "C" fn mk_judge(
     alloc: Global,
@@ -99,7 +100,7 @@ pub extern "C" fn mk_judge(
     reply_of(judge(alloc, acceptor, to, token, moment))
 }
 
-/// A session of nobody's.
+/// Returns a session without a peer.
 pub(crate) fn blank(alloc: Global) -> Session {
     let config = KerberosConfig {
         kdc_url: None,
@@ -113,7 +114,7 @@ pub(crate) fn blank(alloc: Global) -> Session {
     }
 }
 
-/// The session of the candidate, in a box that is there before the book is asked.
+/// Returns the session of the candidate, in a box that is allocated before the book is asked.
 fn let_in(
     alloc: Global,
     service: &mut Service,
@@ -161,11 +162,11 @@ fn admit_judged(
     Ok(count)
 }
 
-/// The second half: the book's question, which is short, and the checks after it. The session is made in the empty handle `to`, as
-/// `mk_accept` makes it. The candidate is spent, whether it is admitted or refused.
+/// Does the second half: the book's question, which is short, and the checks after it. The session is made in the empty handle `to`,
+/// as `mk_accept` makes it. The candidate is spent, whether it is admitted or refused.
 ///
-/// HANDLE where a handle is not as the call wants it: then nothing is changed. Where memory runs out no record is made, so the
-/// token may be judged again.
+/// Fails with HANDLE if a handle has the wrong content for the call: then nothing is changed. If memory runs out no record is made, so
+/// the token may be judged again.
 #[unsafe(no_mangle)]
 pub extern "C" fn mk_admit(
     alloc: Global,

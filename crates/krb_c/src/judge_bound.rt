@@ -1,4 +1,4 @@
-//! The first half of an admission of a client that is held to its channel.
+//! The first half of an admission of a client that is bound to its channel.
 
 ghost use Rattle.std.specs.Prelude.{◌≡◌, ◌⊎◌, ℕ, Some, Result, IfOk, IfErr, OnErr};
 ghost use Rattle.sspi_core.specs.declared.error.Place.TheVariants as places;
@@ -21,7 +21,7 @@ use krb_entrance::{
 };
 use std::alloc::Global;
 
-/// Bindings to the application's data alone.
+/// Returns bindings to the application's data alone.
 fn data_bindings(alloc: Global, octets: &[u8]) -> Result<ChannelBindings, OutOfMemory>
     ensures { IfOk result (λ bindings. bindings ≡ data_bindings octets.now) }
 {
@@ -34,7 +34,7 @@ fn data_bindings(alloc: Global, octets: &[u8]) -> Result<ChannelBindings, OutOfM
     })
 }
 
-/// The hash of a channel's bindings, where the data are not too long.
+/// Returns the hash of a channel's bindings, if the data are not too long.
 fn channel_of(alloc: Global, octets: &[u8]) -> Result<[u8; 16], Failure>
     ensures hash { IfOk result (λ hash. hash ≡ channel_of octets.now) }
     ensures fails { IfErr result (RefusedAs (IsLong octets.now) IsWant) }
@@ -49,7 +49,7 @@ fn channel_of(alloc: Global, octets: &[u8]) -> Result<[u8; 16], Failure>
     }
 }
 
-/// A candidate in a box.
+/// Returns a candidate in a box.
 fn boxed_candidate(
     alloc: Global,
     service: &Service,
@@ -64,7 +64,7 @@ fn boxed_candidate(
     Ok(boxed(alloc, candidate)?)
 }
 
-/// The candidate of a token, held to the channel that has these data.
+/// Returns the candidate of a token, bound to the channel that has these data.
 fn candidate_of(
     alloc: Global,
     service: &Service,
@@ -129,10 +129,11 @@ fn judge_bound(
     judge_at(alloc, acceptor, to, token, octets, &draw)
 }
 
-/// The first half as `mk_judge` has it, of a client that is held to its channel: the data are those that `mk_initiator_bind` takes.
+/// Does the first half as `mk_judge` does, of a client that is bound to its channel: the data are those that `mk_initiator_bind`
+/// takes.
 ///
-/// REFUSED says which check failed first: after those of `mk_judge` Checksum, where the client's checksum has no room for bindings, and
-/// Bindings, where it gave others, or none. ARGUMENT also where the data have over 2^24 octets.
+/// Fails with REFUSED and the first check that failed: after those of `mk_judge` with `Checksum`, if the client's checksum has no room
+/// for bindings, and with `Bindings`, if it sent others, or none. Fails with ARGUMENT also if the data have over 2^24 bytes.
 #[unsafe(no_mangle)]
 pub extern "C" fn mk_judge_bound(
     alloc: Global,

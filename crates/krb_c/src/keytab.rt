@@ -24,10 +24,10 @@ use krb_keytab::{Keytab, KeytabError};
 use krb_replay::ReplayBook;
 use std::alloc::Global;
 
-/// How many octets a token may have, unless the caller sets another limit.
+/// The number of bytes that a token may have, unless the caller sets another limit.
 const TOKEN_LIMIT: usize = 65_536;
 
-/// A realm's name, where it is ASCII.
+/// Returns a realm's name, if it is ASCII.
 fn realm_of(alloc: Global, realm: &[u8]) -> Result<Name, Failure>
     ensures realm { IfOk result (λ name. name ≡ realm.now) }
     ensures fails { IfErr result (RefusedAs (is_ascii realm.now ≡ false) IsWant) }
@@ -61,7 +61,7 @@ fn keytab_of(alloc: Global, file: &[u8]) -> Result<Keytab, Error>
     }
 }
 
-/// Properties with no key of their own.
+/// Returns properties with no key of their own.
 fn without_keys(alloc: Global, skew: u32) -> Result<ServerProperties, Error>
     ensures made { IfOk result (λ properties. properties ≡ new_properties [] None skew None) }
     ensures memory { IfErr result (λ error. error ≡ error_of causes.Memory) }
@@ -73,7 +73,7 @@ fn without_keys(alloc: Global, skew: u32) -> Result<ServerProperties, Error>
     }
 }
 
-/// Puts the keys of the realm into properties that have none, and tells how many they are.
+/// Puts the keys of the realm into properties that have none, and returns their number.
 fn install(
     alloc: Global,
     keytab: &Keytab,
@@ -90,7 +90,7 @@ fn install(
     }
 }
 
-/// A service whose book was asked nothing.
+/// Returns a service with an empty book.
 fn blank(alloc: Global, skew: u32) -> Result<Box<Service>, Error>
     ensures properties { IfOk result (λ service. service.value.keys.properties ≡ new_properties [] None skew None) }
     ensures limit { IfOk result (λ service. service.value.keys.token_limit ≡ token_limit) }
@@ -123,7 +123,7 @@ fn boxed_service(
     boxed(alloc, Service { keys, book })
 }
 
-/// The services of the realm that have a key in the keytab, and how many they are.
+/// Returns the services of the realm that have a key in the keytab, and their number.
 fn services_of(
     alloc: Global,
     keytab: &Keytab,
@@ -144,7 +144,7 @@ fn services_of(
     }
 }
 
-/// The services of the realm that have a key in the file.
+/// Returns the services of the realm that have a key in the file.
 fn services_in(
     alloc: Global,
     file: &[u8],
@@ -191,11 +191,12 @@ fn make(
     }
 }
 
-/// Makes an acceptor in an empty handle: all services of this realm that have a key in the octets of a keytab file, each with one
-/// key: of type 18, else 17, and of several the one of the greatest version. The length says how many they are.
+/// Makes an acceptor in an empty handle: all services of this realm that have a key in the bytes of a keytab file, each with one
+/// key: of type 18, otherwise 17, and of several the one of the greatest version. The length is the number of services.
 ///
-/// REFUSED as InvalidToken Shape where the octets are no keytab of the format 0502, and as InvalidToken NoServiceKey where no service of
-/// the realm has a key. ARGUMENT where the realm is past ASCII; HANDLE where the handle is not empty. It stays empty then.
+/// Fails with REFUSED as InvalidToken `Shape` if the bytes are no keytab of the format 0502, and as InvalidToken `NoServiceKey` if no
+/// service of the realm has a key; with ARGUMENT if the realm is not ASCII; with HANDLE if the handle is not empty. It stays empty
+/// then.
 #[unsafe(no_mangle)]
 pub extern "C" fn mk_acceptor_keytab(
     alloc: Global,

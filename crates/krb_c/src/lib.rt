@@ -1,7 +1,7 @@
 //! The acceptor and the initiator for programs in C and in Rust: the exports of a static library.
 //!
-//! A program keeps handles, each of 16 octets that are 0 at first, and hands them to one call at a time. Nothing is required of
-//! a call beyond what its types say: each tests what it is given. What crosses is written in `menolavuri.h`.
+//! A program keeps handles, each of 16 bytes that are 0 at first, and passes each to one call at a time. Nothing is required of
+//! a call beyond what its types say: each checks its arguments. `menolavuri.h` declares the interface.
 #![tactic(auto)]
 
 mod accept;

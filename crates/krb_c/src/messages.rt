@@ -36,8 +36,7 @@ fn answer(alloc: Global, session: &mut Connection, out: &mut [u8]) -> Result<usi
     }
 }
 
-/// What goes back to the client: an AP-REP where it asked for mutual authentication, and else no octets. It can be asked for
-/// again.
+/// Writes the reply to the client: an AP-REP if it asked for mutual authentication, otherwise no bytes. The call can be repeated.
 #[unsafe(no_mangle)]
 pub extern "C" fn mk_session_answer(
     alloc: Global,
@@ -74,8 +73,9 @@ fn peer(alloc: Global, session: &mut Connection, out: &mut [u8]) -> Result<usize
     }
 }
 
-/// A short name of the client, in UTF-8: `alice@example.com`, its one component and the realm in small letters. REFUSED as NoIdentity
-/// where it has none: only a name of type 1 and one component has one. **Rights are given by `mk_session_client` alone.**
+/// Writes a short name of the client, in UTF-8: `alice@example.com`, its one component and the realm in small letters. Fails with
+/// REFUSED as `NoIdentity` if it has none: only a name of type 1 and one component has one. **Rights are given by `mk_session_client`
+/// alone.**
 #[unsafe(no_mangle)]
 pub extern "C" fn mk_session_peer(alloc: Global, session: &mut Connection, out: &mut [u8]) -> Reply
     ensures { (answer : Result ℕ Failure) × (result ≡ reply_of answer)
@@ -113,8 +113,8 @@ fn wrap(
     Ok(answer?)
 }
 
-/// Seals a text for the client, with 16 fresh random octets: the token, which `gss_unwrap` opens, is 60 octets longer.
-/// ARGUMENT where the confounder has not 16 octets. What is not done leaves the session.
+/// Encrypts a text for the peer, with 16 fresh random bytes: the token, which `gss_unwrap` decrypts, is 60 bytes longer.
+/// Fails with ARGUMENT if the confounder has not 16 bytes. A call that fails leaves the session unchanged.
 #[unsafe(no_mangle)]
 pub extern "C" fn mk_wrap(
     alloc: Global,
@@ -156,7 +156,7 @@ fn wrap_in_clear(
     Ok(answer?)
 }
 
-/// A token for the client with the text in the clear and a checksum, which `gss_unwrap` opens: it is 28 octets longer.
+/// Writes a token for the peer with the text in the clear and a checksum, which `gss_unwrap` reads: it is 28 bytes longer.
 #[unsafe(no_mangle)]
 pub extern "C" fn mk_wrap_in_clear(
     alloc: Global,
@@ -196,8 +196,8 @@ fn unwrap(
     Ok(answer?)
 }
 
-/// The text of a token that the client's `gss_wrap` made, sealed or in the clear: room for as many octets as the token has is
-/// enough. Each token is opened once, in any order within a window of 64. What is not done leaves the session.
+/// Writes the text of a token that the peer's `gss_wrap` made, encrypted or in the clear: a buffer of the token's length is
+/// enough. Each token is accepted once, in any order within a window of 64. A call that fails leaves the session unchanged.
 #[unsafe(no_mangle)]
 pub extern "C" fn mk_unwrap(
     alloc: Global,
@@ -237,7 +237,7 @@ fn mic(
     Ok(answer?)
 }
 
-/// A MIC token over a payload, for the client's `gss_verify_mic`: 28 octets.
+/// Writes a MIC token over a payload, for the peer's `gss_verify_mic`: 28 bytes.
 #[unsafe(no_mangle)]
 pub extern "C" fn mk_mic(
     alloc: Global,
@@ -277,8 +277,8 @@ fn verify(
     }
 }
 
-/// OK exactly where the token is a MIC token over this payload that the client's `gss_get_mic` made and, in a session that takes messages
-/// in order, the next token. Else its number is not looked at: the same one verifies again.
+/// Returns OK exactly if the token is a MIC token over this payload that the peer's `gss_get_mic` made and, in a session that accepts
+/// messages in order, the next token. Otherwise its number is not checked: the same one verifies again.
 #[unsafe(no_mangle)]
 pub extern "C" fn mk_verify(
     alloc: Global,
@@ -294,7 +294,7 @@ pub extern "C" fn mk_verify(
     reply_of(verify(alloc, session, token, payload))
 }
 
-/// Ends a session: its memory is given back, and the handle is empty. An empty handle stays so.
+/// Ends a session: its memory is freed, and the handle is empty. An empty handle stays so.
 #[unsafe(no_mangle)]
 pub extern "C" fn mk_session_free(alloc: Global, session: &mut Connection)
     ensures { session.new.place.value ≡ None }

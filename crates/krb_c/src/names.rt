@@ -22,7 +22,7 @@ fn kind_name(kind: u32, out: &mut [u8]) -> Result<usize, Failure>
     Ok(put(out, kind.name().as_bytes())?)
 }
 
-/// The name of a kind, as `InvalidToken`, by its number in a reply. ARGUMENT where no kind has the number.
+/// Writes the name of a kind, as `InvalidToken`, by its number in a reply. Fails with ARGUMENT if no kind has the number.
 #[unsafe(no_mangle)]
 pub extern "C" fn mk_kind_name(kind: u32, out: &mut [u8]) -> Reply
     ensures { (answer : Result ℕ Failure) × (result ≡ reply_of answer)
@@ -44,7 +44,7 @@ fn cause_name(cause: u32, out: &mut [u8]) -> Result<usize, Failure>
     Ok(put(out, cause.name().as_bytes())?)
 }
 
-/// The name of a cause, as `Replayed`, by its number in a reply. ARGUMENT where no cause has the number.
+/// Writes the name of a cause, as `Replayed`, by its number in a reply. Fails with ARGUMENT if no cause has the number.
 #[unsafe(no_mangle)]
 pub extern "C" fn mk_cause_name(cause: u32, out: &mut [u8]) -> Reply
     ensures { (answer : Result ℕ Failure) × (result ≡ reply_of answer)
@@ -63,7 +63,7 @@ fn version(out: &mut [u8]) -> Result<usize, Failure>
     Ok(put(out, "0.1.0".as_bytes())?)
 }
 
-/// The version of this library, as `0.1.0`.
+/// Writes the version of this library, as `0.1.0`.
 #[unsafe(no_mangle)]
 pub extern "C" fn mk_version(out: &mut [u8]) -> Reply
     ensures { (answer : Result ℕ Failure) × (result ≡ reply_of answer)

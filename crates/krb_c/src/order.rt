@@ -27,9 +27,9 @@ fn set_order(alloc: Global, session: &mut Connection, in_order: u32) -> Result<u
     Ok(0)
 }
 
-/// Sets the order in which the session takes its peer's messages and MIC tokens. 0: in any order within the window of 64, as a new session
-/// does. Otherwise each must have the number after the one before it (RFC 2743, section 1.2.3): the first that of the client's token at an
-/// acceptor's session, and any number at an initiator's. A message with another number is refused as Number.
+/// Sets the order in which the session accepts its peer's messages and MIC tokens. 0: in any order within the window of 64, as a new
+/// session does. Otherwise each must have the number after the one before it (RFC 2743, section 1.2.3): the first that of the client's
+/// token at an acceptor's session, and any number at an initiator's. A message with another number is refused as `Number`.
 ///
 /// HANDLE: there is no session.
 #[unsafe(no_mangle)]

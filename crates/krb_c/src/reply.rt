@@ -1,4 +1,4 @@
-//! What a call answers.
+//! The reply to a call.
 
 ghost use Rattle.std.specs.Prelude.{◌≡◌};
 ghost use Rattle.krb_c.specs.Replies.{reply_of, reply_to, plain_reply, number_reply, next_code, step_reply};
@@ -7,7 +7,7 @@ use crate::codes::{cause_code, kind_code, number_of};
 use krb_dialogue::Next;
 use krb_entrance::{Cause, Error, Fault};
 
-/// What a call answers: a status, of a refusal its kind and cause, and the length of what was written or is wanted.
+/// The reply to a call: a status, the kind and cause of a refusal, and the length of the bytes that were written or are needed.
 #[repr(C)]
 #[derive(Clone, Copy, Debug, PartialEq, Eq)]
 pub struct Reply {
@@ -18,16 +18,16 @@ pub struct Reply {
     pub length: usize,
 }
 
-/// Why a call was not done.
+/// Why a call failed.
 #[derive(Clone, Copy, Debug, PartialEq, Eq)]
 pub enum Failure {
-    /// The library refuses it.
+    /// The library refused it.
     Refused(Error),
-    /// The room is shorter than this many octets, which the call has to put into it.
+    /// The buffer is shorter than this many bytes, which the call has to put into it.
     Room(usize),
-    /// An argument has a value that it may not have.
+    /// An argument has a value that is not allowed.
     Argument,
-    /// The handle is empty where the call wants one of its kind, or holds something where the call wants an empty one.
+    /// The handle is empty if the call needs one of its kind, or holds something if the call needs an empty one.
     Handle,
 }
 
@@ -54,22 +54,22 @@ impl From<Fault> for Failure {
     }
 }
 
-/// The call was done.
+/// The call succeeded.
 const DONE: u32 = 0;
 
-/// It is refused.
+/// The library refused the call.
 const REFUSED: u32 = 1;
 
 /// Memory ran out.
 const MEMORY: u32 = 2;
 
-/// The room is too short.
+/// The buffer is too short.
 const ROOM: u32 = 3;
 
-/// An argument has a value that it may not have.
+/// An argument has a value that is not allowed.
 const ARGUMENT: u32 = 4;
 
-/// The handle is not as the call wants it.
+/// The handle has the wrong content for the call.
 const HANDLE: u32 = 5;
 
 fn plain_reply(status: u32, length: usize) -> Reply
@@ -100,7 +100,7 @@ fn reply_to(error: Error) -> Reply
     }
 }
 
-/// The answer as C has it.
+/// Returns the reply to a call, as C has it.
 pub(crate) fn reply_of(answer: Result<usize, Failure>) -> Reply
     ensures { result ≡ reply_of answer }
 {
@@ -113,7 +113,7 @@ pub(crate) fn reply_of(answer: Result<usize, Failure>) -> Reply
     }
 }
 
-/// The answer that is a number, as C has it.
+/// Returns the reply to a call that returns a number, as C has it.
 pub(crate) fn number_reply(answer: Result<u32, Failure>) -> Reply
     ensures { result ≡ number_reply answer }
 {
@@ -129,7 +129,7 @@ pub(crate) fn number_reply(answer: Result<u32, Failure>) -> Reply
     }
 }
 
-/// What comes next, as C has it.
+/// Returns the number of the next turn, as C has it.
 fn next_code(next: Next) -> u32
     ensures { result ≡ next_code next }
 {
@@ -140,7 +140,7 @@ fn next_code(next: Next) -> u32
     }
 }
 
-/// The answer to a step as C has it.
+/// Returns the reply to a step, as C has it.
 pub(crate) fn step_reply(answer: Result<Next, Failure>) -> Reply
     ensures { result ≡ step_reply answer }
 {

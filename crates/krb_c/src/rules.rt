@@ -17,7 +17,7 @@ use std::alloc::Global;
 /// All rules that there are.
 const ALL_RULES: u32 = 0x1f_0fff;
 
-/// The rules of these bits, where each names one.
+/// Returns the rules of these bits, if each bit names one.
 fn rules_of(bits: u32) -> Result<Rules, Failure>
     ensures same { IfOk result (λ rules. rules ≡ rules_from bits) }
     ensures known { OnOk result (knows bits ≡ true) }
@@ -44,8 +44,8 @@ fn set_session_rules(alloc: Global, session: &mut Connection, rules: u32) -> Res
     Ok(0)
 }
 
-/// Sets the rules of a session: these bits of `Rules`, and no others. ARGUMENT where a bit names no rule. What is not done leaves
-/// the session.
+/// Sets the rules of a session: these bits of `Rules`, and no others. Fails with ARGUMENT if a bit names no rule. A call that fails
+/// leaves the session unchanged.
 #[unsafe(no_mangle)]
 pub extern "C" fn mk_session_set_rules(alloc: Global, session: &mut Connection, rules: u32) -> Reply
     ensures { (answer : Result ℕ Failure) × (result ≡ reply_of answer)
@@ -74,8 +74,8 @@ fn set_initiator_rules(
     Ok(0)
 }
 
-/// Sets the rules of an initiator, and of the session that it makes: these bits of `Rules`, and no others. ARGUMENT where a bit names
-/// no rule.
+/// Sets the rules of an initiator, and of the session that it makes: these bits of `Rules`, and no others. Fails with ARGUMENT if a
+/// bit names no rule.
 #[unsafe(no_mangle)]
 pub extern "C" fn mk_initiator_set_rules(
     alloc: Global,

@@ -20,7 +20,7 @@ use krb_der::{TryCopy, boxed};
 use krb_sasl::{Layer, SaslClient, SaslError, SaslServer};
 use std::alloc::Global;
 
-/// The end of a server on a copy of the context.
+/// Returns the end of a server on a copy of the context.
 fn server_of(
     alloc: Global,
     context: &Kerberos,
@@ -39,7 +39,7 @@ fn server_of(
     }
 }
 
-/// The layer of an octet.
+/// Returns the layer of an octet.
 fn layer_of(octet: u32) -> Result<Layer, SaslError>
     ensures { Takes refusals.Layers (layer_of octet) result }
 {
@@ -51,7 +51,7 @@ fn layer_of(octet: u32) -> Result<Layer, SaslError>
     }
 }
 
-/// The end of a client on a copy of the context.
+/// Returns the end of a client on a copy of the context.
 fn client_of(
     alloc: Global,
     context: &Kerberos,
@@ -110,10 +110,11 @@ fn server(
 }
 
 /// Makes in the empty handle `to` a server's end of a session that is established: it offers these layers, the sum of 1 (none), 2
-/// (integrity) and 4 (confidentiality), and receives messages of `most` octets at most. The session's handle is empty then.
+/// (integrity) and 4 (confidentiality), and receives messages of `most` bytes at most. The session's handle is empty then.
 ///
-/// MK_SASL with 1 where there are none or others, where `most` is 2^24 or more, and where no layer alone is offered with a size; with 2
-/// where the session is not established; HANDLE where there is no session, or `to` is not empty. Then nothing is changed.
+/// Fails with MK_SASL and 1 if there are no layers or unknown ones, if `most` is 2^24 or more, and if no layer alone is offered with a
+/// size; with MK_SASL and 2 if the session is not established; with HANDLE if there is no session, or `to` is not empty. Then nothing
+/// is changed.
 #[unsafe(no_mangle)]
 pub extern "C" fn mk_sasl_server(
     alloc: Global,
@@ -169,13 +170,13 @@ fn client(
     }
 }
 
-/// Makes in the empty handle `to` a client's end of a session that is established: it wants this layer, 1 (none), 2 (integrity) or 4
-/// (confidentiality), receives messages of `most` octets at most, and speaks for the user of this name, which may be empty. The session's
+/// Makes in the empty handle `to` a client's end of a session that is established: it chooses this layer, 1 (none), 2 (integrity) or 4
+/// (confidentiality), receives messages of `most` bytes at most, and its user has this name, which may be empty. The session's
 /// handle is empty then.
 ///
-/// MK_SASL with 1 where the layer is another, where `most` is 2^24 or more, and where no layer is wanted with a size; with 2 where the
-/// session is not established; ARGUMENT where the name is not UTF-8; HANDLE where there is no session, or `to` is not empty. Then nothing
-/// is changed.
+/// Fails with MK_SASL and 1 if the layer is another, if `most` is 2^24 or more, and if no layer is chosen with a size; with MK_SASL
+/// and 2 if the session is not established; with ARGUMENT if the name is not UTF-8; with HANDLE if there is no session, or `to` is
+/// not empty. Then nothing is changed.
 #[unsafe(no_mangle)]
 pub extern "C" fn mk_sasl_client(
     alloc: Global,
@@ -195,7 +196,7 @@ pub extern "C" fn mk_sasl_client(
     sasl_reply(client(alloc, from, to, layer, most, user))
 }
 
-/// Ends an end: its memory is given back, and the handle is empty. An empty handle stays so.
+/// Frees an end and its memory. The handle is empty then, and an empty one stays so.
 #[unsafe(no_mangle)]
 pub extern "C" fn mk_sasl_free(alloc: Global, sasl: &mut Sasl)
     ensures { sasl.new.place.value ≡ None }

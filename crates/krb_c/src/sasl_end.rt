@@ -27,7 +27,7 @@ use crate::sasl_reply::SaslFailure;
 use krb_sasl::{SaslClient, SaslFault, SaslServer};
 use std::alloc::Global;
 
-/// An end that offers or accepts a layer, and what goes through it then.
+/// An end that offers or accepts a layer, and then wraps and unwraps data.
 #[derive(Drop)]
 pub enum SaslEnd {
     Server(SaslServer),
@@ -35,7 +35,7 @@ pub enum SaslEnd {
 }
 
 impl SaslEnd {
-    /// The token of a server's offer.
+    /// Puts the token of a server's offer into `out`.
     pub(crate) fn offer(&mut self, alloc: Global, out: &mut [u8]) -> Result<usize, SaslFailure>
         ensures gives { IfOk result (λ count. Delivers (λ token. GivesOffer self.old token self.new) out.old count out.new) }
         ensures fails { IfErr result (EndHandsNot (HasNoServer (Some self.old)) RefusesOffer GivesOffer self.old (length out.old)) }
@@ -51,7 +51,7 @@ impl SaslEnd {
         }
     }
 
-    /// The user's name in the answer that a server accepts.
+    /// Puts the user's name in the answer that a server accepts into `out`.
     pub(crate) fn accept(
         &mut self,
         alloc: Global,
@@ -72,7 +72,7 @@ impl SaslEnd {
         }
     }
 
-    /// The token of a client's answer to an offer.
+    /// Puts the token of a client's answer to an offer into `out`.
     pub(crate) fn answer(
         &mut self,
         alloc: Global,
@@ -93,7 +93,7 @@ impl SaslEnd {
         }
     }
 
-    /// The frame of data, as the end answers it.
+    /// Puts the frame of data into `out`, and fails with the end's own errors.
     fn seal_to(
         &mut self,
         alloc: Global,
@@ -114,7 +114,7 @@ impl SaslEnd {
         }
     }
 
-    /// The frame of data.
+    /// Puts the frame of data into `out`.
     pub(crate) fn seal(
         &mut self,
         alloc: Global,
@@ -133,7 +133,7 @@ impl SaslEnd {
         }
     }
 
-    /// The data of a frame, as the end answers them.
+    /// Puts the data of a frame into `out`, and fails with the end's own errors.
     fn unseal_to(&mut self, alloc: Global, frame: &[u8], out: &mut [u8]) -> Result<usize, SaslFault>
         ensures gives { IfOk result (λ count. Delivers (λ plain. Unseals (channel_of self.old) frame.now (Ok plain)) out.old count out.new) }
         ensures after { OnOk result (self.new ≡ with_channel self.old (unsealed_by (channel_of self.old) frame.now)) }
@@ -148,7 +148,7 @@ impl SaslEnd {
         }
     }
 
-    /// The data of a frame.
+    /// Puts the data of a frame into `out`.
     pub(crate) fn unseal(
         &mut self,
         alloc: Global,

@@ -1,4 +1,4 @@
-//! What goes through a security layer.
+//! The data of a security layer.
 
 ghost use Rattle.std.specs.Prelude.{◌≡◌, ◌≢◌, ℕ, length, None, Result, IfOk, IfErr, OnErr};
 ghost use Rattle.krb_c.specs.declared.sasl_reply.SaslFailure.{SaslFailure};
@@ -35,11 +35,11 @@ fn seal(
     answer
 }
 
-/// Seals data into a frame, with 16 fresh random octets: four octets of length, and the message, as it goes to the peer.
+/// Wraps data into a frame, with 16 fresh random bytes: four bytes of length, and the message, as it is sent to the peer.
 ///
-/// ARGUMENT where the confounder has not 16 octets; MK_SASL with 2 before a layer is agreed on, and with 5 where the message would be
-/// longer than the peer receives, or without a layer the data have 2^24 octets or more; what the session refuses is told as its own;
-/// HANDLE where there is no end. What is not done leaves the end.
+/// Fails with ARGUMENT if the confounder has not 16 bytes; with MK_SASL and 2 before a layer is agreed on, and with MK_SASL and 5 if
+/// the message would be longer than the peer receives, or without a layer the data have 2^24 bytes or more; with the session's own
+/// error if the session fails; with HANDLE if there is no end. A call that fails leaves the end unchanged.
 #[unsafe(no_mangle)]
 pub extern "C" fn mk_sasl_seal(
     alloc: Global,
@@ -78,12 +78,12 @@ fn unseal(
     answer
 }
 
-/// The data of a frame that the peer sealed, which is passed whole, with its length of four octets in front: room for as many octets as
-/// it has is enough. Each frame of a layer is opened once.
+/// Writes the data of a frame from the peer, which is passed whole, with its length of four bytes first: a buffer of the frame's
+/// length is enough. Each frame of a layer is accepted once.
 ///
-/// MK_SASL with 2 before a layer is agreed on, with 6 where the octets are not one frame, or not of the layer, and with 5 where its message
-/// is longer than this end receives, or without a layer has 2^24 octets or more; what the session refuses is told as its own; HANDLE where
-/// there is no end. What is not done leaves the end.
+/// Fails with MK_SASL and 2 before a layer is agreed on, with MK_SASL and 6 if the bytes are not one frame, or not of the layer, and
+/// with MK_SASL and 5 if its message is longer than this end receives, or without a layer has 2^24 bytes or more; with the session's
+/// own error if the session fails; with HANDLE if there is no end. A call that fails leaves the end unchanged.
 #[unsafe(no_mangle)]
 pub extern "C" fn mk_sasl_unseal(
     alloc: Global,

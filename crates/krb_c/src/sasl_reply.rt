@@ -1,4 +1,4 @@
-//! What a call on an end with a security layer answers.
+//! The reply to a call on an end with a security layer.
 
 ghost use Rattle.std.specs.Prelude.{◌≡◌};
 ghost use Rattle.krb_c.specs.SaslReplies.{layer_reply, refusal_reply, sasl_reply};
@@ -7,16 +7,16 @@ use crate::reply::{Failure, Reply, reply_of};
 use krb_entrance::{Cause, Error};
 use krb_sasl::{SaslError, SaslFault};
 
-/// Why a call on an end was not done.
+/// Why a call on an end failed.
 #[derive(Clone, Copy, Debug, PartialEq, Eq)]
 pub enum SaslFailure {
-    /// The end refuses it.
+    /// The end refused it.
     Refused(SaslError),
-    /// The room is shorter than this many octets, which the call has to put into it.
+    /// The buffer is shorter than this many bytes, which the call has to put into it.
     Room(usize),
-    /// An argument has a value that it may not have.
+    /// An argument has a value that is not allowed.
     Argument,
-    /// The handle has no end for the call, or holds something where the call wants an empty one.
+    /// The handle has no end for the call, or holds something if the call needs an empty one.
     Handle,
 }
 
@@ -33,7 +33,7 @@ impl From<SaslFault> for SaslFailure {
     }
 }
 
-/// It is refused by the rules of the layers.
+/// The rules of the layers refused the call.
 const LAYERS: u32 = 6;
 
 fn layer_reply(number: u32) -> Reply
@@ -63,7 +63,7 @@ fn refusal_reply(refusal: SaslError) -> Reply
     }
 }
 
-/// The answer as C has it.
+/// Returns the reply to a call, as C has it.
 pub(crate) fn sasl_reply(answer: Result<usize, SaslFailure>) -> Reply
     ensures { result ≡ sasl_reply answer }
 {

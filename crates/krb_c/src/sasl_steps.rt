@@ -37,10 +37,10 @@ fn offer(alloc: Global, sasl: &mut Sasl, out: &mut [u8]) -> Result<usize, SaslFa
     answer
 }
 
-/// The token of a server's offer, which goes to the client: 32 octets.
+/// Writes the token of a server's offer, which is sent to the client: 32 bytes.
 ///
-/// MK_SASL with 2 where it was given before; what the session refuses is told as its own; HANDLE where there is no server. What is not
-/// done leaves the server.
+/// Fails with MK_SASL and 2 if it was given before; with the session's own error if the session fails; with HANDLE if there is no
+/// server. A call that fails leaves the server unchanged.
 #[unsafe(no_mangle)]
 pub extern "C" fn mk_sasl_offer(alloc: Global, sasl: &mut Sasl, out: &mut [u8]) -> Reply
     ensures { (answer : Result ℕ SaslFailure) × (result ≡ sasl_reply answer)
@@ -73,13 +73,14 @@ fn accept(
     answer
 }
 
-/// Agrees on the layer that the client's answer chooses, and hands out the name of the user for whom the client wants to act, in UTF-8:
-/// no octets where it is the client itself. **Whether the client may act for that user is the caller's to decide**, by `mk_session_peer`
+/// Agrees on the layer that the client's answer chooses, and writes the name of the user for whom the client asks to act, in UTF-8:
+/// no bytes if it is the client itself. **The caller must decide whether the client may act for that user**, by `mk_session_peer`
 /// of the session before.
 ///
-/// MK_SASL with 2 before the offer and after an answer was accepted, with 3 where the text is under four octets or the name is not in
-/// UTF-8, and with 4 where it does not choose one offered layer, or no layer with a size; what the session refuses is told as its own;
-/// HANDLE where there is no server. What is not done leaves the server, save that after 3 and 4 the same token is not opened again.
+/// Fails with MK_SASL and 2 before the offer and after an answer was accepted, with MK_SASL and 3 if the text is under four bytes or
+/// the name is not in UTF-8, and with MK_SASL and 4 if it does not choose one offered layer, or no layer with a size; with the
+/// session's own error if the session fails; with HANDLE if there is no server. A call that fails leaves the server unchanged,
+/// except that after 3 and 4 the same token is not decrypted again.
 #[unsafe(no_mangle)]
 pub extern "C" fn mk_sasl_accept(
     alloc: Global,
@@ -117,11 +118,12 @@ fn answer(
     answer
 }
 
-/// The token of a client's answer to the server's offer, which goes to the server.
+/// Writes the token of a client's answer to the server's offer, which is sent to the server.
 ///
-/// MK_SASL with 2 where one was given before, with 3 where the offer has not four octets, and with 4 where the layer is not offered, or no
-/// layer alone with a size; what the session refuses is told as its own; HANDLE where there is no client. What is not done leaves the
-/// client, save that after 3 and 4 the same offer is not opened again.
+/// Fails with MK_SASL and 2 if an answer was given before, with MK_SASL and 3 if the offer has not four bytes, and with MK_SASL and
+/// 4 if the layer is not offered, or no layer alone with a size; with the session's own error if the session fails; with HANDLE if
+/// there is no client. A call that fails leaves the client unchanged, except that after 3 and 4 the same offer is not decrypted
+/// again.
 #[unsafe(no_mangle)]
 pub extern "C" fn mk_sasl_answer(
     alloc: Global,

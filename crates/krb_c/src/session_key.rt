@@ -33,8 +33,9 @@ fn session_key(alloc: Global, session: &mut Connection, out: &mut [u8]) -> Resul
     }
 }
 
-/// The key of the session's messages, for what a program seals by itself: the one that an end chose, and else the ticket's. It has
-/// 32 octets where its encryption type is 18 and 16 where it is 17 (RFC 3962). **Whoever has it reads all messages of the session.**
+/// Writes the key of the session's messages, for data that a program encrypts by itself: the subkey that an end chose, otherwise the
+/// ticket's session key. It has 32 bytes if its encryption type is 18 and 16 if it is 17 (RFC 3962). **Whoever has it reads all
+/// messages of the session.**
 #[unsafe(no_mangle)]
 pub extern "C" fn mk_session_key(alloc: Global, session: &mut Connection, out: &mut [u8]) -> Reply
     ensures { (answer : Result ℕ Failure) × (result ≡ reply_of answer)

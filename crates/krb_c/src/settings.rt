@@ -1,4 +1,4 @@
-//! What an initiator is about: who asks, and where KDCs are.
+//! The settings of an initiator: its user, and its KDCs.
 
 ghost use Rattle.std.specs.Prelude.{◌≡◌, ◌<◌, ◌⊎◌, ℕ, Result, IfOk, IfErr, OnErr};
 ghost use Rattle.sspi_core.specs.declared.error.Place.TheVariants as places;
@@ -43,8 +43,9 @@ fn set_kdc(alloc: Global, initiator: &mut Initiator, address: &[u8]) -> Result<u
     }
 }
 
-/// The KDC of the user's own realm, as `tcp://kdc.example.com:88`. An address that is no URL names none: then KDCs are looked for in the
-/// variables and files. ARGUMENT where the address is not UTF-8. What is not done leaves the initiator, at each of its settings.
+/// Sets the KDC of the user's own realm, as `tcp://kdc.example.com:88`. An address that is no URL names none: then KDCs are looked
+/// up in the variables and files. Fails with ARGUMENT if the address is not UTF-8. A call that fails leaves the initiator unchanged,
+/// for each of its settings.
 #[unsafe(no_mangle)]
 pub extern "C" fn mk_initiator_kdc(
     alloc: Global,
@@ -86,7 +87,7 @@ fn set_password(
     }
 }
 
-/// Who asks: a user, its realm, which may be empty, and its password. ARGUMENT where one is not UTF-8.
+/// Sets a user, its realm, which may be empty, and its password. Fails with ARGUMENT if one is not UTF-8.
 #[unsafe(no_mangle)]
 pub extern "C" fn mk_initiator_password(
     alloc: Global,
@@ -129,10 +130,11 @@ fn set_key(
     }
 }
 
-/// Who asks: a user, as `alice@EXAMPLE.COM`, and its key of a keytab, of this type. Refused as Etype where the type is neither 17 nor 18
-/// (RFC 3962), and as BadUser where the name has both signs of a name. ARGUMENT where the name is not UTF-8, or the type is over 255.
+/// Sets a user, as `alice@EXAMPLE.COM`, and its key of a keytab, of this type. Fails with `Etype` if the type is neither 17 nor 18
+/// (RFC 3962), and with `BadUser` if the name has both signs of a name; with ARGUMENT if the name is not UTF-8, or the type is over
+/// 255.
 ///
-/// The length of the key is not looked at: the first step that uses a key of another length is refused as KeyLength.
+/// The length of the key is not checked: the first step that uses a key of another length fails with `KeyLength`.
 #[unsafe(no_mangle)]
 pub extern "C" fn mk_initiator_key(
     alloc: Global,
@@ -174,7 +176,7 @@ fn add_variable(
     }
 }
 
-/// Adds a variable of the environment after those that are there; the first of a name counts. ARGUMENT: a text is not UTF-8.
+/// Adds a variable of the environment after the existing ones; the first of a name counts. ARGUMENT: a text is not UTF-8.
 #[unsafe(no_mangle)]
 pub extern "C" fn mk_initiator_variable(
     alloc: Global,
@@ -215,7 +217,7 @@ fn add_file(
     }
 }
 
-/// Adds the text of a file, as that of `/etc/krb5.conf`, after those that are there; the first of a path counts. ARGUMENT: a text is
+/// Adds the text of a file, as that of `/etc/krb5.conf`, after the existing ones; the first of a path counts. ARGUMENT: a text is
 /// not UTF-8.
 #[unsafe(no_mangle)]
 pub extern "C" fn mk_initiator_file(

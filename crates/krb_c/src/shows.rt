@@ -1,4 +1,4 @@
-//! What a judged token tells.
+//! The facts of a judged token.
 
 ghost use Rattle.std.specs.Prelude.{◌≡◌, ℕ, length, Some, Result, IfOk, IfErr, OnErr};
 ghost use Rattle.krb_sessions.specs.Gives.{Delivers};
@@ -40,8 +40,8 @@ fn client(alloc: Global, judged: &mut Judgement, out: &mut [u8]) -> Result<usize
     answer
 }
 
-/// Who the client is, whole: all components of its name and the realm, as `alice/admin@EXAMPLE.COM`, with a backslash before
-/// those of these marks that are in them (RFC 1964, section 2.1.1). **It is not admitted yet.**
+/// Writes the client's whole name: all components of its name and the realm, as `alice/admin@EXAMPLE.COM`, with a backslash before
+/// each of these marks that is in them (RFC 1964, section 2.1.1). **It is not admitted yet.**
 #[unsafe(no_mangle)]
 pub extern "C" fn mk_judged_client(alloc: Global, judged: &mut Judgement, out: &mut [u8]) -> Reply
     ensures told { (answer : Result ℕ Failure) × (result ≡ reply_of answer)
@@ -82,8 +82,8 @@ fn service(alloc: Global, judged: &mut Judgement, out: &mut [u8]) -> Result<usiz
     answer
 }
 
-/// The service that the ticket is for, as `host/server.example.com@EXAMPLE.COM`: its key opened the ticket. The realm is the one
-/// in the ticket's clear part, which nothing protects.
+/// Writes the service that the ticket is for, as `host/server.example.com@EXAMPLE.COM`: its key decrypted the ticket. The realm is the
+/// one in the ticket's clear part, which nothing protects.
 #[unsafe(no_mangle)]
 pub extern "C" fn mk_judged_service(alloc: Global, judged: &mut Judgement, out: &mut [u8]) -> Reply
     ensures told { (answer : Result ℕ Failure) × (result ≡ reply_of answer)
@@ -120,9 +120,9 @@ fn record(alloc: Global, judged: &mut Judgement, out: &mut [u8]) -> Result<usize
     answer
 }
 
-/// What a store that machines share keeps of this candidate, for `mk_admit_told`: two uses of one authenticator have the same
-/// octets. The store puts them in and says whether they were there in one step, and may drop them once its own time is later than
-/// the client's by more than the skew. A client's time may be ahead of the store's by the skew.
+/// Writes the record of this candidate for a store that machines share, for `mk_admit_told`: two uses of one authenticator have the
+/// same bytes. The store inserts them and reports whether they were there in one step, and may drop them once its own time is later
+/// than the client's by more than the skew. A client's time may be ahead of the store's by the skew.
 #[unsafe(no_mangle)]
 pub extern "C" fn mk_judged_record(alloc: Global, judged: &mut Judgement, out: &mut [u8]) -> Reply
     ensures told { (answer : Result ℕ Failure) × (result ≡ reply_of answer)

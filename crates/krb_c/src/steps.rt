@@ -34,11 +34,11 @@ fn start(alloc: Global, initiator: &mut Initiator, moment: &Moment) -> Result<Ne
     }
 }
 
-/// Begins: the service's ticket is asked for, or with `USE_SESSION_KEY` the service is asked for its own. The number of a reply that is
-/// OK says what comes next: 0, a KDC is to be asked; 1, a token is to be sent to the service; 2, the context is established.
+/// Begins: a KDC is asked for the service's ticket, or with `USE_SESSION_KEY` the service is asked for its own. The number of a reply
+/// that is OK is the next turn: 0, a KDC is to be asked; 1, a token is to be sent to the service; 2, the context is established.
 ///
-/// A step out of its turn is refused as OutOfSequence Sequence, and one past the end of 9999-12-28 as InvalidParameter Moment. A start
-/// that is refused changes nothing. Where memory runs out the same step may come again.
+/// A step out of its turn fails with OutOfSequence `Sequence`, and one past the end of 9999-12-28 with InvalidParameter `Moment`. A
+/// start that fails changes nothing. If memory runs out the same step may be repeated.
 #[unsafe(no_mangle)]
 pub extern "C" fn mk_initiator_start(
     alloc: Global,
@@ -78,7 +78,7 @@ fn hear(
     }
 }
 
-/// Hears what the service sent: its answer to a ticket, or its own ticket. What is refused changes nothing.
+/// Takes the service's token: its answer to a ticket, or its own ticket. A call that fails changes nothing.
 #[unsafe(no_mangle)]
 pub extern "C" fn mk_initiator_hear(
     alloc: Global,
@@ -119,8 +119,8 @@ fn answer(
     }
 }
 
-/// Takes what the KDC answered, with the four octets in front that its protocol brings. An answer that is refused ends the exchange: the
-/// context is as before it, and another may begin.
+/// Takes the KDC's answer, with the four bytes that its protocol puts first. An answer that is refused ends the exchange: the
+/// context is as it was before the exchange, and another may begin.
 #[unsafe(no_mangle)]
 pub extern "C" fn mk_initiator_answer(
     alloc: Global,
@@ -160,7 +160,7 @@ fn fault(
     }
 }
 
-/// Takes that the KDC gave no answer, with a code of the caller's. It is refused with that code, which ends the exchange.
+/// Records that the KDC gave no answer, with a code of the caller's. Fails with that code, which ends the exchange.
 #[unsafe(no_mangle)]
 pub extern "C" fn mk_initiator_fault(
     alloc: Global,

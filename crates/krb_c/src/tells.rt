@@ -1,4 +1,4 @@
-//! What the ticket of an admitted client says.
+//! The facts in the ticket of an admitted client.
 
 ghost use Rattle.std.specs.Prelude.{◌≡◌, ℕ, length, Some, None, Result, IfOk, IfErr, OnErr};
 ghost use Rattle.krb_sessions.specs.Gives.{Delivers};
@@ -62,8 +62,8 @@ fn client(alloc: Global, session: &mut Connection, out: &mut [u8]) -> Result<usi
     answer
 }
 
-/// Who the client is, whole: all components of its name and the realm, as `alice/admin@EXAMPLE.COM`, with a backslash before
-/// those of these marks that are in them (RFC 1964, section 2.1.1). HANDLE for an initiator's session.
+/// Writes the client's whole name: all components of its name and the realm, as `alice/admin@EXAMPLE.COM`, with a backslash before
+/// each of these marks that is in them (RFC 1964, section 2.1.1). Fails with HANDLE for an initiator's session.
 #[unsafe(no_mangle)]
 pub extern "C" fn mk_session_client(
     alloc: Global,
@@ -127,7 +127,7 @@ fn tell_times(alloc: Global, session: &mut Connection, out: &mut Times) -> Resul
     answer
 }
 
-/// The times of the client's ticket. HANDLE for an initiator's session.
+/// Writes the times of the client's ticket. Fails with HANDLE for an initiator's session.
 #[unsafe(no_mangle)]
 pub extern "C" fn mk_session_times(
     alloc: Global,

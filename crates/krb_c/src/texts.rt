@@ -11,7 +11,7 @@ use crate::reply::Failure;
 use krb_entrance::{Draw, Error, MAX_MOMENT, Octets};
 use std::alloc::Global;
 
-/// The octets as text.
+/// Returns the bytes as text.
 pub(crate) fn text_of(octets: &[u8]) -> Result<&str, Failure>
     ensures text { IfOk result (λ text. text.now ≡ octets.now) }
     ensures failure { IfErr result (λ failure. failure ≡ failures.Argument) }
@@ -23,7 +23,7 @@ pub(crate) fn text_of(octets: &[u8]) -> Result<&str, Failure>
     }
 }
 
-/// A key, where it has the length of one of the two suites.
+/// Returns a key, if it has the length of one of the two suites.
 pub(crate) fn key_of(alloc: Global, key: &[u8]) -> Result<Octets, Failure>
     ensures key { IfOk result (λ copy. copy ≡ key.now) }
     ensures fits { OnOk result (has_key_length key.now ≡ true) }
@@ -38,7 +38,7 @@ pub(crate) fn key_of(alloc: Global, key: &[u8]) -> Result<Octets, Failure>
     }
 }
 
-/// A confounder, where it has 16 octets.
+/// Returns a confounder, if it has 16 bytes.
 pub(crate) fn confounder_of(octets: &[u8]) -> Result<[u8; 16], Failure>
     ensures same { IfOk result (λ confounder. confounder ≡ octets.now) }
     ensures failure { IfErr result (λ failure. failure ≡ failures.Argument) }
@@ -52,7 +52,7 @@ pub(crate) fn confounder_of(octets: &[u8]) -> Result<[u8; 16], Failure>
     Ok(confounder)
 }
 
-/// A first sequence number, where it has 4 octets.
+/// Returns a first sequence number, if it has 4 bytes.
 pub(crate) fn number_of(octets: &[u8]) -> Result<[u8; 4], Failure>
     ensures same { IfOk result (λ number. number ≡ octets.now) }
     ensures failure { IfErr result (λ failure. failure ≡ failures.Argument) }
@@ -66,7 +66,7 @@ pub(crate) fn number_of(octets: &[u8]) -> Result<[u8; 4], Failure>
     Ok(number)
 }
 
-/// An encryption type, where it is at most 255.
+/// Returns an encryption type, if it is at most 255.
 pub(crate) fn etype_of(etype: u32) -> Result<u8, Failure>
     ensures same { IfOk result (λ small. small ≡ etype) }
     ensures failure { IfErr result (λ failure. failure ≡ failures.Argument) }
@@ -78,7 +78,7 @@ pub(crate) fn etype_of(etype: u32) -> Result<u8, Failure>
     Ok(etype as u8)
 }
 
-/// A moment as the library has it, where it is in range.
+/// Returns a moment as the library has it, if it is in range.
 pub(crate) fn draw_of(moment: &Moment) -> Result<Draw, Failure>
     ensures same { IfOk result (λ draw. draw ≡ draw_of moment.now) }
     ensures in_range { OnOk result (moment.now.moment ≤ last_moment) }
@@ -94,7 +94,7 @@ pub(crate) fn draw_of(moment: &Moment) -> Result<Draw, Failure>
     })
 }
 
-/// A moment as the library has it, for a call that looks itself whether it is in range.
+/// Returns a moment as the library has it, for a call that checks itself whether it is in range.
 pub(crate) fn any_draw(moment: &Moment) -> Draw
     ensures { result ≡ draw_of moment.now }
 {

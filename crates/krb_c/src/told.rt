@@ -1,4 +1,4 @@
-//! The second half of an admission where machines share a store.
+//! The second half of an admission if machines share a store.
 
 ghost use Rattle.std.specs.Prelude.{◌≡◌, ℕ, length, Result, IfOk, IfErr, OnErr};
 ghost use Rattle.sspi_core.specs.declared.error.Place.TheVariants as places;
@@ -15,7 +15,7 @@ use krb_der::boxed;
 use krb_entrance::{Candidate, Error, Session, admit_told};
 use std::alloc::Global;
 
-/// The session of the candidate, in a box that is there before it is admitted.
+/// Returns the session of the candidate, in a box that is allocated before it is admitted.
 fn told_in(
     alloc: Global,
     candidate: Box<Candidate>,
@@ -56,12 +56,12 @@ fn admit_judged(
     Ok(count)
 }
 
-/// The second half for machines that share a store, in the place of `mk_admit`: no book is asked. The store was asked about the
-/// octets of `mk_judged_record`, and keeps them from then on, in one step. `seen` is 0 where it did not have them, and `moment` its
+/// Does the second half for machines that share a store, instead of `mk_admit`: no book is asked. The store was asked about the
+/// bytes of `mk_judged_record`, and keeps them from then on, in one step. `seen` is 0 if it did not have them, and `moment` its
 /// own time when it answered, in microseconds since 1970-01-01T00:00:00Z. The skew is that of all who share it.
 ///
-/// The candidate is spent, whether it is admitted or refused. HANDLE where a handle is not as the call wants it: then nothing is
-/// changed. Where memory runs out the record stays in the store: the client comes again with a new token.
+/// The candidate is spent, whether it is admitted or refused. Fails with HANDLE if a handle has the wrong content for the call: then
+/// nothing is changed. If memory runs out the record stays in the store: the client sends a new token.
 #[unsafe(no_mangle)]
 pub extern "C" fn mk_admit_told(
     alloc: Global,

@@ -1,8 +1,8 @@
-//! The client: who writes a Kerberos client finds all that it calls and names here. There is no code in this crate.
+//! The client: all calls and types that the author of a Kerberos client needs. There is no code in this crate.
 //!
 //! [`initialize_security_context`] begins the exchange that ends with a token for a service and a context, [`change_password`] the
-//! one that changes a password, and [`AsExchange`] is the AS exchange alone. Each gives a run, a [`Task`], which opens no socket: it
-//! hands out requests, and is handed what the network brought. A [`Generator`] runs it, one step after another or over a
+//! one that changes a password, and [`AsExchange`] is the AS exchange alone. Each returns a run, a [`Task`], which opens no socket:
+//! it yields requests, and is resumed with what the network brought. A [`Generator`] runs it, one step after another or over a
 //! [`NetworkClient`]:
 //!
 //! ```
@@ -13,8 +13,7 @@
 //! context.settle(done.change); // and `done.token` goes to the service
 //! ```
 //!
-//! Below the runs stand the calls that they are made of: the `generate_*` make messages, and the `extract_*` take keys, numbers and
-//! salts out of what was answered.
+//! The runs are made of these calls: the `generate_*` make messages, and the `extract_*` read keys, numbers and salts from replies.
 #![tactic(auto)]
 
 pub use krb_ap::generate_ap_rep;
@@ -43,7 +42,7 @@ pub use krb_requests::{
     generate_tgt_req, get_mech_list, name_of,
 };
 
-// What a client names beside, so that its imports come from here alone.
+// Types that a client also names, so that its imports come from here alone.
 pub use bitflags::Flags;
 pub use krb_conf::{ConfigFile, Env, KerberosConfig};
 pub use krb_context::{

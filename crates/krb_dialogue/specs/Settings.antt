@@ -1,4 +1,4 @@
--- What a dialogue is about.
+-- The settings of a dialogue.
 use Rattle.std.specs.Prelude.{◌≡◌, ℕ, ◌==◌, ◌||◌, List, [], ◌∷◌, ◌++◌, Some, None, Result, if◌then◌else◌}
 use Rattle.krb_conf.specs.Kdc.{url_of, with_protocol}
 use Rattle.krb_context.specs.Contexts.{new_context}
@@ -52,7 +52,7 @@ with_credentials credentials dialogue = record dialogue { options = record dialo
 abbrev pub with_bindings : ChannelBindings → Dialogue → Dialogue
 with_bindings bindings dialogue = record dialogue { options = record dialogue.options { channel_bindings = Some bindings } }
 
--- one more variable, or file, behind those that are there
+-- one more variable, or file, after the existing ones
 abbrev pub with_variable : List ℕ → List ℕ → Dialogue → Dialogue
 with_variable name value dialogue =
     record dialogue { options = record dialogue.options { env = record dialogue.options.env { vars = dialogue.options.env.vars ++ (name, value) ∷ [] } } }

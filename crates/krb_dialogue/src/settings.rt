@@ -1,4 +1,4 @@
-//! What a dialogue is about.
+//! The settings of a dialogue.
 
 ghost use Rattle.std.specs.Prelude.{◌≡◌, ◌++◌, ◌∷◌, [], Some, None, ◌==◌, ◌||◌, IsTrue, IfOk, IfErr, OnOk, OnErr};
 ghost use Rattle.std.specs.Int.{from_be_bytes, w32};
@@ -42,7 +42,7 @@ use sspi_core::{
 use std::alloc::Global;
 use std::mem;
 
-/// A service alone is asked for.
+/// Returns options with a service alone.
 fn first_options(alloc: Global, target: Name, flags: ClientRequestFlags) -> InitOptions
     ensures { result ≡ first_options target flags }
 {
@@ -56,7 +56,7 @@ fn first_options(alloc: Global, target: Name, flags: ClientRequestFlags) -> Init
     }
 }
 
-/// A context before its exchange, with no token. It goes by the RFCs.
+/// Returns a context before its exchange, with no token. It has the rules of the RFCs.
 fn first_session(alloc: Global, machine: &str, number: [u8; 4]) -> Result<HeldSession, OutOfMemory>
     ensures context { IfOk result (λ session. session.connection ≡ first_context machine.now (from_be_bytes w32 number)) }
     ensures token { IfOk result (λ session. session.answer ≡ []) }
@@ -81,7 +81,7 @@ fn first_session(alloc: Global, machine: &str, number: [u8; 4]) -> Result<HeldSe
     )
 }
 
-/// A new dialogue on the heap.
+/// Returns a new dialogue on the heap.
 fn first_dialogue(
     alloc: Global,
     target: Name,
@@ -103,7 +103,7 @@ fn first_dialogue(
     )
 }
 
-/// Whether a key may be of this type.
+/// Fails with `Etype` if a key may not be of this type.
 fn check_etype(etype: u8) -> Result<(), Cause>
     ensures check { Holds causes.Etype (etype == 17 || etype == 18) result }
     ensures known { OnOk result (IsTrue (etype == 17 || etype == 18)) }
@@ -114,7 +114,7 @@ fn check_etype(etype: u8) -> Result<(), Cause>
     }
 }
 
-/// The user that a text names, as `alice@EXAMPLE.COM`.
+/// Returns the user that a text names, as `alice@EXAMPLE.COM`.
 fn user_in(alloc: Global, principal: &str) -> Result<Username, Cause>
     ensures { Answers (Takes causes.BadUser (parsed principal.now)) result }
 {
@@ -125,7 +125,7 @@ fn user_in(alloc: Global, principal: &str) -> Result<Username, Cause>
     }
 }
 
-/// The user of a key of this type.
+/// Returns the user of a key of this type.
 #[tactic(auto, unfolding(crate::specs::Settings::NamesKey))]
 fn key_user(alloc: Global, principal: &str, etype: u8) -> Result<Username, Cause>
     ensures user { Answers (NamesKey principal.now etype) result }
@@ -135,7 +135,7 @@ fn key_user(alloc: Global, principal: &str, etype: u8) -> Result<Username, Cause
     user_in(alloc, principal)
 }
 
-/// A user with a key of a keytab.
+/// Returns a user with a key of a keytab.
 fn key_of(user: Username, etype: u8, key: Octets) -> KeytabIdentity
     requires { IsTrue (etype == 17 || etype == 18) }
     ensures principal { result.principal ≡ user }
@@ -149,7 +149,7 @@ fn key_of(user: Username, etype: u8, key: Octets) -> KeytabIdentity
     }
 }
 
-/// Bindings to the application's data alone.
+/// Returns bindings to the application's data alone.
 fn data_bindings(alloc: Global, octets: &[u8]) -> Result<ChannelBindings, OutOfMemory>
     ensures { IfOk result (λ bindings. bindings ≡ data_bindings octets.now) }
 {
@@ -162,7 +162,7 @@ fn data_bindings(alloc: Global, octets: &[u8]) -> Result<ChannelBindings, OutOfM
     })
 }
 
-/// One more pair behind those that are there. Where memory runs out they stay.
+/// Adds one more pair after the existing ones. If memory runs out the pairs are unchanged.
 fn push<V: Drop>(
     alloc: Global,
     pairs: &mut Items<(Text, V)>,
@@ -179,12 +179,12 @@ fn push<V: Drop>(
 }
 
 impl Dialogue {
-    /// A dialogue of an initiator at this machine with a service, as `host/server.example.com`. The number is the first sequence number
-    /// of this end, four random octets. Refused as NotAscii where the target is past ASCII. It goes by the RFCs: `Rules::rfc()`, all
-    /// rules that there are.
+    /// Returns a dialogue of an initiator at this machine with a service, as `host/server.example.com`. The number is the first
+    /// sequence number of this end, four random bytes. Fails with `NotAscii` if the target is not ASCII. The dialogue has the rules
+    /// of the RFCs: `Rules::rfc()`, all rules that there are.
     ///
-    /// Who asks is told by `set_password` or `set_key`; where KDCs are by `set_kdc`, or by the variables and files that are added. Their
-    /// calls may come at any time: an exchange that has begun goes on with what it began with.
+    /// `set_password` or `set_key` sets the client; `set_kdc`, or the variables and files that are added, set the KDCs. These calls
+    /// may be made at any time: an exchange that has begun goes on with what it began with.
     #[tactic(auto, using(crate::proofs::Led::refuses))]
     pub fn new(
         alloc: Global,
@@ -202,8 +202,8 @@ impl Dialogue {
         }
     }
 
-    /// The KDC of the client's own realm, as `tcp://kdc.example.com:88`. With an address that is no URL there is none, and KDCs are
-    /// looked for in the variables and files.
+    /// Sets the KDC of the client's own realm, as `tcp://kdc.example.com:88`. An address that is no URL unsets it, and KDCs are
+    /// looked up in the variables and files.
     pub fn set_kdc(&mut self, alloc: Global, address: &str) -> Result<(), OutOfMemory>
         ensures set { OnOk result (self.new ≡ with_kdc address.now self.old) }
         ensures stays { OnErr result (self.new ≡ self.old) }
@@ -215,15 +215,15 @@ impl Dialogue {
     /// Sets the rules of the context: these from now on, and no others. A new dialogue has those of `Rules::rfc()`. Without
     /// `FRESH_REPLIES` and `ANSWERS_ITS_AUTHENTICATOR` a recorded log-in can be played back to it.
     ///
-    /// `start` and `hear` read them when they begin, and an exchange with KDCs that has begun goes on with those that it began with.
-    /// All that begins later goes by the new ones: the next `start` or `hear`, and the messages of the session.
+    /// `start` and `hear` read the rules when they begin, and an exchange with KDCs that has begun goes on with those that it began
+    /// with. The new rules apply to all that begins later: the next `start` or `hear`, and the messages of the session.
     pub fn set_rules(&mut self, rules: Rules)
         ensures set { self.new ≡ with_rules rules self.old }
     {
         self.session.session.set_rules(rules);
     }
 
-    /// A user, its realm, which may be empty, and its password.
+    /// Sets a user, its realm, which may be empty, and its password.
     pub fn set_password(
         &mut self,
         alloc: Global,
@@ -245,8 +245,8 @@ impl Dialogue {
         Ok(())
     }
 
-    /// A user, as `alice@EXAMPLE.COM`, with a key of a keytab: the octets of its entry, and their type, 17 or 18 (RFC 3962). Refused as
-    /// Etype where the type is another, and as BadUser where the name has both signs of a name.
+    /// Sets a user, as `alice@EXAMPLE.COM`, with a key of a keytab: the bytes of its entry, and their type, 17 or 18 (RFC 3962). Fails
+    /// with `Etype` if the type is another, and with `BadUser` if the name has both signs of a name.
     #[tactic(auto, using(crate::proofs::Led::refuses))]
     pub fn set_key(
         &mut self,
@@ -270,7 +270,7 @@ impl Dialogue {
         }
     }
 
-    /// A variable of the environment, behind those that are there; the first of a name counts.
+    /// Adds a variable of the environment, after the existing ones; the first of a name counts.
     pub fn add_variable(
         &mut self,
         alloc: Global,
@@ -285,7 +285,7 @@ impl Dialogue {
         push(alloc, &mut self.options.env.vars, (name, value))
     }
 
-    /// The text of a file, as that of `/etc/krb5.conf`, behind those that are there; the first of a path counts.
+    /// Adds the text of a file, as that of `/etc/krb5.conf`, after the existing ones; the first of a path counts.
     pub fn add_file(&mut self, alloc: Global, path: &str, text: &str) -> Result<(), OutOfMemory>
         ensures added { OnOk result (self.new ≡ with_file path.now text.now self.old) }
         ensures stays { OnErr result (self.new ≡ self.old) }
@@ -295,7 +295,7 @@ impl Dialogue {
         push(alloc, &mut self.options.env.files, (path, file))
     }
 
-    /// Bindings to the channel below, as `ChannelBindings::from_bytes` reads them. Refused as Bindings where they are none.
+    /// Sets bindings to the channel below, as `ChannelBindings::from_bytes` reads them. Fails with `Bindings` if they are none.
     pub fn set_bindings(&mut self, alloc: Global, octets: &[u8]) -> Result<(), Error>
         ensures set { OnOk result (IsTrue (is_bindings octets.now) × (self.new ≡ with_bindings (bindings octets.now) self.old)) }
         ensures refused { IfErr result (Refuses places.Elsewhere (AreBindings octets.now)) }
@@ -310,7 +310,7 @@ impl Dialogue {
         }
     }
 
-    /// Bindings to data of the application alone, as a TLS channel has them (RFC 5929).
+    /// Sets bindings to data of the application alone, as a TLS channel has them (RFC 5929).
     pub fn bind_to(&mut self, alloc: Global, octets: &[u8]) -> Result<(), OutOfMemory>
         ensures set { OnOk result (self.new ≡ with_bindings (data_bindings octets.now) self.old) }
         ensures stays { OnErr result (self.new ≡ self.old) }

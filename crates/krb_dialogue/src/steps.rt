@@ -16,7 +16,7 @@ use sspi_generator::{NetFault, NetworkRequest};
 use std::alloc::Global;
 use std::mem;
 
-/// Whether a step's moment lies in its range. Refused as `Moment` past the end of 9999-12-28.
+/// Fails with `Moment` if a step's moment is past the end of 9999-12-28.
 fn in_time(draw: &Draw) -> Result<(), Cause>
     ensures same { result ≡ in_time draw.now }
     ensures moment { OnOk result (draw.now.moment ≤ last_moment) }
@@ -28,7 +28,7 @@ fn in_time(draw: &Draw) -> Result<(), Cause>
     }
 }
 
-/// Whether a step comes in its turn. Refused as `Sequence` where it does not.
+/// Fails with `Sequence` if a step does not come in its turn.
 fn in_turn(may_come: bool) -> Result<(), Cause>
     ensures { result ≡ in_turn may_come }
 {
@@ -39,7 +39,7 @@ fn in_turn(may_come: bool) -> Result<(), Cause>
     }
 }
 
-/// What follows an exchange that is over.
+/// Returns the turn after an exchange that is over.
 fn next_of(status: SecurityStatus) -> Next
     ensures { result ≡ next_of status }
 {
@@ -49,7 +49,7 @@ fn next_of(status: SecurityStatus) -> Next
     }
 }
 
-/// What is asked for, with what the service sent: all is copied, since the run keeps it.
+/// Returns the options with the service's token: all is copied, since the run keeps it.
 fn options_with(
     alloc: Global,
     options: &InitOptions,
@@ -86,14 +86,14 @@ impl Dialogue {
     ghost use Rattle.krb_dialogue.specs.declared.exchange.Outcome.TheVariants as outcomes;
     ghost use Rattle.krb_dialogue.specs.Steps.{LeadsTo, Opens, Continues, Undertakes, TakesReply, Allows, in_turn, Starts, Hears, Takes, Steps};
 
-    /// Whether it may begin.
+    /// Returns whether the dialogue may begin.
     fn can_start(&self) -> bool
         ensures { result ≡ can_start self.now }
     {
         !self.is_asking() && self.session.session.connection.state.is_waiting()
     }
 
-    /// An exchange is over: the context takes its change, and the token stays.
+    /// Ends an exchange: the context takes its change, and the token is kept.
     fn end(&mut self, done: InitDone) -> Next
         ensures { LeadsTo self.old (outcomes.Ends done) (Ok result) self.new }
     {
@@ -109,7 +109,7 @@ impl Dialogue {
         next_of(status)
     }
 
-    /// Takes what a step of its exchange led to.
+    /// Takes the outcome of a step of the dialogue's exchange.
     fn take_outcome(&mut self, outcome: Outcome) -> Result<Next, Error>
         ensures leads { LeadsTo self.old outcome result self.new }
     {
@@ -123,7 +123,7 @@ impl Dialogue {
         }
     }
 
-    /// An exchange begins. Where memory runs out it does not.
+    /// Begins an exchange. If memory runs out the exchange does not begin.
     #[tactic(auto, using(crate::proofs::Led::led_down, crate::proofs::Led::led_refused, crate::proofs::Led::led_back))]
     fn open(&mut self, alloc: Global, run: InitRun, draw: &Draw) -> Result<Next, Error>
         requires new { IsNew run }
@@ -137,7 +137,7 @@ impl Dialogue {
         self.take_outcome(outcome)
     }
 
-    /// It does what its state and these options tell. Where memory runs out it does not.
+    /// Begins the initiation that the state and these options name. If memory runs out the dialogue is unchanged.
     #[tactic(auto, using(crate::proofs::Led::undertakes, crate::proofs::Led::undertakes_not))]
     fn set_out(&mut self, alloc: Global, options: InitOptions, draw: &Draw) -> Result<Next, Error>
         requires moment { draw.now.moment ≤ last_moment }
@@ -152,7 +152,7 @@ impl Dialogue {
         }
     }
 
-    /// It does what its state, its options and this token tell. Where memory runs out it does not.
+    /// Begins the initiation that the state, the options and this token name. If memory runs out the dialogue is unchanged.
     fn undertake(&mut self, alloc: Global, token: &[u8], draw: &Draw) -> Result<Next, Error>
         requires moment { draw.now.moment ≤ last_moment }
         ensures undertakes { Steps (Undertakes self.old (options_with self.old.options token.now) draw.now) result self.new }
@@ -164,7 +164,7 @@ impl Dialogue {
         self.set_out(alloc, options, draw)
     }
 
-    /// Its exchange, which was taken out of it, goes on. Where memory runs out the answer is awaited as before.
+    /// Continues the dialogue's exchange, which was taken out of it. If memory runs out the answer is awaited as before.
     #[tactic(auto, using(crate::proofs::Led::led_down, crate::proofs::Led::led_refused, crate::proofs::Led::never_wants))]
     fn go_on(
         &mut self,
@@ -188,7 +188,7 @@ impl Dialogue {
         }
     }
 
-    /// Takes what the network brought, where it is awaited.
+    /// Takes the network's answer, if it is awaited.
     fn take_reply(&mut self, reply: Result<Octets, NetFault>, draw: &Draw) -> Result<Next, Error>
         requires moment { draw.now.moment ≤ last_moment }
         ensures takes { Steps (TakesReply self.old.turn self.old reply draw.now) result self.new }
@@ -206,7 +206,7 @@ impl Dialogue {
         }
     }
 
-    /// The start, at a moment in its range.
+    /// Starts at a moment in its range.
     fn start_in_time(&mut self, alloc: Global, draw: &Draw) -> Result<Next, Error>
         requires moment { draw.now.moment ≤ last_moment }
         ensures step { Steps (Allows (in_turn (can_start self.old)) (Undertakes self.old (options_with self.old.options []) draw.now) self.old) result self.new }
@@ -220,7 +220,7 @@ impl Dialogue {
         }
     }
 
-    /// The service is heard, at a moment in its range.
+    /// Takes the service's token at a moment in its range.
     fn hear_in_time(&mut self, alloc: Global, token: &[u8], draw: &Draw) -> Result<Next, Error>
         requires moment { draw.now.moment ≤ last_moment }
         ensures step { Steps (Allows (in_turn (can_hear self.old)) (Undertakes self.old (options_with self.old.options token.now) draw.now) self.old) result self.new }
@@ -234,17 +234,17 @@ impl Dialogue {
         }
     }
 
-    /// Begins: the service's ticket is asked for, or with `USE_SESSION_KEY` the service is asked for its own.
+    /// Begins: a KDC is asked for the service's ticket, or with `USE_SESSION_KEY` the service is asked for its own.
     ///
-    /// Refused as Moment where the moment is past the end of 9999-12-28, as Sequence where a KDC's answer is awaited or the service
-    /// was shown a ticket, and else as `initialize_security_context` refuses, or the first step of its run. A refusal changes nothing.
+    /// Fails with `Moment` if the moment is past the end of 9999-12-28, with `Sequence` if a KDC's answer is awaited or the service
+    /// was sent a ticket, otherwise as `initialize_security_context` fails, or the first step of its run. An error changes nothing.
     pub fn start(&mut self, alloc: Global, draw: &Draw) -> Result<Next, Error>
         ensures step { Steps (Starts self.old draw.now) result self.new }
-        // Where memory runs out, the step can be taken again.
+        // If memory runs out, the step can be repeated.
         ensures want { result ≡ Err (error_of causes.Memory) → self.new ≡ self.old }
         // A KDC is asked at most twelve times.
         ensures turns { result ≡ Ok Next.AskKdc → requests_left self.new.turn < 12 }
-        // No refusal is told as a failure of the network.
+        // No error is a failure of the network.
         ensures fault { IfErr result (λ error. IsNetwork error → ⊥) }
     {
         match in_time(draw) {
@@ -253,10 +253,10 @@ impl Dialogue {
         }
     }
 
-    /// Hears what the service sent: its answer to a ticket, or its own ticket.
+    /// Takes the service's token: its answer to a ticket, or its own ticket.
     ///
-    /// Refused as Moment where the moment is past the end of 9999-12-28, as Sequence where a KDC's answer is awaited or the context
-    /// is established, and else as `initialize_security_context` refuses, or the first step of its run. A refusal changes nothing.
+    /// Fails with `Moment` if the moment is past the end of 9999-12-28, with `Sequence` if a KDC's answer is awaited or the context is
+    /// established, otherwise as `initialize_security_context` fails, or the first step of its run. An error changes nothing.
     pub fn hear(&mut self, alloc: Global, token: &[u8], draw: &Draw) -> Result<Next, Error>
         ensures step { Steps (Hears self.old token.now draw.now) result self.new }
         ensures want { result ≡ Err (error_of causes.Memory) → self.new ≡ self.old }
@@ -269,10 +269,10 @@ impl Dialogue {
         }
     }
 
-    /// Takes what the KDC answered, with the four octets in front that its protocol brings.
+    /// Takes the KDC's answer, with the four bytes that its protocol puts first.
     ///
-    /// Refused as Moment where the moment is past the end of 9999-12-28, as Sequence where no answer is awaited, and nothing is changed
-    /// then. Else as the step of the run refuses; that ends the exchange, and the context is as it was before.
+    /// Fails with `Moment` if the moment is past the end of 9999-12-28, with `Sequence` if no answer is awaited, and then nothing is
+    /// changed. Otherwise fails as the step of the run fails; that ends the exchange, and the context is as it was before.
     pub fn answer(&mut self, alloc: Global, octets: &[u8], draw: &Draw) -> Result<Next, Error>
         ensures step { Steps (Takes self.old (Ok octets.now) draw.now) result self.new }
         ensures want { result ≡ Err (error_of causes.Memory) → self.new ≡ self.old }
@@ -288,10 +288,10 @@ impl Dialogue {
         }
     }
 
-    /// Takes that there is no answer of the KDC, with a code of the caller's. It is refused with that code, which ends the exchange.
+    /// Records that the KDC gave no answer, with a code of the caller's. Fails with that code, which ends the exchange.
     ///
-    /// Refused as Moment where the moment is past the end of 9999-12-28, as Sequence where no answer is awaited, and nothing is changed
-    /// then.
+    /// Fails with `Moment` if the moment is past the end of 9999-12-28, with `Sequence` if no answer is awaited, and then nothing is
+    /// changed.
     pub fn fault(&mut self, code: u32, draw: &Draw) -> Result<Next, Error>
         ensures step { Steps (Takes self.old (Err (net_faults.Failed code)) draw.now) result self.new }
         ensures want { result ≡ Err (error_of causes.Memory) → self.new ≡ self.old }

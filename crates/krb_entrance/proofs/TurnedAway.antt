@@ -27,7 +27,7 @@ use Rattle.sspi_core.proofs.Chain.{same_err, passed, held}
 short_token : (count limit : ℕ) → IsTrue (nat_le count limit) → count ≤ limit
 short_token count limit h = grind (arith, nat_tests)
 
--- a refusal is told of the cause that the checks refuse by
+-- a refusal has the cause by which the checks refuse
 told_refusal : {A : Type 0} (checks : Result A Cause → Type 0) (error : Error) (answer : Result A Cause) → Err error ≡ told Elsewhere answer → checks answer
     → (cause : Cause) × (error ≡ error_at Elsewhere cause) × checks (Err cause)
 told_refusal checks error (Ok x) is holds = absurd cc

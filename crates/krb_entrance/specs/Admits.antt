@@ -1,4 +1,4 @@
--- What a service admits, in one call.
+-- The admission of a client in one call.
 use Rattle.std.specs.Prelude.{◌≡◌, ◌⊎◌, ℕ, List, [], Option, Some, true, false, Result, Ok, Err}
 use Rattle.std.specs.Global.{Box}
 use Rattle.krb_admission.specs.Clients.{user_of, has_component}
@@ -58,7 +58,7 @@ answer_in (Ok (Done status answer admits)) = Ok answer
 answer_in (Ok (Run run)) = Err Credentials
 answer_in (Err cause) = Err cause
 
--- what the acceptor's one call answers to a token at a connection of the services, the question to the book among its checks
+-- the result of the acceptor's one call for a token at a connection of the services, the question to the book among its checks
 pub record Judges (services : ServerProperties) (channel : Option (List ℕ)) (old : Book) (token : List ℕ) (draw : Draw) (answer : Result (List ℕ) Cause)
     (connection : Kerberos) (new : Book) : Type 0 where
   pub waiting : Kerberos

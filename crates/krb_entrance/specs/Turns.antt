@@ -1,4 +1,4 @@
--- Several keys of a service, tried in turn: after a change of keys, tickets under the older ones live on.
+-- Several keys of a service, tried in turn: after a change of keys, tickets under the older ones stay valid.
 use Rattle.std.specs.Prelude.{◌≡◌, ◌⊎◌, ℕ, List, ◌∷◌, ◌++◌, Option, Bool, true, false, Err, All}
 use Rattle.krb_context.specs.Refusals.{Refuses}
 use Rattle.krb_entrance.specs.declared.candidate.Candidate.{Candidate}
@@ -10,7 +10,7 @@ use Rattle.sspi_core.specs.declared.draw.Draw.{Draw}
 use Rattle.sspi_core.specs.declared.error.Error.{Error}
 use Rattle.sspi_core.specs.declared.error.Place.TheVariants.{Elsewhere}
 
--- another key may be the right one: there is none of this name, it has another length, or what is sealed is not sealed under it
+-- another key may be the right one: there is none of this name, it has another length, or the encrypted data are not encrypted under it
 abbrev pub leads_on : Cause → Bool
 leads_on NoServiceKey = true
 leads_on KeyLength = true

@@ -26,13 +26,13 @@ use std::alloc::Global;
 
 /// A client whose token passed every check before the book, at a connection that waited for it. **It is not admitted yet.**
 ///
-/// `judged` lends what else the token told: the service's clear name, and how far the client's clock is off. The connection has no
+/// `judged` has the other facts of the token: the service's clear name, and how far the client's clock is off. The connection has no
 /// key of a service.
 #[derive(Drop)]
 pub struct Candidate {
     pub judged: Judged,
     pub connection: Kerberos,
-    /// Who it is, as the ticket and its authenticator say.
+    /// The client, as the ticket and its authenticator name it.
     pub client: Box<Client>,
 }
 
@@ -48,7 +48,7 @@ fn copied_data(
     }
 }
 
-/// What the ticket and its authenticator say of the client.
+/// Returns the client that the ticket and its authenticator name.
 fn client_told(alloc: Global, judged: &Judged) -> Result<Client, OutOfMemory>
     ensures { IfOk result (λ client. client ≡ client_told judged.now.request) }
 {
@@ -75,7 +75,7 @@ fn client_told(alloc: Global, judged: &Judged) -> Result<Client, OutOfMemory>
     copier.finish(client)
 }
 
-/// The checks before the book, at a connection that waits: the token's length, and then those of an AP-REQ.
+/// Runs the checks before the book, at a connection that waits: the token's length, and then those of an AP-REQ.
 fn check(
     alloc: Global,
     keys: &Keys,
@@ -105,8 +105,8 @@ fn checked(
     }
 }
 
-/// What comes to the book, and who is told of it. The connection has the service's name then. Nothing is copied before the token has
-/// passed.
+/// Returns the judged token for the book, and its client. The connection has the service's name then. Nothing is copied before the
+/// token has passed.
 fn judge_at(
     alloc: Global,
     keys: &Keys,
@@ -125,7 +125,7 @@ fn judge_at(
     Ok((Box::into_inner(judged), client))
 }
 
-/// Judges a token without the book, at a connection that is made for it.
+/// Judges a token without the book, at a new connection for it.
 pub(crate) fn judge(
     alloc: Global,
     keys: &Keys,
@@ -168,13 +168,13 @@ fn admit_at(
     }
 }
 
-/// Admits a candidate where the book does: its question is asked, and nothing after it takes memory or a cipher. So threads may
+/// Admits a candidate if the book does: the book is asked, and nothing after that allocates memory or uses a cipher. So threads may
 /// share a book under a lock, and hold it for this call alone.
 pub fn admit(alloc: Global, candidate: Candidate, book: &mut ReplayBook) -> Result<Session, Error>
     ensures admits { IfOk result (λ session. IsLetIn candidate book.old session book.new) }
     // A refusal is that of the first check that failed, and the book is as that check left it.
     ensures refused { IfErr result (Refuses places.Elsewhere (TurnsAway candidate book.old book.new)) }
-    // Where memory runs out, the book is as before: the same token may come again.
+    // If memory runs out the book is unchanged: the same token may be sent again.
     ensures memory { IfErr result (λ error. error ≡ error_of causes.Memory → IsUnchanged book.old book.new) }
 {
     let Candidate {

@@ -10,7 +10,7 @@ use krb_authenticators::bindings_hash;
 use krb_server::{Cause, Error, Octets};
 use sspi_core::ChannelBindings;
 
-/// How many octets a part of bindings may have.
+/// The number of bytes that a part of bindings may have.
 const PART_LIMIT: usize = 1 << 24;
 
 fn is_short(part: &Octets) -> bool
@@ -27,8 +27,8 @@ fn are_short(bindings: &ChannelBindings) -> bool
         && is_short(&bindings.application_data)
 }
 
-/// The hash of the bindings of a channel (RFC 4121, section 4.1.1.2), which [`Service::judge_bound`](crate::Service::judge_bound)
-/// holds a client to. Refused as Bindings exactly where a part has over 2^24 octets.
+/// Returns the hash of the bindings of a channel (RFC 4121, section 4.1.1.2), to which
+/// [`Service::judge_bound`](crate::Service::judge_bound) binds a client. Fails with `Bindings` exactly if a part has over 2^24 bytes.
 pub fn channel_hash(bindings: &ChannelBindings) -> Result<[u8; 16], Error>
     ensures hash { IfOk result (λ hash. hash ≡ bindings_hash bindings.now) }
     ensures refused { IfErr result (λ error. error ≡ error_of causes.Bindings) }

@@ -11,7 +11,7 @@ use krb_server::{
 };
 use std::alloc::Global;
 
-/// Of no name, with no key. It takes no memory.
+/// Returns properties of no name, with no key. The call allocates no memory.
 fn nobody(alloc: Global) -> ServerProperties {
     ServerProperties {
         service_name: Blank::blank(alloc),
@@ -23,7 +23,8 @@ fn nobody(alloc: Global) -> ServerProperties {
     }
 }
 
-/// A connection that waits for its client's token, and goes by the RFCs. Its first sequence number is drawn, and nothing is copied.
+/// Returns a connection that waits for its client's token, with the rules of the RFCs. Its first sequence number is drawn, and
+/// nothing is copied.
 pub(crate) fn waiting(
     alloc: Global,
     channel: Option<[u8; 16]>,
@@ -42,7 +43,7 @@ pub(crate) fn waiting(
     Ok(connection)
 }
 
-/// The service's name alone. No key is copied.
+/// Returns the service's name alone. No key is copied.
 pub(crate) fn keyless(
     alloc: Global,
     properties: &ServerProperties,

@@ -9,7 +9,7 @@ use crate::keys::Keys;
 use krb_server::{Cause, Draw, Error};
 use std::alloc::Global;
 
-/// Whether another key may be the right one.
+/// Returns whether another key may be the right one.
 fn leads_on(cause: Cause) -> bool
     ensures { result ≡ leads_on cause }
 {
@@ -19,7 +19,7 @@ fn leads_on(cause: Cause) -> bool
     }
 }
 
-/// The older keys in their order, after a refusal of the newest.
+/// Judges a token by the older keys in their order, after a refusal of the newest.
 fn judge_older(
     alloc: Global,
     older: &[Keys],
@@ -45,11 +45,11 @@ fn judge_older(
     Err(kept)
 }
 
-/// Judges a token by the newest keys, and by the older ones in their order where those before do not open the ticket: after a
-/// change of keys, tickets under the older ones live on. Each try is that of
+/// Judges a token by the newest keys, and by the older ones in their order if the keys before do not decrypt the ticket: after a
+/// change of keys, tickets under the older ones stay valid. Each attempt is a
 /// [`Keys::judge`], which changes nothing.
 ///
-/// The refusal is that of the newest keys where none opens the ticket, and else of those that opened it.
+/// Fails as the newest keys do if no keys decrypt the ticket, otherwise as the keys that decrypted it.
 pub fn judge_in_turn(
     alloc: Global,
     newest: &Keys,

@@ -11,18 +11,18 @@ use crate::candidate::{self, Candidate};
 use krb_server::{Draw, Error, Octets, OutOfMemory, Secret, ServerProperties, TryCopy};
 use std::alloc::{AllocError, Global};
 
-/// How many octets a token may have, unless the caller sets another bound.
+/// The number of bytes that a token may have, unless the caller sets another bound.
 const TOKEN_LIMIT: usize = 65_536;
 
 /// The names and keys of services. It judges tokens, and has no book: it admits nobody. Threads may share one, or have a copy each.
 #[derive(Drop)]
 pub struct Keys {
     pub properties: ServerProperties,
-    /// How many octets a token may have: a longer one is not looked at.
+    /// The number of bytes that a token may have: a longer one is not read.
     pub token_limit: usize,
 }
 
-/// The components of a service's name, between which a `/` stands.
+/// Returns the components of a service's name, which `/` separates.
 fn components(alloc: Global, name: &str) -> Result<Vec<&str>, AllocError>
     ensures { IfOk result (λ parts. map (λ part. part.now) parts.items ≡ components name.now) }
 {
@@ -30,8 +30,8 @@ fn components(alloc: Global, name: &str) -> Result<Vec<&str>, AllocError>
 }
 
 impl Keys {
-    /// The key of a service with this name, as `host/server.example.com`. A token may have 65,536 octets. Refused as NotAscii where
-    /// the name is past ASCII. The skew is kept for the callers of `ServerProperties`, and not read here.
+    /// Returns the key of a service with this name, as `host/server.example.com`. A token may have 65,536 bytes. Fails with
+    /// `NotAscii` if the name is not ASCII. The skew, in seconds, is kept for the callers of `ServerProperties`, and not read here.
     pub fn new(alloc: Global, name: &str, key: Octets, skew: u32) -> Result<Keys, Error>
         ensures properties { IfOk result (λ keys. keys.properties ≡ new_properties (components name.now) None skew (Some key)) }
         ensures limit { IfOk result (λ keys. keys.token_limit ≡ token_limit) }
@@ -46,7 +46,7 @@ impl Keys {
         })
     }
 
-    /// A further name with its key, after those that are there. Refused as NotAscii where the name is past ASCII.
+    /// Adds a further name with its key, after the existing ones. Fails with `NotAscii` if the name is not ASCII.
     pub fn add_key(&mut self, alloc: Global, name: &str, key: Octets) -> Result<(), Error>
         ensures added { OnOk result (self.new ≡ record self.old {
           properties = record self.old.properties {
@@ -61,12 +61,12 @@ impl Keys {
             .add_service_key(alloc, &parts, Secret::new(key))
     }
 
-    /// Judges a token without a book: the first half of an admission, with every cipher in it. The keys are read alone, and none is
-    /// copied. Where `channel` is there, the client is held to it: `channel_hash` makes it of the bindings of the caller's channel.
+    /// Judges a token without a book: the first half of an admission, with every cipher in it. The keys are only read, and none is
+    /// copied. If `channel` is given, the client is bound to it: `channel_hash` makes it of the bindings of the caller's channel.
     ///
-    /// Refused by the first check before the book that fails: a token past `token_limit` as Shape, and then as RFC 4120, section 3.2.3,
-    /// has it. A TGT-REQ is no AP-REQ: Shape. A client that is held to a channel is refused as Checksum where its checksum has no room
-    /// for bindings, and as Bindings where they are others, or it gave none.
+    /// Fails by the first check before the book that fails: with `Shape` for a token past `token_limit`, and then as RFC 4120,
+    /// section 3.2.3, has it. A TGT-REQ is no AP-REQ: `Shape`. For a client that is bound to a channel, fails with `Checksum` if its
+    /// checksum has no room for bindings, and with `Bindings` if they are others, or it sent none.
     pub fn judge(
         &self,
         alloc: Global,

@@ -14,8 +14,9 @@ ghost use Rattle.krb_entrance.specs.Candidates.{Passes};
 ghost use Rattle.krb_entrance.specs.Connections.{lent};
 ghost use Rattle.krb_entrance.specs.declared.keys.Keys.{Keys};
 
-/// Who passes [`Keys::judge`](crate::Keys::judge) is answered by [`admit`](crate::admit) as the acceptor's one call answers the same
-/// token at a connection with these keys: admitted or turned away, and the book the same. The connection is the same but for the keys.
+/// For a client that passes [`Keys::judge`](crate::Keys::judge), [`admit`](crate::admit) returns what the acceptor's one call returns
+/// for the same token at a connection with these keys: admitted or turned away, and the same book. The connection differs in its keys
+/// alone.
 pub fn halves_answer_as_one()
     ensures { (keys : Keys) (channel : Option (List ℕ)) (token : List ℕ) (draw : Draw) (prepared : Prepared) (connection left : Kerberos) (old new : Book)
         (answer : Result Answer Cause)
@@ -24,7 +25,7 @@ pub fn halves_answer_as_one()
         → Judges keys.properties channel old token draw (answer_in (answered_as answer)) (lent keys.properties left) new }
 {}
 
-/// A client that is admitted is known by its whole name, which has a component, and by a user name where it has one.
+/// A client that is admitted is known by its whole name, which has a component, and by a user name if it has one.
 pub fn admitted_clients_have_names()
     ensures { (keys : Keys) (channel : Option (List ℕ)) (token : List ℕ) (draw : Draw) (old new : Book) (session : Session)
         → Admits keys channel token draw old session new → IsKnown session }

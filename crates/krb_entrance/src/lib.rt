@@ -6,7 +6,8 @@
 //! let session = service.accept(alloc, &token, &draw)?; // for each client
 //! ```
 //!
-//! The same in two calls is [`Service::judge`], which asks no book, and [`Service::admit`]. [`Keys`] judge alone, for further threads.
+//! [`Service::judge`], which asks no book, and [`Service::admit`] are the two halves of that call. [`Keys`] judge alone, for further
+//! threads.
 #![tactic(auto)]
 
 mod candidate;
@@ -26,7 +27,7 @@ pub use keys::Keys;
 pub use service::Service;
 pub use told::{admit_told, stored_record};
 
-// What a caller names beside.
+// Types in the signatures of this crate.
 pub use krb_server::{Cause, Draw, Error, ErrorKind, Judged, MAX_MOMENT, Octets, OutOfMemory};
 pub use krb_sessions::{Client, Fault, Order, Session, principal, put};
 pub use sspi_core::ChannelBindings;

@@ -15,7 +15,7 @@ use krb_server::{Draw, Error, ReplayBook};
 use krb_sessions::Session;
 use std::alloc::Global;
 
-/// Lets in the client that sent this token.
+/// Admits the client that sent this token.
 pub(crate) fn accept(
     alloc: Global,
     keys: &Keys,

@@ -28,8 +28,8 @@ pub struct Service {
 }
 
 impl Service {
-    /// A service with this name, as `host/server.example.com`, and its key. The skew, in seconds, is by how much a client's
-    /// clock may be wrong. A token may have 65,536 octets: `keys.token_limit`. Refused as NotAscii where the name is past ASCII.
+    /// Returns a service with this name, as `host/server.example.com`, and its key. The skew, in seconds, is by how much a client's
+    /// clock may be wrong. A token may have 65,536 bytes: `keys.token_limit`. Fails with `NotAscii` if the name is not ASCII.
     pub fn new(alloc: Global, name: &str, key: Octets, skew: u32) -> Result<Service, Error>
         ensures properties { IfOk result (λ service. service.keys.properties ≡ new_properties (components name.now) None skew (Some key)) }
         ensures limit { IfOk result (λ service. service.keys.token_limit ≡ token_limit) }
@@ -42,7 +42,7 @@ impl Service {
         Ok(Service { keys, book })
     }
 
-    /// A further name with its key, after those that are there. Refused as NotAscii where the name is past ASCII.
+    /// Adds a further name with its key, after the existing ones. Fails with `NotAscii` if the name is not ASCII.
     pub fn add_key(&mut self, alloc: Global, name: &str, key: Octets) -> Result<(), Error>
         ensures added { OnOk result (self.new ≡ record self.old {
           keys = record self.old.keys {
@@ -57,7 +57,7 @@ impl Service {
         self.keys.add_key(alloc, name, key)
     }
 
-    /// Makes room for this many records of admitted clients beside those that are kept.
+    /// Reserves space for this many more records of admitted clients.
     pub fn reserve(&mut self, records: usize) -> Result<(), OutOfMemory>
         ensures room { OnOk result (records ≤ self.new.book.spare) }
         ensures same { IsUnchanged self.old.book self.new.book }
@@ -66,18 +66,18 @@ impl Service {
         self.book.reserve(records)
     }
 
-    /// How many records of admitted clients are kept.
+    /// Returns the number of records of admitted clients that are kept.
     pub fn kept(&self) -> u64
         ensures { result ≡ length self.now.book.kept }
     {
         self.book.kept()
     }
 
-    /// Begins a new book, which was asked nothing and has this skew: for a process whose clock was wrong. A book goes by the greatest
-    /// moment that it was ever asked, so that one token that was judged at a far moment moves it for everybody.
+    /// Begins a new, empty book, which has this skew: for a process whose clock was wrong. A book uses the greatest moment that it was
+    /// ever asked about, so one token that was judged at a far moment moves it for everybody.
     ///
     /// **All that was admitted can be admitted again.** So set the clock right, admit nobody for twice the skew, and then call this:
-    /// the time in a client's token may be ahead by the skew, and the token is good for that long after its time.
+    /// the time in a client's token may be ahead by the skew, and the token is valid for that long after its time.
     pub fn begin_book(&mut self, alloc: Global, skew: u32) -> Result<(), OutOfMemory>
         ensures skew { OnOk result (self.new.book.skew ≡ skew) }
         ensures book { OnOk result (StandsFor self.new.book no_history) }
@@ -88,24 +88,25 @@ impl Service {
         Ok(())
     }
 
-    /// Admits the client that sent this token, by [`judge`](Service::judge) and then [`admit`](Service::admit), or says which check
-    /// failed first, of those of RFC 4120, section 3.2.3. A TGT-REQ is no AP-REQ, and refused as InvalidToken Shape.
+    /// Admits the client that sent this token, by [`judge`](Service::judge) and then [`admit`](Service::admit), or fails with the
+    /// first check that failed, of those of RFC 4120, section 3.2.3. A TGT-REQ is no AP-REQ: the call fails with InvalidToken
+    /// `Shape`.
     ///
-    /// The session is whole: its client and what goes back to it are there. It goes by the RFCs, `Rules::rfc()`, and has no key of a
+    /// The session is whole: it has its client and the reply to it. It has the rules of the RFCs, `Rules::rfc()`, and no key of a
     /// service.
     pub fn accept(&mut self, alloc: Global, token: &[u8], draw: &Draw) -> Result<Session, Error>
         ensures admits { IfOk result (λ session. Admits self.old.keys None token.now draw.now self.old.book session self.new.book) }
         ensures keyless { IfOk result (λ session. IsKeyless session.connection) }
         // A refusal is that of the first check that failed, and the book is as that check left it.
         ensures refused { IfErr result (Refuses places.Elsewhere (Rejects self.old.keys None token.now draw.now self.old.book self.new.book)) }
-        // Where memory runs out, the book is as before: the same token may come again.
+        // If memory runs out the book is unchanged: the same token may be sent again.
         ensures memory { IfErr result (λ error. error ≡ error_of causes.Memory → IsUnchanged self.old.book self.new.book) }
         ensures keys { self.new.keys ≡ self.old.keys }
     {
         accept(alloc, &self.keys, &mut self.book, None, token, draw)
     }
 
-    /// Admits as [`accept`](Service::accept) does a client that is held to its channel, as at [`judge_bound`](Service::judge_bound).
+    /// Admits as [`accept`](Service::accept) does a client that is bound to its channel, as at [`judge_bound`](Service::judge_bound).
     pub fn accept_bound(
         &mut self,
         alloc: Global,
@@ -129,11 +130,11 @@ impl Service {
         )
     }
 
-    /// Judges a token without the book: the first half of an admission, with every cipher in it. The keys are read alone, so
+    /// Judges a token without the book: the first half of an admission, with every cipher in it. The keys are only read, so
     /// threads may share them.
     ///
-    /// Refused as [`Keys::judge`](crate::Keys::judge) says: by the first check before the book that fails; a TGT-REQ as InvalidToken
-    /// Shape.
+    /// Fails as [`Keys::judge`](crate::Keys::judge) does: by the first check before the book that fails; with InvalidToken `Shape`
+    /// for a TGT-REQ.
     pub fn judge(&self, alloc: Global, token: &[u8], draw: &Draw) -> Result<Candidate, Error>
         ensures passes { IfOk result (λ candidate. Passes self.now.keys None token.now draw.now candidate.judged candidate.connection) }
         ensures client { IfOk result (λ candidate. candidate.client.value ≡ client_told candidate.judged.request) }
@@ -142,9 +143,10 @@ impl Service {
         self.keys.judge(alloc, None, token, draw)
     }
 
-    /// Judges a token whose client is held to its channel: `channel` is the hash of the channel's bindings, as
-    /// [`channel_hash`](crate::channel_hash) makes it (RFC 4121, section 4.1.1.2). Besides the refusals of [`judge`](Service::judge), a
-    /// client is refused as Checksum where its checksum has no room for bindings, and as Bindings where they are others, or it gave none.
+    /// Judges a token whose client is bound to its channel: `channel` is the hash of the channel's bindings, as
+    /// [`channel_hash`](crate::channel_hash) makes it (RFC 4121, section 4.1.1.2). Besides the errors of [`judge`](Service::judge),
+    /// fails with `Checksum` if the client's checksum has no room for bindings, and with `Bindings` if they are others, or it sent
+    /// none.
     pub fn judge_bound(
         &self,
         alloc: Global,
@@ -159,13 +161,13 @@ impl Service {
         self.keys.judge(alloc, Some(channel), token, draw)
     }
 
-    /// Admits a candidate where the book does: the second half, which is short. So threads may share the book under a lock, and
+    /// Admits a candidate if the book does: the second half, which is short. So threads may share the book under a lock, and
     /// hold it for this call alone.
     pub fn admit(&mut self, alloc: Global, candidate: Candidate) -> Result<Session, Error>
         ensures admits { IfOk result (λ session. IsLetIn candidate self.old.book session self.new.book) }
         // A refusal is that of the first check that failed, and the book is as that check left it.
         ensures refused { IfErr result (Refuses places.Elsewhere (TurnsAway candidate self.old.book self.new.book)) }
-        // Where memory runs out, the book is as before: the same token may come again.
+        // If memory runs out the book is unchanged: the same token may be sent again.
         ensures memory { IfErr result (λ error. error ≡ error_of causes.Memory → IsUnchanged self.old.book self.new.book) }
         ensures keys { self.new.keys ≡ self.old.keys }
     {

@@ -1,4 +1,4 @@
-//! A candidate that a store outside was asked about, as machines have that share one.
+//! A candidate that an external store was asked about, for machines that share one.
 
 ghost use Rattle.std.specs.Prelude.{◌≡◌, Ok, IfOk, IfErr};
 ghost use Rattle.sspi_core.specs.declared.error.Place.TheVariants as places;
@@ -26,8 +26,8 @@ fn record_octets(alloc: Global, entry: &Record) -> Result<Octets, OutOfMemory>
     Ok(Octets::new(octets))
 }
 
-/// What a store that machines share keeps of this candidate. It is in the store from the first question about it on, in one step,
-/// so that of several who ask one alone is told that it was new. Two uses of one authenticator have the same octets.
+/// Returns the record of this candidate for a store that machines share. The store looks it up and inserts it in one step, so that
+/// of several machines that ask only one gets the answer that it was new. Two uses of one authenticator have the same bytes.
 pub fn stored_record(alloc: Global, judged: &Judged) -> Result<Octets, OutOfMemory>
     ensures { IfOk result (λ octets. octets ≡ record_octets (question judged.now).entry) }
 {
@@ -93,12 +93,12 @@ fn admit_at(alloc: Global, candidate: Candidate, gate: &mut TellingGate) -> Resu
     }
 }
 
-/// Admits a candidate where a store that machines share did not have its record: it was asked first, about
-/// [`stored_record`](crate::stored_record), and keeps it from then on. `moment` is the store's own time when it answered, in
+/// Admits a candidate if a store that machines share did not have its record: the store was asked first, about
+/// [`stored_record`](crate::stored_record), and keeps the record from then on. `moment` is the store's own time when it answered, in
 /// microseconds since 1970, and `seen` whether it had the record. The skew, in seconds, is that of all who share the store, which
 /// may drop a record once its own time is later than the record's by more than that.
 ///
-/// Where memory runs out the record stays in the store: the client comes again with a new token.
+/// If memory runs out the record stays in the store: the client sends a new token.
 pub fn admit_told(
     alloc: Global,
     candidate: Candidate,

@@ -1,4 +1,4 @@
--- What an initiator begins is one, and each of its steps has at most one outcome.
+-- An initiator's beginning is determined, and each of its steps has at most one outcome.
 use Rattle.std.proofs.Common.{◌≡◌, ℕ, Bool, true, false, List, [], length, Option, Some, None, Result, Ok, Err, refl, sym, ap, ◌∙◌, subst, arith}
 use Rattle.krb_der.specs.Der.{tlv}
 use Rattle.krb_conf.specs.declared.env.Env.{Env}
@@ -83,7 +83,7 @@ same_mechanism : (o p : Oid) → IsByName o → IsByName p → contents_of o ≡
 same_mechanism o p named also same =
     same_answer (is_user_to_user o) (is_user_to_user p) (λ e. name_tells p also (sym same ∙ contents_tell o e)) (λ e. name_tells o named (same ∙ contents_tell p e))
 
--- what a TGT-REP tells
+-- the service's own ticket in a TGT-REP
 tgt_with : Ticket → Bool → List ℕ → ServiceTgt
 tgt_with ticket user_to_user mechanism = record { ticket = Some ticket; user_to_user = user_to_user; mechanism = mechanism }
 
@@ -98,7 +98,7 @@ same_ticket_in token t u o p h k =
     let R : List ℕ → Type 0 = λ octets. IsRead tgt_rep_layout octets h.reply in
     h.is ∙ ap (λ (reply : TgtRep). reply.ticket) (same_record tgt_rep_layout h.reply k.reply k.octets (subst R same h.read) k.read) ∙ sym k.is
 
--- what a framed token tells is one, wherever the octets of its mechanism lie
+-- a framed token has one service ticket, wherever the octets of its mechanism are
 same_tgt : (token : List ℕ) (x y : Option (Ticket × Oid)) → HasTicket token x → HasTicket token y → framed_tgt x ≡ framed_tgt y
 unfolding tgt_with
 same_tgt token None None h k = refl
@@ -110,7 +110,7 @@ same_tgt token (Some x) (Some y) h k =
     ∙ ap (λ b. tgt_with y.0 b (contents_of x.1)) (same_mechanism x.1 y.1 h.1 k.1 oid)
     ∙ ap (λ m. tgt_with y.0 (is_user_to_user y.1) m) oid
 
--- so too behind the check of its length
+-- and it has one after the check of its length
 abbrev FindsTicket : List ℕ → Result (Option (Ticket × Oid)) Cause → Type 0
 FindsTicket token answer = Finds Shape (HasTicket token) answer
 
@@ -178,7 +178,7 @@ begins_once context options = record { same = λ r s h k. (begins_in_once contex
 pub same_run : (x y : InitRun) → x.initiation ≡ y.initiation → x.phase ≡ y.phase → x ≡ y
 same_run x y i p = ap (λ z. record { alloc = x.alloc; initiation = z; phase = x.phase }) i ∙ ap (λ z. record { alloc = x.alloc; initiation = y.initiation; phase = z }) p
 
--- and so is what is handed back
+-- and so is the result of the public call
 pub begins_so_once : (answer : Result Initiation Cause) (r s : Result InitRun Error) → BeginsSo answer r → BeginsSo answer s → r ≡ s
 begins_so_once (Ok initiation) (Ok x) (Ok y) h k = ap Ok (same_run x y (h.0 ∙ sym k.0) (h.1 ∙ sym k.1))
 begins_so_once (Ok initiation) (Ok x) (Err d) h k = absurd k

@@ -1,4 +1,4 @@
--- What an initiator begins, by its state and what its caller asks for.
+-- The beginning of an initiation, by the context's state and the caller's options.
 use Rattle.std.specs.Prelude.{◌≡◌, ℕ, ◌≤◌, ◌^◌, Bool, true, false, is_some, List, length, Option, Result, Err}
 use Rattle.krb_conf.specs.Names.{target_parts}
 use Rattle.krb_conf.specs.declared.env.Env.{Env}
@@ -38,7 +38,7 @@ NamesTarget target = do
   target ← Takes NoTarget target
   ChecksTarget target
 
--- who asks, and as which client
+-- the client of these credentials, and the asker that speaks for it
 abbrev pub identity_of : Kerberos → CredentialsBuffers → Env → Client → Identity
 identity_of context credentials env client = record { asker = asker_of context credentials client.realm env; client = client }
 
@@ -52,12 +52,12 @@ Identifies context options = do
   credentials ← Takes NoIdentity options.credentials
   NamesIdentity context credentials options.env
 
--- that can be sent
+-- the client and the realm can be sent
 pub record IsShortIdentity (identity : Identity) : Type 0 where
   pub client : IsShort identity.client
   pub realm : length identity.asker.realm ≤ 2 ^ 24
 
--- the context of an initiator, and what it goes to the service with
+-- the context of an initiator, and the options of its exchange with the service
 abbrev pub initiator_of : Kerberos → Bool → ClientRequestFlags → Initiator
 initiator_of context user_to_user flags = record {
   params = context.encryption_params;
@@ -76,7 +76,7 @@ errand_of context options user_to_user mechanism = record {
   mechanism = mechanism;
 }
 
--- what it asks ticket-granting services for
+-- the request to ticket-granting services
 abbrev pub wanted_of : InitOptions → List ℕ → Initiator → Wanted
 wanted_of options target initiator = record {
   target = target;
@@ -84,7 +84,7 @@ wanted_of options target initiator = record {
   channel_bindings = options.channel_bindings;
 }
 
--- user-to-user is what the token tells
+-- the token decides whether user-to-user is used
 abbrev pub seeker_of : Kerberos → InitOptions → List ℕ → ServiceTgt → Identity → Seeker
 seeker_of context options target tgt identity = record {
   asker = identity.asker;
@@ -113,7 +113,7 @@ abbrev pub BeginsNew : Bool → Kerberos → InitOptions → Result Initiation C
 BeginsNew true context options answer = RequestsTgt context options answer
 BeginsNew false context options answer = SeeksTicket context options answer
 
--- in each state
+-- the beginning in each state
 abbrev pub BeginsIn : KerberosState → Kerberos → InitOptions → Result Initiation Cause → Type 0
 BeginsIn TgtExchange context options answer = BeginsNew (has_flag options.flags.0 use_session_key) context options answer
 BeginsIn Preauthentication context options answer = SeeksTicket context options answer

@@ -1,5 +1,5 @@
--- Which replies brought an initiator so far, and that each of them answers the request that this very run made (RFC 4120, sections 3.1.5 and
--- 3.3.4); and whether a service's answer is for the authenticator that was shown (section 3.2.5): beside the run, as contracts see it.
+-- The replies that brought an initiator so far, each of which answers the request that this very run made (RFC 4120, sections 3.1.5
+-- and 3.3.4); and a service's answer for the authenticator that was shown (section 3.2.5): next to the run, as contracts see it.
 use Rattle.std.specs.Prelude.{◌≡◌, ℕ, true, List, [], ◌∷◌, ◌++◌, map, take, Some, None, unwrap_or, Result, Ok}
 use Rattle.std.specs.Int.{w32, from_be_bytes}
 use Rattle.krb_exchange.specs.declared.kdc_rep.AsRep.{AsRep}
@@ -43,17 +43,17 @@ replies_in arrivals = map (λ (arrival : Arrival). arrival.reply) arrivals
 
 -- ---- the AS-REP
 
--- a ticket answers the AS-REQ of the run that began with this draw: what is sealed beside its key has, by its value, the nonce that was
--- drawn then, its first four octets; it is for the client and for the service that were asked for; and it is valid at the moment at which
--- it came (RFC 4120, section 3.1.5; RFC 6806, section 6)
+-- a ticket answers the AS-REQ of the run that began with this draw: the encrypted part next to its key has, by its value, the nonce
+-- that was drawn then, its first four octets; it is for the client and for the service that were asked for; and it is valid at the
+-- moment at which it came (RFC 4120, section 3.1.5; RFC 6806, section 6)
 pub record AnswersStart (seeker : Seeker) (start : Draw) (moment : ℕ) (ticket : Grant) : Type 0 where
   pub nonce : repeats_nonce (take 4 start.random) ticket.facts ≡ true
   pub client : as_replies.names_client (body_of seeker start) ticket.rep ≡ true
   pub service : as_replies.names_service (body_of seeker start) ticket.facts ≡ true
   pub valid : is_valid_at moment ticket.facts ≡ true
 
--- an AS-REP came that brings this ticket: it is sealed under the key of the credentials, with the salt that it tells or else with this one,
--- and answers the AS-REQ
+-- an AS-REP came with this ticket: it is encrypted under the key of the credentials, with the salt that it names or otherwise with
+-- this one, and answers the AS-REQ
 pub record BringsFirstTicket (seeker : Seeker) (start : Draw) (arrival : Arrival) (salt : List ℕ) (ticket : Grant) : Type 0 where
   pub as_rep : AsRep
   pub granted : GrantsFirst arrival.reply as_rep
@@ -72,7 +72,7 @@ pub record AnswersShown (target realm : List ℕ) (shown : Grant) (asked : Draw)
   pub service : tgs_replies.names_service target realm ticket.rep ticket.facts ≡ true
   pub valid : is_valid_at moment ticket.facts ≡ true
 
--- a TGS-REP came that brings this ticket: it is sealed under the session key of the ticket that was shown, and answers the TGS-REQ that
+-- a TGS-REP came with this ticket: it is encrypted under the session key of the ticket that was shown, and answers the TGS-REQ that
 -- showed it to the KDC of this realm
 pub record BringsFurtherTicket (seeker : Seeker) (realm : List ℕ) (shown : Grant) (asked : Draw) (arrival : Arrival) (ticket : Grant) : Type 0 where
   pub tgs_rep : TgsRep
@@ -94,9 +94,9 @@ LeadsOn seeker realm shown asked (arrival ∷ arrivals) to last at =
 
 -- ---- the run
 
--- mostly an error, an AS-REP, and TGS-REPs, of which each answers the request that the run made after the one before it; the last brought
--- this ticket, at the step of this draw. The first ticket is shown to the KDC of the client's own realm, and each further one to that of the
--- realm that it refers to
+-- mostly an error, an AS-REP, and TGS-REPs, of which each answers the request that the run made after the one before it; the last one
+-- has this ticket, at the step of this draw. The first ticket is shown to the KDC of the client's own realm, and each further one to
+-- that of the realm that it refers to
 pub record IsFreshChain (seeker : Seeker) (start : Draw) (arrivals : List Arrival) (last : Grant) (at : Draw) : Type 0 where
   pub before : List Arrival
   pub first : Arrival
@@ -109,14 +109,14 @@ pub record IsFreshChain (seeker : Seeker) (start : Draw) (arrivals : List Arriva
   pub to : List ℕ
   pub leads : LeadsOn seeker ticket.rep.crealm ticket first.draw rest to last at
 
--- the error alone: what was asked first is asked again, with the time sealed beside it
+-- the error alone: the first request is made again, with the time encrypted next to it
 pub record CameAgain (seeker : Seeker) (start : Draw) (arrivals : List Arrival) (sealed : SealedTime) : Type 0 where
   pub error : Arrival
   pub are : arrivals ≡ error ∷ []
   pub names : NamesFirst seeker error.reply sealed.salt
   pub body : sealed.body ≡ body_of seeker start
 
--- all of that, and the last ticket was shown to that KDC
+-- a fresh chain of these replies, and the last ticket was shown to that KDC
 pub record CameWithTicket (seeker : Seeker) (start : Draw) (arrivals : List Arrival) (leg : TgsLeg) : Type 0 where
   pub last : Grant
   pub at : Draw
@@ -134,8 +134,8 @@ CameFresh seeker start arrivals (InAsExchange (AwaitsAsRep sealed)) = CameAgain 
 CameFresh seeker start arrivals (AwaitsTgsRep leg) = CameWithTicket seeker start arrivals leg
 CameFresh seeker start arrivals Over = Unit {0}
 
--- and to this end: the session key is that of the last ticket of the chain, which is for the target, by what is sealed in it, and which is
--- shown to the service with an authenticator of the moment at which it came
+-- the replies bring it to this end: the session key is that of the last ticket of the chain, which is for the target, by its
+-- encrypted part, and which is shown to the service with an authenticator of the moment at which it came
 pub record IsFreshSession (seeker : Seeker) (start : Draw) (arrivals : List Arrival) (done : InitDone) : Type 0 where
   pub last : Grant
   pub at : Draw
@@ -148,8 +148,8 @@ pub record IsFreshSession (seeker : Seeker) (start : Draw) (arrivals : List Arri
 
 -- ---- the service's answer
 
--- a token is an AP-REP that is sealed under the session key of an initiator, and has the time of the authenticator that it showed, by the
--- values of both its fields (RFC 4120, section 3.2.5)
+-- a token is an AP-REP that is encrypted under the session key of an initiator, and has the time of the authenticator that it showed,
+-- by the values of both its fields (RFC 4120, section 3.2.5)
 pub record AnswersAuthenticator (initiator : Initiator) (token : List ℕ) : Type 0 where
   pub message : ApRep
   pub is_message : IsApRep (is_bare initiator.flags) token message

@@ -24,7 +24,7 @@ use Rattle.krb_initiator.specs.declared.init_run.InitRun.{InitRun}
 use Rattle.krb_initiator.specs.Seekers.{CanSeek, CanBegin}
 use Rattle.krb_initiator.specs.InitSteps.{body_of, AsksFirstTgs, TakesNext, requested, HearsAnswer}
 
--- what the start leads to: two of the three end there
+-- the turn after the start: two of the three initiations end there
 abbrev pub StartsNew : Initiation → Draw → Result (Turn InitPhase InitDone) Cause → Type 0
 StartsNew (Requests initiator token) draw answer = Gives (Ends (requested initiator token)) answer
 StartsNew (Seeks seeker) draw answer = BeginsWithin InAsExchange seeker.asker (body_of seeker draw) answer
@@ -36,7 +36,7 @@ Starts initiation (InAsExchange phase) draw answer = ⊥
 Starts initiation (AwaitsTgsRep leg) draw answer = ⊥
 Starts initiation Over draw answer = ⊥
 
--- what an answer leads to, in each phase
+-- the turn after a reply, in each phase
 abbrev pub Continues : Seeker → InitPhase → Result (List ℕ) NetFault → Draw → Result (Turn InitPhase InitDone) Cause → Type 0
 Continues seeker New reply draw answer = ⊥
 Continues seeker (InAsExchange phase) reply draw answer =
@@ -49,7 +49,7 @@ Next (Requests initiator token) phase reply draw answer = ⊥
 Next (Seeks seeker) phase reply draw answer = Continues seeker phase reply draw answer
 Next (Hears initiator token) phase reply draw answer = ⊥
 
--- the two steps of the task: what is to be done stays, and the phase goes on
+-- the two steps of the task: the initiation stays, and the phase goes on
 pub record StartsAt (old : InitRun) (draw : Draw) (state : GeneratorState NetworkRequest (Result InitDone Error)) (new : InitRun) : Type 0 where
   pub turn : Turns Over (Starts old.initiation old.phase draw) state new.phase
   pub stays : new.initiation ≡ old.initiation
@@ -59,7 +59,7 @@ pub record ResumesAt (old : InitRun) (reply : Result (List ℕ) NetFault) (draw 
   pub turn : Turns Over (Next old.initiation old.phase reply draw) state new.phase
   pub stays : new.initiation ≡ old.initiation
 
--- how often it may still ask: twice an AS, and ten times a ticket-granting service
+-- the number of requests that are still to come at most: two to an AS, and ten to a ticket-granting service
 abbrev pub turns_left : InitPhase → ℕ
 turns_left New = 12
 turns_left (InAsExchange phase) = as_phases.turns_left phase + 10

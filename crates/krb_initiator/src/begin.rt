@@ -1,4 +1,4 @@
-//! What an initiator begins, by its state and what its caller asks for.
+//! The beginning of an initiation, by the context's state and the caller's options.
 
 ghost use Rattle.std.specs.Prelude.{◌≡◌, ◌<◌, ◌≤◌, ◌^◌, length, is_some, true, false, IfOk, IfSome};
 ghost use Rattle.sspi_core.specs.declared.cause.Cause.TheVariants as causes;
@@ -44,10 +44,10 @@ use krb_tgs::Wanted;
 use sspi_core::{Cause, ChannelBindings, ClientRequestFlags, CredentialsBuffers, hold};
 use std::alloc::Global;
 
-/// The most octets of a target, and of each part of channel bindings.
+/// The maximum number of octets of a target, and of each part of channel bindings.
 const MAX_PART: usize = 16_777_216;
 
-/// Who asks, and as which client.
+/// The client, and the asker that speaks for it.
 #[derive(Drop)]
 pub struct Identity {
     pub asker: Asker,
@@ -61,7 +61,7 @@ fn check_target(target: &Name) -> Result<(), Cause>
     hold(is_target, Cause::Target)
 }
 
-/// A copy of a target of at most 2^24 octets, which is a condition of whoever hands it in: there is no copy of a longer one.
+/// Returns a copy of a target of at most 2^24 octets, which is a precondition of the caller's: there is no copy of a longer one.
 fn short_target(alloc: Global, target: &Name) -> Result<Name, Cause>
     ensures copied { Answers (Gives target.now) result }
     ensures short { IfOk result (λ copy. length copy ≤ 2 ^ 24) }
@@ -72,7 +72,7 @@ fn short_target(alloc: Global, target: &Name) -> Result<Name, Cause>
     Ok(target.copy(alloc)?)
 }
 
-/// A target of two parts.
+/// Returns a copy of a target of two parts. Fails with `Target` if it has not that form.
 #[tactic(auto, unfolding(crate::specs::Beginnings::ChecksTarget))]
 fn checked_target(alloc: Global, target: &Name) -> Result<Name, Cause>
     ensures step { Answers (ChecksTarget target.now) result }
@@ -82,7 +82,7 @@ fn checked_target(alloc: Global, target: &Name) -> Result<Name, Cause>
     short_target(alloc, target)
 }
 
-/// The target that there has to be.
+/// Returns a copy of the target. Fails with `NoTarget` if there is none.
 #[tactic(auto, unfolding(crate::specs::Beginnings::NamesTarget))]
 fn target_in(alloc: Global, target: &Option<Name>) -> Result<Name, Cause>
     ensures step { Answers (NamesTarget target.now) result }
@@ -94,7 +94,7 @@ fn target_in(alloc: Global, target: &Option<Name>) -> Result<Name, Cause>
     }
 }
 
-/// The context of an initiator.
+/// Returns the context of an initiator.
 fn initiator_of(
     alloc: Global,
     context: &Kerberos,
@@ -131,7 +131,7 @@ fn are_short(bindings: &ChannelBindings) -> bool
         && is_short(&bindings.application_data)
 }
 
-/// A copy of bindings whose parts have at most 2^24 octets each, which is a condition: there is no copy of longer ones.
+/// Returns a copy of bindings whose parts have at most 2^24 octets each, which is a precondition: there is no copy of longer ones.
 fn short_bindings(
     alloc: Global,
     bindings: &Option<ChannelBindings>,
@@ -150,7 +150,7 @@ fn short_bindings(
     }
 }
 
-/// The client with who asks for it.
+/// Returns the client with the asker that speaks for it.
 fn with_asker(
     alloc: Global,
     context: &Kerberos,
@@ -166,7 +166,7 @@ fn with_asker(
     Ok(Identity { asker, client })
 }
 
-/// As which client, and whom, these credentials ask.
+/// Returns the client of these credentials, and the asker that speaks for it.
 #[tactic(auto, unfolding(crate::specs::Beginnings::NamesIdentity))]
 fn identity_of(
     alloc: Global,
@@ -182,7 +182,7 @@ fn identity_of(
     with_asker(alloc, context, credentials, env, client)
 }
 
-/// The identity that there has to be.
+/// Returns the identity of the credentials. Fails with `NoIdentity` if there are none.
 #[tactic(auto, unfolding(crate::specs::Beginnings::Identifies))]
 fn identify(alloc: Global, context: &Kerberos, options: &InitOptions) -> Result<Identity, Cause>
     ensures step { Answers (Identifies context.now options.now) result }
@@ -194,7 +194,7 @@ fn identify(alloc: Global, context: &Kerberos, options: &InitOptions) -> Result<
     }
 }
 
-/// With what it goes to the service.
+/// Returns the options of the exchange with the service.
 fn errand_of(
     alloc: Global,
     context: &Kerberos,
@@ -216,7 +216,7 @@ fn errand_of(
     })
 }
 
-/// What it asks ticket-granting services for.
+/// Returns the request to ticket-granting services.
 fn wanted_of(
     alloc: Global,
     options: &InitOptions,
@@ -234,7 +234,7 @@ fn wanted_of(
     })
 }
 
-/// An initiator on its way to the ticket.
+/// Returns an initiator on its way to the ticket.
 fn seeker_of(
     alloc: Global,
     context: &Kerberos,
@@ -269,7 +269,7 @@ fn seeker_of(
     }))
 }
 
-/// It fetches a ticket.
+/// Begins to fetch a ticket.
 #[tactic(auto, unfolding(crate::specs::Beginnings::SeeksTicket))]
 fn seek(alloc: Global, context: &Kerberos, options: &InitOptions) -> Result<Initiation, Cause>
     ensures step { Answers (SeeksTicket context.now options.now) result }
@@ -296,7 +296,7 @@ fn requested(
     Ok(Initiation::Requests(initiator, token))
 }
 
-/// It asks the service for the service's own ticket.
+/// Begins to ask the service for the service's own ticket.
 #[tactic(auto, unfolding(crate::specs::Beginnings::RequestsTgt))]
 fn request(alloc: Global, context: &Kerberos, options: &InitOptions) -> Result<Initiation, Cause>
     ensures step { Answers (RequestsTgt context.now options.now) result }
@@ -306,7 +306,7 @@ fn request(alloc: Global, context: &Kerberos, options: &InitOptions) -> Result<I
     requested(alloc, context, options.flags, &target)
 }
 
-/// What begins before the exchange.
+/// Begins an initiation before the exchange.
 fn begin_new(alloc: Global, context: &Kerberos, options: &InitOptions) -> Result<Initiation, Cause>
     ensures step { Answers (BeginsNew (has_flag options.now.flags.0 use_session_key) context.now options.now) result }
     ensures can { IfOk result (λ initiation. CanBegin initiation) }
@@ -318,7 +318,7 @@ fn begin_new(alloc: Global, context: &Kerberos, options: &InitOptions) -> Result
     }
 }
 
-/// It hears the service's answer.
+/// Begins to take the service's answer.
 fn hear(alloc: Global, context: &Kerberos, options: &InitOptions) -> Result<Initiation, Cause>
     ensures step { Answers (Gives (initiations.Hears (initiator_of context.now context.now.krb5_user_to_user options.now.flags) options.now.token)) result }
     ensures can { IfOk result (λ initiation. CanBegin initiation) }
@@ -328,8 +328,8 @@ fn hear(alloc: Global, context: &Kerberos, options: &InitOptions) -> Result<Init
     Ok(Initiation::Hears(initiator, token))
 }
 
-/// Returns what an initiator begins next, by the state of its context, without running it. Refused as
-/// [`initialize_security_context`](crate::initialize_security_context) refuses.
+/// Returns what an initiator begins next, by the state of its context, without running it. Fails as
+/// [`initialize_security_context`](crate::initialize_security_context).
 pub fn begin_initiation(
     alloc: Global,
     context: &Kerberos,

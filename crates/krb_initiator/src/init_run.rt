@@ -27,8 +27,8 @@ use sspi_core::{Cause, Draw, Error};
 use sspi_generator::{Generator, GeneratorState, NetFault, NetworkRequest, Resumable, Task};
 use std::alloc::Global;
 
-/// What an initiator does when it is called: it asks a service for the service's own ticket, or fetches a ticket from KDCs and shows
-/// it to the service, or hears the service's answer.
+/// A run of an initiator: it asks a service for the service's own ticket, or fetches a ticket from KDCs and shows it to the service,
+/// or takes the service's answer.
 #[derive(Drop)]
 pub struct InitRun {
     alloc: Global,
@@ -36,11 +36,11 @@ pub struct InitRun {
     phase: InitPhase,
 }
 
-/// What runs it.
+/// A generator that runs an initiation.
 pub type GeneratorInitSecurityContext = Generator<InitRun>;
 
 impl InitRun {
-    /// The task that does this.
+    /// Returns the task of this initiation.
     pub fn new(alloc: Global, initiation: Initiation) -> InitRun
         requires { CanBegin initiation }
         ensures new { IsNew result }
@@ -78,7 +78,7 @@ impl InitRun {
         &self.initiation
     }
 
-    /// Returns how far it has come: whose reply it awaits, and what its request asked.
+    /// Returns how far the run has come: whose reply it awaits, and what its request asked.
     pub fn phase(&self) -> &InitPhase
         ensures { result.now ≡ self.now.phase }
     {
@@ -87,12 +87,12 @@ impl InitRun {
 }
 
 /// Begins what an initiator does next, by its state: before the exchange it fetches a ticket for the target and shows it to the
-/// service, or with `USE_SESSION_KEY` first asks the service for its own ticket; when it has shown one, it hears the answer.
+/// service, or with `USE_SESSION_KEY` first asks the service for its own ticket; after it has shown one, it takes the answer.
 ///
-/// Refused, in this order, as OutOfSequence Sequence where the exchange is over; before the exchange as NoCredentials NoTarget where
-/// there is no target, as InvalidParameter Target where it has not the form of a service and its host; and then, unless the service
-/// is asked first, as InvalidToken Shape where there is a token that is no TGT-REP, as WrongCredentialHandle NoIdentity where there
-/// are no credentials, as InternalError NotAscii where the name of the client, its realm or the name of its machine is past ASCII.
+/// Fails, in this order, with OutOfSequence Sequence if the exchange is over; before the exchange with NoCredentials NoTarget if
+/// there is no target, with InvalidParameter Target if it has not the form of a service and its host; and then, unless the service
+/// is asked first, with InvalidToken Shape if there is a token that is no TGT-REP, with WrongCredentialHandle NoIdentity if there
+/// are no credentials, with InternalError NotAscii if the name of the client, its realm or the name of its machine is past ASCII.
 pub fn initialize_security_context(
     alloc: Global,
     client: &Kerberos,
@@ -109,7 +109,7 @@ pub fn initialize_security_context(
     }
 }
 
-/// What the start leads to.
+/// Starts an initiation and returns the first turn.
 fn start_new(
     alloc: Global,
     initiation: &Initiation,
@@ -127,7 +127,7 @@ fn start_new(
     }
 }
 
-/// What the start leads to in a phase that is new.
+/// Starts an initiation in a phase that is new, and returns the first turn.
 fn started(
     alloc: Global,
     initiation: &Initiation,
@@ -146,7 +146,7 @@ fn started(
     }
 }
 
-/// What an answer leads to in a phase that awaits one.
+/// Handles a reply in a phase that awaits one, and returns the next turn.
 fn in_phase(
     alloc: Global,
     seeker: &Seeker,
@@ -166,7 +166,7 @@ fn in_phase(
     }
 }
 
-/// What an answer leads to. Where whoever sends wanted for memory, so does the step.
+/// Handles a reply and returns the next turn. Fails with `Memory` if the network client ran out of memory.
 fn next(
     alloc: Global,
     initiation: &Initiation,

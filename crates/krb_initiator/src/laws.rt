@@ -28,8 +28,9 @@ ghost use Rattle.krb_ap.specs.declared.initiator.Initiator.{Initiator};
 
 use sspi_generator::NetworkClient;
 
-/// The session key is the last key of a chain of the run's own replies that begins with the credentials' key: no reply is behind the
-/// start; what brought a run to a phase brings it, with the next reply, to the next phase; and to its end, with the session key.
+/// The session key is the last key of a chain of the run's own replies that begins with the credentials' key: no reply is before the
+/// start; the replies that brought a run to a phase bring it, with the next reply, to the next phase; and to its end, with the
+/// session key.
 pub fn the_keys_of_the_replies_are_a_chain()
     ensures begins { (seeker : Seeker) (draw : Draw) (request : NetworkRequest) (phase : InitPhase)
         → Starts (Seeks seeker) New draw (Ok (Asks request phase)) → Came seeker [] phase }
@@ -41,10 +42,10 @@ pub fn the_keys_of_the_replies_are_a_chain()
         → Came seeker replies phase → Next (Seeks seeker) phase reply draw (Ok (Ends done)) → IsSession seeker (replies ++ (reply ∷ [])) done }
 {}
 
-/// Where the rules have `FRESH_REPLIES`, each reply that a run takes answers the request that this very run made: the AS-REP has the nonce
-/// that was drawn at the start, and each TGS-REP the one that was drawn at the step to which the reply before it came, with the names
-/// that were asked for, and a ticket that is valid then. And where they have `ANSWERS_ITS_AUTHENTICATOR`, the service's answer has the
-/// time of the authenticator that was shown.
+/// Each reply that a run takes answers the request that this very run made, if the rules have `FRESH_REPLIES`: the AS-REP has the
+/// nonce that was drawn at the start, and each TGS-REP the one that was drawn at the step to which the reply before it came, with the
+/// names that were asked for, and a ticket that is valid then. And if they have `ANSWERS_ITS_AUTHENTICATOR`, the service's answer has
+/// the time of the authenticator that was shown.
 pub fn each_reply_answers_its_request()
     ensures begins { (seeker : Seeker) (start : Draw) (request : NetworkRequest) (phase : InitPhase)
         → Starts (Seeks seeker) New start (Ok (Asks request phase)) → CameFresh seeker start [] phase }
@@ -61,9 +62,8 @@ pub fn each_reply_answers_its_request()
         → AnswersAuthenticator initiator token }
 {}
 
-/// What an initiator begins is one, by its context and what its caller asks for, and so is the run or the refusal that it is handed
-/// back as; and each step of that run has at most one outcome, determined by what is to be done, how far the run has come, the reply
-/// and the draw.
+/// A context and the caller's options determine an initiator's beginning, and the run or the error that is returned; and each step of
+/// that run has at most one outcome, determined by the initiation, how far the run has come, the reply and the draw.
 pub fn one_outcome()
     ensures begins { (context : Kerberos) (options : InitOptions) (r s : Result Initiation Cause) → BeginsInitiation context options r
         → BeginsInitiation context options s → r ≡ s }
@@ -75,7 +75,7 @@ pub fn one_outcome()
         → Next initiation phase reply draw r → Next initiation phase reply draw s → r ≡ s }
 {}
 
-/// A run from a new initiation asks twelve times at most, whoever sends: it ends with what it ends with over the first thirteen of its
+/// A run from a new initiation asks twelve times at most, whoever sends: its outcome is the one over the first thirteen of its
 /// draws.
 pub fn initiations_ask_twelve_times_at_most<C: NetworkClient>()
     ensures { (run run' : InitRun)

@@ -1,9 +1,9 @@
 //! The initiator whole: from the credentials of a client to a context that is established (RFC 4120, section 3; RFC 4121,
 //! section 4.1).
 //!
-//! [`initialize_security_context`] looks at what its caller asks for and begins an [`InitRun`], a task: it fetches the service's
-//! ticket from KDCs and shows it to the service, or asks the service for the service's own ticket, or hears the service's answer.
-//! What it begins is `Begins` of `specs/Beginnings`, a chain of ordered checks, and so is each step, in `specs/InitSteps`.
+//! [`initialize_security_context`] reads the caller's options and begins an [`InitRun`], a task: it fetches the service's ticket
+//! from KDCs and shows it to the service, or asks the service for the service's own ticket, or takes the service's answer. The
+//! beginning is `BeginsInitiation` of `specs/Beginnings`, a chain of ordered checks, and so is each step, in `specs/InitSteps`.
 #![tactic(auto)]
 
 mod as_steps;

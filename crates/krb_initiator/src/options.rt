@@ -1,21 +1,21 @@
-//! What the caller of an initiator asks for.
+//! The options of an initiator's caller.
 
 use krb_conf::Env;
 use krb_der::{Name, Octets};
 use sspi_core::{ChannelBindings, ClientRequestFlags, CredentialsBuffers};
 
-/// What the caller of an initiator asks for.
+/// The options of an initiator's caller.
 #[derive(Drop)]
 pub struct InitOptions {
     pub flags: ClientRequestFlags,
     /// The service and its host, with a `/` between them.
     pub target: Option<Name>,
-    /// What the service sent; at the beginning it is empty.
+    /// The service's last token; empty at the beginning.
     pub token: Octets,
-    /// Who the initiator speaks for.
+    /// The credentials of the client.
     pub credentials: Option<CredentialsBuffers>,
-    /// Those of the channel below.
+    /// The bindings of the channel below the context.
     pub channel_bindings: Option<ChannelBindings>,
-    /// Where KDCs are looked for.
+    /// The environment in which KDCs are looked up.
     pub env: Env,
 }

@@ -12,45 +12,45 @@ use sspi_core::Secret;
 #[derive(Drop)]
 pub struct Seeker {
     pub asker: Asker,
-    /// Who asks.
+    /// The client that asks.
     pub client: Client,
-    /// What is asked for.
+    /// The request to ticket-granting services.
     pub wanted: Wanted,
     /// The service's own ticket, which goes into the first request to a ticket-granting service.
     pub tgt: Option<Ticket>,
-    /// With what it goes to the service.
+    /// The options of the exchange with the service.
     pub errand: Errand,
 }
 
-/// What an initiator is to do. A step never changes it.
+/// The task of an initiator. A step never changes it.
 #[derive(Drop)]
 pub enum Initiation {
     /// It asks the service for the service's own ticket, by this token.
     Requests(Initiator, Octets),
     /// It fetches a ticket, and shows it to the service.
     Seeks(Seeker),
-    /// It hears the service's answer, this token.
+    /// It takes the service's answer, this token.
     Hears(Initiator, Octets),
 }
 
 /// A request to a ticket-granting service whose reply is awaited.
 #[derive(Drop)]
 pub struct TgsLeg {
-    /// Where it was sent. Its realm is the one that was asked.
+    /// The KDC to which the request was sent. Its realm is the one that was asked.
     pub kdc: Kdc,
     /// The suite of the whole exchange.
     pub suite: CipherSuite,
-    /// The key that the reply is to be sealed under.
+    /// The key under which the reply has to be encrypted.
     pub key: Secret<Octets>,
     /// The client's own realm, by the AS-REP.
     pub home: Name,
-    /// What the request asked, as the reply has to repeat it.
+    /// The parts of the request that the reply has to repeat.
     pub question: TgsQuestion,
-    /// How many referrals were followed.
+    /// The number of referrals that were followed.
     pub hops: u8,
 }
 
-/// How far an initiation has come.
+/// The phase of an initiation.
 #[derive(Drop)]
 pub enum InitPhase {
     /// It is not started.

@@ -46,7 +46,7 @@ pub fn first_tickets(
     }
 }
 
-/// The request to the first ticket-granting service.
+/// Asks the first ticket-granting service.
 fn begin_tgs(alloc: Global, seeker: &Seeker, shown: &Grant, draw: &Draw) -> Result<Begun, Cause>
     requires seeker { CanSeek seeker.now }
     requires rep { IsSendable shown.now.rep }
@@ -68,7 +68,7 @@ fn begin_tgs(alloc: Global, seeker: &Seeker, shown: &Grant, draw: &Draw) -> Resu
     )
 }
 
-/// What a request asked that shows the ticket of this reply.
+/// Returns the question of a request that shows the ticket of this reply.
 fn question_of(rep: KdcRep, draw: &Draw) -> TgsQuestion
     ensures { result ≡ question_of rep draw.now }
 {
@@ -108,7 +108,7 @@ pub fn sent_first_tgs(
     Ok(Turn::Asks(request, InitPhase::AwaitsTgsRep(leg)))
 }
 
-/// What follows the AS-REP that was opened.
+/// Asks the first ticket-granting service with the ticket of the AS-REP, and returns the next turn.
 #[tactic(auto, unfolding(crate::specs::InitSteps::AsksFirstTgs))]
 pub(crate) fn ask_first_tgs(
     alloc: Global,
@@ -126,7 +126,7 @@ pub(crate) fn ask_first_tgs(
     sent_first_tgs(alloc, begun, shown, draw)
 }
 
-/// The phase after a request that follows a referral.
+/// Returns the turn, and in it the phase, after a request that follows a referral.
 fn sent_next_tgs(
     alloc: Global,
     begun: Begun,
@@ -158,7 +158,7 @@ fn sent_next_tgs(
     Ok(Turn::Asks(request, InitPhase::AwaitsTgsRep(next)))
 }
 
-/// A referral to this realm is followed.
+/// Follows a referral to this realm.
 #[tactic(auto, unfolding(crate::specs::InitSteps::Refers))]
 fn refer(
     alloc: Global,
@@ -190,7 +190,7 @@ fn refer(
     sent_next_tgs(alloc, begun, shown, leg, draw)
 }
 
-/// The service's ticket is shown to the service.
+/// Shows the service's ticket to the service.
 #[tactic(auto, unfolding(crate::specs::InitSteps::Arrives))]
 fn arrive(
     alloc: Global,
@@ -215,7 +215,7 @@ fn arrive(
     end(done)
 }
 
-/// The realm of a referral; None where the ticket is the service's.
+/// Returns the realm of a referral; None if the ticket is the service's.
 fn referral_in(
     alloc: Global,
     rules: Rules,
@@ -231,7 +231,7 @@ fn referral_in(
     }
 }
 
-/// What follows the TGS-REP that was opened.
+/// Follows a referral or shows the ticket to the service, after a TGS-REP was decrypted.
 fn go_to(
     alloc: Global,
     seeker: &Seeker,
@@ -254,7 +254,7 @@ fn go_to(
     }
 }
 
-/// What follows a reply of a ticket-granting service.
+/// Handles a reply of a ticket-granting service and returns the next turn.
 #[tactic(auto, unfolding(crate::specs::InitSteps::TakesNext))]
 pub(crate) fn take_next(
     alloc: Global,

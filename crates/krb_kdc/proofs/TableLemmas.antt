@@ -1,4 +1,4 @@
--- What is found in a map is found in its list.
+-- A value that is found in a map is found in its list.
 use Rattle.std.proofs.Common.{◌≡◌, ℕ, Bool, true, false, cond, List, [], ◌∷◌, ◌++◌, Option, Some, None, refl, sym, ap, ◌∙◌}
 use Rattle.std.specs.Prelude.{map, ◌&&◌}
 use Rattle.std.specs.Bool.{Decides}
@@ -20,7 +20,7 @@ pub components_decide : (xs ys : List (List ℕ)) → Decides (same_components x
 components_decide = pointwise_decides texts_decide
 
 module _ {K V : Type 0} (eq : K → K → Bool) (decide : (x y : K) → Decides (eq x y) (x ≡ y)) (key : V → K) where
-  -- a value stands at its own key
+  -- an entry's key is the value's own key
   abbrev is_keyed : K × V → Bool
   is_keyed entry = eq (key entry.1) entry.0
 

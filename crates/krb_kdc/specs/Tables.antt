@@ -1,11 +1,11 @@
--- What stands in a KDC's maps: private functions have their contracts in these words.
+-- The entries of a KDC's maps: private functions have their contracts in these words.
 use Rattle.std.specs.Prelude.{ℕ, ◌==◌, Bool, List}
 use Rattle.std.specs.Cmp.Lexicographic.{pointwise}
 use Rattle.krb_kdc.specs.declared.kdc.Principal.{Principal}
 use Rattle.krb_kdc.specs.declared.kdc.Trust.{Trust}
 use Rattle.krb_kdc.specs.declared.kdc.Route.{Route}
 
--- a principal, a trust and a route stand at their own names
+-- the key of a principal, a trust and a route in its map is its own name
 abbrev pub is_keyed_principal : List (List ℕ) × Principal → Bool
 is_keyed_principal entry = pointwise (pointwise ◌==◌) entry.1.components entry.0
 

@@ -1,5 +1,5 @@
-//! What a KDC has, in the order in which it came. A look-up takes no longer among many than among few; for that each name stands
-//! a second time, as a key.
+//! The principals, trusts and routes of a KDC, in the order in which they were added. A look-up takes no longer among many than
+//! among few; for that each name is stored a second time, as a key.
 
 use crate::kdc::{Principal, Route, Trust};
 use indexmap::IndexMap;
@@ -47,7 +47,7 @@ impl Principals {
         self.by_name.get(components)
     }
 
-    /// One more, behind the others.
+    /// Adds a principal after the others.
     pub fn add(&mut self, alloc: Global, principal: Principal) -> Result<(), OutOfMemory>
         requires { principal_with principal.components self.old ≡ None }
         ensures added { OnOk result (self.new ≡ self.old ++ principal ∷ []) }
@@ -99,7 +99,7 @@ impl Trusts {
         self.by_realm.get(realm)
     }
 
-    /// One more, behind the others.
+    /// Adds a trust after the others.
     pub fn add(&mut self, alloc: Global, trust: Trust) -> Result<(), OutOfMemory>
         requires { trust_in trust.realm self.old ≡ None }
         ensures added { OnOk result (self.new ≡ self.old ++ trust ∷ []) }
@@ -151,7 +151,7 @@ impl Routes {
         self.by_service.get(service)
     }
 
-    /// One more, behind the others.
+    /// Adds a route after the others.
     pub fn add(&mut self, alloc: Global, route: Route) -> Result<(), OutOfMemory>
         requires { route_to route.service self.old ≡ None }
         ensures added { OnOk result (self.new ≡ self.old ++ route ∷ []) }

@@ -1,5 +1,5 @@
--- Which keys a ticket is opened with. A ticket names its service, its realm, the encryption type and the version of its key in the clear
--- (RFC 4120, sections 5.2.9 and 5.3).
+-- The keys that a ticket is decrypted with. A ticket names its service, its realm, the encryption type and the version of its key in
+-- the clear (RFC 4120, sections 5.2.9 and 5.3).
 use Rattle.std.specs.Prelude.{ℕ, Bool, false, ◌&&◌, List, [], fold, insert, Option, Some, None, nat_lt, pos, if◌then◌else◌}
 use Rattle.std.specs.List.{list_any, position_or_len}
 use Rattle.std.specs.Ordering.{int_eq}
@@ -26,7 +26,7 @@ is_version (Some kvno) version = is_number kvno version
 abbrev pub fits_exactly : Ticket → KeytabEntry → Bool
 fits_exactly ticket entry = fits ticket entry && is_version ticket.enc_part.kvno entry.version
 
--- where one fits exactly, those that do, and else all that fit
+-- the entries that fit exactly if there is one, otherwise all that fit
 abbrev pub is_chosen : Ticket → Bool → KeytabEntry → Bool
 is_chosen ticket exactly entry = if exactly then fits_exactly ticket entry else fits ticket entry
 
@@ -34,7 +34,7 @@ is_chosen ticket exactly entry = if exactly then fits_exactly ticket entry else 
 abbrev pub put : KeytabEntry → List KeytabEntry → List KeytabEntry
 put entry entries = insert entries (position_or_len (λ other. nat_lt other.version entry.version) entries) entry
 
--- the same, where the entry passes the test
+-- the entries with one more, if it passes the test
 abbrev pub newest_with : (KeytabEntry → Bool) → List KeytabEntry → KeytabEntry → List KeytabEntry
 newest_with passes newest entry = if passes entry then put entry newest else newest
 
@@ -42,11 +42,11 @@ newest_with passes newest entry = if passes entry then put entry newest else new
 unfoldable pub newest_first : (KeytabEntry → Bool) → List KeytabEntry → List KeytabEntry
 newest_first passes entries = fold (λ newest entry. newest_with passes newest entry) [] entries
 
--- those of these entries that a ticket is opened with
+-- the entries, among these, that a ticket is decrypted with
 abbrev pub chosen_of : Ticket → List KeytabEntry → List KeytabEntry
 chosen_of ticket entries = newest_first (is_chosen ticket (list_any (fits_exactly ticket) entries)) entries
 
--- The keys that a ticket is opened with, in turn: those of the service's components (the type of its name is not compared), its realm and its
--- encryption type. Of these the ones of the version that the ticket names, where there is one, and else all, newest first.
+-- The keys that a ticket is decrypted with, in turn: those of the service's components (the type of its name is not compared), its
+-- realm and its encryption type. Of these the ones of the version that the ticket names, if there is one, otherwise all, newest first.
 abbrev pub chosen : Keyring → Ticket → List KeytabEntry
 chosen ring ticket = chosen_of ticket (held ring ticket.sname.name_string)

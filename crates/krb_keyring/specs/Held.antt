@@ -1,4 +1,4 @@
--- What a keyring has under a name.
+-- The entries of a keyring under a name.
 use Rattle.std.specs.Prelude.{ℕ, List, [], filter, Option, Some, None}
 use Rattle.indexmap.specs.IndexMap.{IndexMap, get}
 use Rattle.krb_keyring.specs.declared.keyring.Keyring.{Keyring}

@@ -1,4 +1,4 @@
-//! The choice of the keys that a ticket is opened with.
+//! The choice of the keys that a ticket is decrypted with.
 
 ghost use Rattle.std.specs.Prelude.{◌≡◌, ◌≤◌, length, map, IfOk, OnOk, nat_lt};
 ghost use Rattle.std.specs.List.{position_or_len, list_any};
@@ -9,7 +9,7 @@ use krb_keytab::KeytabEntry;
 use krb_messages::Ticket;
 use std::alloc::Global;
 
-/// Whether the INTEGER is this number, in any spelling.
+/// Returns whether the INTEGER is this number, in any encoding.
 fn is_number(integer: &IntegerAsn1, number: u32) -> bool
     ensures { result ≡ is_number integer.now number }
 {
@@ -40,7 +40,7 @@ fn fits_exactly(ticket: &Ticket, entry: &KeytabEntry) -> bool
     fits(ticket, entry) && is_version(&ticket.enc_part.kvno, entry.version)
 }
 
-/// Whether one fits exactly.
+/// Returns whether one entry fits exactly.
 fn has_exact(ticket: &Ticket, entries: &[KeytabEntry]) -> bool
     ensures { result ≡ list_any (fits_exactly ticket.now) entries.now }
 {
@@ -57,7 +57,7 @@ fn is_chosen(ticket: &Ticket, exactly: bool, entry: &KeytabEntry) -> bool
     }
 }
 
-/// How many entries are before the first of a lower version.
+/// Returns the number of entries before the first of a lower version.
 fn place_of(newest: &[&KeytabEntry], version: u32) -> usize
     ensures place { result ≡ position_or_len (λ other. nat_lt other.now.version version) newest.now }
     ensures within { result ≤ length newest.now }
@@ -70,7 +70,7 @@ fn place_of(newest: &[&KeytabEntry], version: u32) -> usize
     newest.len()
 }
 
-/// One more entry, before the first of a lower version.
+/// Inserts an entry before the first of a lower version.
 fn put<'a>(newest: &mut Vec<&'a KeytabEntry>, entry: &'a KeytabEntry) -> Result<(), OutOfMemory>
     ensures { OnOk result (map (λ entry. entry.now) newest.new.items ≡ put entry.now (map (λ entry. entry.now) newest.old.items)) }
 {
@@ -79,7 +79,7 @@ fn put<'a>(newest: &mut Vec<&'a KeytabEntry>, entry: &'a KeytabEntry) -> Result<
     Ok(())
 }
 
-/// The entry too, where the ticket chooses it.
+/// Inserts the entry if the ticket chooses it.
 fn keep<'a>(
     newest: &mut Vec<&'a KeytabEntry>,
     ticket: &Ticket,
@@ -95,7 +95,7 @@ fn keep<'a>(
     Ok(())
 }
 
-/// Those of the entries of a service that its ticket is opened with, newest first.
+/// Returns the entries of a service that its ticket is decrypted with, newest first.
 pub(crate) fn chosen_of<'a>(
     alloc: Global,
     ticket: &Ticket,

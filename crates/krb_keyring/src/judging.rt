@@ -13,7 +13,7 @@ use krb_messages::PrincipalName;
 use krb_messages::constants::NT_SRV_INST;
 use std::alloc::Global;
 
-/// The name and the key of an entry alone.
+/// Returns keys with the name and the key of an entry alone.
 fn single(alloc: Global, token_limit: usize, entry: &KeytabEntry) -> Result<Keys, OutOfMemory>
     ensures { IfOk result (λ keys. keys ≡ single token_limit entry.now) }
 {
@@ -52,7 +52,7 @@ fn singles(
     Ok(keys)
 }
 
-/// Judges a token by the newest key, and by the older ones in their order where those before do not open the ticket.
+/// Judges a token by the newest key, and by the older ones in their order if the keys before do not decrypt the ticket.
 fn judge_from(
     alloc: Global,
     token_limit: usize,

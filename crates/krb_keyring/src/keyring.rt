@@ -21,7 +21,7 @@ use krb_messages::{ApReq, Ticket};
 use sspi_core::hold;
 use std::alloc::Global;
 
-/// How many octets a token may have, unless the caller sets another bound.
+/// The number of bytes that a token may have, unless the caller sets another bound.
 const TOKEN_LIMIT: usize = 65_536;
 
 /// The keys of all services of an acceptor, of all realms, types and versions. It judges tokens, and has no book: it admits nobody.
@@ -30,12 +30,12 @@ const TOKEN_LIMIT: usize = 65_536;
 pub struct Keyring {
     services: ByName,
     count: u64,
-    /// How many octets a token may have: a longer one is not looked at.
+    /// The number of bytes that a token may have: a longer one is not read.
     pub token_limit: usize,
 }
 
 impl Keyring {
-    /// No key. A token may have 65,536 octets.
+    /// Returns a ring without a key. A token may have 65,536 bytes.
     pub fn new(alloc: Global) -> Keyring
         ensures empty { (name : List (List ℕ)) → held result name ≡ [] }
         ensures count { result.count ≡ 0 }
@@ -48,7 +48,7 @@ impl Keyring {
         }
     }
 
-    /// Adds copies of all entries of a keytab, after those that are there. Where memory runs out, the ring is as before.
+    /// Adds copies of all entries of a keytab, after the existing ones. If memory runs out the ring is unchanged.
     pub fn add_keytab(&mut self, alloc: Global, keytab: &Keytab) -> Result<(), OutOfMemory>
         ensures added { OnOk result ((name : List (List ℕ)) → held self.new name ≡ held self.old name ++ named name keytab.now.entries) }
         ensures count { OnOk result (self.new.count ≡ min (self.old.count + length keytab.now.entries) (2 ^ 64 - 1)) }
@@ -62,14 +62,14 @@ impl Keyring {
         Ok(())
     }
 
-    /// How many keys were added.
+    /// Returns the number of keys that were added.
     pub fn len(&self) -> u64
         ensures { result ≡ self.now.count }
     {
         self.count
     }
 
-    /// The entries of a service, by one look-up.
+    /// Returns the entries of a service, by one look-up.
     fn entries_of(&self, components: &Items<Name>) -> &[KeytabEntry]
         ensures { result.now ≡ held self.now components.now }
     {
@@ -79,7 +79,7 @@ impl Keyring {
         }
     }
 
-    /// The AP-REQ in a token that is not past the limit.
+    /// Returns the AP-REQ in a token that is not longer than the limit.
     fn read(&self, alloc: Global, token: &[u8]) -> Result<ApReq, Cause>
         ensures { Answers (Reads self.now.token_limit token.now) result }
     {
@@ -104,13 +104,13 @@ impl Keyring {
         judge_by(alloc, self.token_limit, &chosen, channel, token, draw)
     }
 
-    /// Judges a token without a book: the first half of an admission, with every cipher in it. The key is the one that the ticket names in
-    /// the clear by its service, realm, encryption type and version. Where the ticket names no version, or one that the ring has not,
-    /// those of the service, the realm and the type are tried in turn, newest first. Where `channel` is there, the client is held to it, as at
-    /// [`krb_entrance::Keys::judge`].
+    /// Judges a token without a book: the first half of an admission, with every cipher in it. The key is the one that the ticket
+    /// names in the clear by its service, realm, encryption type and version. If the ticket names no version, or one that the ring
+    /// has not, the keys of the service, the realm and the type are tried in turn, newest first. If `channel` is given, the client
+    /// is bound to it, as at [`krb_entrance::Keys::judge`].
     ///
-    /// Refused as Shape where the token is no AP-REQ or past `token_limit`, as NoServiceKey where the ring has no key for its ticket, and
-    /// else by the first check before the book that fails: that of the newest key where none opens the ticket.
+    /// Fails with `Shape` if the token is no AP-REQ or longer than `token_limit`, with `NoServiceKey` if the ring has no key for its
+    /// ticket, otherwise by the first check before the book that fails: that of the newest key if no key decrypts the ticket.
     pub fn judge(
         &self,
         alloc: Global,

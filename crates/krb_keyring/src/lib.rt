@@ -1,5 +1,5 @@
-//! All keys of an acceptor. A ticket names its service, realm, encryption type and key version in the clear, and is opened with the
-//! one key that fits, so that tickets under the old key and under the new one are taken after a change of keys.
+//! All keys of an acceptor. A ticket names its service, realm, encryption type and key version in the clear, and is decrypted with the
+//! one key that fits, so that tickets under the old key and under the new one are accepted after a change of keys.
 //!
 //! ```text
 //! let mut ring = Keyring::new(alloc);

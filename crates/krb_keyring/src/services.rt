@@ -15,7 +15,7 @@ pub(crate) struct Entries {
     pub(crate) items: Vec<KeytabEntry>,
 }
 
-/// Of each name its entries.
+/// The entries of each name.
 pub(crate) type ByName = IndexMap<Items<Name>, Entries>;
 
 fn copied(alloc: Global, entry: &KeytabEntry) -> Result<KeytabEntry, OutOfMemory>
@@ -43,7 +43,7 @@ fn push(entries: &mut Entries, entry: KeytabEntry) -> Result<(), OutOfMemory>
     Ok(())
 }
 
-/// An entry alone.
+/// Returns a list of one entry.
 fn one(alloc: Global, entry: KeytabEntry) -> Result<Entries, OutOfMemory>
     ensures { IfOk result (λ entries. entries.items.items ≡ entry ∷ []) }
 {
@@ -52,7 +52,7 @@ fn one(alloc: Global, entry: KeytabEntry) -> Result<Entries, OutOfMemory>
     Ok(Entries { items })
 }
 
-/// The entries of a name that had none.
+/// Adds the entries of a name that had none.
 fn begin(alloc: Global, services: &mut ByName, entry: KeytabEntry) -> Result<(), OutOfMemory>
     requires { held_in services.old entry.components ≡ [] }
     ensures added { OnOk result ((name : List (List ℕ)) → held_in services.new name
@@ -65,7 +65,7 @@ fn begin(alloc: Global, services: &mut ByName, entry: KeytabEntry) -> Result<(),
     Ok(())
 }
 
-/// A copy of the entry, after those of its name.
+/// Adds a copy of the entry, after those of its name.
 fn add(alloc: Global, services: &mut ByName, entry: &KeytabEntry) -> Result<(), OutOfMemory>
     ensures added { OnOk result ((name : List (List ℕ)) → held_in services.new name
         ≡ held_in services.old name ++ (if same_names entry.now.components name then entry.now ∷ [] else [])) }
@@ -84,7 +84,7 @@ fn pop(entries: &mut Entries)
     entries.items.pop();
 }
 
-/// Takes the last entry of a name away.
+/// Removes the last entry of a name.
 fn take_back(services: &mut ByName, components: &Items<Name>)
     ensures { (name : List (List ℕ)) → held_in services.new name
         ≡ (if same_names components.now name then take (length (held_in services.old name) - 1) (held_in services.old name) else held_in services.old name) }
@@ -95,7 +95,7 @@ fn take_back(services: &mut ByName, components: &Items<Name>)
     }
 }
 
-/// Takes entries away that were added last.
+/// Removes entries that were added last.
 fn take_all_back(services: &mut ByName, entries: &[KeytabEntry])
     ensures { (before : List (List ℕ) → List KeytabEntry) → ((name : List (List ℕ)) → held_in services.old name ≡ before name ++ named name entries.now)
         → (name : List (List ℕ)) → held_in services.new name ≡ before name }
@@ -107,7 +107,7 @@ fn take_all_back(services: &mut ByName, entries: &[KeytabEntry])
     }
 }
 
-/// Copies of the entries, each after those of its name, or none of them.
+/// Adds copies of the entries, each after those of its name, or none of them.
 pub(crate) fn add_all(
     alloc: Global,
     services: &mut ByName,

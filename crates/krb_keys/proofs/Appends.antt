@@ -1,4 +1,4 @@
--- Writing one piece behind another.
+-- Writing one piece after another.
 use Rattle.std.proofs.Common.{◌≡◌, ℕ, List, ◌++◌, ap, ◌∙◌, append_assoc, Result, Ok, Err}
 use Rattle.std.specs.Prelude.{OnOk}
 

@@ -1,4 +1,4 @@
--- What the words of the command line ask for.
+-- The commands that the words of the command line name.
 use Rattle.std.specs.Prelude.{ℕ, List, [], ◌∷◌, codes, Option, Some, None, option_map, if◌then◌else◌}
 use Rattle.std.specs.Str.{bytes_eq}
 use Rattle.krb_text.specs.Decimals.{u32_of}

@@ -1,4 +1,4 @@
--- What is said on standard error where the program ends without its answer, and with which status.
+-- The line on standard error if the program ends without its output, and the exit status.
 use Rattle.std.specs.Prelude.{◌≡◌, ℕ, true, false, List, [], ◌++◌, length, codes}
 use Rattle.std.specs.Borrow.{Bor}
 use Rattle.std.specs.Fmt.{decimal}
@@ -24,7 +24,7 @@ reason failures.Write = codes "standard output could not be written"
 reason failures.OutOfMemory = codes "memory ran out"
 reason failures.TooLong = codes "the input has more than 1073741824 octets"
 
--- behind them: the place, counted from 0, or the realm
+-- after the reason: the place, counted from 0, or the realm
 abbrev pub detail : Failure → List ℕ
 detail (failures.NoItem place) = decimal place
 detail (failures.NoEntry realm) = part_text realm.now

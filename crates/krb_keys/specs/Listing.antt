@@ -1,4 +1,4 @@
--- What is printed of the entries of a keytab: all but their keys.
+-- The printed entries of a keytab: all but their keys.
 use Rattle.std.specs.Prelude.{ℕ, ◌==◌, if◌then◌else◌, List, ◌++◌, codes}
 use Rattle.std.specs.Fmt.{decimal}
 use Rattle.std.specs.List.{flat_map}

@@ -4,11 +4,11 @@ use Rattle.std.specs.Char.{is_ascii_graphic}
 use Rattle.std.specs.List.{flat_map}
 use Rattle.hex.specs.Hex.{encode_lower}
 
--- an octet that ends a component (/) or the components (@), or that stands before another (\)
+-- an octet that ends a component (/) or the components (@), or that escapes another (\)
 abbrev pub is_mark : ℕ → Bool
 is_mark octet = octet == 47 || (octet == 64 || octet == 92)
 
--- An octet of a name as it stands; behind a \ where it is a mark; as \x and two hex digits where it is not of 21 to 7E.
+-- An octet of a name as it is; after a \ if it is a mark; as \x and two hex digits if it is not of 21 to 7E.
 abbrev pub octet_text : ℕ → List ℕ
 octet_text octet =
     if not (is_ascii_graphic octet) then codes "\\x" ++ encode_lower (octet ∷ []) else

@@ -1,4 +1,4 @@
-//! What the words of the command line ask for.
+//! The commands that the words of the command line name.
 
 ghost use Rattle.std.specs.Prelude.{◌≡◌, map, option_map, string_bytes};
 ghost use Rattle.krb_text.specs.Decimals.{is_decimal, u32_of};
@@ -6,7 +6,7 @@ ghost use Rattle.std.specs.Char.{is_ascii_digit};
 ghost use Rattle.std.specs.List.{list_all};
 ghost use Rattle.krb_keys.specs.Commands.{KeyLines, command_view, word_of, command_of};
 
-/// What the program is to do.
+/// A command of the program.
 #[derive(Clone, Copy)]
 pub enum Command<'a> {
     Help,
@@ -31,7 +31,7 @@ fn is_decimal(text: &[u8]) -> bool
     }
 }
 
-/// A decimal number of 32 bits, without sign or leading zeros.
+/// Returns a decimal number of 32 bits, without sign or leading zeros.
 fn number(text: &[u8]) -> Option<u32>
     ensures { result ≡ u32_of text.now }
 {
@@ -66,7 +66,7 @@ fn key_lines<'a>(realm: &'a str, acceptor: &str) -> Option<Command<'a>>
     Some(Command::KeyLines { realm, acceptor })
 }
 
-/// What the words ask for, which are those of the command line without the program's own name.
+/// Returns the command that the words name, which are those of the command line without the program's own name.
 pub fn read_command(words: &[String]) -> Option<Command<'_>>
     ensures { option_map command_view result ≡ command_of (map string_bytes words.now) }
 {

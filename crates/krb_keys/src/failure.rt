@@ -1,4 +1,4 @@
-//! Why the program ends without its answer: what is said of it, and the exit status.
+//! Why the program ends without its output: the message, and the exit status.
 
 ghost use Rattle.std.specs.Prelude.{◌≡◌, ◌++◌, IfOk, OnOk};
 ghost use Rattle.std.specs.Fmt.{decimal};
@@ -10,14 +10,14 @@ use krb_der::{Name, OutOfMemory};
 use krb_keytab::KeytabError;
 use std::alloc::{AllocError, Global};
 
-/// Why the program ends without its answer.
+/// Why the program ends without its output.
 #[derive(Clone, Copy)]
 pub enum Failure<'a> {
     /// The words of the command line are no command.
     Words,
     /// The input does not begin with the version of a keytab.
     NoVersion,
-    /// What stands at this place of the input is no item of a keytab.
+    /// No item of a keytab is at this place of the input, in bytes.
     NoItem { place: usize },
     /// No entry is of this realm.
     NoEntry { realm: &'a Name },
@@ -29,7 +29,7 @@ pub enum Failure<'a> {
     Write,
     /// Memory ran out.
     OutOfMemory,
-    /// The input is longer than it may be.
+    /// The input is longer than is allowed.
     TooLong,
 }
 
@@ -62,7 +62,7 @@ impl From<AllocError> for Failure<'_> {
 }
 
 impl Failure<'_> {
-    /// The exit status of the process.
+    /// Returns the exit status of the process.
     pub fn status(self) -> u8
         ensures { result ≡ failure_status self.entry }
     {
@@ -121,7 +121,7 @@ fn push_detail(alloc: Global, line: &mut Vec<u8>, failure: Failure<'_>) -> Resul
     }
 }
 
-/// One line that says why.
+/// Returns one line that names the failure.
 pub fn failure_line(alloc: Global, failure: Failure<'_>) -> Result<Vec<u8>, OutOfMemory>
     ensures { IfOk result (λ line. line.items ≡ failure_line failure.entry) }
 {

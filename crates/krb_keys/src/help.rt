@@ -1,4 +1,4 @@
-//! What the program prints of itself.
+//! The text that the program prints about itself.
 
 pub const HELP: &str = "\
 krb_keys shows the keytab file on standard input, as MIT krb5 and Heimdal write them (format 0502).

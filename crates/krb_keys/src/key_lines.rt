@@ -48,7 +48,7 @@ fn can_stand_alone(part: &[u8]) -> bool
     !part.is_empty() && is_plain(part)
 }
 
-/// Whether a line can have a service of these components.
+/// Returns whether a line can have a service of these components.
 fn can_stand(parts: &[Name]) -> bool
     ensures { result ≡ can_stand parts.now }
 {
@@ -129,7 +129,7 @@ fn push_left_out_name(alloc: Global, text: &mut Vec<u8>, parts: &[Name]) -> Resu
     Ok(())
 }
 
-/// Adds a comment in the place of a line that cannot be.
+/// Adds a comment in the place of a line that cannot be written.
 fn push_left_out(alloc: Global, text: &mut Vec<u8>, parts: &[Name]) -> Result<(), OutOfMemory>
     ensures { OnOk result (text.new.items ≡ text.old.items ++ left_out_line parts.now) }
 {
@@ -168,7 +168,7 @@ fn lines_of(
     Ok(text)
 }
 
-/// Whether an entry is of the realm.
+/// Returns whether an entry is of the realm.
 fn has_realm(keytab: &Keytab, realm: &Name) -> bool
     ensures { result ≡ list_any (λ entry. same_octets entry.realm realm.now) keytab.now.entries }
 {
@@ -179,9 +179,9 @@ fn has_realm(keytab: &Keytab, realm: &Name) -> bool
         .any(|entry| entry.realm == *realm)
 }
 
-/// A line for each service of the realm that has a key which an acceptor can use, in the order in which they first stand: its
-/// key of the greatest version, as a `key` line of that acceptor. Where no such line can have the name, a comment stands.
-/// Where there is no such service, nothing is found.
+/// Returns a line for each service of the realm that has a key which an acceptor can use, in the order of their first entries: its
+/// key of the greatest version, as a `key` line of that acceptor. If no such line can have the name, a comment is in its place.
+/// Fails with `NoKey` if no service of the realm has such a key, and with `NoEntry` if no entry is of the realm.
 pub fn key_lines_text<'a>(
     alloc: Global,
     keytab: &Keytab,

@@ -1,4 +1,4 @@
-//! What is printed of the entries of a keytab.
+//! The printed entries of a keytab.
 
 ghost use Rattle.std.specs.Prelude.{◌≡◌, ◌++◌, IfOk, OnOk, codes};
 ghost use Rattle.krb_keys.specs.Listing.{type_name, numbers_text, entry_line, list_text};
@@ -9,7 +9,7 @@ use krb_der::OutOfMemory;
 use krb_keytab::{Keytab, KeytabEntry};
 use std::alloc::Global;
 
-/// The name of an encryption type in IANA's registry of Kerberos encryption type numbers.
+/// Returns the name of an encryption type in IANA's registry of Kerberos encryption type numbers.
 fn type_name(number: u16) -> &'static str
     ensures { result.now ≡ type_name number }
 {
@@ -63,7 +63,7 @@ fn push_entry(alloc: Global, text: &mut Vec<u8>, entry: &KeytabEntry) -> Result<
     push_name(alloc, text, entry)
 }
 
-/// A line for each entry, in their order: the version, the type of the name, the encryption type by its name and its number,
+/// Returns a line for each entry, in their order: the version, the type of the name, the encryption type by its name and its number,
 /// the time in seconds since 1970, and the principal.
 pub fn list_text(alloc: Global, keytab: &Keytab) -> Result<Vec<u8>, OutOfMemory>
     ensures { IfOk result (λ text. text.items ≡ list_text keytab.now.entries) }

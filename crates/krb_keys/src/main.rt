@@ -22,10 +22,10 @@ use std::io::{ErrorKind, Read, Write};
 use std::process::ExitCode;
 use version::VERSION;
 
-/// How many octets a keytab may have.
+/// The number of bytes that a keytab may have.
 const MAX_INPUT: u64 = 1 << 30;
 
-/// The words of the command line. Words that are not UTF-8 are no command.
+/// Returns the words of the command line. Words that are not UTF-8 are no command.
 fn words(rt: &HostRuntime) -> Result<Vec<String>, Failure<'static>> {
     let args = match env::args(rt) {
         Ok(args) => args,
@@ -52,7 +52,7 @@ fn print_version(rt: &HostRuntime) -> Result<(), Failure<'static>> {
     }
 }
 
-/// All octets of standard input.
+/// Returns all bytes of standard input.
 fn input(rt: &HostRuntime) -> Result<Vec<u8>, Failure<'static>> {
     let mut octets = Vec::new(rt.alloc());
     match rt.stdin().take(MAX_INPUT + 1).read_to_end(&mut octets) {
@@ -74,7 +74,7 @@ fn print_list(rt: &HostRuntime) -> Result<(), Failure<'static>> {
     print(rt, &text)
 }
 
-/// A realm past ASCII is no realm of a keytab.
+/// Returns the realm of the command line. A realm that is not ASCII is no realm of a keytab.
 fn realm_named(alloc: Global, word: &str) -> Result<Name, Failure<'static>> {
     let octets = Vec::from_slice(alloc, word.as_bytes())?;
     match Name::new(octets) {
@@ -93,12 +93,12 @@ fn print_key_lines<'a>(
     print(rt, &text)
 }
 
-/// Says it on standard error. Where that cannot be written, the status alone tells.
+/// Writes a line to standard error. If that fails, the exit status alone reports the failure.
 fn say(rt: &HostRuntime, line: &[u8]) {
     let _ = rt.stderr().write_all(line);
 }
 
-/// Says why the program ends, and gives the status.
+/// Writes why the program ends, and returns the exit status.
 fn complain(rt: &HostRuntime, failure: Failure<'_>) -> u8 {
     match failure_line(rt.alloc(), failure) {
         Ok(line) => say(rt, &line),

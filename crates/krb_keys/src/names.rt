@@ -1,4 +1,4 @@
-//! How the names of principals are written.
+//! The written form of the names of principals.
 
 ghost use Rattle.std.specs.Prelude.{◌≡◌, ◌++◌, ◌∷◌, [], OnOk};
 ghost use Rattle.std.specs.List.{flat_map};
@@ -8,7 +8,7 @@ ghost use Rattle.krb_keys.specs.Names.{is_mark, octet_text, part_text, component
 use krb_der::{Name, OutOfMemory};
 use std::alloc::Global;
 
-/// Whether the octet ends a component or the components, or stands before another.
+/// Returns whether the byte ends a component or the components, or escapes another.
 fn is_mark(octet: u8) -> bool
     ensures { result ≡ is_mark octet }
 {

@@ -1,4 +1,4 @@
--- The initiator takes the AP-REP to an honest offer, in DCE style its last word is taken in turn, and both ends are peers.
+-- The initiator takes the AP-REP to an honest offer, in DCE style the acceptor takes the third leg in turn, and both ends are peers.
 use Rattle.std.proofs.Common.{◌≡◌, ℕ, ◌+◌, ◌<◌, ◌≤◌, ◌^◌, ◌%◌, ℤ, Bool, true, false, List, [], ◌++◌, length, drop, option_map, Option, refl, sym, subst, arith, lit<, lit≤, Ok}
 use Rattle.std.specs.Prelude.{Some, nat_le}
 use Rattle.std.specs.Option.{option_map_or}

@@ -1,4 +1,4 @@
--- What an end wraps and what it opens do not touch each other.
+-- The messages that an end wraps and those that it opens do not affect each other.
 use Rattle.std.proofs.Common.{ℕ, List, Result, Ok}
 use Rattle.sspi_core.specs.Buffer.{Buffer}
 use Rattle.sspi_core.specs.declared.cause.Cause.{Cause}
@@ -12,7 +12,7 @@ pub wraps_apart : (context : Kerberos) (number : ℕ) (confounder : List ℕ) (b
 unfolding Wraps
 wraps_apart context number confounder buffers answer h = h
 
--- a message stays one that the sender wraps behind so many others, whatever the sender opens
+-- a message stays one that the sender wraps after `behind` others, whatever the sender opens
 pub sent_apart : (sender : Kerberos) (number behind other : ℕ) (message : Message) → IsSent (numbered number behind sender) message
     → IsSent (numbered number behind (opened_one other sender)) message
 sent_apart sender number behind other message is_sent = record {

@@ -16,7 +16,7 @@ use Rattle.krb_initiator.specs.Beginnings.{ChecksTarget, NamesTarget, identity_o
 use Rattle.krb_initiator.specs.Tgts.{no_tgt, TakesBareTgt, TakesFramedTgt, TakesTgt}
 use Rattle.krb_laws_ends.specs.Fetches.{CanBegin, seeker_for, AsksMutual}
 
--- no token tells nothing
+-- without a token there is no ticket-granting ticket
 takes_none : (dce : Bool) → TakesTgt dce [] (Ok no_tgt)
 unfolding TakesBareTgt TakesFramedTgt TakesTicket
 takes_none true = follows _ _ tt _ (record { is = refl }) (follows _ _ None _ (record { is = refl }) (gives no_tgt))

@@ -1,5 +1,5 @@
--- What an acceptor's rules ask: an initiator tells the bindings that it has, a valid ticket of a client with a user name fits any rules, and
--- contexts without rules ask for a user name alone.
+-- The demands of an acceptor's rules: an initiator sends the bindings that it has, a valid ticket of a client with a user name fits
+-- any rules, and contexts without rules ask for a user name alone.
 use Rattle.std.proofs.Common.{◌≡◌, ℕ, Bool, true, false, List, [], ◌∷◌, ◌++◌, length, take, drop, Option, refl, sym, subst, ap, ◌∙◌, arith, length-append}
 use Rattle.std.specs.Prelude.{Some, None, ◌==◌, ◌||◌, not, nat_le, is_some, if◌then◌else◌}
 use Rattle.std.specs.Cmp.Lexicographic.{pointwise}
@@ -50,7 +50,7 @@ module _ (flags : ℕ) (hash : List ℕ) (size : length hash ≡ 16) where
       ap (λ (b : Bool). if b then take 16 (hash ++ back) else []) is_told
       ∙ (take-append-le 16 hash back (omega (arith, size)) ∙ take_all 16 hash (omega (arith, size)))
 
--- the initiator's own bindings are those that it tells
+-- the bindings in the initiator's checksum are its own
 pub bound_to : (held : Option (List ℕ)) (bindings : Option ChannelBindings) (flags : ℕ) → MeetsChannel held bindings
     → IsBoundTo held (Some (checksum bindings (gss_checksum flags)))
 bound_to None bindings flags meets = record { tells = refl; same = refl }

@@ -50,7 +50,7 @@ use Rattle.krb_laws_ends.proofs.HonestLemmas.{is_answered, same_octets}
 use Rattle.krb_laws_ends.proofs.OctetsLemmas.{IsOctets-time, short-word}
 use Rattle.krb_laws_ends.proofs.RepLemmas.{IsReadable, readable}
 
--- the own number after the exchange, whether it stays or rises
+-- an end's sequence number after the exchange, whether it stays or rises
 settled_small : (stays : Bool) (number : ℕ) → number < 2 ^ 32 → (if stays then number else next_number number) < 2 ^ 32
 settled_small true number h = h
 settled_small false number h = omega arith
@@ -140,7 +140,7 @@ module _ (server : Kerberos) (draw : Draw) (client : Option UserName) (offer : O
     };
   }
 
-  -- the last word
+  -- the third leg
   abbrev number : List ℕ
   number = next_number_octets server.seq_number
 

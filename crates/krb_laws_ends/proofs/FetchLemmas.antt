@@ -127,7 +127,7 @@ module _ (seeker : Seeker) (suite : CipherSuite) where
       go Aes128CtsHmacSha196 = refl
       go Aes256CtsHmacSha196 = refl
 
-  -- a key in the suite, and what is sealed beside it
+  -- a key in the suite, and the facts that are encrypted next to it
   abbrev taken_key : List ℕ → EncKdcRepPart → ReplyKey
   taken_key key part = record { suite = suite; key = key; facts = facts_in part }
 

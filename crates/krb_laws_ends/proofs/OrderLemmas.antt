@@ -115,7 +115,7 @@ handed_is : (base : ℤ) (before : List ℕ) (place : ℕ) → was_opened (map (
 handed_is base [] place = refl
 handed_is base (other ∷ before) place = ap₂ (λ (x y : Bool). x || y) (same_place base other place) (handed_is base before place)
 
--- going round, what lies ahead is ahead by as much, and what lies a little behind is not ahead
+-- modulo 2^32, a number that is ahead by a distance has that distance, and a number that is a little before is not ahead
 ahead_of : (b from distance : ℕ) → distance < 2 ^ 32 → ahead ((b + from) % 2 ^ 32) ((b + (from + distance)) % 2 ^ 32) ≡ distance
 ahead_of b from distance small = omega arith
 
@@ -217,7 +217,7 @@ flow_opens_behind sender receiver number sent first before place message flow ti
       };
     }
 
--- the base where the first that is handed over is this one
+-- the base if the first delivered message is the one after `behind` others
 first_base : (number behind : ℕ) → number < 2 ^ 32 → number_at (pos (next_number (number_after_messages number behind)) -ℤ pos behind) ≡ next_number number
 first_base number behind small =
     let n : ℕ = next_number (number_after_messages number behind) in
@@ -303,7 +303,7 @@ flow_beside sender receiver number sent before other flow = (
   },
 )
 
--- a message that is wrapped now is one behind those that were
+-- a message that is wrapped now comes after those that were wrapped
 pub sent_now : (sender receiver : Kerberos) (number sent : ℕ) (before : List ℕ) (message : Message) → Flows sender receiver number sent before → IsSent sender message
     → IsSent (numbered number sent sender) message
 sent_now sender receiver number sent before message flow is_sent =
@@ -331,7 +331,7 @@ least_of_top : (first : ℕ) (others : List ℕ) → first ≤ fold max first ot
 least_of_top first [] = omega arith
 least_of_top first (next ∷ others) = let more = least_of_top (max first next) others in omega (arith, more)
 
--- no place above the furthest was handed over
+-- no message at a place above the furthest was delivered
 none_handed : (first : ℕ) (others : List ℕ) (place : ℕ) → fold max first others < place → was_handed (first ∷ others) place ≡ false
 none_handed first [] place above = rw (ne_eqb first place (λ same. omega (arith, same))) refl
 none_handed first (next ∷ others) place above =

@@ -1,5 +1,5 @@
--- What an acceptor answers to an honest offer, and what both ends have once the answer was taken (RFC 4120, section 3.2.5; in DCE style
--- MS-KILE, section 3.4.5.1).
+-- The answer of an acceptor to an honest offer, and the state of both ends once the answer was taken (RFC 4120, section 3.2.5; in DCE
+-- style MS-KILE, section 3.4.5.1).
 use Rattle.std.specs.Prelude.{◌≡◌, ℕ, ◌^◌, ◌%◌, ◌<◌, ◌≤◌, pos, Bool, true, false, List, [], length, Option, Some, None, Result, Ok}
 use Rattle.krb_aes.specs.Octets.{IsOctets}
 use Rattle.krb_der.specs.Integer.{integer_value}
@@ -89,7 +89,7 @@ pub record IsTaken (initiator : Kerberos) (options : InitOptions) (draw : Draw) 
   pub hears : Hears initiator options token draw done
   pub complete : done.status ≡ Complete
 
--- an end is established, with these keys in this suite and so many octets of filler
+-- an end is established, with these keys in this suite and an EC of `ec` octets
 pub record HaveKeys (suite : CipherSuite) (session_key sub_session_key : List ℕ) (ec : ℕ) (context : Kerberos) : Type 0 where
   pub state : context.state ≡ Final
   pub suite_is : suite_of context.encryption_params ≡ suite
@@ -97,7 +97,7 @@ pub record HaveKeys (suite : CipherSuite) (session_key sub_session_key : List �
   pub sub_session : context.encryption_params.sub_session_key ≡ Some sub_session_key
   pub filler : context.encryption_params.ec ≡ ec
 
--- two ends that have opened no message, with one length of the filler
+-- two ends that have opened no message, with one EC
 pub record AreNew (initiator acceptor : Kerberos) : Type 0 where
   pub filler : initiator.encryption_params.ec ≡ acceptor.encryption_params.ec
   pub small : acceptor.encryption_params.ec < 2 ^ 16
@@ -125,14 +125,15 @@ pub record EndsWell (initiator acceptor : Kerberos) (options : InitOptions) (own
   pub nothing : done.token ≡ []
   pub established : AreEstablishedBy offer draw acceptor.encryption_params.ec (with_change initiator done.change) acceptor
 
--- the last word of an initiator is taken, whatever its acceptor draws and whatever its gate has seen: the gate is not asked
+-- the third leg of an initiator is taken, whatever its acceptor draws and whatever its gate has seen: the gate is not asked
 pub record IsTakenToo {G : Type 0} (initiator : Kerberos) (draw : Draw) (offer : Offer) (old new : G) (answer : Result Accepted Cause)
     (acceptor : Kerberos) : Type 0 where
   pub answered : answer ≡ Ok (Done Complete [] false)
   pub stays : new ≡ old
   pub established : AreEstablishedBy offer draw 16 initiator acceptor
 
--- the same in DCE style: the initiator takes the acceptor's answer, its last word is taken in turn, and both ends are established
+-- an exchange in DCE style that ended well: the initiator takes the acceptor's answer, the acceptor takes the third leg in turn, and
+-- both ends are established
 pub record EndsWellInTurn {G : Type 0} (admits : G → Ask → Verdict → G → Type 0) (initiator acceptor : Kerberos) (options : InitOptions)
     (own draw : Draw) (offer : Offer) (answer : Result Accepted Cause) : Type 0 where
   pub done : InitDone

@@ -8,7 +8,7 @@ use Rattle.krb_context.specs.Unwraps.{Unwraps, message_number}
 use Rattle.krb_context.specs.Window.{StandsFor}
 use Rattle.krb_laws_ends.specs.Messages.{Message, text_of, opened_one}
 
--- the sender as it wraps the message behind so many others, where it began at this number
+-- the sender as it wraps the message after `behind` others, if it began at this number
 abbrev pub numbered : ℕ → ℕ → Kerberos → Kerberos
 numbered number behind sender = record sender { seq_number = number_after_messages number behind }
 
@@ -16,7 +16,8 @@ numbered number behind sender = record sender { seq_number = number_after_messag
 abbrev pub place_from : ℤ → ℕ → ℤ
 place_from base behind = base +ℤ pos behind
 
--- the sender began at this number and has wrapped so many messages; the receiver has opened those that were wrapped behind so many others
+-- the sender began at this number and has wrapped `sent` messages; the receiver has opened the messages at the places in `before`,
+-- where a message's place is how many the sender wrapped before it
 pub record Flows (sender receiver : Kerberos) (number sent : ℕ) (before : List ℕ) : Type 0 where
   pub peers : ArePeers sender receiver
   pub small : number < 2 ^ 32
@@ -25,7 +26,7 @@ pub record Flows (sender receiver : Kerberos) (number sent : ℕ) (before : List
   pub first_number : number_at base ≡ next_number number
   pub window : StandsFor receiver.window (map (place_from base) before)
 
--- the message behind so many others opens, and the direction goes on with it
+-- the message at this place opens, and the direction goes on with it
 pub record FlowsOn (sender receiver : Kerberos) (number sent : ℕ) (before : List ℕ) (place : ℕ) (message : Message) : Type 0 where
   pub opens : Unwraps receiver message.received (Ok (text_of message))
   pub on : Flows sender (opened_one (message_number message.received) receiver) number sent (before ++ place ∷ [])

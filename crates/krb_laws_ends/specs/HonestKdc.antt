@@ -1,5 +1,6 @@
--- What honest KDCs answer an initiator (RFC 4120, sections 3.1.3, 3.1.5, 3.3.3 and 3.3.4; RFC 6806, section 8), by what their replies
--- are sealed under and what they bring. Who asks knows the key that a reply has to be sealed under, and the KDC that it asked.
+-- The replies of honest KDCs to an initiator (RFC 4120, sections 3.1.3, 3.1.5, 3.3.3 and 3.3.4; RFC 6806, section 8), by the keys that
+-- they are encrypted under and the records that they bring. The initiator knows the key that a reply has to be encrypted under, and
+-- the KDC that it asked.
 use Rattle.std.specs.Prelude.{◌≡◌, ◌&&◌, ℕ, ◌^◌, ◌≤◌, false, true, List, [], ◌∷◌, length, Option, Some, None, Ok, unwrap_or}
 use Rattle.krb_aes.specs.Octets.{IsOctets}
 use Rattle.krb_der.specs.Layout.{Layout}
@@ -86,8 +87,8 @@ pub record Step : Type 0 where
   pub reply : List ℕ
   pub draw : Draw
 
--- a TGS-REP is sealed under that key, with usage 8, and the next key of the suite is in it; the rules are those of who asked. Where that is a
--- rule, it answers the question about the target, which the KDC of this realm was asked, at the moment at which it comes
+-- a TGS-REP is encrypted under that key, with usage 8, and the next key of the suite is in it; the rules are the initiator's. If fresh
+-- replies are a rule, it answers the question about the target, which the KDC of this realm was asked, at the moment at which it comes
 pub record GrantsNext (rules : Rules) (target : List ℕ) (suite : CipherSuite) (known : Known) (step : Step) (rep : TgsRep) (key : List ℕ) : Type 0 where
   pub brings : Brings tgs_rep_layout known.kdc.protocol step.reply rep
   pub part : EncTgsRepPart

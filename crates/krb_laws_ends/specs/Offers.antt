@@ -42,8 +42,8 @@ pub record IsServiceTicket (suite : CipherSuite) (key : List ℕ) (ticket : Tick
   pub carries : Carries enc_ticket_part_layout suite key 2 ticket.enc_part.cipher part
   pub session_key_fits : length part.key.key_value ≡ key_size suite
 
--- what an initiator has, and what it chooses: its ticket with what is sealed there, whether tokens are bare, and else the mechanism's
--- name, the options, the authenticator and the confounder
+-- the values that an initiator has, and those that it chooses: its ticket with the part that is sealed there, whether tokens are bare
+-- or have the mechanism's name, the options, the authenticator and the confounder
 pub record Offer : Type 0 where
   pub suite : CipherSuite
   pub ticket : Ticket
@@ -62,7 +62,7 @@ message_of offer = ap_req offer.suite offer.part.key.key_value service_usage off
 unfoldable pub octets_of : Offer → List ℕ
 octets_of offer = spelling ap_req_layout (message_of offer)
 
--- the token that carries it: bare in DCE style (MS-KILE, section 3.4.5.1), else framed
+-- the token that carries it: bare in DCE style (MS-KILE, section 3.4.5.1), otherwise framed
 abbrev pub offered_token : Offer → List ℕ
 offered_token offer = if offer.dce then octets_of offer else framed_ap_req offer.mechanism (octets_of offer)
 
@@ -94,7 +94,7 @@ pub record FitsRules (rules : Rules) (part : EncTicketPart) : Type 0 where
   pub transit_checked : is_transit_checked rules part ≡ true
   pub known : is_known_client rules part.cname part.crealm ≡ true
 
--- what a client that is held to a channel shows: a checksum that tells bindings, and they are those of the channel (RFC 4121, section 4.1.1)
+-- the checksum of a client that is held to a channel: it has bindings, and they are those of the channel (RFC 4121, section 4.1.1)
 pub record IsBoundTo (held : Option (List ℕ)) (checksum : Option Checksum) : Type 0 where
   pub tells : tells_bindings held checksum ≡ true
   pub same : is_bound held checksum ≡ true

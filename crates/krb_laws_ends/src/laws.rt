@@ -89,9 +89,9 @@ pub fn honest_requests_are_admitted()
         → DecidesAdmission server offer.dce (offered_token offer) draw Admitted (Ok (admission_for server draw client offer)) }
 {}
 
-/// What the premises on rules come to. Under any rules a ticket fits that is valid, came through no further realms, and has a client with a
-/// user name. Without rules each ticket of a client with a user name does, that is the user name of the client, and no client is held to a
-/// channel. An acceptor that has no channel holds no client to one under any rules.
+/// Only rules ask for more of a ticket and a channel. A ticket fits any rules if it is valid, came through no further realms, and has
+/// a client with a user name. Without rules each ticket of a client with a user name fits, that name is the client's user name, and no
+/// client is held to a channel. An acceptor that has no channel holds no client to one under any rules.
 pub fn rules_alone_ask_for_more()
     ensures valid { (rules : Rules) (part : EncTicketPart) (user : UserName) → is_invalid part.flags.octets ≡ false
         → is_direct part.transited.contents ≡ true → client_of part.cname part.crealm ≡ Some user → FitsRules rules part }
@@ -109,8 +109,8 @@ pub fn honest_requests_are_answered<G: ReplayGate>()
 {}
 
 /// An honest AP-REQ that a gate admits ends the exchange well: the initiator that made it takes the acceptor's answer, and from there
-/// on the two are established with one session key, one sub-session key, one suite and one length of the filler, and each is the
-/// other's peer. That holds under the rule that an AP-REP has the time of its authenticator, too.
+/// on the two are established with one session key, one subkey, one suite and one EC, and each is the other's peer. That holds under
+/// the rule that an AP-REP has the time of its authenticator, too.
 pub fn exchanges_end_well<G: ReplayGate>()
     ensures { (initiator server server' : Kerberos) (options : InitOptions) (env : Env) (own draw : Draw) (client : Option UserName) (offer : Offer)
         (old new : G) (answer : Result Accepted Cause) → IsFor server client offer → offer.dce ≡ false → Offered initiator offer
@@ -119,8 +119,9 @@ pub fn exchanges_end_well<G: ReplayGate>()
         → AdmitsOnly G.admits old (ask_of server.rules (request_of offer) draw.moment) new → EndsWell initiator server' options own draw offer answer }
 {}
 
-/// In DCE style it does so with one token more: the initiator takes the acceptor's answer and has the last word, which the acceptor
-/// takes without asking its gate. Then sealed messages have 16 octets of filler at both ends.
+/// In DCE style an honest AP-REQ that a gate admits ends the exchange well with one token more: the initiator takes the acceptor's
+/// answer and returns the third leg, which the acceptor takes without asking its gate. Then encrypted messages have an EC of 16 octets
+/// at both ends.
 pub fn dce_exchanges_end_well<G: ReplayGate>()
     ensures { (initiator server server' : Kerberos) (options : InitOptions) (env : Env) (own draw : Draw) (client : Option UserName) (offer : Offer)
         (old new : G) (answer : Result Accepted Cause) → IsFor server client offer → offer.dce ≡ true → Offered initiator offer
@@ -130,30 +131,31 @@ pub fn dce_exchanges_end_well<G: ReplayGate>()
         → EndsWellInTurn G.admits initiator server' options own draw offer answer }
 {}
 
-/// The messages that one end wraps one after another, handed over in that order, all open at the other end to the same
+/// The messages that one end wraps one after another, delivered in that order, all open at the other end to the same
 /// octets, however many they are.
 pub fn messages_open_in_their_order()
     ensures { (sender receiver : Kerberos) (messages : List Message) → ArePeers sender receiver → IsCaughtUp sender receiver
         → AreSent sender messages → AreOpened receiver messages }
 {}
 
-/// Messages that one end wraps, handed over in any order, each once and in time, open at the other end to the same
-/// octets: in time is less than 64 messages behind the furthest that was handed over, and less than 2^31 before it.
+/// Messages that one end wraps, delivered in any order, each once and in time, open at the other end to the same octets. A message
+/// is in time if its place in the order of sending is less than 64 before the furthest delivered one, and less than 2^31 after it.
 pub fn messages_open_in_any_order()
     ensures { (sender receiver : Kerberos) (handed : List Placed) → ArePeers sender receiver → sender.seq_number < 2 ^ 32
         → receiver.window.mask ≡ 0 → AreAmongSent sender handed → AreInTime [] (places_of handed) → AreOpened receiver (messages_of handed) }
 {}
 
-/// The same in the order of sending where some are lost: as long as fewer than 2^31 - 1 are left out at a time.
+/// Messages that one end wraps, delivered in the order of sending, open at the other end if others are lost, as long as fewer than
+/// 2^31 - 1 are left out at a time.
 pub fn messages_open_where_others_are_lost()
     ensures { (sender receiver : Kerberos) (handed : List Placed) → ArePeers sender receiver → sender.seq_number < 2 ^ 32
         → receiver.window.mask ≡ 0 → AreAmongSent sender handed → AreInOrder (places_of handed) → AreOpened receiver (messages_of handed) }
 {}
 
-/// What holds of one direction of a connection at any time, whatever both ends wrap and open meanwhile: it begins with the first
-/// message; a message that comes in time opens, and the direction goes on with it; the sender takes one more number, for a message
-/// or a MIC token; what is wrapped now is one after those that were; what is the other direction's changes nothing; and what was
-/// wrapped after so many others stays so.
+/// One direction of a connection goes on, whatever both ends wrap and open meanwhile: it begins with the first message; a message
+/// that comes in time opens, and the direction goes on with it; the sender takes one more number, for a message or a MIC token; a
+/// message that is wrapped now comes after those that were wrapped; messages of the other direction change nothing; and a message
+/// that was wrapped after a number of others stays so.
 pub fn directions_go_on()
     ensures begins { (sender receiver : Kerberos) → ArePeers sender receiver → sender.seq_number < 2 ^ 32 → receiver.window.mask ≡ 0
         → Flows sender receiver sender.seq_number 0 [] }
@@ -185,11 +187,11 @@ pub fn established_ends_understand_each_other()
         → IsFair initiator.seq_number acceptor.seq_number initiator acceptor [] [] turns → IsUnderstood initiator acceptor turns }
 {}
 
-/// Both ends reach one context: the token that an initiator ends with over honest KDCs, an acceptor that holds the service's key answers
-/// where its gate admits the client, and the initiator takes that answer; in DCE style the acceptor takes the initiator's last word.
-/// Then both are established with one session key, one sub-session key, one suite and one length of the filler, and all messages are
-/// before them. The acceptor may go by any rules: the ticket is one that they let in, and where they hold a client to the channel, the
-/// initiator has its bindings.
+/// Both ends reach one context: an initiator's run over honest KDCs ends with a token; an acceptor that holds the service's key
+/// answers that token if its gate admits the client, and the initiator takes the answer; in DCE style the acceptor takes the third
+/// leg. Then both are established with one session key, one subkey, one suite and one EC, and all messages are before them. The
+/// acceptor may go by any rules: the ticket fits them, and if they hold a client to the channel, the initiator has the channel's
+/// bindings.
 pub fn both_ends_reach_one_context<G: ReplayGate>()
     ensures { (initiator acceptor acceptor' : Kerberos) (options more : InitOptions) (target service_key : List ℕ) (credentials : CredentialsBuffers)
         (client : Client) (suite : CipherSuite) (answers : Answers) (rep : TgsRep) (part : EncTicketPart) (env : Env)

@@ -1,4 +1,4 @@
--- What a KDC answers to the AS-REQs of a client that it has.
+-- The replies of a KDC to the AS-REQs of a client that it has.
 use Rattle.std.proofs.Common.{◌≡◌, ℕ, ◌+◌, ◌/◌, ◌%◌, ◌≤◌, ◌^◌, pos, Bool, true, List, length, map, Option, Some, None, IfSome, refl, sym, subst, ap, ◌∙◌, arith, lit<, lit≤, Result, Ok, Err}
 use Rattle.std.specs.Prelude.{if◌then◌else◌}
 use Rattle.std.specs.Int.{w32, to_be_bytes}
@@ -52,7 +52,7 @@ use Rattle.krb_laws_ends.proofs.OctetsLemmas.{IsShort, IsOctets-time, short-noth
 
 -- ---- what is written is read
 
--- a record behind its length is read as that record
+-- a record after its length is read as that record
 pub message_read : {A : Type 0} (layout : Layout A) (value : A) → IsSound layout.kind (layout.view value) → length (spelling layout value) + 4 ≤ 2 ^ 24
     → IsMessage layout (with_length (spelling layout value)) value
 message_read layout value sound short = record {

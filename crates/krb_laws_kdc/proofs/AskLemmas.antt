@@ -44,7 +44,7 @@ use Rattle.krb_laws_kdc.specs.Showing.{IsHolder, AsksNext}
 use Rattle.krb_laws_kdc.proofs.ErrorLemmas.{ascii_octets}
 use Rattle.krb_laws_kdc.proofs.NameLemmas.{AreNames, target_names}
 
--- what was sealed beside the key of a ticket goes into no request
+-- the facts that were encrypted next to the key of a ticket are in no request
 pub same_request : (wanted : Wanted) (suite : CipherSuite) (key : List ℕ) (facts others : ReplyFacts) (rep : KdcRep) (tickets : Option (List Ticket)) (draw : Draw) (kdc : Address)
     → tgs_request wanted (record { suite = suite; key = key; facts = facts; rep = rep }) tickets draw kdc
     ≡ tgs_request wanted (record { suite = suite; key = key; facts = others; rep = rep }) tickets draw kdc

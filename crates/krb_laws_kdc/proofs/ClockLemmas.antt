@@ -31,7 +31,7 @@ near_passes skew moment now near =
     neither (nat_lt (now + skew * 1000000) moment) (nat_lt (moment + skew * 1000000) now)
     (le-ltb (now + skew * 1000000) moment (omega (arith, near.up))) (le-ltb (moment + skew * 1000000) now (omega (arith, near.down)))
 
--- a moment is its second and the microseconds behind it
+-- a moment is its second and the microseconds after it
 pub moment_is : (moment : ℕ) → moment_of (pos (moment / 1000000)) (pos (moment % 1000000)) ≡ pos moment
 moment_is moment = ap pos (omega arith)
 

@@ -42,7 +42,7 @@ use Rattle.krb_laws_ends.specs.HonestKdc.{AnswersError}
 use Rattle.krb_laws_kdc.specs.Granting.{AreAscii}
 use Rattle.krb_laws_ends.proofs.OctetsLemmas.{IsShort, IsOctets-time, short-nothing, short-append, short-tlv, short-field, short-more, short-word}
 
--- a message behind its length comes over TCP
+-- a message after its length comes over TCP
 pub unwraps_tcp : (message : List ℕ) → length message ≤ 2 ^ 23 → Unwraps Tcp (Ok (with_length message)) (Ok message)
 unfolding Unwraps Unpacks Skips
 unwraps_tcp message short =

@@ -1,4 +1,4 @@
--- What a KDC grants answers what was asked.
+-- The grants of a KDC answer the requests.
 use Rattle.std.proofs.Common.{◌≡◌, ℕ, ◌+◌, ◌*◌, ◌/◌, ◌^◌, ℤ, pos, ◌-ℤ◌, Bool, true, false, List, [], ◌∷◌, length, drop, Some, None, refl, sym, subst, ap, ◌∙◌, arith, Ok, length-drop, nat_lt, int_lt, get_or, if◌then◌else◌}
 use Rattle.std.specs.Prelude.{◌==◌, ◌&&◌, ◌||◌, not, is_some, bytes_eq}
 use Rattle.std.specs.Int.{w32, from_be_bytes}

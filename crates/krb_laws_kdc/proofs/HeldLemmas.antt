@@ -1,4 +1,4 @@
--- What a holder of a ticket is given, and that it is held in turn.
+-- The ticket that a KDC gives to the holder of a ticket, which the client holds in turn.
 use Rattle.std.proofs.Common.{◌≡◌, ℕ, ◌+◌, ◌/◌, ◌≤◌, ◌^◌, ℤ, pos, Bool, true, false, List, length, drop, Some, None, refl, sym, subst, arith, length-drop, nat_lt, if◌then◌else◌}
 use Rattle.std.proofs.lemmas.List.{length-take}
 use Rattle.std.proofs.lemmas.Int.{ints}
@@ -38,7 +38,7 @@ use Rattle.krb_laws_kdc.proofs.TicketLemmas.{opens, lives}
 
 -- ---- how long a ticket lives
 
--- at least ten hours behind a start, and no longer than times go
+-- an end at least ten hours after a start, and no later than 9999-12-31T23:59:59Z
 pub record IsLiving (start : ℕ) (end : ℤ) : Type 0 where
   pub second : ℕ
   pub is : end ≡ pos second

@@ -62,7 +62,7 @@ module _ (kdc : Kdc) (components : List (List ℕ)) where
   ascii_salt None e = tt
   ascii_salt (Some salt) e = e
 
-  -- what a KDC tells a client that it has
+  -- the realm and the salt that a KDC sends to a client that it has
   pub salt_names : (principal : Principal) → principal_with components kdc.principals ≡ Some principal → AreAscii kdc.realm principal.salt
   salt_names principal known =
       let fits = principal_found kdc.suite components kdc.principals principal kdc.principals_fit known in record {

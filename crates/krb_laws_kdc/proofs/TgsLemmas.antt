@@ -1,4 +1,4 @@
--- What a KDC answers to the TGS-REQ of a ticket's holder.
+-- The reply of a KDC to the TGS-REQ of a ticket's holder.
 use Rattle.std.proofs.Common.{◌≡◌, ℕ, ◌+◌, ◌<◌, ◌≤◌, ◌^◌, pos, true, List, [], ◌∷◌, length, Option, Some, IfSome, refl, subst, ap, ◌∙◌, arith, lit<, lit≤, Ok, length-append}
 use Rattle.std.specs.Prelude.{◌==◌, ◌&&◌, not}
 use Rattle.std.specs.Cmp.Lexicographic.{pointwise}

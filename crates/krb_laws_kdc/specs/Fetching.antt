@@ -59,7 +59,7 @@ use Rattle.krb_laws_kdc.specs.Asking.{IsFairSkew, client_with}
 
 -- ---- draws
 
--- a draw of either end, of a moment no earlier than the start, and by a second less than so many seconds later
+-- a draw of either end, of a moment no earlier than the start, and at most `span` seconds less one later; moments are in microseconds
 pub record IsTimely (start span : ℕ) (draw : Draw) : Type 0 where
   pub is : IsDraw draw
   pub from : start ≤ draw.moment
@@ -224,8 +224,8 @@ pub record AsksForService (seeker : Seeker) : Type 0 where
   pub without_tgt : seeker.tgt ≡ None
   pub no_referral : referral_realm (name_with 2 (service_of seeker.wanted.target)) ≡ None
 
--- a KDC of the client's realm has the client, whose key is that of the credentials: with the salt that the KDC tells, or else with the
--- default one. Services know the client by a name
+-- a KDC of the client's realm has the client, whose key is that of the credentials: with the salt that the KDC sends, otherwise with
+-- the default one. Services know the client by a name
 pub record HasClient (seeker : Seeker) (kdc : Kdc) (user : UserName) : Type 0 where
   pub realm_is : seeker.client.realm ≡ kdc.realm
   pub client : Principal
@@ -233,15 +233,15 @@ pub record HasClient (seeker : Seeker) (kdc : Kdc) (user : UserName) : Type 0 wh
   pub keyed : sized_key seeker.asker (asker_suite seeker.asker) (unwrap_or client.salt (default_salt seeker.asker.credentials)) ≡ Some client.key
   pub user_named : client_of (name_of seeker) kdc.realm ≡ Some user
 
--- all draws of both ends lie within so many seconds, less one
+-- all draws of both ends are within `span` seconds, less one
 pub record AreDrawnWithin (span : ℕ) (draws : Draws) : Type 0 where
   pub start : ℕ
   pub by_client : AreTimely start span (of_client draws)
   pub by_kdcs : AreTimely start span (of_kdcs draws)
 
 -- the premises: an initiator that asks for a service, whose KDC has its client, and KDCs that lead from that one to the service, over
--- nine routes at most. All draws lie within the least skew of these KDCs, less one second, and no message is too long. Where replies have to
--- be fresh, the draws lie within the client's grace, too
+-- nine routes at most. All draws are within the least skew of these KDCs, less one second, and no message is too long. If replies have
+-- to be fresh, the draws are within the client's grace, too
 pub record CanFetch (seeker : Seeker) (pairs : List (List ℕ × Kdc)) (draws : Draws) (service_key : List ℕ) (user : UserName) : Type 0 where
   pub asks : AsksForService seeker
   pub span : ℕ
@@ -256,8 +256,8 @@ pub record CanFetch (seeker : Seeker) (pairs : List (List ℕ × Kdc)) (draws : 
   pub leads : LeadsTo seeker.asker seeker.wanted kdc.realm (asker_suite seeker.asker) span pairs service_key
       (held_first seeker kdc has.client draws.start draws.first) kdc kdcs draws.third draws.owns draws.rest
 
--- a run that ended, with the ticket of the service that honest KDCs gave: from here both ends reach one context. The ticket is valid, and came
--- through no further realms, so that it fits the rules of any acceptor
+-- a run that ended, with the ticket of the service that honest KDCs gave: from here both ends reach one context. The ticket is valid,
+-- and came through no further realms, so that it fits the rules of any acceptor
 pub record HasFetched (context : Kerberos) (seeker : Seeker) (draw : Draw) (service_key : List ℕ) (user : UserName) (out : Result InitDone Error) : Type 0 where
   pub answers : Answers
   pub rep : TgsRep

@@ -84,7 +84,7 @@ ghost use Rattle.krb_laws_kdc.specs.Fetching.{body_at, Draws, of_client, of_kdcs
 
 use krb_replay::ReplayGate;
 
-/// A KDC asks a client that it has, and that brings no pre-authentication, for it, and tells its suite and its salt.
+/// A KDC asks a client that it has for pre-authentication, if the request brings none, and sends its suite and the client's salt.
 pub fn clients_are_asked_for_their_key()
     ensures { (kdc : Kdc) (name : PrincipalName) (principal : Principal) (moment : ℕ) (body : KdcReqBody) (draw : Draw) (reply : List ℕ)
         → AsksFirst kdc name principal moment body → IsFairSkew kdc.skew → AreNear kdc.skew moment draw.moment
@@ -115,7 +115,8 @@ pub fn holders_of_tickets_are_served()
         (tgs_rep kdc.suite kdc.realm draw body.nonce part.key.key_value (next_grant draw.moment body part target))) }
 {}
 
-/// The reply by which a KDC asks a client that it has for its key is, over TCP, an honest KDC's error that names the client's suite and salt.
+/// The reply by which a KDC asks a client that it has for its key is, over TCP, an honest KDC's error that names the client's suite
+/// and salt.
 pub fn requests_for_a_key_are_honest()
     ensures { (kdc : Kdc) (components : List (List ℕ)) (principal : Principal) (draw : Draw) (asker : Asker)
         → principal_with components kdc.principals ≡ Some principal → draw.moment ≤ last_moment
@@ -205,8 +206,8 @@ pub fn tickets_are_opened()
         → OpensAtKdc next now (ticket next.suite kdc.realm draw grant) (ticket_part next.suite draw grant) }
 {}
 
-/// The ticket that a KDC gives has no flag INVALID and came through no further realms: so it fits the rules of any acceptor, where its client
-/// has a user name.
+/// The ticket that a KDC gives has no flag INVALID and came through no further realms: so it fits the rules of any acceptor, if its
+/// client has a user name.
 pub fn tickets_fit_any_rules()
     ensures { (rules : Rules) (suite : CipherSuite) (draw : Draw) (grant : Grant) (user : UserName) → client_of grant.cname grant.crealm ≡ Some user
         → FitsRules rules (ticket_part suite draw grant) }
@@ -229,9 +230,9 @@ pub fn some_client_can_fetch()
     ensures moments { AreInRange (of_client example_draws) }
 {}
 
-/// The token that such a run ends with is taken by an acceptor that holds the service's key, where its gate admits the client, and both
-/// ends reach one context. The acceptor may go by any rules: its client has a user name, and the ticket is as all of them ask. Where they hold
-/// a client to the channel, the initiator has its bindings.
+/// An acceptor that holds the service's key takes the token that a run over KDCs ends with, if its gate admits the client, and both
+/// ends reach one context. The acceptor may go by any rules: the client has a user name, and the ticket is as all rules ask. If the
+/// rules hold a client to the channel, the initiator has the channel's bindings.
 pub fn fetched_tickets_are_admitted<G: ReplayGate>()
     ensures { (initiator acceptor acceptor' : Kerberos) (options more : InitOptions) (target service_key : List ℕ) (credentials : CredentialsBuffers)
         (client : Credentialed) (user : UserName) (out : Result InitDone Error) (env : Env) (first own draw : Draw) (old new : G) (answer : Result Accepted Cause)

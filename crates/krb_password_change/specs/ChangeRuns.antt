@@ -20,7 +20,7 @@ use Rattle.krb_password_change.specs.declared.change_run.ChangePasswordRun.{Chan
 use Rattle.krb_password_change.specs.Changes.{IsReady}
 use Rattle.krb_password_change.specs.ChangeSteps.{body_of, AsksChange, TakesAnswer}
 
--- what the start leads to, and what an answer leads to, in each phase
+-- the turn after the start, and the turn after a reply, in each phase
 abbrev pub Starts : Changer → ChangePhase → Draw → Result (Turn ChangePhase ContextChange) Cause → Type 0
 Starts changer New draw answer = BeginsWithin InAsExchange changer.asker (body_of changer.client draw) answer
 Starts changer (InAsExchange phase) draw answer = ⊥
@@ -34,7 +34,7 @@ Next changer (InAsExchange phase) reply draw answer =
 Next changer (AwaitsAnswer leg) reply draw answer = TakesAnswer changer leg reply answer
 Next changer Over reply draw answer = ⊥
 
--- the two steps of the task: who changes the password stays, and the phase goes on
+-- the two steps of the task: the changer stays, and the phase goes on
 pub record StartsAt (old : ChangePasswordRun) (draw : Draw) (state : GeneratorState NetworkRequest (Result ContextChange Error))
     (new : ChangePasswordRun) : Type 0 where
   pub turn : Turns Over (Starts old.changer old.phase draw) state new.phase

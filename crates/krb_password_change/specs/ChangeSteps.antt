@@ -33,27 +33,27 @@ use Rattle.krb_context.specs.Drawn.{drawn_key}
 use Rattle.krb_context.specs.Contexts.{next_number}
 use Rattle.krb_password_change.specs.Requested.{change_request}
 
--- what is asked for: a ticket to the service that changes passwords
+-- the first request: for a ticket to the service that changes passwords
 abbrev pub body_of : Client → Draw → KdcReqBody
 body_of client draw = first_body client PasswordChange 0 draw
 
--- the answer to the request that goes out with a ticket: it is sealed under the drawn key
+-- the answer to the request that goes out with a ticket: it is encrypted under the drawn key
 abbrev pub answer_leg : Grant → Kdc → Draw → AnswerLeg
 answer_leg grant kdc draw = record { protocol = kdc.protocol; suite = grant.suite; subkey = drawn_key grant.suite draw; realm = grant.rep.crealm }
 
--- behind the AS exchange, a ticket whose key has its length: the new password goes to the service beside the KDC
+-- after the AS exchange, with a ticket whose key has its length: the new password goes to the service next to the KDC
 unfoldable pub AsksChange : Changer → Kdc → Draw → Grant → Result (Turn ChangePhase ContextChange) Cause → Type 0
 AsksChange changer kdc draw grant = do
   Holds KeyLength (length grant.key == key_size grant.suite)
   service ← Takes Port (password_kdc kdc)
   Gives (Asks (change_request changer grant service draw) (AwaitsAnswer (answer_leg grant service draw)))
 
--- what stands behind an AP-REP, which is not looked at
+-- the KRB-PRIV after an AP-REP, which is not checked
 abbrev pub behind_reply : ApMessage → KrbPriv → Option KrbPriv
 behind_reply (ApReq request) sealed = None
 behind_reply (ApRep reply) sealed = Some sealed
 
--- the octets are this KRB-PRIV behind an AP-REP
+-- the octets are this KRB-PRIV after an AP-REP
 pub record IsAnswer (octets : List ℕ) (answer : KrbPriv) : Type 0 where
   pub ap_rep : Reply
   pub read : IsPrivMessage (record { ap_message = ApRep ap_rep; krb_priv = answer }) octets
@@ -64,7 +64,7 @@ ReadsAnswer protocol reply = do
   octets ← Unwraps protocol reply
   Finds Shape (IsAnswer octets)
 
--- the context knows its realm and its suite, and its number has risen; all else of it stays
+-- the context has its realm and its suite, and its sequence number has risen; the rest of it stays
 abbrev pub change_of : Changer → AnswerLeg → ContextChange
 change_of changer leg = record {
   state = changer.state;
@@ -76,7 +76,7 @@ change_of changer leg = record {
   ticket_decryption_key = None;
 }
 
--- the password is changed where the code is 0
+-- the password is changed if the code is 0
 unfoldable pub Concludes : Changer → AnswerLeg → ℕ → Result (Turn ChangePhase ContextChange) Cause → Type 0
 Concludes changer leg code = do
   Holds (ResultCode code) (code == 0)

@@ -1,4 +1,4 @@
--- Who changes a password, up to the request to the KDC.
+-- The client that changes a password, up to the request to the KDC.
 use Rattle.std.specs.Prelude.{◌≤◌, ◌^◌, List, ℕ, length, Result}
 use Rattle.krb_conf.specs.declared.env.Env.{Env}
 use Rattle.krb_context.specs.declared.context.Kerberos.{Kerberos}
@@ -16,7 +16,7 @@ use Rattle.krb_password_change.specs.declared.change.Changer.{Changer}
 abbrev pub credentials_of : List ℕ → List ℕ → List ℕ → CredentialsBuffers
 credentials_of account domain old = Password (record { user = account; domain = domain; password = old })
 
--- this client, which asks the KDC of its own realm, and what its context is
+-- this client, which asks the KDC of its own realm, and its context
 abbrev pub changer_of : Kerberos → CredentialsBuffers → List ℕ → Env → Client → Changer
 changer_of context credentials password env client = record {
   asker = asker_of context credentials client.realm env;

@@ -1,4 +1,4 @@
--- Where a password is changed (RFC 3244, section 2).
+-- The service that changes passwords, and its URL (RFC 3244, section 2).
 use Rattle.std.specs.Prelude.{Option, Some, None, option_map, if◌then◌else◌}
 use Rattle.url.specs.Parts.{Parts, cannot_have_credentials_or_port}
 use Rattle.sspi_core.specs.declared.protocol.NetworkProtocol.{NetworkProtocol}

@@ -1,4 +1,4 @@
--- The request for a new password: an AP-REQ, and the password sealed under a key that is drawn for it (RFC 3244, section 2).
+-- The request for a new password: an AP-REQ, and the password encrypted under a key that is drawn for it (RFC 3244, section 2).
 use Rattle.std.specs.Prelude.{ℕ, ◌+◌, List, take, drop, Some, None}
 use Rattle.krb_der.specs.Layout.{spelling}
 use Rattle.krb_crypto.specs.Suite.{key_size}
@@ -42,12 +42,12 @@ message_by changer suite key ticket authenticator draw =
     priv_request suite key (first_confounder suite draw) (second_confounder suite draw) ticket authenticator
     (priv_part changer.new_password (next_number changer.number) changer.client.host)
 
--- with the ticket that was granted
+-- the message with the ticket that was granted
 abbrev pub change_message : Changer → Grant → Draw → KrbPrivMessage
 change_message changer grant draw =
     message_by changer grant.suite grant.key grant.rep.ticket (change_authenticator (next_number changer.number) grant.suite grant.rep draw) draw
 
--- its octets
+-- the octets of a message
 abbrev pub ap_spelling : ApMessage → List ℕ
 ap_spelling (ApReq request) = spelling ap_req_layout request
 ap_spelling (ApRep reply) = spelling ap_rep_layout reply

@@ -21,7 +21,7 @@ use sspi_core::{Cause, NetworkProtocol, hold};
 use sspi_generator::NetFault;
 use std::alloc::Global;
 
-/// What stands behind an AP-REP.
+/// Returns the KRB-PRIV after an AP-REP. Fails with `Shape` if it is after an AP-REQ.
 fn behind_reply(message: KrbPrivMessage) -> Result<KrbPriv, Cause>
     ensures { Takes causes.Shape (behind_reply message.ap_message message.krb_priv) result }
 {
@@ -35,7 +35,7 @@ fn behind_reply(message: KrbPrivMessage) -> Result<KrbPriv, Cause>
     }
 }
 
-/// The KRB-PRIV in the octets of an answer.
+/// Reads the KRB-PRIV in the octets of an answer.
 fn answer_in(alloc: Global, octets: &Octets) -> Result<KrbPriv, Cause>
     ensures { Answers (Finds causes.Shape (IsAnswer octets.now)) result }
 {
@@ -46,7 +46,7 @@ fn answer_in(alloc: Global, octets: &Octets) -> Result<KrbPriv, Cause>
     }
 }
 
-/// The KRB-PRIV that a reply brings.
+/// Reads the KRB-PRIV in a reply.
 #[tactic(auto, unfolding(crate::specs::ChangeSteps::ReadsAnswer))]
 fn read_answer(
     alloc: Global,
@@ -59,7 +59,7 @@ fn read_answer(
     answer_in(alloc, &octets)
 }
 
-/// The result code that is sealed in it.
+/// Returns the result code in the encrypted part of the KRB-PRIV.
 fn told_code(alloc: Global, leg: &AnswerLeg, answer: &KrbPriv) -> Result<u16, Cause>
     ensures { Answers (TellsStatus (Some leg.now.suite) leg.now.subkey answer.now) result }
 {
@@ -77,7 +77,7 @@ fn check_code(code: u16) -> Result<(), Cause>
     hold(code == 0, Cause::ResultCode(code))
 }
 
-/// What the context becomes.
+/// Returns the change of the context.
 fn change_of(
     alloc: Global,
     changer: &Changer,
@@ -123,7 +123,7 @@ fn conclude(
     end(alloc, changer, leg)
 }
 
-/// What follows the third reply.
+/// Handles the third reply and returns the last turn.
 #[tactic(auto, unfolding(crate::specs::ChangeSteps::TakesAnswer))]
 pub(crate) fn take_answer(
     alloc: Global,

@@ -1,4 +1,4 @@
-//! Who changes a password.
+//! The client that changes a password.
 
 ghost use Rattle.std.specs.Prelude.{◌≡◌, ◌≤◌, ◌^◌, IfOk, length};
 ghost use Rattle.sspi_core.specs.Checks.{Answers, Gives};
@@ -17,29 +17,29 @@ use std::alloc::Global;
 #[derive(Drop)]
 pub struct ChangePassword {
     pub account_name: Text,
-    /// Empty where there is none.
+    /// The domain of the account; empty if there is none.
     pub domain_name: Text,
     pub old_password: Secret<Text>,
     pub new_password: Secret<Text>,
 }
 
-/// Who changes a password, and the context at the beginning. A step never changes it.
+/// The client that changes a password, and the context at the beginning. A step never changes it.
 #[derive(Drop)]
 pub struct Changer {
     pub asker: Asker,
-    /// As the KDC is told of it.
+    /// The client as the request to the KDC names it.
     pub client: Client,
     pub new_password: Secret<Text>,
     pub state: KerberosState,
     pub params: EncryptionParams,
-    /// The context's own number.
+    /// The context's sequence number.
     pub number: u32,
     pub user_to_user: bool,
-    /// The moment of the authenticator that the context showed last, in microseconds since 1970.
+    /// The moment of the last authenticator that the context showed, in microseconds since 1970.
     pub asked_at: Option<u64>,
 }
 
-/// The user with the old password.
+/// Returns the user with the old password.
 fn credentials_of(
     account_name: Text,
     domain_name: Text,
@@ -67,7 +67,7 @@ fn asker_of(
     Asker::new(context, credentials, realm, env)
 }
 
-/// This client, as one that changes its password.
+/// Returns this client, as one that changes its password.
 fn changer_of(
     alloc: Global,
     context: &Kerberos,
@@ -95,7 +95,7 @@ fn changer_of(
     })
 }
 
-/// Looks at what is asked for, as a chain of checks. Refused as `change_password` refuses.
+/// Checks the change that is asked for, as a chain of checks. Fails as `change_password`.
 #[tactic(auto, using(sspi_core::proofs::Chain::chain), unfolding(crate::specs::Changes::BeginsChange))]
 pub fn begin_change(
     alloc: Global,

@@ -25,7 +25,7 @@ use sspi_generator::{Generator, GeneratorState, NetFault, NetworkRequest, Resuma
 use std::alloc::Global;
 
 /// The change of a password: an AS exchange for a ticket to the service that changes passwords, and the new password to that
-/// service. It ends with what the context becomes.
+/// service. It ends with the change of the context.
 #[derive(Drop)]
 pub struct ChangePasswordRun {
     alloc: Global,
@@ -33,11 +33,11 @@ pub struct ChangePasswordRun {
     phase: ChangePhase,
 }
 
-/// What runs it.
+/// A generator that runs the change of a password.
 pub type GeneratorChangePassword = Generator<ChangePasswordRun>;
 
 impl ChangePasswordRun {
-    /// The exchange of this client.
+    /// Returns the run of this client.
     pub fn new(alloc: Global, changer: Changer) -> ChangePasswordRun
         requires { IsReady changer }
         ensures new { IsNew result }
@@ -53,8 +53,8 @@ impl ChangePasswordRun {
     }
 }
 
-/// Begins the change of a password. Refused as InternalError NotAscii where the account's name, its realm or the machine's name is
-/// past ASCII. The exchange refuses at its start as NoAuthenticatingAuthority NoKdc, then as InvalidParameter Scheme.
+/// Begins the change of a password. Fails with InternalError NotAscii if the account's name, its realm or the machine's name is past
+/// ASCII. The exchange fails at its start with NoAuthenticatingAuthority NoKdc, then with InvalidParameter Scheme.
 pub fn change_password(
     alloc: Global,
     client: &Kerberos,
@@ -73,7 +73,7 @@ pub fn change_password(
     }
 }
 
-/// What the start leads to in a phase that is new.
+/// Starts the exchange in a phase that is new, and returns the first turn.
 fn started(
     alloc: Global,
     changer: &Changer,
@@ -94,7 +94,7 @@ fn started(
     }
 }
 
-/// What an answer leads to in a phase that awaits one.
+/// Handles a reply in a phase that awaits one, and returns the next turn.
 fn in_phase(
     alloc: Global,
     changer: &Changer,
@@ -115,7 +115,7 @@ fn in_phase(
     }
 }
 
-/// What an answer leads to. Where the client wanted for memory, so does the step.
+/// Handles a reply and returns the next turn. Fails with `Memory` if the network client ran out of memory.
 fn next(
     alloc: Global,
     changer: &Changer,

@@ -10,8 +10,8 @@ ghost use Rattle.krb_password_change.specs.ChangeRuns.{IsNew, StartsAt, ResumesA
 
 use sspi_generator::NetworkClient;
 
-/// A run from a new change of a password asks three times at most, whoever sends: it ends with what it ends with over the first four of
-/// its draws.
+/// A run from a new change of a password asks three times at most, whoever sends: its outcome is the one over the first four of its
+/// draws.
 pub fn changes_ask_three_times_at_most<C: NetworkClient>()
     ensures { (run run' : ChangePasswordRun)
         (client client' : C) (draws : List Draw) (out : Result ContextChange Error) → IsNew run

@@ -1,7 +1,7 @@
 //! The change of a password (RFC 3244; the version and the bare new password are those of the protocol before it).
 //!
-//! [`change_password`] looks at what is asked for and begins the exchange, [`ChangePasswordRun`]: an AS exchange for a ticket to the
-//! service that changes passwords, and the new password, sealed, to that service, whose answer ends it. Its steps are chains of
+//! [`change_password`] checks its arguments and begins the exchange, [`ChangePasswordRun`]: an AS exchange for a ticket to the service
+//! that changes passwords, and the new password, encrypted, to that service, whose answer ends the exchange. Its steps are chains of
 //! ordered checks in `specs/`.
 #![tactic(auto)]
 

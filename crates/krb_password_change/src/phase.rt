@@ -1,4 +1,4 @@
-//! How far a change of a password has come.
+//! The phases of a change of a password.
 
 use krb_as::AsPhase;
 use krb_crypto::CipherSuite;
@@ -11,13 +11,13 @@ pub struct AnswerLeg {
     pub protocol: NetworkProtocol,
     /// The suite of the whole exchange.
     pub suite: CipherSuite,
-    /// The key that the answer is to be sealed under.
+    /// The key under which the answer has to be encrypted.
     pub subkey: Secret<Octets>,
     /// The client's realm, by the AS-REP.
     pub realm: Name,
 }
 
-/// How far the exchange has come.
+/// The phase of the exchange.
 #[derive(Drop)]
 pub enum ChangePhase {
     New,

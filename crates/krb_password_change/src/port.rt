@@ -1,4 +1,4 @@
-//! Where a password is changed.
+//! The service that changes passwords, next to a KDC.
 
 ghost use Rattle.std.specs.Prelude.{◌≡◌, ◌≤◌, ◌^◌, IfOk, length};
 ghost use Rattle.sspi_core.specs.declared.cause.Cause.TheVariants as causes;
@@ -14,7 +14,7 @@ use url::{ParseError, Url};
 /// The port of the service that changes passwords (RFC 3244, section 2).
 const PASSWORD_PORT: u16 = 464;
 
-/// The URL with that port.
+/// Returns the URL with that port.
 fn at_port(url: &Url) -> Result<Url, Cause>
     ensures { Answers (Takes causes.Port (at_port url.now)) result }
 {
@@ -26,7 +26,7 @@ fn at_port(url: &Url) -> Result<Url, Cause>
     }
 }
 
-/// Where the service is reached: a proxy is told the realm, and stays.
+/// Returns the URL of the service. The URL of a proxy stays: the request to a proxy names the realm.
 fn password_url(protocol: NetworkProtocol, url: &Url) -> Result<Url, Cause>
     ensures { Answers (Takes causes.Port (password_url protocol url.now)) result }
 {
@@ -36,7 +36,7 @@ fn password_url(protocol: NetworkProtocol, url: &Url) -> Result<Url, Cause>
     }
 }
 
-/// The service that changes passwords beside a KDC. Refused as `Port` exactly where the KDC's URL takes no port.
+/// Returns the service that changes passwords next to a KDC. Fails with `Port` exactly if the KDC's URL takes no port.
 pub(crate) fn password_kdc(alloc: Global, kdc: &Kdc) -> Result<Kdc, Cause>
     requires { length kdc.now.realm ≤ 2 ^ 24 }
     ensures step { Answers (Takes causes.Port (password_kdc kdc.now)) result }

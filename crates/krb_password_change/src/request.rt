@@ -1,4 +1,4 @@
-//! The request for a new password, and what is drawn for it.
+//! The request for a new password, and the random octets that are drawn for it.
 
 ghost use Rattle.std.specs.Prelude.{◌≡◌, ◌<◌, ◌≤◌, ◌^◌, length, get_or, Some, [], IfOk};
 ghost use Rattle.krb_crypto.specs.Suite.{key_size};
@@ -26,14 +26,14 @@ use sspi_core::{Draw, Secret};
 use sspi_generator::NetworkRequest;
 use std::alloc::Global;
 
-/// The number after the context's own, going round at 2^32.
+/// Returns the sequence number after the context's own, modulo 2^32.
 pub(crate) fn number_after(number: u32) -> u32
     ensures { result ≡ next_number number }
 {
     number.wrapping_add(1)
 }
 
-/// Who asks.
+/// Returns the authenticator of the client.
 fn change_authenticator(
     alloc: Global,
     number: u32,
@@ -72,7 +72,7 @@ fn confounders(suite: CipherSuite, draw: &Draw) -> [[u8; 16]; 2]
     [draw.octets(start), draw.octets(start + 16)]
 }
 
-/// The AP-REQ with this authenticator, and the new password.
+/// Returns the AP-REQ with this authenticator, and the new password.
 fn message_by(
     alloc: Global,
     changer: &Changer,
@@ -106,7 +106,7 @@ fn message_by(
     }
 }
 
-/// The AP-REQ and the new password.
+/// Returns the AP-REQ and the new password.
 fn change_message(
     alloc: Global,
     changer: &Changer,
@@ -131,7 +131,7 @@ fn change_message(
     message_by(alloc, changer, *suite, key, ticket, &authenticator, draw)
 }
 
-/// Its octets.
+/// Returns the octets of the message.
 fn written(alloc: Global, message: &KrbPrivMessage) -> Result<Octets, OutOfMemory>
     requires { FitsPriv message.now }
     ensures written { IfOk result (λ octets. octets ≡ written message.now) }
@@ -140,7 +140,7 @@ fn written(alloc: Global, message: &KrbPrivMessage) -> Result<Octets, OutOfMemor
     message.write(alloc)
 }
 
-/// The request to the service that changes passwords.
+/// Returns the request to the service that changes passwords.
 #[tactic(auto, unfolding(crate::specs::Requested::change_request))]
 pub(crate) fn change_request(
     alloc: Global,

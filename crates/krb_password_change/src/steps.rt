@@ -33,7 +33,7 @@ use sspi_core::{Cause, ClientRequestFlags, Draw, hold};
 use sspi_generator::NetFault;
 use std::alloc::Global;
 
-/// What is asked for: a ticket to the service that changes passwords.
+/// Returns the body of the first request: for a ticket to the service that changes passwords.
 fn body_of(alloc: Global, client: &Client, draw: &Draw) -> Result<KdcReqBody, OutOfMemory>
     requires client { IsShort client.now }
     requires moment { draw.now.moment ≤ last_moment }
@@ -44,7 +44,7 @@ fn body_of(alloc: Global, client: &Client, draw: &Draw) -> Result<KdcReqBody, Ou
     first_body(alloc, client, FirstService::PasswordChange, flags, draw)
 }
 
-/// The first request, with this body.
+/// Asks the AS for the first time, with this body.
 #[tactic(auto, unfolding(krb_as::specs::AsPhases::BeginsWithin))]
 fn ask_for(
     alloc: Global,
@@ -60,7 +60,7 @@ fn ask_for(
     Ok(Turn::Asks(request, ChangePhase::InAsExchange(phase)))
 }
 
-/// The start.
+/// Starts the AS exchange.
 pub(crate) fn ask_first(
     alloc: Global,
     changer: &Changer,
@@ -82,7 +82,7 @@ fn check_key(grant: &Grant) -> Result<(), Cause>
     hold(is_sized, Cause::KeyLength)
 }
 
-/// What the answer to the new password will be judged by.
+/// Returns the data with which the answer to the new password will be checked.
 fn answer_leg(
     alloc: Global,
     grant: &Grant,
@@ -101,7 +101,7 @@ fn answer_leg(
     })
 }
 
-/// The new password is sent.
+/// Sends the new password.
 fn sent_change(
     alloc: Global,
     changer: &Changer,
@@ -122,7 +122,7 @@ fn sent_change(
     Ok(Turn::Asks(request, ChangePhase::AwaitsAnswer(leg)))
 }
 
-/// The request for the new password, with this ticket, to the service beside the KDC.
+/// Asks the service next to the KDC for the change to the new password, with this ticket.
 #[tactic(auto, unfolding(crate::specs::ChangeSteps::AsksChange))]
 fn ask_change(
     alloc: Global,
@@ -143,7 +143,7 @@ fn ask_change(
     sent_change(alloc, changer, grant, &service, draw)
 }
 
-/// What a step of the AS exchange leads to.
+/// Returns the turn of the exchange after a turn of the AS exchange.
 fn behind_turn(
     alloc: Global,
     changer: &Changer,
@@ -165,7 +165,7 @@ fn behind_turn(
     }
 }
 
-/// What follows a reply of the AS exchange.
+/// Handles a reply of the AS exchange and returns the next turn.
 #[tactic(auto, unfolding(krb_as::specs::AsPhases::TakesReplyWithin))]
 pub(crate) fn take_as_reply(
     alloc: Global,

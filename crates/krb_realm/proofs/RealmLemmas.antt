@@ -1,4 +1,4 @@
--- What a KDC takes, and the salts of passwords.
+-- The texts that a KDC accepts, its refusals, and the salts of passwords.
 use Rattle.std.proofs.Common.{◌≡◌, ℕ, ◌≤◌, ◌^◌, Bool, true, false, List, [], ◌∷◌, ◌++◌, length, Option, Some, None, is_some, is_none, refl, ap, ◌∙◌, arith}
 use Rattle.std.specs.Prelude.{◌≢◌, ◌&&◌, IfSome}
 use Rattle.std.proofs.lemmas.Bool.{and_parts, and_from}

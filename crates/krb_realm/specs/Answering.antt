@@ -17,6 +17,7 @@ line_rules = record {
   end_line = λ progress. end_line progress.answered;
 }
 
--- of the input that the source had left, a front is taken, and the sink has taken what the status says, where they tell
+-- a front of the input that the source had left is taken, and the sink has taken the text that the status allows, if the octets
+-- of both are known
 abbrev pub AnswersInput : Option (List ℕ) → Option (List ℕ) → Option (List ℕ) → Option (List ℕ) → Status → Type 0
 AnswersInput left left_after before after status = AnswersLines line_rules new_progress left left_after before after status

@@ -1,4 +1,4 @@
--- What is known behind some lines, and what one line more does.
+-- The progress after some lines, and the effect of one more line.
 use Rattle.std.specs.Prelude.{◌≡◌, ℕ, ◌+◌, false, ◌&&◌, List, [], Option, Some, None, is_some, is_none, IfSome, MatchBool}
 use Rattle.krb_text.specs.Lines.{is_skipped}
 use Rattle.krb_realm.specs.Items.{item_of}

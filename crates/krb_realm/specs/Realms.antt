@@ -1,4 +1,4 @@
--- What lines make of a realm, and what it answers.
+-- A realm as its lines describe it, and its replies.
 use Rattle.std.specs.Prelude.{◌≡◌, ℕ, nat_le, ◌&&◌, Bool, true, List, ◌++◌, Some, None, is_none}
 use Rattle.std.specs.List.{flat_map}
 use Rattle.krb_crypto.specs.Password.{password_key}
@@ -49,15 +49,15 @@ pub record HasAdded (old : Kdc) (addition : Addition) (new : Kdc) : Type 0 where
   pub can : can_add old addition ≡ true
   pub takes : TakesAddition old addition new
 
--- components behind one another
+-- components one after another
 abbrev pub end_to_end : List (List ℕ) → List ℕ
 end_to_end components = flat_map (λ component. component) components
 
--- the salt that a principal has where none is told: its realm and its components (RFC 4120, section 4)
+-- the salt of a principal for which no other salt is named: its realm and its components (RFC 4120, section 4)
 abbrev pub salt_of : List ℕ → List (List ℕ) → List ℕ
 salt_of realm components = realm ++ end_to_end components
 
--- a principal whose key is that of its password, and who is told its salt
+-- a principal whose key is that of its password, and to which the KDC sends its salt
 abbrev pub with_password : Realm → List (List ℕ) → List ℕ → Principal
 with_password realm components password = record {
   components = components;

@@ -20,15 +20,15 @@ pub fn answer<S: Source, K: Sink>(
     ensures words { (result ≡ Status.BadWords) ↔ (words.now ≢ codes "answer" ∷ []) }
     ensures untouched { result ≡ Status.BadWords → (source.new ≡ source.old) × (sink.new ≡ sink.old) }
 
-    // A fault is told only where the outside failed in this call.
+    // A fault is returned only if the outside failed in this call.
     ensures read { result ≡ Status.ReadFault → Rose (S.faults source.old) (S.faults source.new) }
     ensures write { result ≡ Status.WriteFault → Rose (K.faults sink.old) (K.faults sink.new) }
 
-    // And wherever the outside failed, it is told: no read and no write that failed is passed over, or tried again.
+    // A fault is returned if the outside failed: no read and no write that failed is ignored, or tried again.
     ensures read_still { result ≢ Status.ReadFault → S.faults source.new ≡ S.faults source.old }
     ensures write_still { result ≢ Status.WriteFault → K.faults sink.new ≡ K.faults sink.old }
 
-    // What is taken of the input that the source had left, and what is written for it, by the status.
+    // The front that is taken of the input that the source had left, and the text that is written for it, by the status.
     ensures text { AnswersInput (S.left source.old) (S.left source.new) (K.taken sink.old) (K.taken sink.new) result }
 {
     if words.are("answer") {

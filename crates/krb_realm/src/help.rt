@@ -1,4 +1,4 @@
-//! What the program prints of itself.
+//! The help text of the program.
 
 pub const HELP: &str = "\
 krb_realm answers Kerberos requests as the KDC of one realm, one line of text for each. It is for tests and trials.

@@ -1,4 +1,4 @@
-//! What a line says.
+//! The items that lines contain.
 
 ghost use Rattle.std.specs.Prelude.{◌≡◌, ◌∷◌, map, IfOk};
 ghost use Rattle.krb_text.specs.Lines.{fields};
@@ -12,7 +12,7 @@ use krb_script::{FieldError, name, number, octets, octets_or_none, random_octets
 use sspi_core::{Draw, Secret};
 use std::alloc::{AllocError, Global};
 
-/// The greatest skew that a line may tell: a day, in seconds.
+/// The greatest skew that a line may name: a day, in seconds.
 const MAX_SKEW: u64 = 86_400;
 
 /// The first line.
@@ -26,12 +26,12 @@ pub struct RealmLine {
     pub tgt_key: Secret<Octets>,
 }
 
-/// What a line adds to the realm.
+/// An entry that a line adds to the realm.
 #[derive(Drop)]
 pub enum Entry {
     /// A principal's components, and its password.
     Password(Items<Name>, Secret<Octets>),
-    /// The same with its key.
+    /// A principal's components, and its key.
     Key(Items<Name>, Secret<Octets>),
     /// A realm that is trusted, and the key that both have.
     Trust(Name, Secret<Octets>),
@@ -46,7 +46,7 @@ pub struct Request {
     pub octets: Octets,
 }
 
-/// What a line says.
+/// The item that a line contains.
 #[derive(Drop)]
 pub enum Item {
     Realm(RealmLine),
@@ -138,7 +138,7 @@ fn parse_request(alloc: Global, fields: &[&[u8]]) -> Result<Request, FieldError>
     })
 }
 
-/// What a line adds to the realm, by its word.
+/// Parses the entry that a line adds to the realm, by the line's first word.
 fn parse_entry(alloc: Global, word: &[u8], rest: &[&[u8]]) -> Result<Entry, FieldError>
     ensures { Gives (entry_of word.now (map (λ x. x.now) rest.now)) result }
 {
@@ -176,7 +176,7 @@ fn split_fields<'a>(alloc: Global, line: &'a [u8]) -> Result<Vec<&'a [u8]>, Allo
     split(alloc, b' ', line)
 }
 
-/// What a line says, if it stands in the table.
+/// Parses a line. Fails with `Bad` if the line is not in the table of lines.
 pub fn parse_item(alloc: Global, line: &[u8]) -> Result<Item, FieldError>
     ensures { Gives (item_of line.now) result }
 {

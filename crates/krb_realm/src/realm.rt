@@ -43,7 +43,7 @@ pub struct Realm {
     pub kdc: Kdc,
 }
 
-/// What a line's error is where the KDC does not take what it says.
+/// Returns the line's error for an error of the KDC: `OutOfMemory`, or `Bad` if the KDC does not accept the line's values.
 fn field_error(error: KdcError) -> FieldError
     ensures { result ≡ Bad → error ≢ refusals.OutOfMemory }
 {
@@ -163,7 +163,7 @@ impl Realm {
         add_principal(&mut self.kdc, principal)
     }
 
-    /// What one line adds.
+    /// Adds the entry of one line. Fails with `Bad` if the KDC does not accept the entry.
     pub fn add(&mut self, alloc: Global, entry: Entry) -> Result<(), FieldError>
         ensures added { OnOk result (EntersRealm self.old entry self.new) }
         ensures refused { result ≡ Err Bad → can_add self.old.kdc (addition_of self.old entry) ≡ false }

@@ -21,7 +21,7 @@ fn push_component(text: &mut Vec<u8>, component: &Name) -> Result<(), OutOfMemor
     Ok(())
 }
 
-/// The components behind one another.
+/// Appends the components, one after another.
 fn push_components(text: &mut Vec<u8>, components: &[Name]) -> Result<(), OutOfMemory>
     ensures text { OnOk result (text.new.items ≡ text.old.items ++ end_to_end components.now) }
     ensures ascii { OnOk result (are_ascii components.now ≡ true) }
@@ -32,7 +32,7 @@ fn push_components(text: &mut Vec<u8>, components: &[Name]) -> Result<(), OutOfM
     Ok(())
 }
 
-/// The salt that a principal has where none is told: its realm and its components (RFC 4120, section 4).
+/// Returns the salt of a principal for which no other salt is named: its realm and its components (RFC 4120, section 4).
 pub fn salt_of(alloc: Global, realm: &Name, components: &[Name]) -> Result<Name, FieldError>
     ensures { Gives (Some (salt_of realm.now components.now)) result }
 {

@@ -139,7 +139,7 @@ impl LineTaker for Session {
         self.answered
     }
 
-    /// Whether a line named the realm.
+    /// Returns whether a line named the realm.
     fn can_end(&self) -> bool {
         self.realm.is_some()
     }

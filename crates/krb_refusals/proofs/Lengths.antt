@@ -1,4 +1,4 @@
--- How long the token can be.
+-- The length of the token.
 use Rattle.std.proofs.Common.{◌≡◌, ℕ, ℤ, ◌+◌, ◌*◌, ◌/◌, ◌%◌, ◌≤◌, ◌<◌, ◌^◌, Bool, true, false, List, [], ◌∷◌, ◌++◌, length, if◌then◌else◌, nat_lt, Ok, sym, subst, lit≤, lit<, arith}
 use Rattle.krb_der.specs.Der.{tlv}
 use Rattle.krb_der.specs.Moment.{time_octets}
@@ -62,7 +62,7 @@ pub error_fits : (code : ℕ) (sname : PrincipalName) (realm : List ℕ) (moment
 error_fits code sname realm moment is k h =
     subst (λ (name : PrincipalName). Fits krb_error_layout (2 ^ 20) (krb_error code name realm moment)) (sym is) (told_fits code sname.name_string realm moment k h)
 
--- what is framed, after the mechanism's name
+-- the contents of a frame: the mechanism's object identifier, the token id and the octets after them
 pub framed_short : (oid message : List ℕ) → oid ≡ krb5_oid → length message ≤ 2 ^ 20 → length (tlv 0x06 oid ++ (krb_error_id ++ message)) < 2 ^ 31
 framed_short oid message e h =
     let name : length oid ≤ 10 = subst (λ (o : List ℕ). length o ≤ 10) (sym e) (lit≤ tt) in

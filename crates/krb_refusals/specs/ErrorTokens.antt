@@ -1,4 +1,5 @@
--- The token that tells a client why it is refused: a KRB-ERROR (RFC 4120, section 5.9.1) as a token of the mechanism (RFC 4121, section 4.1).
+-- The token with the reason of a refusal, for the client: a KRB-ERROR (RFC 4120, section 5.9.1) as a token of the mechanism
+-- (RFC 4121, section 4.1).
 use Rattle.std.specs.Prelude.{ℕ, ◌%◌, nat_le, List, [], ◌∷◌, length, None, Result}
 use Rattle.krb_der.specs.Layout.{spelling}
 use Rattle.krb_exchange.specs.Layouts.{krb_error_layout}
@@ -18,8 +19,8 @@ use Rattle.krb_refusals.specs.Integers.{shortest}
 abbrev pub krb_error_id : List ℕ
 krb_error_id = 0x03 ∷ 0x00 ∷ []
 
--- KRB_AP_ERR_TKT_EXPIRED, KRB_AP_ERR_TKT_NYV, KRB_AP_ERR_REPEAT, KRB_AP_ERR_SKEW, and KRB_ERR_GENERIC for all else (RFC 4120, section
--- 7.5.9)
+-- KRB_AP_ERR_TKT_EXPIRED, KRB_AP_ERR_TKT_NYV, KRB_AP_ERR_REPEAT, KRB_AP_ERR_SKEW, and KRB_ERR_GENERIC for every other cause
+-- (RFC 4120, section 7.5.9)
 abbrev pub error_code : Cause → ℕ
 error_code Expired = 32
 error_code NotYet = 33
@@ -27,8 +28,8 @@ error_code Replayed = 34
 error_code Skew = 37
 error_code _ = 60
 
--- version 5, type 30, the moment in seconds and microseconds, the code, and the service with its realm; the client, its time and what is
--- for people are left out
+-- version 5, type 30, the moment in seconds and microseconds, the code, and the service with its realm; the client, its time, and the
+-- text and data are left out
 abbrev pub krb_error : ℕ → PrincipalName → List ℕ → ℕ → KrbError
 krb_error code sname realm moment = record {
   pvno = 5 ∷ [];
@@ -46,22 +47,23 @@ krb_error code sname realm moment = record {
   e_data = None;
 }
 
--- its octets
+-- the octets of the KRB-ERROR
 unfoldable pub message : ℕ → PrincipalName → List ℕ → ℕ → List ℕ
 message code sname realm moment = spelling krb_error_layout (krb_error code sname realm moment)
 
--- the same after the name of the Kerberos mechanism and the token id
+-- the KRB-ERROR after the object identifier of the Kerberos mechanism and the token id
 abbrev pub token : ℕ → PrincipalName → List ℕ → ℕ → List ℕ
 token code sname realm moment = framed krb5_oid krb_error_id (message code sname realm moment)
 
--- the token of this cause by the service of this name, whose components have a `/` between two, a name of type 2 (RFC 4120, section 6.2)
+-- the token of this cause from the service of this name, whose components are separated by `/`, a name of type 2 (RFC 4120,
+-- section 6.2)
 unfoldable pub NamesService : Cause → List ℕ → List ℕ → ℕ → Result (List ℕ) Cause → Type 0
 NamesService cause service realm moment = do
   name ← Takes NotAscii (name_of realm)
   sname ← Takes NotAscii (principal_of 2 (user_components service))
   Gives (token (error_code cause) sname name moment)
 
--- the same at a moment that an event may have, with texts of 65,536 octets at the most
+-- the token at a moment that an event may have, with texts of at most 65,536 octets
 unfoldable pub TellsRefusal : Cause → List ℕ → List ℕ → ℕ → Result (List ℕ) Cause → Type 0
 TellsRefusal cause service realm moment = do
   Holds Moment (nat_le moment last_moment)

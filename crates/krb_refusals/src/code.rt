@@ -8,7 +8,7 @@ use krb_requests::integer_of;
 use sspi_core::Cause;
 use std::alloc::Global;
 
-/// The code that a client is told (RFC 4120, section 7.5.9).
+/// Returns the error code for a client (RFC 4120, section 7.5.9).
 pub(crate) fn error_code(cause: Cause) -> u8
     ensures value { result ≡ error_code cause }
     ensures one_octet { result < 128 }
@@ -22,7 +22,7 @@ pub(crate) fn error_code(cause: Cause) -> u8
     }
 }
 
-/// A code of one octet.
+/// Returns a code of one octet as an error code.
 pub(crate) fn written_code(alloc: Global, code: u8) -> Result<ErrorCode, OutOfMemory>
     requires { code < 128 }
     ensures { IfOk result (λ made. made ≡ code ∷ []) }

@@ -23,7 +23,7 @@ use std::alloc::Global;
 /// The token id before a KRB-ERROR (RFC 4121, section 4.1).
 const KRB_ERROR_TOKEN_ID: [u8; 2] = [0x03, 0x00];
 
-/// How many bytes the realm and the service's name may have.
+/// The greatest length of the realm, and of the service's name, in bytes.
 const TEXT_LIMIT: usize = 65_536;
 
 /// Microseconds in a second.
@@ -80,7 +80,7 @@ fn message(
     error.write(alloc)
 }
 
-/// A message after the mechanism's name and the token id.
+/// Returns a message after the mechanism's object identifier and the token id.
 #[tactic(auto, unfolding(krb_messages::specs::Frame::framed))]
 fn framed_error(alloc: Global, message: &Octets) -> Result<Octets, OutOfMemory>
     requires { length message.now ≤ 2 ^ 20 }
@@ -123,7 +123,7 @@ fn given_token(
     Ok(token(alloc, error_code(cause), sname, realm, moment)?)
 }
 
-/// The token over these names.
+/// Returns the token with these names.
 #[tactic(auto, unfolding(crate::specs::ErrorTokens::NamesService))]
 fn named_token(
     alloc: Global,
@@ -143,16 +143,17 @@ fn named_token(
     Ok(token)
 }
 
-/// Returns the token that tells a client why it is refused: a KRB-ERROR with the code of this cause, the service's name, as
+/// Returns the token with the reason of a refusal, for the client: a KRB-ERROR with the code of this cause, the service's name, as
 /// `host/server.example.com`, its realm and the moment, in microseconds since 1970 (RFC 4120, section 5.9.1).
 ///
-/// `Skew` is told as 37, `NotYet` as 33, `Expired` as 32 and `Replayed` as 34; each other cause as 60, which says nothing of the checks.
-/// A client prints it, as 'Clock skew too great'. It is not encrypted, and anybody can make it: a client tells its user and does no more.
+/// The code of `Skew` is 37, of `NotYet` 33, of `Expired` 32 and of `Replayed` 34; of each other cause 60, which says nothing of the
+/// checks. A client prints the code, as 'Clock skew too great'. The token is not encrypted, and anybody can make it: a client only
+/// prints it for its user.
 ///
 /// # Errors
 /// `Moment` - the moment is past `MAX_MOMENT`.
 /// `Room` - the realm or the name has more than 65,536 bytes.
-/// `NotAscii` - the realm or the name is past ASCII.
+/// `NotAscii` - the realm or the name is not ASCII.
 #[tactic(auto, unfolding(crate::specs::ErrorTokens::TellsRefusal))]
 pub fn error_token(
     alloc: Global,

@@ -1,4 +1,4 @@
-//! The token that tells a client why an acceptor refuses it: a KRB-ERROR (RFC 4120, section 5.9.1) as a GSS token (RFC 4121,
+//! The token with the reason why an acceptor refuses a client: a KRB-ERROR (RFC 4120, section 5.9.1) as a GSS token (RFC 4121,
 //! section 4.1).
 //!
 //! ```text

@@ -14,14 +14,14 @@ use krb_requests::principal_of;
 use sspi_core::Cause;
 use std::alloc::Global;
 
-/// The components of a service's name, between two of which a `/` is.
+/// Returns the components of a service's name, which are separated by `/`.
 fn components<'a>(alloc: Global, service: &'a str) -> Result<Vec<&'a str>, OutOfMemory>
     ensures { IfOk result (λ parts. map (λ part. part.now) parts.items ≡ user_components service.now) }
 {
     Ok(service.split('/').collect(alloc)?)
 }
 
-/// The name of a service. Refused as `NotAscii` exactly if it is past ASCII.
+/// Returns the name of a service. Fails with `NotAscii` exactly if it is not ASCII.
 pub(crate) fn service_name(alloc: Global, service: &str) -> Result<PrincipalName, Cause>
     ensures { Answers (Takes causes.NotAscii (principal_of 2 (user_components service.now))) result }
 {

@@ -1,4 +1,4 @@
-//! An INTEGER of as few octets as it has.
+//! An INTEGER of as few octets as possible.
 
 ghost use Rattle.std.specs.Prelude.{◌≡◌, ◌<◌, IfOk};
 ghost use Rattle.krb_refusals.specs.Integers.{shortest};
@@ -7,7 +7,7 @@ use krb_der::{IntegerAsn1, OutOfMemory};
 use krb_requests::integer_of;
 use std::alloc::Global;
 
-/// The shortest INTEGER of a number under 2^23 (X.690, section 8.3.2).
+/// Returns the shortest INTEGER of a number under 2^23 (X.690, section 8.3.2).
 #[tactic(auto, unfolding(crate::specs::Integers::shortest))]
 pub(crate) fn shortest(alloc: Global, number: u32) -> Result<IntegerAsn1, OutOfMemory>
     requires { number < 8388608 }

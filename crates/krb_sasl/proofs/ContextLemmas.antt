@@ -1,4 +1,4 @@
--- What the context answers, as this crate answers it.
+-- The results of the context, as this crate returns them.
 use Rattle.std.proofs.Common.{◌≡◌, Result, Ok, Err, refl, ap, ◌∙◌}
 use Rattle.std.specs.Result.{IsErrAnd}
 use Rattle.sspi_core.specs.declared.cause.Cause.{Cause}

@@ -127,7 +127,7 @@ is_unframed channel frame layer message h =
       flags = ap (λ (x : Layer × List ℕ). has_flags x.0 x.1) same ∙ held Frame _ four.found four.first_held;
     }
 
--- the channel behind data that it sealed, and behind a frame that it unsealed
+-- the channel after data that it wrapped, and after a frame that it unwrapped
 pub sealed_as : (channel new : Channel) (agreement : Agreement) → channel.agreement ≡ Some agreement
     → new ≡ record channel { context = context_after_making agreement.layer channel.context } → new ≡ sealed_by channel
 sealed_as channel new agreement there is =

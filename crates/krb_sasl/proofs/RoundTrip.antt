@@ -1,4 +1,4 @@
--- What one end seals the other unseals.
+-- Data that one end wraps are unwrapped by the other.
 use Rattle.std.proofs.Common.{◌≡◌, ℕ, ◌<◌, ◌≤◌, ◌^◌, Bool, true, false, List, [], ◌++◌, length, drop, refl, sym, subst, ap, ◌∙◌, arith, length-append, Ok}
 use Rattle.std.specs.Prelude.{Option, Some, ◌&&◌, ◌||◌, ◌==◌, nat_le, nat_lt, is_some}
 use Rattle.std.specs.Int.{w32, to_be_bytes}

@@ -1,4 +1,4 @@
--- What goes through a channel once both ends agree: the checks in their order, frames and messages.
+-- The data of a channel once both ends agree: the checks in their order, frames and messages.
 use Rattle.std.specs.Prelude.{ℕ, List, length, Bool, true, not, ◌||◌, nat_lt, Option, Some, None, Result}
 use Rattle.krb_messages.specs.Frame.{with_length}
 use Rattle.krb_context.specs.declared.context.Kerberos.{Kerberos}
@@ -64,13 +64,13 @@ Unseals channel frame = do
   framed ← Unframes channel frame
   OpensInLayer framed.0 channel framed.1
 
--- the context behind a message of a layer that it made
+-- the context after a message of a layer that it made
 abbrev pub context_after_making : Layer → Kerberos → Kerberos
 context_after_making NoLayer context = context
 context_after_making Integrity context = sent_from context
 context_after_making Confidentiality context = sent_from context
 
--- the channel behind a message of a layer that it opened
+-- the channel after a message of a layer that it opened
 abbrev pub channel_after_opening : Layer → Channel → List ℕ → Channel
 channel_after_opening NoLayer channel message = channel
 channel_after_opening Integrity channel message = after_token channel message
@@ -80,7 +80,7 @@ abbrev pub context_after_sealing : Option Agreement → Kerberos → Kerberos
 context_after_sealing None context = context
 context_after_sealing (Some agreement) context = context_after_making agreement.layer context
 
--- the channel behind data that it sealed
+-- the channel after data that it wrapped
 abbrev pub sealed_by : Channel → Channel
 sealed_by channel = record channel { context = context_after_sealing channel.agreement channel.context }
 
@@ -89,6 +89,6 @@ channel_after_unsealing None message channel = channel
 channel_after_unsealing (Some agreement) None channel = channel
 channel_after_unsealing (Some agreement) (Some message) channel = channel_after_opening agreement.layer channel message
 
--- the channel behind a frame that it unsealed
+-- the channel after a frame that it unwrapped
 abbrev pub unsealed_by : Channel → List ℕ → Channel
 unsealed_by channel frame = channel_after_unsealing channel.agreement (unframed frame) channel

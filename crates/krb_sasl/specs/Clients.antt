@@ -36,7 +36,7 @@ Wishes context wanted size name = do
   told ← MayWish context wanted size name
   Gives (record { channel = new_channel context size; wanted = wanted; name = told })
 
--- the checks of an offer's text, for who wants this layer
+-- the checks of an offer's text, for a client of this layer
 unfoldable pub Suits : Layer → List ℕ → Result (Unit {0}) SaslError → Type 0
 Suits wanted text = do
   Holds Offer (is_offer_text text)
@@ -57,7 +57,7 @@ AnswersOffer client offer = do
   token ← InContext (WrapsClear (received client.channel.context offer) (answer_text client.wanted client.channel.size client.name))
   Gives (token, text)
 
--- the client behind its answer to an offer with this text
+-- the client after its answer to an offer with this text
 abbrev pub answered_by : SaslClient → List ℕ → List ℕ → SaslClient
 answered_by client offer text =
     record client { channel = agreed_channel client.channel offer (sent_from (received client.channel.context offer)) (agreed text client.wanted) }

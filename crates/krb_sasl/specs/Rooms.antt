@@ -23,7 +23,7 @@ abbrev pub kept_by : SaslFault → Channel → List ℕ → Channel
 kept_by (Refused refusal) channel token = left_by refusal channel token
 kept_by (Room count) channel token = channel
 
--- the user's name in an answer that is accepted, and the server behind it
+-- the user's name in an answer that is accepted, and the server after it
 pub record Names (before : SaslServer) (token name : List ℕ) (after : SaslServer) : Type 0 where
   pub text : List ℕ
   pub layer : Layer
@@ -34,7 +34,7 @@ pub record Names (before : SaslServer) (token name : List ℕ) (after : SaslServ
 abbrev pub IsNameIn : SaslServer → List ℕ → List ℕ → Type 0
 IsNameIn server token name = (after : SaslServer) × Names server token name after
 
--- the token of the answer to an offer, and the client behind it
+-- the token of the answer to an offer, and the client after it
 pub record AnswersWith (before : SaslClient) (offer token : List ℕ) (after : SaslClient) : Type 0 where
   pub text : List ℕ
   pub answers : AnswersOffer before offer (Ok (token, text))

@@ -52,7 +52,7 @@ Offers server = do
   Holds State (not server.has_offered)
   InContext (WrapsClear server.channel.context (offer_text server.layers server.channel.size))
 
--- the server behind its offer
+-- the server after its offer
 abbrev pub offered_by : SaslServer → SaslServer
 offered_by server = record server { channel = record server.channel { context = sent_from server.channel.context }; has_offered = true }
 
@@ -83,7 +83,7 @@ abbrev pub agreed_channel : Channel → List ℕ → Kerberos → Agreement → 
 agreed_channel channel token context agreement =
     record channel { context = context; order = order_after (token_number token) channel.order; agreement = Some agreement }
 
--- the server behind an answer that it accepted
+-- the server after an answer that it accepted
 abbrev pub accepted_by : SaslServer → List ℕ → List ℕ → Layer → SaslServer
 accepted_by server token text layer =
     record server { channel = agreed_channel server.channel token (received server.channel.context token) (agreed text layer) }

@@ -1,4 +1,4 @@
-//! An end of a connection, and what goes through it once both ends agree.
+//! An end of a connection, and its data once both ends agree.
 
 ghost use Rattle.std.specs.Prelude.{◌≡◌, ◌≤◌, ◌<◌, ◌^◌, length, Ok, IfOk, IfErr, OnOk, OnErr};
 ghost use Rattle.krb_sasl.specs.Answers.{Answers};
@@ -42,25 +42,25 @@ use krb_messages::serialize_message;
 use krb_sessions::Order;
 use std::alloc::Global;
 
-/// What both ends agreed on: the layer, and how many octets of a message the other end receives at most.
+/// The agreement of both ends: the layer, and how many bytes of a message the peer receives at most.
 #[derive(Clone, Copy, Debug, PartialEq, Eq)]
 pub(crate) struct Agreement {
     pub(crate) layer: Layer,
     pub(crate) peer_size: u32,
 }
 
-/// One end: its context, how many octets of a message it receives at most, what is agreed, and the order of what it receives.
+/// One end: its context, how many bytes of a message it receives at most, the agreement, and the order of the messages it receives.
 #[derive(Drop)]
 pub(crate) struct Channel {
     pub(crate) context: Kerberos,
     pub(crate) size: u32,
     pub(crate) agreement: Option<Agreement>,
-    /// Which of the other end's tokens is taken next.
+    /// Which of the peer's tokens is accepted next.
     pub(crate) order: Order,
 }
 
 impl Channel {
-    /// The end before the negotiation.
+    /// Returns the end before the negotiation.
     pub(crate) fn new(context: Kerberos, size: u32) -> Channel
         ensures { result ≡ new_channel context size }
     {
@@ -72,7 +72,7 @@ impl Channel {
         }
     }
 
-    /// The message of a layer. A refusal leaves the channel.
+    /// Makes the message of a layer. If that fails the channel is unchanged.
     fn make(
         &mut self,
         alloc: Global,
@@ -92,7 +92,7 @@ impl Channel {
         }
     }
 
-    /// Opens a token, where it is the next one, and gives its text. A refusal leaves the channel.
+    /// Decrypts a token, if it is the next one, and returns its text. If that fails the channel is unchanged.
     pub(crate) fn take_token(&mut self, alloc: Global, token: &[u8]) -> Result<Octets, SaslError>
         ensures unwrapped { Answers (InContext (UnwrapsInOrder self.old.order self.old.context token.now)) result }
         ensures after { OnOk result (self.new ≡ after_token self.old token.now) }
@@ -101,7 +101,7 @@ impl Channel {
         unwrap(alloc, &mut self.context, &mut self.order, token)
     }
 
-    /// The data of a message. A refusal leaves the channel.
+    /// Returns the data of a message. If that fails the channel is unchanged.
     fn open(&mut self, alloc: Global, layer: Layer, message: &[u8]) -> Result<Octets, SaslError>
         ensures opened { Answers (OpensInLayer layer self.old message.now) result }
         ensures after { OnOk result (self.new ≡ channel_after_opening layer self.old message.now) }
@@ -127,7 +127,7 @@ impl Channel {
         )
     }
 
-    /// The agreement, once there is room for the message of `len` octets.
+    /// Returns the agreement, once the peer receives the message of `len` bytes.
     #[tactic(auto, using(sspi_core::proofs::Chain::plain_chain), unfolding(crate::specs::Channels::Readies))]
     fn ready_to_seal(&self, len: usize) -> Result<Agreement, SaslError>
         requires { len < 2 ^ 63 }
@@ -139,7 +139,7 @@ impl Channel {
         Ok(agreement)
     }
 
-    /// Seals data into a frame. A refusal leaves the channel.
+    /// Wraps data into a frame. If that fails the channel is unchanged.
     pub(crate) fn seal(
         &mut self,
         alloc: Global,
@@ -162,7 +162,7 @@ impl Channel {
         }
     }
 
-    /// Seals data into a frame in a room. Where the room is too short nothing is changed.
+    /// Wraps data into a frame in a buffer. If the buffer is too short nothing is changed.
     pub(crate) fn seal_to(
         &mut self,
         alloc: Global,
@@ -196,7 +196,7 @@ impl Channel {
         )
     }
 
-    /// The message of a frame, and its layer, once both are checked.
+    /// Returns the message of a frame, and its layer, once both are checked.
     fn unframe<'a>(&self, frame: &'a [u8]) -> Result<(Layer, &'a [u8]), SaslError>
         ensures { Unframes self.now frame.now (result_map_both (λ x. (x.0, x.1.now)) (λ e. e) result) }
     {
@@ -207,7 +207,7 @@ impl Channel {
         Ok((agreement.layer, message))
     }
 
-    /// Unseals the data of a frame. A refusal leaves the channel.
+    /// Unwraps the data of a frame. If that fails the channel is unchanged.
     pub(crate) fn unseal(&mut self, alloc: Global, frame: &[u8]) -> Result<Octets, SaslError>
         ensures unsealed { Answers (Unseals self.old frame.now) result }
         ensures after { OnOk result (self.new ≡ unsealed_by self.old frame.now) }
@@ -217,7 +217,7 @@ impl Channel {
         self.open(alloc, layer, message)
     }
 
-    /// Unseals the data of a frame into a room. Where the room is too short nothing is changed.
+    /// Unwraps the data of a frame into a buffer. If the buffer is too short nothing is changed.
     pub(crate) fn unseal_to(
         &mut self,
         alloc: Global,
@@ -260,7 +260,7 @@ fn is_sealed(message: &[u8]) -> bool
     !(message[2] & 2 == 0)
 }
 
-/// Whether a message that has flags has those of the layer.
+/// Returns whether a message that has flags has those of the layer.
 fn has_flags(layer: Layer, message: &[u8]) -> bool
     ensures { result ≡ has_flags layer message.now }
 {

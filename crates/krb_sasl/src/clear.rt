@@ -11,11 +11,11 @@ use krb_context::Kerberos;
 use krb_der::Octets;
 use std::alloc::Global;
 
-/// The token of a message in the clear, with a checksum (RFC 4121, section 4.2.4): 28 octets longer than the text. The
-/// context's number rises by one, going round at 2^32, and stands in the header.
+/// Returns the token of a message in the clear, with a checksum (RFC 4121, section 4.2.4): 28 bytes longer than the text. The
+/// context's sequence number rises by one, wraps at 2^32, and is in the header.
 ///
-/// The refusals of the context, in their order: `Sequence` before the exchange is over and where there is no key;
-/// `KeyLength`. A refusal leaves the context.
+/// Fails, in this order, with the context's `Sequence` before the exchange is over and if there is no key; `KeyLength`. If it fails
+/// the context is unchanged.
 pub fn wrap_plain(alloc: Global, context: &mut Kerberos, plain: &[u8]) -> Result<Octets, SaslError>
     ensures wrapped { Answers (InContext (WrapsClear context.old plain.now)) result }
     ensures size { IfOk result (λ token. length token ≡ 28 + length plain.now) }

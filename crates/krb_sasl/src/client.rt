@@ -27,7 +27,7 @@ use krb_der::{Octets, Text};
 use krb_sessions::Order;
 use std::alloc::Global;
 
-/// The client of a connection: it answers an offer with the layer that it wants and its user's name.
+/// The client of a connection: it answers an offer with its own layer and its user's name.
 #[derive(Drop)]
 pub struct SaslClient {
     channel: Channel,
@@ -35,7 +35,7 @@ pub struct SaslClient {
     name: Text,
 }
 
-/// The name of a new client's user, once its layer, its size and its context are checked.
+/// Returns the name of a new client's user, once its layer, its size and its context are checked.
 #[tactic(auto, using(crate::proofs::Chain::chain), unfolding(crate::specs::Clients::MayWish))]
 fn wished_name(
     alloc: Global,
@@ -51,7 +51,7 @@ fn wished_name(
     Ok(Text::from_str(alloc, name)?)
 }
 
-/// Checks the text of an offer, for who wants this layer.
+/// Checks the text of an offer, for a client of this layer.
 #[tactic(auto, using(sspi_core::proofs::Chain::plain_chain), unfolding(crate::specs::Clients::Suits))]
 fn suits(wanted: Layer, text: &[u8]) -> Result<(), SaslError>
     ensures suits { Suits wanted text.now result }
@@ -63,11 +63,11 @@ fn suits(wanted: Layer, text: &[u8]) -> Result<(), SaslError>
 }
 
 impl SaslClient {
-    /// The client on a context whose exchange is over, which wants this layer, receives messages of `size` octets at most,
-    /// and speaks for the user of this name.
+    /// Returns the client on a context whose exchange is over, with this layer. It receives messages of `size` bytes at most, and its
+    /// user has this name.
     ///
-    /// The refusals, in their order: `Layers` where the size is 2^24 or more, and where no layer is wanted with a size;
-    /// `State` where the exchange of the context is not over.
+    /// Fails, in this order, with `Layers` if the size is 2^24 or more, or if no layer is chosen with a size; `State` if the
+    /// exchange of the context is not over.
     #[tactic(auto, using(crate::proofs::Chain::chain), unfolding(crate::specs::Clients::Wishes))]
     pub fn new(
         alloc: Global,
@@ -88,8 +88,8 @@ impl SaslClient {
         }
     }
 
-    /// Takes the other end's tokens by this order from now on: a session's [`in_order`](krb_sessions::Session::in_order) has the number
-    /// that its client begins with. A new end takes them in order from the first that it opens.
+    /// Accepts the peer's tokens in this order from now on: a session's [`in_order`](krb_sessions::Session::in_order) has the number
+    /// that its client begins with. A new end accepts them in order from the first that it decrypts.
     pub fn set_order(&mut self, order: Order)
         ensures { self.new ≡ with_channel self.old (ordered order (channel_of self.old)) }
     {
@@ -102,7 +102,7 @@ impl SaslClient {
         hold(self.channel.agreement.is_none(), SaslError::State)
     }
 
-    /// The text of an offer, once it is checked.
+    /// Returns the text of an offer, once it is checked.
     fn read_offer(&mut self, alloc: Global, offer: &[u8]) -> Result<Octets, SaslError>
         ensures read { Answers (Reads self.old offer.now) result }
         ensures long { IfOk result (λ text. 4 ≤ length text) }
@@ -116,11 +116,11 @@ impl SaslClient {
         Ok(text)
     }
 
-    /// The token of the answer to an offer.
+    /// Returns the token of the answer to an offer.
     ///
-    /// The refusals, in their order: `State` where one was given before; `Context`; `Offer` where the text has not four
-    /// octets; `Layer` where the wanted layer is not offered, or no layer alone with a size. A refusal leaves the client,
-    /// save that an `Offer` or a `Layer` keeps the token's number.
+    /// Fails, in this order, with `State` if an answer was given before; `Context`; `Offer` if the text has not four bytes; `Layer`
+    /// if the client's layer is not offered, or no layer alone with a size. If it fails the client is unchanged, except that after
+    /// `Offer` and `Layer` the token's number is kept.
     pub fn answer(&mut self, alloc: Global, offer: &[u8]) -> Result<Octets, SaslError>
         ensures answered { IfOk result (λ token. (text : List ℕ) × AnswersOffer self.old offer.now (Ok (token, text))
             × (self.new ≡ answered_by self.old offer.now text)) }
@@ -146,8 +146,8 @@ impl SaslClient {
         }
     }
 
-    /// The token of the answer to an offer, in the caller's room. The refusals are those of `answer`, and leave the client as there. Where
-    /// the room is too short it says how long the token is, and nothing is changed.
+    /// Puts the token of the answer to an offer into the caller's buffer. Fails as `answer` does, and leaves the client as `answer`
+    /// does. If the buffer is too short the call fails with the length of the token, and nothing is changed.
     pub fn answer_to(
         &mut self,
         alloc: Global,
@@ -176,7 +176,7 @@ impl SaslClient {
         }
     }
 
-    /// The token of the answer, whatever was offered.
+    /// Returns the token of the answer, whatever was offered.
     fn write_answer(&mut self, alloc: Global) -> Result<Octets, SaslError>
         ensures written { Answers (InContext (WrapsClear self.old.channel.context
             (answer_text self.old.wanted self.old.channel.size self.old.name))) result }
@@ -187,10 +187,10 @@ impl SaslClient {
         wrap_plain(alloc, &mut self.channel.context, text.as_slice())
     }
 
-    /// Seals data into a frame. The confounder is 16 random octets, which are used where the layer seals.
+    /// Wraps data into a frame. The confounder is 16 random bytes, which are used if the layer encrypts.
     ///
-    /// The refusals, in their order: `State` before an answer was given; `TooLarge` where the message would be longer than
-    /// the server receives, or, without a layer, the data have 2^24 octets or more; `Context`. A refusal leaves the client.
+    /// Fails, in this order, with `State` before an answer was given; `TooLarge` if the message would be longer than the server
+    /// receives, or, without a layer, the data have 2^24 bytes or more; `Context`. If it fails the client is unchanged.
     pub fn seal(
         &mut self,
         alloc: Global,
@@ -204,11 +204,11 @@ impl SaslClient {
         self.channel.seal(alloc, plain, confounder)
     }
 
-    /// Unseals the data of a frame.
+    /// Unwraps the data of a frame.
     ///
-    /// The refusals, in their order: `State` before an answer was given; `Frame` where the octets are not one frame;
-    /// `TooLarge` where its message is longer than the client receives, or, without a layer, has 2^24 octets or more; `Frame`
-    /// where it is not of the layer; `Context`. A refusal leaves the client.
+    /// Fails, in this order, with `State` before an answer was given; `Frame` if the bytes are not one frame; `TooLarge` if its
+    /// message is longer than the client receives, or, without a layer, has 2^24 bytes or more; `Frame` if the message is not of the
+    /// layer; `Context`. If it fails the client is unchanged.
     pub fn unseal(&mut self, alloc: Global, frame: &[u8]) -> Result<Octets, SaslError>
         ensures unsealed { Answers (Unseals (channel_of self.old) frame.now) result }
         ensures after { OnOk result (self.new ≡ with_channel self.old (unsealed_by (channel_of self.old) frame.now)) }
@@ -217,8 +217,8 @@ impl SaslClient {
         self.channel.unseal(alloc, frame)
     }
 
-    /// Seals data into a frame in the caller's room. The refusals are those of `seal`. Where the room is too short it says how long the
-    /// frame is, and nothing is changed.
+    /// Wraps data into a frame in the caller's buffer. Fails as `seal` does. If the buffer is too short the call fails with the
+    /// length of the frame, and nothing is changed.
     pub fn seal_to(
         &mut self,
         alloc: Global,
@@ -236,8 +236,8 @@ impl SaslClient {
         self.channel.seal_to(alloc, plain, confounder, out)
     }
 
-    /// Unseals the data of a frame into the caller's room. The refusals are those of `unseal`. Where the room is too short it says how
-    /// long the data are, and nothing is changed.
+    /// Unwraps the data of a frame into the caller's buffer. Fails as `unseal` does. If the buffer is too short the call fails with
+    /// the length of the data, and nothing is changed.
     pub fn unseal_to(
         &mut self,
         alloc: Global,

@@ -1,4 +1,4 @@
-//! Why a call of this crate refuses.
+//! Why a call of this crate fails.
 
 ghost use Rattle.std.specs.Prelude.{◌≡◌};
 ghost use Rattle.krb_sasl.specs.declared.error.SaslError.TheVariants as errors;
@@ -7,7 +7,7 @@ use krb_der::OutOfMemory as WantOfMemory;
 use sspi_core::{Cause, Error};
 use std::alloc::{AllocError, AllocFailed};
 
-/// Why a call is refused. Each comes exactly where its check is the first of the call that fails.
+/// Why a call fails. Each error comes exactly if its check is the first of the call that fails.
 #[derive(Clone, Copy, Debug, PartialEq, Eq)]
 pub enum SaslError {
     /// There are no such layers, or no such size of messages.
@@ -20,9 +20,9 @@ pub enum SaslError {
     Layer,
     /// A message is longer than the other end, or this one, receives at most.
     TooLarge,
-    /// The octets are not one frame, or the message in it is not of the layer.
+    /// The bytes are not one frame, or the message in it is not of the layer.
     Frame,
-    /// The context refused, and not because memory ran out.
+    /// The context failed, and not because memory ran out.
     Context(Error),
     /// Memory ran out.
     OutOfMemory,

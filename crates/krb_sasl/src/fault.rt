@@ -1,13 +1,13 @@
-//! Why octets are not handed out.
+//! Why a call returns no bytes.
 
 use crate::error::SaslError;
 
-/// Why a call that hands out octets does not.
+/// Why a call that returns bytes failed.
 #[derive(Clone, Copy, Debug, PartialEq, Eq)]
 pub enum SaslFault {
-    /// It is refused.
+    /// The checks of the call failed.
     Refused(SaslError),
-    /// The octets are so many, and the room is shorter.
+    /// The caller's buffer is shorter than the bytes, whose number this is.
     Room(usize),
 }
 

@@ -6,16 +6,16 @@ ghost use Rattle.krb_sasl.specs.Layers.{layer_octet, layer_of, has_layer, has_si
 /// How data are protected once both ends agree (RFC 4752, section 3.3).
 #[derive(Clone, Copy, Debug, PartialEq, Eq)]
 pub enum Layer {
-    /// Data go as they are.
+    /// Data are sent as they are.
     None,
-    /// Data go in the clear, with a checksum.
+    /// Data are sent in the clear, with a checksum.
     Integrity,
-    /// Data go sealed.
+    /// Data are sent encrypted.
     Confidentiality,
 }
 
 impl Layer {
-    /// The octet of the layer (RFC 4752, section 3.3): 1, 2 and 4.
+    /// Returns the octet of the layer (RFC 4752, section 3.3): 1, 2 and 4.
     pub fn octet(self) -> u8
         ensures { result ≡ layer_octet self }
     {
@@ -26,7 +26,7 @@ impl Layer {
         }
     }
 
-    /// The layer of an octet, None where it is not that of one alone.
+    /// Returns the layer of an octet, None if it is not that of one layer alone.
     pub(crate) fn from_octet(octet: u8) -> Option<Layer>
         ensures { result ≡ layer_of octet }
     {
@@ -38,14 +38,14 @@ impl Layer {
         }
     }
 
-    /// Whether these layers have it.
+    /// Returns whether these layers have it.
     pub(crate) fn is_in(self, layers: u8) -> bool
         ensures { result ≡ has_layer layers self }
     {
         !(layers & self.octet() == 0)
     }
 
-    /// Whether an end with this layer may receive messages of this size.
+    /// Returns whether an end with this layer may receive messages of this size.
     pub(crate) fn has_size(self, size: u32) -> bool
         ensures { result ≡ has_size self size }
     {
@@ -55,7 +55,7 @@ impl Layer {
         }
     }
 
-    /// How long the message of `len` octets is.
+    /// Returns the length of the message of `len` bytes.
     pub(crate) fn message_size(self, ec: u16, len: usize) -> u64
         requires { len < 2 ^ 63 }
         ensures { result ≡ message_size self ec len }
@@ -67,7 +67,7 @@ impl Layer {
         }
     }
 
-    /// Whether an end that receives `size` octets at most takes a message of `len`.
+    /// Returns whether an end that receives `size` bytes at most accepts a message of `len`.
     pub(crate) fn takes(self, size: u32, len: u64) -> bool
         ensures exact { result ≡ takes_message self size len }
         ensures short { IsTrue result → len < 2 ^ 32 }
@@ -79,14 +79,14 @@ impl Layer {
     }
 }
 
-/// Whether these are some of the three layers, with a size that fits three octets, and none where no layer alone is offered.
+/// Returns whether these are some of the three layers, with a size that fits three octets, and no size if no layer alone is offered.
 pub(crate) fn is_offer(layers: u8, size: u32) -> bool
     ensures { result ≡ is_offer layers size }
 {
     1 <= layers && layers <= 7 && size < 1 << 24 && (!(layers == 1) || size == 0)
 }
 
-/// Whether the size fits three octets, and is none for no layer.
+/// Returns whether the size fits three octets, and is zero for no layer.
 pub(crate) fn is_wish(layer: Layer, size: u32) -> bool
     ensures { result ≡ is_wish layer size }
 {

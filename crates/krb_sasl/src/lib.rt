@@ -1,7 +1,7 @@
 //! The security layers of SASL GSSAPI (RFC 4752, section 3), on contexts whose exchange is over.
 //!
 //! A [`SaslServer`] offers layers, a [`SaslClient`] answers with one and its user's name, and the server accepts. Then each
-//! end seals data into frames, and unseals those of the other.
+//! end wraps data into frames, and unwraps those of the other.
 //!
 //! ```text
 //! let mut server = SaslServer::new(context, 4, 65535)?;
@@ -33,5 +33,5 @@ pub use fault::SaslFault;
 pub use layer::Layer;
 pub use server::SaslServer;
 
-// What a caller names beside.
+// Types in the signatures of this crate.
 pub use krb_sessions::Order;

@@ -1,11 +1,11 @@
-//! Octets at the front of a caller's room.
+//! Bytes at the front of a caller's buffer.
 
 ghost use Rattle.std.specs.Prelude.{◌≡◌, ◌<◌, ◌++◌, length, drop, IfOk, IfErr, OnOk, OnErr};
 ghost use Rattle.krb_sasl.specs.declared.fault.SaslFault.TheVariants as faults;
 
 use crate::fault::SaslFault;
 
-/// Puts the octets at the front of the room, and tells how many they are.
+/// Puts the bytes at the front of the buffer, and returns their number.
 pub(crate) fn put(out: &mut [u8], octets: &[u8]) -> Result<usize, SaslFault>
     ensures count { IfOk result (λ count. count ≡ length octets.now) }
     ensures put { OnOk result (out.new ≡ octets.now ++ drop (length octets.now) out.old) }

@@ -42,7 +42,7 @@ fn check_new(context: &Kerberos, layers: u8, size: u32) -> Result<(), SaslError>
     hold(context.state.is_final(), SaslError::State)
 }
 
-/// The layer that an answer with this text chooses from these.
+/// Returns the layer that an answer with this text chooses from these.
 #[tactic(auto, using(sspi_core::proofs::Chain::plain_chain), unfolding(crate::specs::Servers::Chooses))]
 fn choose(layers: u8, text: &[u8]) -> Result<Layer, SaslError>
     ensures chosen { Chooses layers text.now result }
@@ -54,11 +54,11 @@ fn choose(layers: u8, text: &[u8]) -> Result<Layer, SaslError>
 }
 
 impl SaslServer {
-    /// The server on a context whose exchange is over, which offers these layers, the sum of their octets, and receives
-    /// messages of `size` octets at most.
+    /// Returns the server on a context whose exchange is over. It offers these layers, the sum of their octets, and receives
+    /// messages of `size` bytes at most.
     ///
-    /// The refusals, in their order: `Layers` where there are none or others, where the size is 2^24 or more, and where no
-    /// layer alone is offered with a size; `State` where the exchange of the context is not over.
+    /// Fails, in this order, with `Layers` if there are no layers or unknown ones, if the size is 2^24 or more, or if no layer alone
+    /// is offered with a size; `State` if the exchange of the context is not over.
     #[tactic(auto, using(sspi_core::proofs::Chain::plain_chain), unfolding(crate::specs::Servers::Serves))]
     pub fn new(context: Kerberos, layers: u8, size: u32) -> Result<SaslServer, SaslError>
         ensures { Serves context layers size result }
@@ -73,8 +73,8 @@ impl SaslServer {
         }
     }
 
-    /// The token of the offer. The refusals, in their order: `State` where it was given before; `Context`. A refusal leaves
-    /// the server.
+    /// Returns the token of the offer. Fails, in this order, with `State` if it was given before; `Context`. If it fails the server is
+    /// unchanged.
     #[tactic(auto, using(crate::proofs::Chain::chain), unfolding(crate::specs::Servers::Offers))]
     pub fn offer(&mut self, alloc: Global) -> Result<Octets, SaslError>
         ensures offered { Answers (Offers self.old) result }
@@ -88,8 +88,8 @@ impl SaslServer {
         Ok(token)
     }
 
-    /// The token of the offer, in the caller's room. The refusals are those of `offer`. Where the room is too short it says how long the
-    /// token is, and nothing is changed.
+    /// Puts the token of the offer into the caller's buffer. Fails as `offer` does. If the buffer is too short the call fails with the
+    /// length of the token, and nothing is changed.
     pub fn offer_to(&mut self, alloc: Global, out: &mut [u8]) -> Result<usize, SaslFault>
         ensures gives { IfOk result (λ count. Delivers (λ token. Offers self.old (Ok token)) out.old count out.new) }
         ensures after { OnOk result (self.new ≡ offered_by self.old) }
@@ -110,8 +110,8 @@ impl SaslServer {
         }
     }
 
-    /// Takes the other end's tokens by this order from now on: a session's [`in_order`](krb_sessions::Session::in_order) has the number
-    /// that its client begins with. A new end takes them in order from the first that it opens.
+    /// Accepts the peer's tokens in this order from now on: a session's [`in_order`](krb_sessions::Session::in_order) has the number
+    /// that its client begins with. A new end accepts them in order from the first that it decrypts.
     pub fn set_order(&mut self, order: Order)
         ensures { self.new ≡ with_channel self.old (ordered order (channel_of self.old)) }
     {
@@ -127,7 +127,7 @@ impl SaslServer {
         )
     }
 
-    /// The text of an answer, and the layer that it chooses, once both are checked.
+    /// Returns the text of an answer, and the layer that it chooses, once both are checked.
     fn read_answer(&mut self, alloc: Global, token: &[u8]) -> Result<(Octets, Layer), SaslError>
         ensures read { Answers (Accepts self.old token.now) result }
         ensures long { IfOk result (λ x. 4 ≤ length x.0) }
@@ -141,11 +141,11 @@ impl SaslServer {
         Ok((text, layer))
     }
 
-    /// Agrees on what an answer says, and gives the user's name.
+    /// Agrees to an answer, and returns the user's name.
     ///
-    /// The refusals, in their order: `State` before the offer and after an answer was accepted; `Context`; `Offer` where the
-    /// text is under four octets or the name is not in UTF-8; `Layer` where it does not choose one offered layer, or no layer
-    /// with a size. A refusal leaves the server, save that an `Offer` or a `Layer` keeps the token's number.
+    /// Fails, in this order, with `State` before the offer and after an answer was accepted; `Context`; `Offer` if the text is under
+    /// four bytes or the name is not in UTF-8; `Layer` if it does not choose one offered layer, or no layer with a size. If it fails
+    /// the server is unchanged, except that after `Offer` and `Layer` the token's number is kept.
     pub fn accept(&mut self, alloc: Global, token: &[u8]) -> Result<Octets, SaslError>
         ensures accepted { IfOk result (λ name. (text : List ℕ) × (layer : Layer) × Accepts self.old token.now (Ok (text, layer))
             × (name ≡ name_in text) × (self.new ≡ accepted_by self.old token.now text layer)) }
@@ -160,8 +160,8 @@ impl SaslServer {
         Ok(name_of(text))
     }
 
-    /// Agrees on what an answer says, and puts the user's name into the caller's room. The refusals are those of `accept`, and leave the
-    /// server as there. Where the room is too short it says how long the name is, and nothing is changed.
+    /// Agrees to an answer, and puts the user's name into the caller's buffer. Fails as `accept` does, and leaves the server as
+    /// `accept` does. If the buffer is too short the call fails with the length of the name, and nothing is changed.
     pub fn accept_to(
         &mut self,
         alloc: Global,
@@ -188,10 +188,10 @@ impl SaslServer {
         }
     }
 
-    /// Seals data into a frame. The confounder is 16 random octets, which are used where the layer seals.
+    /// Wraps data into a frame. The confounder is 16 random bytes, which are used if the layer encrypts.
     ///
-    /// The refusals, in their order: `State` before an answer was accepted; `TooLarge` where the message would be longer
-    /// than the client receives, or, without a layer, the data have 2^24 octets or more; `Context`. A refusal leaves the server.
+    /// Fails, in this order, with `State` before an answer was accepted; `TooLarge` if the message would be longer than the client
+    /// receives, or, without a layer, the data have 2^24 bytes or more; `Context`. If it fails the server is unchanged.
     pub fn seal(
         &mut self,
         alloc: Global,
@@ -205,11 +205,11 @@ impl SaslServer {
         self.channel.seal(alloc, plain, confounder)
     }
 
-    /// Unseals the data of a frame.
+    /// Unwraps the data of a frame.
     ///
-    /// The refusals, in their order: `State` before an answer was accepted; `Frame` where the octets are not one frame;
-    /// `TooLarge` where its message is longer than the server receives, or, without a layer, has 2^24 octets or more; `Frame`
-    /// where it is not of the layer; `Context`. A refusal leaves the server.
+    /// Fails, in this order, with `State` before an answer was accepted; `Frame` if the bytes are not one frame; `TooLarge` if its
+    /// message is longer than the server receives, or, without a layer, has 2^24 bytes or more; `Frame` if the message is not of the
+    /// layer; `Context`. If it fails the server is unchanged.
     pub fn unseal(&mut self, alloc: Global, frame: &[u8]) -> Result<Octets, SaslError>
         ensures unsealed { Answers (Unseals (channel_of self.old) frame.now) result }
         ensures after { OnOk result (self.new ≡ with_channel self.old (unsealed_by (channel_of self.old) frame.now)) }
@@ -218,8 +218,8 @@ impl SaslServer {
         self.channel.unseal(alloc, frame)
     }
 
-    /// Seals data into a frame in the caller's room. The refusals are those of `seal`. Where the room is too short it says how long the
-    /// frame is, and nothing is changed.
+    /// Wraps data into a frame in the caller's buffer. Fails as `seal` does. If the buffer is too short the call fails with the
+    /// length of the frame, and nothing is changed.
     pub fn seal_to(
         &mut self,
         alloc: Global,
@@ -237,8 +237,8 @@ impl SaslServer {
         self.channel.seal_to(alloc, plain, confounder, out)
     }
 
-    /// Unseals the data of a frame into the caller's room. The refusals are those of `unseal`. Where the room is too short it says how
-    /// long the data are, and nothing is changed.
+    /// Unwraps the data of a frame into the caller's buffer. Fails as `unseal` does. If the buffer is too short the call fails with
+    /// the length of the data, and nothing is changed.
     pub fn unseal_to(
         &mut self,
         alloc: Global,

@@ -1,4 +1,4 @@
-//! Octets that the context opens, and data that it seals.
+//! Bytes that the context decrypts, and data that it encrypts.
 
 ghost use Rattle.std.specs.Prelude.{◌≡◌, ◌+◌, ◌<◌, ◌^◌, length, IfOk, OnOk, OnErr, ◌++◌, Err};
 ghost use Rattle.krb_context.specs.Spelled.{part_octets};
@@ -14,7 +14,7 @@ use krb_sessions::{Order, opened_in_order};
 use sspi_core::{Message, Part, SecurityBufferRef};
 use std::alloc::{AllocError, Global};
 
-/// A token with room, and the data.
+/// Returns a token with room, and the data.
 fn as_data(alloc: Global, ec: u16, plain: &[u8]) -> Result<Message, SaslError>
     ensures data { IfOk result (λ message. message ≡ as_data ec plain.now) }
     ensures small { ec < 2 ^ 16 }
@@ -37,7 +37,7 @@ fn part_octets(message: &Message, part: Part) -> &[u8]
     }
 }
 
-/// Opens a token, where it is the next one, and gives its text. A refusal leaves the context and the order.
+/// Decrypts a token, if it is the next one, and returns its text. If that fails the context and the order are unchanged.
 pub(crate) fn unwrap(
     alloc: Global,
     context: &mut Kerberos,
@@ -62,7 +62,7 @@ pub(crate) fn unwrap(
     }
 }
 
-/// The token and the data of a message.
+/// Returns the token and the data of a message.
 fn token_and_data(alloc: Global, message: &Message) -> Result<Octets, AllocError>
     ensures { IfOk result (λ octets. octets ≡ part_octets Part.Token message.now ++ part_octets Part.Plain message.now) }
 {
@@ -71,7 +71,7 @@ fn token_and_data(alloc: Global, message: &Message) -> Result<Octets, AllocError
     Ok(Octets::new(octets))
 }
 
-/// Seals data, and gives the token and them. A refusal leaves the context.
+/// Encrypts data, and returns the token and the encrypted data. If that fails the context is unchanged.
 pub(crate) fn wrap_sealed(
     alloc: Global,
     context: &mut Kerberos,

@@ -9,7 +9,7 @@ use krb_der::Octets;
 use std::alloc::{AllocError, Global};
 use std::str;
 
-/// What a server offers.
+/// Returns the text of a server's offer.
 pub(crate) fn offer_text(layers: u8, size: u32) -> [u8; 4]
     ensures { result ≡ offer_text layers size }
 {
@@ -17,7 +17,7 @@ pub(crate) fn offer_text(layers: u8, size: u32) -> [u8; 4]
     [layers, a, b, c]
 }
 
-/// What a client answers.
+/// Returns the text of a client's answer.
 pub(crate) fn answer_text(
     alloc: Global,
     layer: Layer,
@@ -31,7 +31,7 @@ pub(crate) fn answer_text(
     Ok(Octets::new(text))
 }
 
-/// The octet of layers of a text.
+/// Returns the octet of layers of a text.
 pub(crate) fn layers_in(text: &[u8]) -> u8
     requires { 4 ≤ length text.now }
     ensures { result ≡ layers_in text.now }
@@ -39,7 +39,7 @@ pub(crate) fn layers_in(text: &[u8]) -> u8
     text[0]
 }
 
-/// The size of a text.
+/// Returns the size of a text.
 pub(crate) fn size_in(text: &[u8]) -> u32
     requires { 4 ≤ length text.now }
     ensures { result ≡ size_in text.now }
@@ -47,7 +47,7 @@ pub(crate) fn size_in(text: &[u8]) -> u32
     u32::from_be_bytes([0, text[1], text[2], text[3]])
 }
 
-/// Whether a text has four octets.
+/// Returns whether a text has four bytes.
 pub(crate) fn is_offer_text(text: &[u8]) -> bool
     ensures { result ≡ is_offer_text text.now }
 {
@@ -63,14 +63,14 @@ fn is_utf8(octets: &[u8]) -> bool
     }
 }
 
-/// Whether a text has four octets, and a name in UTF-8 behind them.
+/// Returns whether a text has four bytes, and after them a name in UTF-8.
 pub(crate) fn is_answer_text(text: &[u8]) -> bool
     ensures { result ≡ is_answer_text text.now }
 {
     4 <= text.len() && is_utf8(&text[4..])
 }
 
-/// The layer that an answer chooses from these.
+/// Returns the layer that an answer chooses from these.
 pub(crate) fn chosen_layer(layers: u8, text: &[u8]) -> Option<Layer>
     requires { 4 ≤ length text.now }
     ensures { result ≡ chosen_layer layers text.now }
@@ -83,7 +83,7 @@ pub(crate) fn chosen_layer(layers: u8, text: &[u8]) -> Option<Layer>
     }
 }
 
-/// Whether an offer has the wanted layer, and no size where no layer alone is offered.
+/// Returns whether an offer has the client's layer, and no size if no layer alone is offered.
 pub(crate) fn offers_layer(text: &[u8], wanted: Layer) -> bool
     requires { 4 ≤ length text.now }
     ensures { result ≡ offers_layer text.now wanted }
@@ -91,7 +91,7 @@ pub(crate) fn offers_layer(text: &[u8], wanted: Layer) -> bool
     wanted.is_in(layers_in(text)) && (!(layers_in(text) == 1) || size_in(text) == 0)
 }
 
-/// The name behind the octet of layers and the size.
+/// Returns the name after the octet of layers and the size.
 pub(crate) fn name_of(text: Octets) -> Octets
     requires { 4 ≤ length text }
     ensures { result ≡ name_in text }

@@ -1,4 +1,4 @@
--- What the checks of a TGT-REQ answer, told of the one that was found.
+-- The result of the checks of a TGT-REQ, restated for the TGT-REQ that was found.
 use Rattle.std.proofs.Common.{◌≡◌, Option, Some, subst}
 use Rattle.krb_server.specs.TgtReqs.{Found}
 

@@ -19,7 +19,7 @@ pub record IsFramedTgtReq (token : List ℕ) (tgt_req : TgtReq) : Type 0 where
   pub frame : IsFrame oid (4 ∷ 0 ∷ []) octets token
   pub read : IsRead tgt_req_layout octets tgt_req
 
--- the token is this TGT-REQ: bare in DCE style (MS-KILE, section 3.4.5.1), else in a frame
+-- the token is this TGT-REQ: bare in DCE style (MS-KILE, section 3.4.5.1), otherwise in a frame
 abbrev pub IsTgtReq : Bool → List ℕ → TgtReq → Type 0
 IsTgtReq true token tgt_req = IsRead tgt_req_layout token tgt_req
 IsTgtReq false token tgt_req = IsFramedTgtReq token tgt_req

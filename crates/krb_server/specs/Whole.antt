@@ -1,4 +1,4 @@
--- What an acceptor makes of a token: a TGT-REQ begins user-to-user, and all else is judged as an AP-REQ or the last word.
+-- The acceptor's step at any token: a TGT-REQ begins user-to-user, every other token is judged as an AP-REQ or as the third leg.
 use Rattle.std.specs.Prelude.{◌≡◌, ℕ, Bool, List, Option, Some, None, Result, Ok, Err, option_and_then}
 use Rattle.std.specs.Global.{Box}
 use Rattle.krb_conf.specs.declared.env.Env.{Env}
@@ -52,14 +52,14 @@ abbrev pub answered_as : Result Answer Cause → Result Accepted Cause
 answered_as (Ok answer) = Ok (accepted_as answer)
 answered_as (Err cause) = Err cause
 
--- a token that is no TGT-REQ, judged by the checks of an AP-REQ and of the last word
+-- a token that is no TGT-REQ, judged by the checks of an AP-REQ and of the third leg
 pub record JudgesOther {G : Type 0} (admits : G → Ask → Verdict → G → Type 0) (server : Kerberos) (dce : Bool) (token : List ℕ)
     (draw : Draw) (old : G) (answer : Result Accepted Cause) (server' : Kerberos) (new : G) : Type 0 where
   pub judged : Result Answer Cause
   pub accepts : Accepts admits server dce token draw old judged server' new
   pub answer_is : answer ≡ answered_as judged
 
--- the same, by the two halves of an admission, one behind the other
+-- a token that is no TGT-REQ, judged by the two halves of an admission, one after the other
 pub record AcceptsInHalves {G : Type 0} (admits : G → Ask → Verdict → G → Type 0) (server : Kerberos) (dce : Bool) (token : List ℕ)
     (draw : Draw) (old : G) (answer : Result Accepted Cause) (server' : Kerberos) (new : G) : Type 0 where
   pub judged : Result Answer Cause

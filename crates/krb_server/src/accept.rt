@@ -24,15 +24,15 @@ use krb_user_to_user::{AcceptRun, Beginning, begin_accept};
 use sspi_core::{Cause, CredentialsBuffers, Draw, Error, SecurityStatus, ServerRequestFlags};
 use std::alloc::Global;
 
-/// What an accepted token is answered by.
+/// The answer to an accepted token.
 #[derive(Drop)]
 pub enum Accepted {
-    /// It was an AP-REQ, or the initiator's last word.
+    /// It was an AP-REQ, or the initiator's third leg.
     Done {
         status: SecurityStatus,
-        /// What goes back to the client; empty where it asked for nothing.
+        /// The token for the client; empty if the client asked for none.
         token: Octets,
-        /// Whether it was an AP-REQ: a client is admitted.
+        /// True for an AP-REQ: a client is admitted.
         admits: bool,
     },
     /// It was a TGT-REQ: the exchange that fetches the service's ticket, and ends with the answer.
@@ -40,8 +40,9 @@ pub enum Accepted {
 }
 
 impl Accepted {
-    /// The answer, where the token has one at once. Who has no credentials for an exchange, or runs none, asks this in place of
-    /// a `match`: no exchange is then dropped in the caller's own crate, and the caller proves nothing of that.
+    /// Returns the answer if the token has one at once, None for an exchange. A caller that has no credentials for an exchange, or
+    /// runs none, calls this instead of a `match`: no exchange is then dropped in the caller's own crate, and the caller proves
+    /// nothing about that.
     pub fn answer(self) -> Option<Answer>
         ensures { result ≡ answer_at_once self }
     {
@@ -88,7 +89,7 @@ fn check_tgt_req(
     begin_accept(alloc, server, user, tgt_req, dce, env)
 }
 
-/// What a TGT-REQ is answered.
+/// Returns the answer to a TGT-REQ: an exchange that is not started.
 fn take_tgt_req(
     alloc: Global,
     server: &Kerberos,
@@ -120,7 +121,7 @@ fn accepted_as(answer: Answer) -> Accepted
     }
 }
 
-/// What a token that is no TGT-REQ is answered.
+/// Returns the answer to a token that is no TGT-REQ.
 fn judge_other<G: ReplayGate>(
     alloc: Global,
     server: &mut Kerberos,
@@ -139,7 +140,7 @@ fn judge_other<G: ReplayGate>(
     }
 }
 
-/// What a token is answered.
+/// Returns the answer to a token.
 fn accept<G: ReplayGate>(
     alloc: Global,
     server: &mut Kerberos,
@@ -164,23 +165,22 @@ fn accept<G: ReplayGate>(
 /// Judges a token at an acceptor.
 ///
 /// A TGT-REQ that comes first begins user-to-user: `Accepted::Run` is the exchange that fetches the service's ticket, and the
-/// context is as before until what it ends with is settled. Refused, in this order, as IncompleteCredentials Credentials where
-/// the service is no user, and then as `request_tgt` refuses. The gate is not asked.
+/// context is unchanged until the result of the exchange is settled. Fails, in this order, with IncompleteCredentials Credentials
+/// if the service is no user, and then with the causes of `request_tgt`. The gate is not asked.
 ///
-/// Every other token is the initiator's last word where that is awaited, and else an AP-REQ. With `USE_DCE_STYLE` tokens are
-/// bare, and else framed. An AP-REP in DCE style is not the end: the context then awaits the initiator's last word, an AP-REP
-/// with the same number, at which the gate is not asked; its messages have 16 octets of filler from there on (MS-KILE, section
-/// 3.4.5.1).
+/// Every other token is the initiator's third leg if that is awaited, otherwise an AP-REQ. With `USE_DCE_STYLE` tokens are
+/// bare, otherwise they are framed. In DCE style the exchange does not end with the AP-REP: the context then awaits the
+/// initiator's third leg, an AP-REP with the same sequence number, for which the gate is not asked; after it the context's sealed
+/// messages have an extra count (EC) of 16 octets (MS-KILE, section 3.4.5.1).
 ///
-/// The moment of `draw` is the gate's question, in microseconds since 1970-01-01T00:00:00Z. Where the client asks for an
-/// AP-REP, the first random octets of `draw` become the sub-session key, as many as the suite's key has, and the 16 behind
-/// them the AP-REP's confounder.
+/// The gate is asked at the moment of `draw`, in microseconds since 1970-01-01T00:00:00Z. If the client asks for an AP-REP, the
+/// first random octets of `draw` become the subkey, as many as the suite's key has, and the next 16 the AP-REP's confounder.
 ///
-/// The refusals of an AP-REQ, in their order: OutOfSequence Sequence where the context waits for no token; those of the checks
-/// of RFC 4120, section 3.2.3, as `specs/Requests` of `krb_admission` has them; those that only the rules of the context ask for, as its
-/// `specs/Allowed` has them; the gate's; and those of its `specs/Complete`.
-/// InvalidToken Shape is that of a token that is nothing. The refusals of the last word are those of its `specs/ThirdLeg`:
-/// InvalidToken Shape, DecryptFailure Reply, InvalidToken Inner, NoNumber, Number.
+/// An AP-REQ fails, in this order, with OutOfSequence Sequence if the context awaits no token; with the causes of the checks of
+/// RFC 4120, section 3.2.3, in `specs/Requests` of `krb_admission`; of the checks that only the rules of the context ask for, in
+/// `specs/Allowed` of `krb_admission`; of the gate; and of `specs/Complete` of `krb_admission`.
+/// InvalidToken Shape: the token is neither an AP-REQ nor, if that is awaited, a third leg. A third leg fails with the causes of
+/// `specs/ThirdLeg` of `krb_admission`: InvalidToken Shape, DecryptFailure Reply, InvalidToken Inner, NoNumber, Number.
 pub fn accept_security_context<G: ReplayGate>(
     alloc: Global,
     server: &mut Kerberos,
@@ -190,13 +190,13 @@ pub fn accept_security_context<G: ReplayGate>(
     env: &Env,
     draw: &Draw,
 ) -> Result<Accepted, Error>
-    // Anything but memory that runs out is what the ordered checks and the gate answer.
+    // Any result but `Memory` is that of the ordered checks and the gate.
     ensures step { (result ≡ Err (error_of causes.Memory) → ⊥)
         → (answer : Result Accepted Cause) × (result ≡ told places.Elsewhere answer)
         × AcceptsWhole G.admits server.old (asks_dce_style flags) token.now env.now draw.now gate.old answer server.new gate.new }
     // An exchange that begins can be started.
     ensures ready { IfOk result CanStart }
-    // Where memory runs out, context and gate are as before.
+    // If memory runs out, context and gate are as before.
     ensures memory { result ≡ Err (error_of causes.Memory) → (server.new ≡ server.old) × G.is_same gate.old gate.new }
 {
     let dce = flags.contains(ServerRequestFlags::USE_DCE_STYLE);

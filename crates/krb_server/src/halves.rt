@@ -1,4 +1,4 @@
-//! The two halves of an admission, for a server whose clients share a gate under a lock, or a store outside.
+//! The two halves of an admission, for a server whose clients share a gate under a lock, or an external store.
 
 ghost use Rattle.std.specs.Prelude.{◌≡◌, Err, Result};
 ghost use Rattle.sspi_core.specs.declared.cause.Cause.{Cause};
@@ -18,14 +18,14 @@ use sspi_core::{Draw, Error, ServerRequestFlags};
 use std::alloc::Global;
 
 /// Judges an AP-REQ without a gate: the first half of [`accept_security_context`](crate::accept_security_context). All that
-/// takes a cipher or memory is done here, and the context stays as it was.
+/// needs a cipher or memory is done here, and the context is unchanged.
 ///
-/// There is a [`Judged`] exactly for an AP-REQ that passes every check before the gate, at a context that waits for one.
-/// Refused, in this order, as OutOfSequence Sequence where the context waits for none, as where it waits for the initiator's
-/// last word; and then as the checks of RFC 4120, section 3.2.3, before the gate, and those that only the rules of the context ask for:
-/// InvalidToken NotYet and InvalidToken Transited of the ticket, InvalidParameter Checksum and InvalidToken Bindings of the channel. A TGT-REQ is InvalidToken Shape: where the
-/// service is a user, or speaks DCE style, give its tokens to `accept_security_context`, which asks no gate at a TGT-REQ and at
-/// a last word.
+/// Returns a [`Judged`] exactly for an AP-REQ that passes every check before the gate, at a context that awaits one.
+/// Fails, in this order, with OutOfSequence Sequence if the context awaits none, for example if it awaits the initiator's third
+/// leg; with the causes of the checks of RFC 4120, section 3.2.3, before the gate, and of those that only the rules of the
+/// context ask for: InvalidToken NotYet and InvalidToken Transited of the ticket, InvalidParameter Checksum and InvalidToken
+/// Bindings of the channel. A TGT-REQ is InvalidToken Shape: if the service is a user, or speaks DCE style, give its tokens to
+/// `accept_security_context`, which asks no gate for a TGT-REQ or a third leg.
 ///
 /// The flags and `draw` are as in `accept_security_context`.
 pub fn judge(
@@ -47,14 +47,14 @@ pub fn judge(
     }
 }
 
-/// Admits what was judged: the second half of [`accept_security_context`](crate::accept_security_context). The gate is asked,
-/// and nothing behind it takes memory or a cipher. So several threads may have one gate under a lock, and hold it for this call
-/// alone.
+/// Admits an AP-REQ that was judged: the second half of [`accept_security_context`](crate::accept_security_context). The gate is
+/// asked, and nothing after it needs memory or a cipher. So several threads may share one gate under a lock, and hold the lock
+/// for this call alone.
 ///
-/// The context is the one that judged it, as it was then. Refused, in this order, as OutOfSequence Sequence where the context
-/// waits for no AP-REQ any more, as after another admission, and then no gate is asked; by the gate, as TimeSkew Skew or
-/// InvalidToken NotYet, Expired or Replayed; and by the checks behind the gate, as InvalidToken ClientName, InvalidToken
-/// ApOptions or InvalidParameter SubKey.
+/// The context must be the one at which the AP-REQ was judged, unchanged. Fails, in this order, with OutOfSequence Sequence if
+/// the context no longer awaits an AP-REQ, for example after another admission, and then no gate is asked; with the gate's
+/// refusal, TimeSkew Skew or InvalidToken NotYet, Expired or Replayed; with the causes of the checks after the gate, InvalidToken
+/// ClientName, InvalidToken ApOptions or InvalidParameter SubKey.
 pub fn admit<G: ReplayGate>(
     alloc: Global,
     judged: Judged,
@@ -64,7 +64,7 @@ pub fn admit<G: ReplayGate>(
     ensures step { (result ≡ Err (error_of causes.Memory) → ⊥)
         → (answer : Result Answer Cause) × (result ≡ told places.Elsewhere answer)
         × AdmitsPrepared G.admits judged server.old gate.old answer server.new gate.new }
-    // Memory may run out at the gate, or before it for the tag of the record: context and gate are as before then.
+    // Memory may run out at the gate, or before it for the tag of the record: context and gate are then as before.
     ensures memory { result ≡ Err (error_of causes.Memory) → (server.new ≡ server.old) × G.is_same gate.old gate.new }
 {
     match krb_admission::admit(alloc, judged, server, gate) {

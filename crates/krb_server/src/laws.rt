@@ -13,8 +13,8 @@ ghost use Rattle.krb_server.specs.Whole.{AcceptsWhole, AcceptsInHalves};
 
 use krb_replay::ReplayGate;
 
-/// A token that begins no user-to-user, at a context that awaits no last word, is answered as `judge` and `admit` answer it, one
-/// behind the other, whatever the gate. And what passes `judge` is such a token.
+/// A token that begins no user-to-user, at a context that awaits no third leg, is answered as by `judge` and `admit`, one after
+/// the other, with any gate. A token that passes `judge` begins no user-to-user, and its context awaits no third leg.
 pub fn acceptance_has_two_halves<G: ReplayGate>()
     ensures halves { (server server' : Kerberos) (dce : Bool) (token : List ℕ) (env : Env) (draw : Draw) (old new : G) (answer : Result Accepted Cause)
         → Found (BeginsUserToUser dce server.state token) None → awaits_last_word dce server.state ≡ false

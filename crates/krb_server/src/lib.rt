@@ -1,8 +1,8 @@
-//! The acceptor: who writes a Kerberos server finds all that it calls and names here.
+//! The acceptor: everything that a Kerberos server calls and names is here.
 //!
 //! [`accept_security_context`] judges a token of a client at the context of its connection, over one replay gate of all clients,
-//! most often a [`ReplayBook`]. An AP-REQ is admitted or refused, as is the initiator's last word in DCE style. A TGT-REQ, where
-//! one may come, begins user-to-user: it is answered by an [`AcceptRun`], which fetches the service's ticket, and no gate is asked.
+//! most often a [`ReplayBook`]. An AP-REQ is admitted or refused, as is the initiator's third leg in DCE style. A TGT-REQ, if one
+//! may come, begins user-to-user: the answer is an [`AcceptRun`], which fetches the service's ticket, and no gate is asked.
 //!
 //! ```
 //! let mut book = ReplayBook::new(alloc, 300)?; // one for all clients
@@ -16,10 +16,11 @@
 //! }
 //! ```
 //!
-//! The same call in two halves is [`judge`], which asks no gate, and [`admit`], which is short: for threads that share a book under a
-//! lock, and for machines that share a store ([`TellingGate`]). A [`Judged`] between them tells who the client is, whole.
+//! The call also comes in two halves: [`judge`], which asks no gate, and [`admit`], which is short. They are for threads that share
+//! a book under a lock, and for machines that share a store ([`TellingGate`]). `judge` returns a [`Judged`] with the client's whole
+//! name.
 //!
-//! The ordered checks of an AP-REQ stand in `krb_admission`, the run of user-to-user in `krb_user_to_user`.
+//! The ordered checks of an AP-REQ are in `krb_admission`, the run of user-to-user is in `krb_user_to_user`.
 #![tactic(auto)]
 
 mod accept;
@@ -34,7 +35,7 @@ pub use krb_user_to_user::{
     AcceptRun, GeneratorAcceptSecurityContext, generate_tgt_rep, request_tgt,
 };
 
-// What a server names beside, so that its imports come from here alone.
+// The other names that a server uses, so that all its imports come from this crate.
 pub use bitflags::Flags;
 pub use krb_as::InitDone;
 pub use krb_conf::{ConfigFile, Env, KerberosConfig};

@@ -1,4 +1,4 @@
-//! What no clause says of a book on a table: that calls come back with ample memory, also from two threads at once.
+//! Tests of a book on a table beyond its clauses: calls return with ample memory, also from two threads at once.
 
 ghost use Rattle.std.specs.Prelude.{◌≡◌};
 
@@ -12,7 +12,7 @@ use std::sync::Wait;
 use std::test::Fail;
 use std::thread::{Threads, join};
 
-/// Asks once, and gives the pass back.
+/// Asks once, and returns the pass.
 fn ask_once<R: Wait>(
     rt: &R,
     book: &TableBook,
@@ -27,7 +27,7 @@ fn ask_once<R: Wait>(
     (pass, answer)
 }
 
-/// What two passes were answered, how far each has seen, and the journal's length and how many records are kept.
+/// The verdicts of two passes, how far each has seen, the journal's length, and the number of records that are kept.
 type Outcome = (Verdict, Verdict, u64, u64, usize, u64);
 
 /// Two passes ask the same, each in a thread of its own.
@@ -77,7 +77,7 @@ fn two_threads_share_a_table(rt: HostRuntime) -> Result<(), Fail> {
     Ok(())
 }
 
-/// Where the journal has a pass's call, counted from 0.
+/// Returns the journal's place of a pass's call, counted from 0.
 fn place_of(pass: &Pass, call: usize) -> Option<u64> {
     let receipt = pass.receipts().get(call)?;
     Some(receipt.place)

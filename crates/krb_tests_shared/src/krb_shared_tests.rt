@@ -1,4 +1,4 @@
-//! What no clause says of a shared book and of a desk: that the journal which they hand out is the one that was kept.
+//! Tests of a shared book and of a desk beyond their clauses: the journal that they return is the one that was kept.
 
 ghost use Rattle.std.specs.Prelude.{◌≡◌};
 
@@ -17,10 +17,10 @@ use std::test::Fail;
 /// 2023-11-14T22:13:20Z, in seconds.
 const BEGIN: i64 = 1_700_000_000;
 
-/// The same in microseconds.
+/// 2023-11-14T22:13:20Z, in microseconds.
 const M0: u64 = 1_700_000_000_000_000;
 
-/// A name without components, of this type.
+/// Returns a name without components, of this type.
 fn principal(alloc: Global, name_type: u8) -> Result<PrincipalName, OutOfMemory> {
     Ok(PrincipalName {
         name_type: IntegerAsn1::from_bytes_be(Vec::from_slice(alloc, &[name_type])?),
@@ -28,7 +28,7 @@ fn principal(alloc: Global, name_type: u8) -> Result<PrincipalName, OutOfMemory>
     })
 }
 
-/// The first ask of a client whose ticket lives ten hours.
+/// Returns the first ask of a client whose ticket lives ten hours.
 pub(crate) fn first_ask(alloc: Global) -> Result<Ask, Fail> {
     let realm = Name::new(Vec::from_slice(alloc, b"EXAMPLE.COM")?).ok_or("not ASCII")?;
     Ok(Ask {
@@ -46,7 +46,7 @@ pub(crate) fn first_ask(alloc: Global) -> Result<Ask, Fail> {
     })
 }
 
-/// What is tested of an entry: its seat, its call and its verdict.
+/// The tested part of an entry: its seat, its call and its verdict.
 type Line = (u32, u64, Verdict);
 
 fn line(entry: &Entry) -> Line {
@@ -62,7 +62,7 @@ fn check(rt: &impl Abort, journal: &Journal, expected: &[Line]) {
     }
 }
 
-/// Two seats make the same ask, one after the other, and the book is closed.
+/// Makes the same ask from two seats, one after the other, and closes the book.
 fn ask_twice<L: Calls, R: Wait>(
     rt: &R,
     alloc: Global,
@@ -98,7 +98,7 @@ fn a_shared_book_admits_an_authenticator_once(rt: HostRuntime) -> Result<(), Fai
     Ok(())
 }
 
-/// The receipts of both seats are handed out with the journal, each with its place there.
+/// The receipts of both seats are returned with the journal, each with its place there.
 #[test]
 fn a_closed_book_hands_out_receipts(rt: HostRuntime) -> Result<(), Fail> {
     let mut receipts = Vec::new(rt.alloc());

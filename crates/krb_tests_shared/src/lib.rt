@@ -1,4 +1,4 @@
-//! The tests of the replay books that threads share, over their public items. Nothing stands on them.
+//! Tests of the replay books that threads share, over their public items.
 #![tactic(auto)]
 
 #[cfg(test)]

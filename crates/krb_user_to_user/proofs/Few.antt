@@ -1,4 +1,4 @@
--- How often the exchange of a service asks.
+-- The number of requests in the exchange of a service.
 use Rattle.std.proofs.Common.{◌≡◌, ℕ, ◌+◌, ◌<◌, List, Result, Ok, refl, subst, take, arith, lit<}
 use Rattle.sspi_core.proofs.Chain.{gave}
 use Rattle.sspi_core.specs.declared.draw.Draw.{Draw}
@@ -26,7 +26,7 @@ start_down acceptor (New client) draw request phase h = first_down InitDone InAs
 start_down acceptor (InAsExchange phase) draw request next h = absurd h
 start_down acceptor Over draw request phase h = absurd h
 
--- behind its ticket it does not ask
+-- after its ticket, the service sends no request
 ticket_down : (acceptor : Acceptor) (request : NetworkRequest) (phase : AcceptPhase) (grant : Grant) → EndsWithTicket acceptor grant (Ok (Asks request phase)) → turns_left phase < 0
 ticket_down acceptor request phase grant h = let f = gave _ _ h in absurd cc
 
@@ -45,7 +45,7 @@ two (New client) new = refl
 two (InAsExchange phase) new = absurd new
 two Over new = absurd new
 
--- so it asks twice at most
+-- the exchange sends at most two requests
 pub few : {C : Type 0} (sends : C → NetworkRequest → Result (List ℕ) NetFault → C → Type 0) (run run' : AcceptRun) (client client' : C) (draws : List Draw) (out : Result InitDone Error)
     → IsNew run → Resolves StartsAt ResumesAt sends run client draws out run' client' → Resolves StartsAt ResumesAt sends run client (take 3 draws) out run' client'
 few sends run run' client client' draws out new resolves =

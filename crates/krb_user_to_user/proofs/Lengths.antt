@@ -1,4 +1,4 @@
--- How long a TGT-REP is.
+-- The length of a TGT-REP.
 use Rattle.std.proofs.Common.{◌≡◌, ℕ, ◌+◌, ◌<◌, ◌≤◌, ◌^◌, List, [], ◌∷◌, ◌++◌, length, sym, subst, arith, lit≤, lit<}
 use Rattle.std.specs.Prelude.{Result, Ok, Err, IfOk}
 use Rattle.krb_der.specs.Der.{tlv}
@@ -26,14 +26,14 @@ rep_fits ticket h = record {
       (append_le _ [] _ 0 (tlv_le 0xa2 _ _ h.short) (lit≤ tt))))) (lit≤ tt);
 }
 
--- a TGT-REP that was made of a ticket
+-- a TGT-REP with a ticket that fits
 pub made_fits : (ticket : Ticket) (made : TgtRep) → made ≡ tgt_rep ticket → Fits ticket_layout (2 ^ 24) ticket → Fits tgt_rep_layout (2 ^ 25) made
 made_fits ticket made e h = subst (λ (rep : TgtRep). Fits tgt_rep_layout (2 ^ 25) rep) (sym e) (rep_fits ticket h)
 
 pub made_below : (ticket : Ticket) (made : TgtRep) → made ≡ tgt_rep ticket → Fits ticket_layout (2 ^ 24) ticket → length (spelling tgt_rep_layout made) < 2 ^ 31
 made_below ticket made e h = let k = (made_fits ticket made e h).short in omega (arith, k)
 
--- what is framed, behind the mechanism's name
+-- the contents of a frame: the mechanism's object identifier, the token id and the octets after them
 pub framed_short : (oid octets inside : List ℕ) → length oid ≤ 10 → inside ≡ octets → length octets ≤ 2 ^ 25 → length (tlv 0x06 oid ++ (4 ∷ 1 ∷ [] ++ inside)) < 2 ^ 31
 framed_short oid octets inside name e h =
     let k : length inside ≤ 2 ^ 25 = subst (λ (o : List ℕ). length o ≤ 2 ^ 25) (sym e) h in

@@ -21,7 +21,7 @@ use Rattle.krb_user_to_user.specs.declared.steps.AcceptPhase.TheVariants.{New, I
 use Rattle.krb_user_to_user.specs.declared.accept_run.AcceptRun.{AcceptRun}
 use Rattle.krb_user_to_user.specs.AcceptSteps.{body_of, EndsWithTicket}
 
--- what the start leads to, and what an answer leads to, in each phase
+-- the turn after the start, and the turn after a reply, in each phase
 abbrev pub Starts : Acceptor → AcceptPhase → Draw → Result (Turn AcceptPhase InitDone) Cause → Type 0
 Starts acceptor (New client) draw answer = BeginsWithin InAsExchange acceptor.asker (body_of client draw) answer
 Starts acceptor (InAsExchange phase) draw answer = ⊥
@@ -33,7 +33,7 @@ Next acceptor (InAsExchange phase) reply draw answer =
     TakesReplyWithin InAsExchange (EndsWithTicket acceptor) acceptor.asker phase reply draw answer
 Next acceptor Over reply draw answer = ⊥
 
--- the two steps of the task: who asks stays, and the phase goes on
+-- the two steps of the task: the acceptor stays, and the phase changes
 pub record StartsAt (old : AcceptRun) (draw : Draw) (state : GeneratorState NetworkRequest (Result InitDone Error)) (new : AcceptRun) : Type 0 where
   pub turn : Turns Over (Starts old.acceptor old.phase draw) state new.phase
   pub stays : new.acceptor ≡ old.acceptor
@@ -43,7 +43,7 @@ pub record ResumesAt (old : AcceptRun) (reply : Result (List ℕ) NetFault) (dra
   pub turn : Turns Over (Next old.acceptor old.phase reply draw) state new.phase
   pub stays : new.acceptor ≡ old.acceptor
 
--- it is not started; it awaits an answer; and how often it may still ask. What is to be sent can be
+-- a phase that has not started and a phase that awaits a reply, whose requests can be sent; and the number of requests that are left
 abbrev pub IsNewPhase : AcceptPhase → Type 0
 IsNewPhase (New client) = IsShort client
 IsNewPhase (InAsExchange phase) = ⊥
@@ -65,7 +65,7 @@ IsNew run = IsNewPhase run.phase × (length run.acceptor.asker.realm ≤ 2 ^ 24)
 abbrev pub IsWaiting : AcceptRun → Type 0
 IsWaiting run = IsAwaiting run.acceptor.asker run.phase
 
--- the run that begins so, or the refusal with its kind
+-- the run of this beginning, or the refusal with its kind
 abbrev pub BeginsSo : Result Beginning Cause → Result AcceptRun Error → Type 0
 BeginsSo (Ok beginning) (Ok run) = (run.acceptor ≡ beginning.acceptor) × (run.phase ≡ New beginning.client)
 BeginsSo (Ok beginning) (Err error) = ⊥

@@ -17,7 +17,7 @@ use Rattle.krb_user_to_user.specs.declared.request.Acceptor.{Acceptor}
 use Rattle.krb_user_to_user.specs.declared.steps.AcceptPhase.{AcceptPhase}
 use Rattle.krb_user_to_user.specs.TgtReps.{tgt_rep_token}
 
--- what is asked for: a ticket to the ticket-granting service
+-- the body of the request: a request for a ticket for the ticket-granting service
 abbrev pub body_of : Client → Draw → KdcReqBody
 body_of client draw = first_body client TicketGranting 0 draw
 

@@ -10,7 +10,7 @@ use Rattle.krb_exchange.specs.Layouts.{tgt_rep_layout}
 abbrev pub tgt_rep : Ticket → TgtRep
 tgt_rep ticket = record { pvno = 5 ∷ []; msg_type = 17 ∷ []; ticket = ticket }
 
--- its octets
+-- the octets of a TGT-REP
 unfoldable pub message : Ticket → List ℕ
 message ticket = spelling tgt_rep_layout (tgt_rep ticket)
 
@@ -18,6 +18,6 @@ message ticket = spelling tgt_rep_layout (tgt_rep ticket)
 unfoldable pub framed_tgt_rep : List ℕ → List ℕ
 framed_tgt_rep octets = tlv 0x60 (tlv 0x06 (0x2a ∷ 0x86 ∷ 0x48 ∷ 0x86 ∷ 0xf7 ∷ 0x12 ∷ 1 ∷ 2 ∷ 2 ∷ 3 ∷ []) ++ (4 ∷ 1 ∷ [] ++ octets))
 
--- the token: bare in DCE style (MS-KILE, section 3.4.5.1), else framed
+-- the token: bare in DCE style (MS-KILE, section 3.4.5.1), otherwise framed
 abbrev pub tgt_rep_token : Bool → Ticket → List ℕ
 tgt_rep_token dce ticket = if dce then message ticket else framed_tgt_rep (message ticket)

@@ -34,7 +34,7 @@ abbrev pub has_password : CredentialsBuffers → Bool
 has_password (Password identity) = true
 has_password (Key identity) = false
 
--- who fetches the ticket, and what its context is
+-- the service that fetches the ticket, and its context
 abbrev pub acceptor_of : Kerberos → CredentialsBuffers → Bool → Env → Client → Acceptor
 acceptor_of server credentials dce env client = record {
   asker = asker_of server credentials client.realm env;
@@ -43,7 +43,7 @@ acceptor_of server credentials dce env client = record {
   dce = dce;
 }
 
--- the checks of a TGT-REQ, and what the exchange with the KDC begins with
+-- the checks of a TGT-REQ, and the beginning of the exchange with the KDC
 unfoldable pub RequestsTgt : Kerberos → CredentialsBuffers → TgtReq → Bool → Env → Result Beginning Cause → Type 0
 RequestsTgt server credentials tgt_req dce env = do
   Holds ServerName (is_own tgt_req.server_name server.server)
@@ -51,7 +51,7 @@ RequestsTgt server credentials tgt_req dce env = do
   client ← NamesClient credentials server.config.client_computer_name env
   Gives (record { acceptor = acceptor_of server credentials dce env client; client = client })
 
--- what it begins with can be sent
+-- the first request of this beginning can be sent
 pub record CanBegin (beginning : Beginning) : Type 0 where
   pub client : IsShort beginning.client
   pub realm : length beginning.acceptor.asker.realm ≤ 2 ^ 24

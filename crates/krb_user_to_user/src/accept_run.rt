@@ -24,7 +24,7 @@ use sspi_core::{Cause, CredentialsBuffers, Draw, Error, ServerRequestFlags};
 use sspi_generator::{Generator, GeneratorState, NetFault, NetworkRequest, Resumable, Task};
 use std::alloc::Global;
 
-/// The exchange in which a service fetches its ticket: an AS exchange, whose end is the TGT-REP to the client, and the session
+/// The exchange in which a service fetches its ticket: an AS exchange that ends with the TGT-REP to the client, and with the session
 /// key of the ticket as the service's key.
 #[derive(Drop)]
 pub struct AcceptRun {
@@ -33,11 +33,11 @@ pub struct AcceptRun {
     phase: AcceptPhase,
 }
 
-/// What runs it.
+/// The generator that runs an [`AcceptRun`].
 pub type GeneratorAcceptSecurityContext = Generator<AcceptRun>;
 
 impl AcceptRun {
-    /// The exchange that begins so.
+    /// Returns the exchange with this beginning.
     pub fn new(alloc: Global, beginning: Beginning) -> AcceptRun
         requires { CanBegin beginning }
         ensures new { IsNew result }
@@ -55,9 +55,9 @@ impl AcceptRun {
 
 /// Begins user-to-user at an acceptor, with the user that the service is.
 ///
-/// Refused, in this order, as InvalidToken ServerName where the TGT-REQ names another service, by the type or by the components
-/// of its name; as UnsupportedPreAuth KeytabUser where the user has a key and no password; as InternalError NotAscii where the
-/// user's name, its realm or the machine's name is past ASCII.
+/// Fails, in this order, with InvalidToken ServerName if the TGT-REQ names another service, by the type or by the components of its
+/// name; with UnsupportedPreAuth KeytabUser if the user has a key and no password; with InternalError NotAscii if the user's name,
+/// its realm or the machine's name is not ASCII.
 pub fn request_tgt(
     alloc: Global,
     server: &Kerberos,
@@ -78,7 +78,7 @@ pub fn request_tgt(
     }
 }
 
-/// What the start leads to in a phase that is new.
+/// Starts the exchange in a new phase, and returns the first turn.
 fn started(
     alloc: Global,
     acceptor: &Acceptor,
@@ -97,7 +97,7 @@ fn started(
     }
 }
 
-/// What an answer leads to in a phase that awaits one.
+/// Handles a KDC reply in a phase that awaits one, and returns the next turn.
 fn in_phase(
     alloc: Global,
     acceptor: &Acceptor,
@@ -116,7 +116,7 @@ fn in_phase(
     }
 }
 
-/// What an answer leads to. Where the client wanted for memory, so does the step.
+/// Handles a KDC reply and returns the next turn. Fails with `Memory` if the network client ran out of memory.
 fn next(
     alloc: Global,
     acceptor: &Acceptor,

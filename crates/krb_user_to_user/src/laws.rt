@@ -21,8 +21,8 @@ ghost use Rattle.sspi_generator.specs.Runs.{Resolves};
 
 use sspi_generator::NetworkClient;
 
-/// A TGT-REQ is judged to at most one answer, and each step of the exchange behind it has at most one outcome, determined by who
-/// asks, how far the exchange has come, the reply and the draw.
+/// A TGT-REQ has at most one result, and each step of the exchange after it has at most one outcome, determined by the acceptor,
+/// the phase of the exchange, the reply and the draw.
 pub fn one_outcome()
     ensures requests { (server : Kerberos) (credentials : CredentialsBuffers) (tgt_req : TgtReq) (dce : Bool) (env : Env) (r s : Result Beginning Cause)
         → RequestsTgt server credentials tgt_req dce env r → RequestsTgt server credentials tgt_req dce env s → r ≡ s }
@@ -33,8 +33,8 @@ pub fn one_outcome()
         → Next acceptor phase reply draw r → Next acceptor phase reply draw s → r ≡ s }
 {}
 
-/// A run from a new exchange of a service asks twice at most, whoever sends: it ends with what it ends with over the first three of its
-/// draws.
+/// A run from a new exchange of a service sends at most two requests, with any network client: over the first three of its draws it
+/// ends with the same result.
 pub fn acceptances_ask_twice_at_most<C: NetworkClient>()
     ensures { (run run' : AcceptRun)
         (client client' : C) (draws : List Draw) (out : Result InitDone Error) → IsNew run

@@ -1,9 +1,10 @@
-//! User-to-user at the acceptor: a service without a key of its own lets the client have the ticket that a KDC gave it, and the
-//! client's ticket is then sealed under the session key of that one (RFC 4120, section 3.7; draft-swift-win2k-krb-user2user).
+//! User-to-user at the acceptor: a service without a key of its own sends the client the ticket that it has from a KDC, and the
+//! client's ticket is then encrypted under the session key of the service's ticket (RFC 4120, section 3.7;
+//! draft-swift-win2k-krb-user2user).
 //!
-//! [`request_tgt`] looks at a TGT-REQ and begins the exchange that fetches the ticket, [`AcceptRun`], which ends with a TGT-REP
-//! and with the session key as the service's key. Its steps are chains of ordered checks in `specs/`, and each has one
-//! outcome at most: [`laws`].
+//! [`request_tgt`] checks a TGT-REQ and begins the exchange that fetches the ticket, [`AcceptRun`], which ends with a TGT-REP
+//! and with the session key as the service's key. Its steps are chains of ordered checks in `specs/`, and each has at most one
+//! outcome: [`laws`].
 #![tactic(auto)]
 
 mod accept_run;

@@ -22,13 +22,13 @@ use std::alloc::Global;
 pub struct Acceptor {
     pub asker: Asker,
     pub params: EncryptionParams,
-    /// The context's own number.
+    /// The sequence number of the context.
     pub number: u32,
-    /// Whether tokens are bare: DCE style.
+    /// True if tokens are bare: DCE style.
     pub dce: bool,
 }
 
-/// What the exchange with the KDC begins with.
+/// The beginning of the exchange with the KDC.
 #[derive(Drop)]
 pub struct Beginning {
     pub acceptor: Acceptor,
@@ -36,7 +36,7 @@ pub struct Beginning {
     pub client: Client,
 }
 
-/// Whether the name is the service's own.
+/// Returns whether the name is the service's own.
 fn is_own(name: &PrincipalName, server: &Kerberos) -> bool
     ensures { result ≡ is_own name.now server.now.server }
 {
@@ -64,7 +64,7 @@ fn check_user(credentials: &CredentialsBuffers) -> Result<(), Cause>
     )
 }
 
-/// The exchange of this client.
+/// Returns the beginning of the exchange of this client.
 fn exchange_of(
     alloc: Global,
     server: &Kerberos,
@@ -88,7 +88,8 @@ fn exchange_of(
     Ok(Beginning { acceptor, client })
 }
 
-/// Looks at a TGT-REQ, as a chain of checks: what the exchange with the KDC begins with. Refused as `request_tgt` refuses.
+/// Checks a TGT-REQ, as a chain of checks, and returns the beginning of the exchange with the KDC. Fails with the errors of
+/// `request_tgt`.
 #[tactic(auto, unfolding(crate::specs::TgtRequests::RequestsTgt))]
 pub fn begin_accept(
     alloc: Global,

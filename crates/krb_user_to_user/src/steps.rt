@@ -27,17 +27,17 @@ use sspi_core::{Cause, ClientRequestFlags, Draw, SecurityStatus};
 use sspi_generator::NetFault;
 use std::alloc::Global;
 
-/// How far the exchange has come.
+/// The phase of the exchange.
 #[derive(Drop)]
 pub enum AcceptPhase {
-    /// It is not started, and is to ask for this client.
+    /// The exchange has not started; its first request is for this client.
     New(Client),
     /// The AS exchange waits for a reply.
     InAsExchange(AsPhase),
     Over,
 }
 
-/// What is asked for: a ticket to the ticket-granting service.
+/// Returns the body of the request: a request for a ticket for the ticket-granting service.
 fn body_of(alloc: Global, client: &Client, draw: &Draw) -> Result<KdcReqBody, OutOfMemory>
     requires client { IsShort client.now }
     requires moment { draw.now.moment ≤ last_moment }
@@ -48,7 +48,7 @@ fn body_of(alloc: Global, client: &Client, draw: &Draw) -> Result<KdcReqBody, Ou
     first_body(alloc, client, FirstService::TicketGranting, flags, draw)
 }
 
-/// The first request, with this body.
+/// Returns the turn with the first request, with this body.
 #[tactic(auto, unfolding(krb_as::specs::AsPhases::BeginsWithin))]
 fn ask_for(
     alloc: Global,
@@ -64,7 +64,7 @@ fn ask_for(
     Ok(Turn::Asks(request, AcceptPhase::InAsExchange(phase)))
 }
 
-/// The start.
+/// Returns the first turn: the start of the AS exchange.
 pub(crate) fn ask_first(
     alloc: Global,
     asker: &Asker,
@@ -87,7 +87,7 @@ fn text_of(alloc: Global, name: &Name) -> Result<Text, OutOfMemory>
     Text::from_str(alloc, name.as_str())
 }
 
-/// What the exchange ends with.
+/// Returns the result of the exchange.
 #[tactic(auto, unfolding(crate::specs::AcceptSteps::done_of))]
 fn done_of(alloc: Global, acceptor: &Acceptor, grant: Grant) -> Result<InitDone, OutOfMemory>
     requires { IsSendable grant.rep }
@@ -118,7 +118,7 @@ fn done_of(alloc: Global, acceptor: &Acceptor, grant: Grant) -> Result<InitDone,
     })
 }
 
-/// What a step of the AS exchange leads to.
+/// Returns the turn of this exchange for a turn of the AS exchange.
 fn behind_turn(
     alloc: Global,
     acceptor: &Acceptor,
@@ -135,7 +135,7 @@ fn behind_turn(
     }
 }
 
-/// What follows a reply of the AS exchange.
+/// Handles a reply of the AS exchange and returns the next turn.
 #[tactic(auto, unfolding(krb_as::specs::AsPhases::TakesReplyWithin))]
 pub(crate) fn take_as_reply(
     alloc: Global,

@@ -12,7 +12,7 @@ use krb_messages::{Oid, Ticket, write_framed};
 use krb_requests::Maker;
 use std::alloc::Global;
 
-/// The TGT-REP with this ticket (draft-swift-win2k-krb-user2user, section 3).
+/// Returns the TGT-REP with this ticket (draft-swift-win2k-krb-user2user, section 3).
 pub fn generate_tgt_rep(alloc: Global, ticket: Ticket) -> Result<TgtRep, OutOfMemory>
     ensures { IfOk result (λ made. made ≡ tgt_rep ticket) }
 {
@@ -25,7 +25,7 @@ pub fn generate_tgt_rep(alloc: Global, ticket: Ticket) -> Result<TgtRep, OutOfMe
     maker.finish(made)
 }
 
-/// Its octets.
+/// Returns the octets of the TGT-REP with this ticket.
 #[tactic(auto, unfolding(crate::specs::TgtReps::message))]
 fn message(alloc: Global, ticket: Ticket) -> Result<Octets, OutOfMemory>
     requires { Fits ticket_layout (2 ^ 24) ticket }
@@ -36,7 +36,7 @@ fn message(alloc: Global, ticket: Ticket) -> Result<Octets, OutOfMemory>
     rep.write(alloc)
 }
 
-/// A TGT-REP in a frame.
+/// Returns a TGT-REP in a frame.
 #[tactic(auto, unfolding(crate::specs::TgtReps::framed_tgt_rep))]
 fn framed(alloc: Global, octets: &Octets) -> Result<Octets, OutOfMemory>
     requires { length octets.now ≤ 2 ^ 25 }
@@ -45,7 +45,7 @@ fn framed(alloc: Global, octets: &Octets) -> Result<Octets, OutOfMemory>
     write_framed(alloc, Oid::UserToUser, TGT_REP_TOKEN_ID, octets.as_slice())
 }
 
-/// The TGT-REP with this ticket as a token.
+/// Returns the TGT-REP with this ticket as a token.
 pub(crate) fn token_of(alloc: Global, dce: bool, ticket: Ticket) -> Result<Octets, OutOfMemory>
     requires { Fits ticket_layout (2 ^ 24) ticket }
     ensures { IfOk result (λ token. token ≡ tgt_rep_token dce ticket) }

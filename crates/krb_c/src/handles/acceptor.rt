@@ -103,14 +103,14 @@ impl Acceptor {
         Some(place.into_parts().into_box())
     }
 
-    /// Whether nothing is there.
+    /// Returns whether the handle is empty.
     pub fn is_empty(&self) -> bool
         ensures { result ≡ is_none self.now.place.value }
     {
         self.count == 0
     }
 
-    /// Takes it out, and leaves an empty handle.
+    /// Takes the value out, and leaves an empty handle.
     pub fn take(&mut self, alloc: Global) -> Option<Box<Service, Global>>
         ensures taken { option_map (λ state. state.value) result ≡ self.old.place.value }
         ensures left { self.new.place.value ≡ None }
@@ -118,7 +118,7 @@ impl Acceptor {
         replace(self, Acceptor::empty(alloc)).into_box()
     }
 
-    /// Puts one in.
+    /// Puts a value in.
     pub fn put(&mut self, state: Box<Service, Global>)
         ensures { self.new.place.value ≡ Some state.value }
     {

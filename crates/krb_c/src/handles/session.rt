@@ -103,14 +103,14 @@ impl Connection {
         Some(place.into_parts().into_box())
     }
 
-    /// Whether nothing is there.
+    /// Returns whether the handle is empty.
     pub fn is_empty(&self) -> bool
         ensures { result ≡ is_none self.now.place.value }
     {
         self.count == 0
     }
 
-    /// Takes it out, and leaves an empty handle.
+    /// Takes the value out, and leaves an empty handle.
     pub fn take(&mut self, alloc: Global) -> Option<Box<Session, Global>>
         ensures taken { option_map (λ state. state.value) result ≡ self.old.place.value }
         ensures left { self.new.place.value ≡ None }
@@ -118,7 +118,7 @@ impl Connection {
         replace(self, Connection::empty(alloc)).into_box()
     }
 
-    /// Puts one in.
+    /// Puts a value in.
     pub fn put(&mut self, state: Box<Session, Global>)
         ensures { self.new.place.value ≡ Some state.value }
     {

@@ -1,4 +1,4 @@
--- `empty` puts null and the allocator together, and owns nothing beside.
+-- `empty` puts null and the allocator together, and owns nothing else.
 use mathlib.Core.Path.{refl, sym, subst}
 use mathlib.Core.List.{List, [], ◌∷◌, ◌++◌}
 use lib.Dec.{lit<}
