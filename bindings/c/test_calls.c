@@ -357,7 +357,8 @@ static void once(const conversation *c) {
     CHECK(mk_cause_name(1000, out, sizeof out).status == MK_ARGUMENT);
     CHECK(mk_kind_name(1, out, 3).status == MK_ROOM);
     reply = mk_version(out, sizeof out);
-    CHECK(reply.status == MK_OK && reply.length == 5 && memcmp(out, "0.1.0", 5) == 0);
+    static const char version[] = "0.1.0";
+    CHECK(reply.status == MK_OK && reply.length == sizeof version - 1 && memcmp(out, version, sizeof version - 1) == 0);
     CHECK(make(c, &acceptor).status == MK_OK);
     if (large != NULL) {
         memcpy(large, c->token.at, c->token.length);
