@@ -1,4 +1,4 @@
-//! Dialogues, and what they are told line by line.
+//! Dialogues, and their input line by line.
 
 use crate::octets::{are_octets, octets};
 use krb_der::OutOfMemory;
@@ -9,7 +9,7 @@ use std::test::Fail;
 /// The moment of each step, 1700000000 s.
 const MOMENT: u64 = 1_700_000_000_000_000;
 
-/// Room for all that is handed out.
+/// Room for all that is written.
 const ROOM: usize = 1024;
 
 /// What each step may draw, in hex: the octets 0 to 63.
