@@ -5,8 +5,6 @@
 //!
 //! The arguments are the KDCs that are asked, by the same protocol, where the one of the line does not answer.
 
-#[path = "parts/carrying.rs"]
-mod carrying;
 #[path = "parts/causes.rs"]
 mod causes;
 #[path = "parts/telling.rs"]
@@ -42,7 +40,7 @@ fn answer(line: &str, others: &[String]) -> Answer<String> {
     let urls = [url].into_iter().chain(others.iter().map(String::as_str));
     let request =
         octets(request).ok_or_else(|| format!("a request is in hex, and not {request:?}"))?;
-    match carrying::carry(urls, &request) {
+    match menolavuri::carrier::carry(url, &request, urls) {
         Ok(answer) => Ok(format!("reply {}", hex(&answer))),
         Err(error) => {
             telling::complain(&error.to_string());

@@ -9,8 +9,6 @@
 //! asked in turn, with commas between them, until one answers. The client goes by the RFCs. Who needs other rules names them after the
 //! KDCs (docs/DIFFERENCES.md), or `NONE`: then a recorded log-in can be played back to it.
 
-#[path = "parts/carrying.rs"]
-mod carrying;
 #[path = "parts/causes.rs"]
 mod causes;
 #[path = "parts/frames.rs"]

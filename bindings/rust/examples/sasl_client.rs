@@ -9,8 +9,6 @@
 
 #[path = "parts/base64.rs"]
 mod base64;
-#[path = "parts/carrying.rs"]
-mod carrying;
 #[path = "parts/causes.rs"]
 mod causes;
 #[path = "parts/kdcs.rs"]

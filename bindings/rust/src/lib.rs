@@ -30,6 +30,7 @@
 #![warn(missing_docs)]
 
 mod acceptor;
+pub mod carrier;
 mod error;
 mod initiator;
 mod options;

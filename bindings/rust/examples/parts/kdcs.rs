@@ -1,10 +1,9 @@
 //! The user of an initiator, and its requests to KDCs.
 
 use crate::Answer;
-use crate::carrying::carry;
 use crate::keys::keys;
 use crate::telling::{complain, words};
-use menolavuri::{Error, Initiator, Next};
+use menolavuri::{Error, Initiator, Next, carrier};
 use std::io;
 
 /// Names what an argument is about where the library does not take it.
@@ -39,7 +38,7 @@ pub fn identify(initiator: &mut Initiator, user: &str, file: &str) -> Answer<()>
 pub fn ask(initiator: &mut Initiator, others: &[&str]) -> Answer<Next> {
     let (url, request) = (initiator.url()?, initiator.request()?);
     let urls = [url.as_str()].into_iter().chain(others.iter().copied());
-    match carry(urls, &request) {
+    match carrier::carry(&url, &request, urls) {
         Ok(answer) => Ok(initiator.answer(&answer)?),
         Err(error) => {
             complain(&error.to_string());

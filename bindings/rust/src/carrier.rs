@@ -1,19 +1,36 @@
-//! Carries a request to a KDC and brings its answer: over TCP, over UDP with the turn to TCP where the answer is too long for it
-//! (RFC 4120, section 7.2), or as the body of a POST to a proxy (MS-KKDCP). Another KDC is asked where one does not answer.
+//! Carries the requests of an [`Initiator`](crate::Initiator) to KDCs: over TCP, over UDP with the turn to TCP if the reply is too long for
+//! UDP (RFC 4120, section 7.2), or as the body of a POST to a proxy (MS-KKDCP). It asks the next KDC if one does not reply. It is not
+//! proved: whoever carries a request can lose or change it in any case, and the initiator checks the reply.
+//!
+//! ```no_run
+//! use menolavuri::{Error, Initiator, Next, carrier};
+//!
+//! /// Asks the KDC that the initiator names over UDP and then over TCP, and after that another one.
+//! fn ask(initiator: &mut Initiator) -> Result<Next, Error> {
+//!     let (url, request) = (initiator.url()?, initiator.request()?);
+//!     let places = ["udp://kdc.example.com:88", "tcp://kdc.example.com:88", "udp://kdc-2.example.com:88"];
+//!     match carrier::carry(&url, &request, places) {
+//!         Ok(reply) => initiator.answer(&reply),
+//!         Err(_) => initiator.fault(1),
+//!     }
+//! }
+//! ```
 
 use std::io::{self, Error, ErrorKind, Read, Write};
 use std::net::{TcpStream, ToSocketAddrs, UdpSocket};
 use std::time::Duration;
 
-/// For how long a KDC is waited for, how often a request goes out over UDP, and the longest answer that is read.
-const PATIENCE: Duration = Duration::from_secs(3);
-const DATAGRAMS: u32 = 2;
-const LONGEST: u64 = 1 << 20;
+/// How long one KDC is waited for: a connection, and each read and write of it. Over UDP it is all the time that a KDC has.
+pub const PATIENCE: Duration = Duration::from_secs(3);
+/// How often a request is sent over UDP.
+pub const DATAGRAMS: u32 = 2;
+/// The longest reply that is read, in bytes.
+pub const LONGEST: u64 = 1 << 20;
 
-/// The code of a KRB-ERROR by which a KDC says that its answer is too long for UDP.
+/// The code of a KRB-ERROR by which a KDC says that its reply is too long for UDP: KRB_ERR_RESPONSE_TOO_BIG (RFC 4120, section 7.5.9).
 const RESPONSE_TOO_BIG: u8 = 52;
 
-/// Who is asked: a scheme, a host with its port, and a path.
+/// The address of a KDC: a scheme, a host with its port, and a path.
 struct Place<'a> {
     scheme: &'a str,
     host: String,
@@ -45,13 +62,22 @@ fn place(url: &str) -> io::Result<Place<'_>> {
     })
 }
 
-/// Sends the octets of a request, as the initiator gives them, to the first of these addresses that answers. All have the scheme of
-/// the first. Where none answers, it is told of each why.
-pub fn carry<'a>(urls: impl IntoIterator<Item = &'a str>, request: &[u8]) -> io::Result<Vec<u8>> {
+/// Returns the reply of the first of these places that replies, in the form that [`Initiator::answer`](crate::Initiator::answer) takes.
+/// The request is the one that the initiator has for this URL. The scheme of a place is `tcp`, `udp` or `http`, its port is 88 or 80 if it
+/// names none. A request for `http` goes to places with `http` alone, and any other request to the others.
+///
+/// # Errors
+/// No place replied: the error says of each why.
+pub fn carry<'a>(
+    url: &str,
+    request: &[u8],
+    places: impl IntoIterator<Item = &'a str>,
+) -> io::Result<Vec<u8>> {
+    let message = message_of(url, request)?;
     let mut failed = Vec::new();
-    for url in urls {
-        match place(url).and_then(|place| carry_to(&place, request)) {
-            Ok(answer) => return Ok(answer),
+    for url in places {
+        match place(url).and_then(|place| carry_to(&place, &message)) {
+            Ok(reply) => return Ok(reply),
             Err(error) => failed.push(format!("{url}: {}", told(&error))),
         }
     }
@@ -61,25 +87,49 @@ pub fn carry<'a>(urls: impl IntoIterator<Item = &'a str>, request: &[u8]) -> io:
 /// A failure in words.
 fn told(error: &Error) -> String {
     match error.kind() {
-        ErrorKind::WouldBlock | ErrorKind::TimedOut => "no answer came in time".to_owned(),
-        ErrorKind::UnexpectedEof => "it ended the connection before a whole answer came".to_owned(),
+        ErrorKind::WouldBlock | ErrorKind::TimedOut => "no reply came in time".to_owned(),
+        ErrorKind::UnexpectedEof => "it ended the connection before a whole reply came".to_owned(),
         _ => error.to_string(),
     }
 }
 
-fn carry_to(place: &Place, request: &[u8]) -> io::Result<Vec<u8>> {
-    match place.scheme {
-        "tcp" => over_tcp(&place.host, request),
-        "udp" => over_udp(&place.host, request),
-        "http" => over_http(place, request),
+/// What a KDC is sent, without the framing of TCP.
+enum Message<'a> {
+    Bare(&'a [u8]),
+    /// The body of a POST.
+    Body(&'a [u8]),
+}
+
+/// The message in the request for a URL. Over TCP four bytes of length come before it.
+fn message_of<'a>(url: &str, request: &'a [u8]) -> io::Result<Message<'a>> {
+    match url.split_once("://").map(|it| it.0) {
+        Some("tcp") => request
+            .split_first_chunk::<4>()
+            .map(|it| Message::Bare(it.1))
+            .ok_or_else(|| invalid("the request has no length")),
+        Some("udp") => Ok(Message::Bare(request)),
+        Some("http" | "https") => Ok(Message::Body(request)),
+        _ => Err(invalid("the request is for no known scheme")),
+    }
+}
+
+fn carry_to(place: &Place, message: &Message) -> io::Result<Vec<u8>> {
+    match (place.scheme, message) {
+        ("tcp", Message::Bare(it)) => over_tcp(&place.host, it),
+        ("udp", Message::Bare(it)) => over_udp(&place.host, it),
+        ("http", Message::Body(it)) => over_http(place, it),
+        ("tcp" | "udp" | "http", _) => Err(Error::new(
+            ErrorKind::Unsupported,
+            "the request has the form of another scheme",
+        )),
         _ => Err(Error::new(
             ErrorKind::Unsupported,
-            "a scheme that is not carried here, where tcp, udp and http are",
+            "this scheme is not carried: tcp, udp and http are",
         )),
     }
 }
 
-/// A connection to the first address of a host that takes one.
+/// Connects to the first address of a host that takes a connection.
 fn connect(host: &str) -> io::Result<TcpStream> {
     let mut failed = invalid("the host has no address");
     for address in host.to_socket_addrs()? {
@@ -95,15 +145,15 @@ fn connect(host: &str) -> io::Result<TcpStream> {
     Err(failed)
 }
 
-/// Request and answer have their length in front, in four octets.
-fn over_tcp(host: &str, request: &[u8]) -> io::Result<Vec<u8>> {
+/// Request and reply have four bytes of length before them (RFC 4120, section 7.2.2).
+fn over_tcp(host: &str, message: &[u8]) -> io::Result<Vec<u8>> {
     let mut kdc = connect(host)?;
-    kdc.write_all(request)?;
+    kdc.write_all(&with_length(message))?;
     let mut answer = vec![0; 4];
     kdc.read_exact(&mut answer)?;
     let length = u32::from_be_bytes([answer[0], answer[1], answer[2], answer[3]]);
     if u64::from(length) > LONGEST {
-        return Err(invalid("the answer is too long"));
+        return Err(invalid("the reply is too long"));
     }
     if kdc.take(length.into()).read_to_end(&mut answer)? < length as usize {
         return Err(ErrorKind::UnexpectedEof.into());
@@ -115,7 +165,7 @@ fn with_length(message: &[u8]) -> Vec<u8> {
     [&(message.len() as u32).to_be_bytes(), message].concat()
 }
 
-/// The request goes as it is, and its answer is brought behind four octets, as TCP brings it.
+/// The request is sent as it is, and the reply is returned after four bytes of length, as TCP brings it.
 fn over_udp(host: &str, request: &[u8]) -> io::Result<Vec<u8>> {
     let mut failed = invalid("the host has no address");
     for address in host.to_socket_addrs()? {
@@ -130,7 +180,7 @@ fn over_udp(host: &str, request: &[u8]) -> io::Result<Vec<u8>> {
         socket.set_write_timeout(Some(PATIENCE))?;
         match exchange(&socket, request) {
             Ok(answer) if error_code(&answer) == Some(RESPONSE_TOO_BIG) => {
-                return over_tcp(host, &with_length(request));
+                return over_tcp(host, request);
             }
             Ok(answer) => return Ok(with_length(&answer)),
             Err(error) => failed = error,
@@ -155,7 +205,7 @@ fn exchange(socket: &UdpSocket, request: &[u8]) -> io::Result<Vec<u8>> {
     Err(failed)
 }
 
-/// What a tag of DER has in it, and what follows that: lengths of up to two octets, which a datagram's are.
+/// The contents of an element of DER, and what follows it. Its length has up to two bytes, as in a datagram.
 fn element(tag: u8, octets: &[u8]) -> Option<(&[u8], &[u8])> {
     let (length, rest) = match octets {
         [found, length @ 0..=0x7f, rest @ ..] if *found == tag => (*length as usize, rest),
@@ -168,8 +218,9 @@ fn element(tag: u8, octets: &[u8]) -> Option<(&[u8], &[u8])> {
     rest.split_at_checked(length)
 }
 
-/// The code of a KRB-ERROR (RFC 4120, section 5.9.1), where it has one octet.
-fn error_code(message: &[u8]) -> Option<u8> {
+/// Returns the code of a KRB-ERROR (RFC 4120, section 5.9.1), if the message is one and its code has one byte. Nothing protects it: show it
+/// to a person, and decide nothing by it.
+pub fn error_code(message: &[u8]) -> Option<u8> {
     let (sequence, _) = element(0x7e, message)?;
     let (mut fields, _) = element(0x30, sequence)?;
     while let Some(tag) = fields.first() {
@@ -182,7 +233,7 @@ fn error_code(message: &[u8]) -> Option<u8> {
     None
 }
 
-/// The request is the body of a POST, and its answer is the body of what comes back.
+/// The request is the body of a POST, and the reply is the body of the response (MS-KKDCP).
 fn over_http(place: &Place, request: &[u8]) -> io::Result<Vec<u8>> {
     let mut proxy = connect(&place.host)?;
     let head = format!(
@@ -194,10 +245,10 @@ fn over_http(place: &Place, request: &[u8]) -> io::Result<Vec<u8>> {
     proxy.write_all(&[head.as_bytes(), request].concat())?;
     let mut answer = Vec::new();
     proxy.take(LONGEST).read_to_end(&mut answer)?;
-    body(&answer).ok_or_else(|| invalid("the proxy does not answer well"))
+    body(&answer).ok_or_else(|| invalid("the proxy's reply is not whole or not of status 200"))
 }
 
-/// The body of an answer of HTTP with status 200, which has all the octets that its head promises.
+/// The body of a response of HTTP with status 200, if it has as many bytes as its head says.
 fn body(answer: &[u8]) -> Option<Vec<u8>> {
     let end = answer.windows(4).position(|four| four == b"\r\n\r\n")?;
     let head = std::str::from_utf8(&answer[..end]).ok()?;
@@ -241,7 +292,7 @@ mod tests {
         assert_eq!(error_code(b"\x6b\x03\x30\x01\x00"), None);
     }
 
-    /// What comes of a KDC that answers so.
+    /// The error for a KDC that replies so.
     fn failure(answer: &'static [u8]) -> String {
         let listener = std::net::TcpListener::bind("127.0.0.1:0").unwrap();
         let url = format!("tcp://{}", listener.local_addr().unwrap());
@@ -250,31 +301,87 @@ mod tests {
             client.read_exact(&mut [0; 4]).unwrap();
             client.write_all(answer).unwrap();
         });
-        let error = carry([url.as_str()], b"\0\0\0\0").unwrap_err().to_string();
+        let error = carry(&url, b"\0\0\0\0", [url.as_str()])
+            .unwrap_err()
+            .to_string();
         kdc.join().unwrap();
         error.strip_prefix(&format!("{url}: ")).unwrap().to_owned()
     }
 
     #[test]
     fn an_answer_that_is_too_long_or_cut_is_refused() {
-        assert_eq!(failure(b"\x80\0\0\0"), "the answer is too long");
-        let cut = "it ended the connection before a whole answer came";
+        assert_eq!(failure(b"\x80\0\0\0"), "the reply is too long");
+        let cut = "it ended the connection before a whole reply came";
         assert_eq!(failure(b"\0\0\0\x02a"), cut);
         assert_eq!(failure(b"\0"), cut);
     }
 
     #[test]
     fn each_kdc_that_failed_is_named() {
-        let words = carry(["kdc", "ftp://kdc"], b"").unwrap_err().to_string();
+        let words = carry("udp://kdc", b"", ["kdc", "ftp://kdc", "http://kdc"])
+            .unwrap_err()
+            .to_string();
         let parts: Vec<&str> = words.split("; ").collect();
         assert!(
             parts[0].starts_with("kdc: the address has no scheme"),
             "{words}"
         );
         assert!(
-            parts[1].starts_with("ftp://kdc: a scheme that is not"),
+            parts[1].starts_with("ftp://kdc: this scheme is not carried"),
             "{words}"
         );
+        assert!(
+            parts[2].starts_with("http://kdc: the request has the form"),
+            "{words}"
+        );
+    }
+
+    /// A KDC that replies to one datagram by this, and to one connection by a whole reply.
+    fn kdc(reply: Vec<u8>) -> (String, std::thread::JoinHandle<()>) {
+        let listener = std::net::TcpListener::bind("127.0.0.1:0").unwrap();
+        let socket = UdpSocket::bind(listener.local_addr().unwrap()).unwrap();
+        let host = listener.local_addr().unwrap().to_string();
+        let kdc = std::thread::spawn(move || {
+            let mut request = [0; 8];
+            let (length, client) = socket.recv_from(&mut request).unwrap();
+            assert_eq!(&request[..length], b"asked");
+            socket.send_to(&reply, client).unwrap();
+            if error_code(&reply) == Some(RESPONSE_TOO_BIG) {
+                let mut client = listener.accept().unwrap().0;
+                let mut request = [0; 9];
+                client.read_exact(&mut request).unwrap();
+                assert_eq!(&request, b"\0\0\0\x05asked");
+                client.write_all(b"\0\0\0\x05whole").unwrap();
+            }
+        });
+        (host, kdc)
+    }
+
+    #[test]
+    fn a_reply_that_is_too_long_for_udp_comes_over_tcp() {
+        for (reply, wanted) in [
+            (krb_error(RESPONSE_TOO_BIG), &b"\0\0\0\x05whole"[..]),
+            (b"short".to_vec(), b"\0\0\0\x05short"),
+        ] {
+            let (host, kdc) = kdc(reply);
+            let (tcp, udp) = (format!("tcp://{host}"), format!("udp://{host}"));
+            let carried = carry(&tcp, b"\0\0\0\x05asked", [udp.as_str()]);
+            assert_eq!(carried.unwrap(), wanted);
+            kdc.join().unwrap();
+        }
+    }
+
+    #[test]
+    fn the_next_kdc_is_asked_after_a_silent_one() {
+        let silent = UdpSocket::bind("127.0.0.1:0").unwrap();
+        let (host, kdc) = kdc(b"short".to_vec());
+        let places = [
+            format!("udp://{}", silent.local_addr().unwrap()),
+            format!("udp://{host}"),
+        ];
+        let carried = carry(&places[0], b"asked", places.iter().map(String::as_str));
+        assert_eq!(carried.unwrap(), b"\0\0\0\x05short");
+        kdc.join().unwrap();
     }
 
     #[test]
