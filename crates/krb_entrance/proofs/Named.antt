@@ -30,7 +30,7 @@ use Rattle.krb_sessions.specs.declared.client.Client.{Client}
 use Rattle.krb_sessions.specs.declared.session.Session.{Session}
 use Rattle.krb_entrance.specs.Admits.{Admits, IsKnown}
 use Rattle.krb_entrance.specs.Candidates.{Passes, IsLetIn}
-use Rattle.krb_entrance.specs.Connections.{new_connection, keyless, IsKeyless}
+use Rattle.krb_entrance.specs.Connections.{new_connection, keyless, IsKeyless, drawn_number}
 use Rattle.krb_entrance.specs.declared.candidate.Candidate.{Candidate}
 use Rattle.krb_entrance.specs.declared.keys.Keys.{Keys}
 
@@ -151,7 +151,7 @@ gated keys channel token draw old new prepared connection left answer passes adm
     let there = subst A passes.waits.waits admits in
     record {
       config = passes.waits.config;
-      number = passes.waits.number;
+      number = drawn_number draw;
       prepares = subst P passes.waits.waits passes.prepares;
       verdict = there.verdict;
       answer = answer;

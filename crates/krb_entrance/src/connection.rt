@@ -30,7 +30,7 @@ pub(crate) fn waiting(
     channel: Option<[u8; 16]>,
     draw: &Draw,
 ) -> Result<Kerberos, OutOfMemory>
-    ensures { IfOk result (λ connection. (own : ServerProperties) × Waits own channel connection) }
+    ensures { IfOk result (λ connection. (own : ServerProperties) × Waits own channel draw.now connection) }
 {
     let config = KerberosConfig {
         kdc_url: None,
