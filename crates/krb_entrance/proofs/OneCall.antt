@@ -1,5 +1,5 @@
 -- The two halves at a connection without keys, and the acceptor's one call at the same connection with them.
-use Rattle.std.proofs.Common.{◌≡◌, ℕ, true, false, List, Option, Some, None, Result, Ok, Err, refl, sym, ap, ◌∙◌, subst}
+use Rattle.std.proofs.Common.{ℕ, false, List, Option, Result, Ok, Err, refl, ap, subst}
 use Rattle.krb_admission.specs.Accepts.{MakesAnswer, refusal}
 use Rattle.krb_admission.specs.Admission.{settled}
 use Rattle.krb_admission.specs.Halves.{Prepared, Prepares, AdmitsPrepared, outcome_behind, with_keys}

@@ -1,5 +1,5 @@
 -- The connections of clients.
-use Rattle.std.specs.Prelude.{◌≡◌, ℕ, List, [], drop, Option, Some, None, option_map}
+use Rattle.std.specs.Prelude.{◌≡◌, ℕ, List, [], take, drop, Option, Some, None, option_map}
 use Rattle.std.specs.Int.{from_be_bytes, w32}
 use Rattle.krb_conf.specs.declared.config.KerberosConfig.{KerberosConfig}
 use Rattle.krb_context.specs.Contexts.{new_context}
@@ -13,14 +13,18 @@ use Rattle.sspi_core.specs.declared.draw.Draw.{Draw}
 abbrev pub new_connection : KerberosConfig → ServerProperties → Option (List ℕ) → ℕ → Kerberos
 new_connection config own channel number = record (new_context (default_params 22 24) config (Some own) number) { rules = rfc_rules; channel = channel }
 
--- the first sequence number: the last 4 of the 64 random octets, the highest first; nothing else is made of these
+-- the first sequence number: the octets 60 to 63 of the 64 random ones, the highest first; nothing else is made of these
 abbrev pub drawn_number : Draw → ℕ
-drawn_number draw = from_be_bytes w32 (drop 60 draw.random)
+drawn_number draw = from_be_bytes w32 (take 4 (drop 60 draw.random))
 
--- a connection with these properties that waits for its client's token; its first sequence number is drawn
-pub record Waits (own : ServerProperties) (channel : Option (List ℕ)) (draw : Draw) (connection : Kerberos) : Type 0 where
+-- a connection with these properties that waits for its client's token, with this first sequence number
+pub record WaitsAt (own : ServerProperties) (channel : Option (List ℕ)) (number : ℕ) (connection : Kerberos) : Type 0 where
   pub config : KerberosConfig
-  pub waits : connection ≡ new_connection config own channel (drawn_number draw)
+  pub waits : connection ≡ new_connection config own channel number
+
+-- its first sequence number is drawn
+abbrev pub Waits : ServerProperties → Option (List ℕ) → Draw → Kerberos → Type 0
+Waits own channel draw connection = WaitsAt own channel (drawn_number draw) connection
 
 -- the properties with the primary name alone: no key, no further name, and no user
 abbrev pub keyless : ServerProperties → ServerProperties
