@@ -234,7 +234,7 @@ fn encrypted(cipher: &[u8]) -> Vec<u8> {
     sequence(&[(0, number(18)), (2, der(4, cipher))])
 }
 
-/// What a KDC says of a client in a ticket for host/server.example.com.
+/// The facts of a client in a ticket for host/server.example.com.
 pub struct Ticket<'a> {
     pub name_type: u32,
     pub name: &'a [&'a str],
@@ -251,7 +251,7 @@ pub const USER: Ticket = Ticket {
     transited: b"",
 };
 
-/// What a client asks for in its authenticator.
+/// The request of a client in its authenticator.
 #[derive(Clone)]
 pub struct Asked<'a> {
     /// The microsecond of the second `NOW`.
