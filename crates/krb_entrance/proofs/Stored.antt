@@ -128,7 +128,9 @@ module _ (one_value : (kind : Kind) (v w : Of kind) (a b x y : List ℕ) → is_
 
   split_record : (entry : Record) → record_octets entry
       ≡ time_octets entry.ctime ++ (principal_text entry.name.name_string entry.realm ++ 0 ∷ (entry.cusec ++ entry.tag))
-  split_record entry = append_assoc (time_octets entry.ctime) (principal_text entry.name.name_string entry.realm) (0 ∷ (entry.cusec ++ entry.tag))
+  split_record entry =
+      append_assoc (time_octets entry.ctime ++ principal_text entry.name.name_string entry.realm) (0 ∷ entry.cusec) entry.tag
+      ∙ append_assoc (time_octets entry.ctime) (principal_text entry.name.name_string entry.realm) (0 ∷ (entry.cusec ++ entry.tag))
 
   pub one_record : (a b : Record) → IsTime a.ctime → IsTime b.ctime → has_component a.name.name_string ≡ true → has_component b.name.name_string ≡ true
       → record_octets a ≡ record_octets b → NamesOneRecord a b

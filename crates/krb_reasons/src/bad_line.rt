@@ -37,12 +37,14 @@ fn lines_of(alloc: Global, text: &[u8]) -> Result<Vec<&[u8]>, AllocError>
     ensures { IfOk result (λ parts. map (λ line. line.now) parts.items ≡ lines text.now) }
 {
     let mut lines = split(alloc, b'\n', text)?;
-    if let Some(last) = lines.pop() {
-        if !last.is_empty() {
+    match lines.pop() {
+        None => Ok(lines),
+        Some(last) if last.is_empty() => Ok(lines),
+        Some(last) => {
             lines.push(last)?;
+            Ok(lines)
         }
     }
-    Ok(lines)
 }
 
 /// Lines that are taken one after another.
