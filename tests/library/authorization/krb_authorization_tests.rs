@@ -1,4 +1,4 @@
-//! Authorization data, written by hand in DER from the ASN.1 of RFC 4120, section 5.2.6, with explicit tags.
+//! Authorization data in DER, by hand, from the ASN.1 of RFC 4120, section 5.2.6, with explicit tags.
 
 use krb_authorization::{AuthorizationData, AuthorizationDataElement, element_at, element_type};
 use krb_der::{Asn1, Fault};
