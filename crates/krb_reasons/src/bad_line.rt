@@ -1,6 +1,6 @@
 //! The first bad line of an input, and the reason.
 
-ghost use Rattle.std.specs.Prelude.{◌≡◌, ◌==◌, false, map, IfOk, OnOk, string_bytes};
+ghost use Rattle.std.specs.Prelude.{◌≡◌, ◌==◌, ◌++◌, false, map, IfOk, OnOk, string_bytes};
 ghost use Rattle.std.specs.List.{slice_split, zip};
 ghost use Rattle.krb_text.specs.Lines.{lines};
 ghost use Rattle.krb_reasons.specs.BadLines.{numbered, number_past, kept_lines, last_number, first_bad, first_bad_of, Walks, Finds};
@@ -109,11 +109,25 @@ impl Walk {
         self.take_counted(alloc, &lines)
     }
 
+    fn take_parts(&mut self, alloc: Global, head: &Head, tail: &[u8]) -> Result<(), Complaint>
+        ensures walks { Walks self.old.judge (zip (lines head.now.octets) head.now.numbers ++ numbered (number_after head.now.lines) (lines tail.now))
+            result self.new.judge self.new.number }
+        ensures end { OnOk result (self.new.number ≡ number_past (number_after head.now.lines) (lines tail.now)) }
+    {
+        match self.take_head(alloc, head) {
+            Ok(()) => {}
+            Err(complaint) => return Err(complaint),
+        }
+        self.take_tail(alloc, head.lines(), tail)
+    }
+
     fn take_kept(&mut self, alloc: Global, kept: &Kept) -> Result<(), Complaint>
         ensures { Finds (first_bad self.old.judge (kept_lines kept.now) (last_number kept.now)) result self.new.number }
     {
-        self.take_head(alloc, kept.head())?;
-        self.take_tail(alloc, kept.head().lines(), kept.tail())?;
+        match self.take_parts(alloc, kept.head(), kept.tail()) {
+            Ok(()) => {}
+            Err(complaint) => return Err(complaint),
+        }
         match self.judge.missing() {
             Some(reason) => Err(Complaint::Bad(reason)),
             None => Ok(()),
