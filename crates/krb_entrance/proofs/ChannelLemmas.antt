@@ -1,5 +1,5 @@
 -- Bindings whose parts are short.
-use Rattle.std.proofs.Common.{◌≡◌, ◌≤◌, ◌^◌, ℕ, ◌&&◌, Bool, true, false, List, length, nat_le, IsTrue, arith, rules}
+use Rattle.std.proofs.Common.{◌≡◌, ◌≤◌, ◌^◌, ℕ, ◌&&◌, Bool, true, false, List, length, IsTrue, arith, rules}
 use Rattle.std.proofs.lemmas.Bool.Decides.{nat_tests}
 use Rattle.krb_authenticators.specs.Bindings.{AreShortBindings}
 use Rattle.krb_entrance.specs.Channels.{is_short, are_short}

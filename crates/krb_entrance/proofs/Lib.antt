@@ -3,3 +3,4 @@ mod Named
 mod OneCall
 mod TurnLemmas
 mod TurnedAway
+mod Stored

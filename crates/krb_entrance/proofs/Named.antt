@@ -1,5 +1,5 @@
 -- A client that is admitted is known.
-use Rattle.std.proofs.Common.{◌≡◌, ℕ, ◌==◌, ◌&&◌, ◌||◌, if◌then◌else◌, Bool, true, false, List, [], ◌∷◌, Option, Some, None, Result, Ok, Err, refl, sym, ap, ◌∙◌, subst}
+use Rattle.std.proofs.Common.{◌≡◌, ℕ, ◌==◌, ◌&&◌, if◌then◌else◌, Bool, true, false, List, [], ◌∷◌, Option, Some, None, Result, Ok, Err, refl, sym, ap, ◌∙◌, subst}
 use Rattle.std.specs.Cmp.Lexicographic.{pointwise}
 use Rattle.sspi_core.specs.Checks.{Holds}
 use Rattle.sspi_core.proofs.Chain.{passed, gave}
@@ -17,7 +17,7 @@ use Rattle.krb_context.specs.Rules.{rfc_rules}
 use Rattle.krb_replay.specs.Book.{Book, Follows, StandsFor}
 use Rattle.krb_replay.specs.declared.ask.Verdict.{Verdict}
 use Rattle.krb_admission.specs.Accepts.{BeginsAdmission, FinishesAdmission, MakesAnswer, refusal}
-use Rattle.krb_admission.specs.Admission.{admission_of, mutual_admission, one_way_admission, settled}
+use Rattle.krb_admission.specs.Admission.{mutual_admission, one_way_admission, settled}
 use Rattle.krb_admission.specs.Clients.{user_of, has_component}
 use Rattle.krb_admission.specs.Complete.{Completes, is_mutual}
 use Rattle.krb_admission.specs.Halves.{Prepared, Prepares, AdmitsPrepared, outcome_behind, with_keys}
@@ -30,7 +30,7 @@ use Rattle.krb_sessions.specs.declared.client.Client.{Client}
 use Rattle.krb_sessions.specs.declared.session.Session.{Session}
 use Rattle.krb_entrance.specs.Admits.{Admits, IsKnown}
 use Rattle.krb_entrance.specs.Candidates.{Passes, IsLetIn}
-use Rattle.krb_entrance.specs.Connections.{new_connection, keyless, IsKeyless}
+use Rattle.krb_entrance.specs.Connections.{new_connection, keyless, IsKeyless, drawn_number}
 use Rattle.krb_entrance.specs.declared.candidate.Candidate.{Candidate}
 use Rattle.krb_entrance.specs.declared.keys.Keys.{Keys}
 
@@ -151,7 +151,7 @@ gated keys channel token draw old new prepared connection left answer passes adm
     let there = subst A passes.waits.waits admits in
     record {
       config = passes.waits.config;
-      number = passes.waits.number;
+      number = drawn_number draw;
       prepares = subst P passes.waits.waits passes.prepares;
       verdict = there.verdict;
       answer = answer;

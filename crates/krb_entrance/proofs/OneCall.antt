@@ -1,5 +1,5 @@
 -- The two halves at a connection without keys, and the acceptor's one call at the same connection with them.
-use Rattle.std.proofs.Common.{◌≡◌, ℕ, true, false, List, Option, Some, None, Result, Ok, Err, refl, sym, ap, ◌∙◌, subst}
+use Rattle.std.proofs.Common.{ℕ, false, List, Option, Result, Ok, Err, refl, ap, subst}
 use Rattle.krb_admission.specs.Accepts.{MakesAnswer, refusal}
 use Rattle.krb_admission.specs.Admission.{settled}
 use Rattle.krb_admission.specs.Halves.{Prepared, Prepares, AdmitsPrepared, outcome_behind, with_keys}
@@ -13,7 +13,7 @@ use Rattle.krb_server.specs.Whole.{answered_as}
 use Rattle.krb_server.proofs.HalvesLemmas.{halves_whole, no_other_token}
 use Rattle.krb_entrance.specs.Admits.{no_env, answer_in, Judges}
 use Rattle.krb_entrance.specs.Candidates.{Passes}
-use Rattle.krb_entrance.specs.Connections.{new_connection, keyless, lent}
+use Rattle.krb_entrance.specs.Connections.{new_connection, drawn_number, keyless, lent}
 use Rattle.krb_entrance.specs.declared.keys.Keys.{Keys}
 use Rattle.sspi_core.specs.declared.cause.Cause.{Cause}
 use Rattle.sspi_core.specs.declared.draw.Draw.{Draw}
@@ -41,7 +41,7 @@ pub as_one : (keys : Keys) (channel : Option (List ℕ)) (token : List ℕ) (dra
     → Judges keys.properties channel old token draw (answer_in (answered_as answer)) (lent keys.properties left) new
 as_one keys channel token draw prepared connection left old new answer passes admits =
     let config = passes.waits.config in
-    let number = passes.waits.number in
+    let number = drawn_number draw in
     let whole = new_connection config keys.properties channel number in
     let P : Kerberos → Type 0 = λ c. Prepares (with_keys keys.properties c) false token draw prepared in
     let prepares : Prepares whole false token draw prepared = subst P passes.waits.waits passes.prepares in
@@ -50,7 +50,7 @@ as_one keys channel token draw prepared connection left old new answer passes ad
     let none = no_other_token whole false token draw prepared prepares in
     record {
       waiting = whole;
-      waits = record { config = config; number = number; waits = refl };
+      waits = record { config = config; waits = refl };
       accepted = answered_as answer;
       accepts = halves_whole (Follows StandsFor) whole false token no_env draw old (answered_as answer) (lent keys.properties left) new none.0 none.1 (record {
         judged = answer;

@@ -8,7 +8,7 @@ use Rattle.krb_context.specs.declared.context.Kerberos.{Kerberos}
 use Rattle.krb_context.specs.declared.server.ServerProperties.{ServerProperties}
 use Rattle.krb_entrance.specs.Admits.{Rejects}
 use Rattle.krb_entrance.specs.Candidates.{Checks, Passes, Stops, TurnsAway}
-use Rattle.krb_entrance.specs.Connections.{Waits, new_connection, keyless}
+use Rattle.krb_entrance.specs.Connections.{Waits, new_connection, drawn_number, keyless}
 use Rattle.krb_entrance.specs.declared.keys.Keys.{Keys}
 use Rattle.krb_entrance.specs.declared.candidate.Candidate.{Candidate}
 use Rattle.krb_entrance.specs.Told.{IsToldAway}
@@ -64,7 +64,7 @@ passed_as checks value answers = answers.so (λ z. absurd cc)
 
 -- a refusal at a connection that waits is the services'
 pub stopped : (keys : Keys) (channel : Option (List ℕ)) (token : List ℕ) (draw : Draw) (own : ServerProperties) (connection : Kerberos) (error : Error)
-    → Waits own channel connection → Refuses Elsewhere (Checks keys connection token draw) error → Refuses Elsewhere (Stops keys channel token draw) error
+    → Waits own channel draw connection → Refuses Elsewhere (Checks keys connection token draw) error → Refuses Elsewhere (Stops keys channel token draw) error
 unfolding Checks
 stopped keys channel token draw own connection error waits refuses = record {
   so = λ ne.
@@ -73,8 +73,8 @@ stopped keys channel token draw own connection error waits refuses = record {
         there.0,
         there.1,
         record {
-          waiting = new_connection waits.config (keyless keys.properties) channel waits.number;
-          waits = record { config = waits.config; number = waits.number; waits = refl };
+          waiting = new_connection waits.config (keyless keys.properties) channel (drawn_number draw);
+          waits = record { config = waits.config; waits = refl };
           judges = subst C waits.waits there.2;
         },
       );
@@ -82,14 +82,14 @@ stopped keys channel token draw own connection error waits refuses = record {
 
 -- what passes at a connection that waits passes at the same with the service's name
 pub passes_at : (keys : Keys) (channel : Option (List ℕ)) (token : List ℕ) (draw : Draw) (own : ServerProperties) (connection : Kerberos) (prepared : Prepared)
-    → Waits own channel connection → Checks keys connection token draw (Ok prepared)
+    → Waits own channel draw connection → Checks keys connection token draw (Ok prepared)
     → Passes keys channel token draw prepared (record connection { server = Some (keyless keys.properties) })
 unfolding Checks
 passes_at keys channel token draw own connection prepared waits checks =
     let there = passed _ _ _ checks in
     let S : Kerberos → Kerberos = λ c. record c { server = Some (keyless keys.properties) } in
     record {
-      waits = record { config = waits.config; number = waits.number; waits = ap S waits.waits };
+      waits = record { config = waits.config; waits = ap S waits.waits };
       short = short_token (length token) keys.token_limit (held _ _ _ there.first_held);
       prepares = there.rest_held;
     }

@@ -62,7 +62,7 @@ answer_in (Err cause) = Err cause
 pub record Judges (services : ServerProperties) (channel : Option (List ℕ)) (old : Book) (token : List ℕ) (draw : Draw) (answer : Result (List ℕ) Cause)
     (connection : Kerberos) (new : Book) : Type 0 where
   pub waiting : Kerberos
-  pub waits : Waits services channel waiting
+  pub waits : Waits services channel draw waiting
   pub accepted : Result Accepted Cause
   pub accepts : AcceptsWhole (Follows StandsFor) waiting false token no_env draw old accepted connection new
   pub answer_is : answer ≡ answer_in accepted

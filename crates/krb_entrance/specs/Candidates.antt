@@ -20,7 +20,7 @@ use Rattle.sspi_core.specs.declared.draw.Draw.{Draw}
 
 -- the token passes every check before the book, with these keys, at a connection that waited for it and has none of them
 pub record Passes (keys : Keys) (channel : Option (List ℕ)) (token : List ℕ) (draw : Draw) (prepared : Prepared) (connection : Kerberos) : Type 0 where
-  pub waits : Waits (keyless keys.properties) channel connection
+  pub waits : Waits (keyless keys.properties) channel draw connection
   pub short : length token ≤ keys.token_limit
   pub prepares : Prepares (with_keys keys.properties connection) false token draw prepared
 
@@ -33,7 +33,7 @@ Checks keys waiting token draw = do
 -- what a check before the book refuses
 pub record Stops (keys : Keys) (channel : Option (List ℕ)) (token : List ℕ) (draw : Draw) (answer : Result Prepared Cause) : Type 0 where
   pub waiting : Kerberos
-  pub waits : Waits (keyless keys.properties) channel waiting
+  pub waits : Waits (keyless keys.properties) channel draw waiting
   pub judges : Checks keys waiting token draw answer
 
 -- what a ticket and its authenticator say of their client

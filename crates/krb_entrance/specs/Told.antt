@@ -17,6 +17,13 @@ use Rattle.sspi_core.specs.declared.cause.Cause.{Cause}
 abbrev pub record_octets : Record → List ℕ
 record_octets entry = (time_octets entry.ctime ++ principal_text entry.name.name_string entry.realm) ++ 0 ∷ entry.cusec ++ entry.tag
 
+-- two records have one time, one realm and one client's components, and their microseconds and tags together are the same octets
+pub record NamesOneRecord (a b : Record) : Type 0 where
+  pub time : a.ctime ≡ b.ctime
+  pub components : a.name.name_string ≡ b.name.name_string
+  pub realm : a.realm ≡ b.realm
+  pub rest : a.cusec ++ a.tag ≡ b.cusec ++ b.tag
+
 -- the gate of a store that was asked about the candidate's record, and answered at this moment of its own
 abbrev pub told_gate : Prepared → ℕ → ℕ → Bool → TellingGate
 told_gate prepared skew moment seen = record { skew = skew; moment = moment; told = question prepared; seen = seen }

@@ -1,8 +1,9 @@
 //! The connection of a client.
 
 ghost use Rattle.std.specs.Prelude.{◌≡◌, IfOk};
+ghost use Rattle.std.specs.Int.{from_be_bytes, w32};
 ghost use Rattle.krb_context.specs.declared.server.ServerProperties.{ServerProperties};
-ghost use Rattle.krb_entrance.specs.Connections.{Waits, keyless};
+ghost use Rattle.krb_entrance.specs.Connections.{WaitsAt, Waits, keyless};
 
 use krb_der::{Blank, Copier};
 use krb_server::{
@@ -23,24 +24,34 @@ fn nobody(alloc: Global) -> ServerProperties {
     }
 }
 
-/// Returns a connection that waits for its client's token, with the rules of the RFCs. Its first sequence number is drawn, and
-/// nothing is copied.
-pub(crate) fn waiting(
+/// Returns a connection that waits for its client's token, with the rules of the RFCs and this first sequence number. Nothing is
+/// copied.
+fn numbered(
     alloc: Global,
     channel: Option<[u8; 16]>,
-    draw: &Draw,
+    number: [u8; 4],
 ) -> Result<Kerberos, OutOfMemory>
-    ensures { IfOk result (λ connection. (own : ServerProperties) × Waits own channel connection) }
+    ensures { IfOk result (λ connection. (own : ServerProperties) × WaitsAt own channel (from_be_bytes w32 number) connection) }
 {
     let config = KerberosConfig {
         kdc_url: None,
         client_computer_name: Text::new(String::new(alloc)),
     };
-    let [.., a, b, c, d] = draw.random;
-    let mut connection = Kerberos::new_server_from_config(config, nobody(alloc), [a, b, c, d])?;
+    let mut connection = Kerberos::new_server_from_config(config, nobody(alloc), number)?;
     connection.rules = Rules::rfc();
     connection.channel = channel;
     Ok(connection)
+}
+
+/// Returns a connection that waits for its client's token, with the rules of the RFCs. Its first sequence number is drawn.
+pub(crate) fn waiting(
+    alloc: Global,
+    channel: Option<[u8; 16]>,
+    draw: &Draw,
+) -> Result<Kerberos, OutOfMemory>
+    ensures { IfOk result (λ connection. (own : ServerProperties) × Waits own channel draw.now connection) }
+{
+    numbered(alloc, channel, draw.octets::<4>(60))
 }
 
 /// Returns the service's name alone. No key is copied.

@@ -1,17 +1,21 @@
 //! Laws of an admission and of its two halves, for all values.
 
-ghost use Rattle.std.specs.Prelude.{◌≡◌, ℕ, List, Option, Result};
+ghost use Rattle.std.specs.Prelude.{◌≡◌, ℕ, true, List, Option, Result};
 ghost use Rattle.sspi_core.specs.declared.cause.Cause.{Cause};
 ghost use Rattle.sspi_core.specs.declared.draw.Draw.{Draw};
+ghost use Rattle.krb_admission.specs.Clients.{has_component};
 ghost use Rattle.krb_admission.specs.declared.admission.Answer.{Answer};
 ghost use Rattle.krb_admission.specs.Halves.{Prepared, AdmitsPrepared};
 ghost use Rattle.krb_context.specs.declared.context.Kerberos.{Kerberos};
+ghost use Rattle.krb_der.specs.Moment.{IsTime};
 ghost use Rattle.krb_replay.specs.Book.{Book, Follows, StandsFor};
+ghost use Rattle.krb_replay.specs.declared.record.Record.{Record};
 ghost use Rattle.krb_server.specs.Whole.{answered_as};
 ghost use Rattle.krb_sessions.specs.declared.session.Session.{Session};
 ghost use Rattle.krb_entrance.specs.Admits.{answer_in, Judges, Admits, IsKnown};
 ghost use Rattle.krb_entrance.specs.Candidates.{Passes};
 ghost use Rattle.krb_entrance.specs.Connections.{lent};
+ghost use Rattle.krb_entrance.specs.Told.{record_octets, NamesOneRecord};
 ghost use Rattle.krb_entrance.specs.declared.keys.Keys.{Keys};
 
 /// For a client that passes [`Keys::judge`](crate::Keys::judge), [`admit`](crate::admit) returns what the acceptor's one call returns
@@ -30,3 +34,14 @@ pub fn admitted_clients_have_names()
     ensures { (keys : Keys) (channel : Option (List ℕ)) (token : List ℕ) (draw : Draw) (old new : Book) (session : Session)
         → Admits keys channel token draw old session new → IsKnown session }
 {}
+
+/// A store that keeps bytes instead of records confuses no two of them: records of equal bytes have one time, one realm and one client's
+/// components, and the same microseconds and tag, one after the other. The client of each record has a component, as each client that
+/// is admitted has.
+pub fn stored_bytes_name_one_record()
+    ensures { (a b : Record) → IsTime a.ctime → IsTime b.ctime
+        → has_component a.name.name_string ≡ true → has_component b.name.name_string ≡ true
+        → record_octets a ≡ record_octets b → NamesOneRecord a b }
+{
+    krb_der::laws::one_spelling();
+}

@@ -28,8 +28,9 @@ pub use krb_laws_ends::laws::{
 
 // An initiator and an acceptor over services, event by event.
 pub use krb_laws_service::laws::{
-    both_ends_reach_one_context_by_events, established_connections_understand_each_other,
-    events_leave_other_connections, one_list_of_events_brings_both_to_one_context,
+    books_leave_the_service_as_histories_do, both_ends_reach_one_context_by_events,
+    established_connections_understand_each_other, events_leave_other_connections,
+    one_list_of_events_brings_both_to_one_context,
 };
 
 // The origin of the session keys of initiators.

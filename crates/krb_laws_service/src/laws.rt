@@ -21,7 +21,11 @@ ghost use Rattle.krb_laws_ends.specs.Offers.{FitsRules};
 ghost use Rattle.krb_laws_service.specs.Served.{IsFetched, IsShown, ArePlayed, answer_to};
 ghost use Rattle.krb_script.specs.Script.{at_id};
 ghost use Rattle.krb_script.specs.declared.item.Event.{Event};
+ghost use Rattle.krb_machine.specs.Admitted.{IsAdmissible, service_behind};
+ghost use Rattle.krb_machine.specs.Described.{with_gate};
 ghost use Rattle.krb_machine.specs.Policy.{State, Steps, Runs};
+ghost use Rattle.krb_replay.specs.Book.{Book, Follows, StandsFor};
+ghost use Rattle.krb_replay.specs.History.{History};
 ghost use Rattle.krb_laws_service.specs.Listed.{Exchanged, AreReady, CanOnlyAdmit, handing, events_of, closing_of, EndsPlainly, EndsInTurn};
 ghost use Rattle.krb_laws_ends.specs.Talk.{Turn, IsFair};
 
@@ -50,6 +54,18 @@ pub fn events_leave_other_connections<G: ReplayGate>()
     ensures { (state after : State G) (event : Event) (reply : Reply) (id : ℕ) → Steps G.admits state event reply after
         → (event.connection == id) ≡ false → at_id id after.connections ≡ at_id id state.connections }
 {}
+
+/// Over a replay book, an event that admits its peer leaves the service that it leaves over the gate that never forgets: the connection
+/// is the admitted one, the book represents the history with the new record, and all else is unchanged.
+pub fn books_leave_the_service_as_histories_do()
+    ensures { (before after : State Book) (h : History) (event : Event) (reply : Reply) → StandsFor before.gate h
+        → Steps (Follows StandsFor) before event reply after
+        → (admissible : IsAdmissible before.gate.skew (with_gate before h) event)
+        → StandsFor after.gate (service_behind admissible).gate × (with_gate after (service_behind admissible).gate ≡ service_behind admissible) }
+{
+    krb_machine::laws::admitted_exactly_where();
+    krb_machine::laws::runs_never_forget();
+}
 
 /// Two established connections wrap messages, and each gets the messages of the other in any order: the reply to each wrap has the
 /// message, and the reply to each unwrap of a message that comes for the first time and in time has the text that was wrapped.

@@ -5,3 +5,4 @@ pub mod KeepsLemmas
 pub mod BufferLemmas
 pub mod ShapeLemmas
 pub mod Utf8Lemmas
+pub mod BadLineLemmas

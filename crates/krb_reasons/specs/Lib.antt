@@ -3,3 +3,4 @@ pub mod Shapes
 pub mod Reasons
 pub mod Judged
 pub mod Kept
+pub mod BadLines

@@ -1,6 +1,10 @@
 //! The first bad line of an input, and the reason.
 
-ghost use Rattle.std.specs.Prelude.{◌≡◌, IfOk, string_bytes};
+ghost use Rattle.std.specs.Prelude.{◌≡◌, ◌==◌, ◌++◌, false, map, IfOk, OnOk, string_bytes};
+ghost use Rattle.std.specs.List.{slice_split, zip};
+ghost use Rattle.krb_text.specs.Lines.{lines};
+ghost use Rattle.krb_reasons.specs.BadLines.{numbered, number_past, kept_lines, last_number, first_bad, first_bad_of, Walks, Finds};
+ghost use Rattle.krb_reasons.specs.Kept.{number_after};
 ghost use Rattle.krb_reasons.specs.Reasons.{bad_line_text};
 
 use crate::head::Head;
@@ -28,6 +32,21 @@ impl BadLine {
     }
 }
 
+/// Returns the lines of a text, each without the 0A that ends it. The last may lack it.
+fn lines_of(alloc: Global, text: &[u8]) -> Result<Vec<&[u8]>, AllocError>
+    ensures { IfOk result (λ parts. map (λ line. line.now) parts.items ≡ lines text.now) }
+{
+    let mut lines = split(alloc, b'\n', text)?;
+    match lines.pop() {
+        None => Ok(lines),
+        Some(last) if last.is_empty() => Ok(lines),
+        Some(last) => {
+            lines.push(last)?;
+            Ok(lines)
+        }
+    }
+}
+
 /// Lines that are taken one after another.
 #[derive(Drop)]
 struct Walk {
@@ -37,34 +56,78 @@ struct Walk {
 }
 
 impl Walk {
-    /// Takes the lines of the head, each with its 0A and its number.
-    fn take_head(&mut self, alloc: Global, head: &Head) -> Result<(), Complaint> {
-        let lines = split(alloc, b'\n', head.octets())?;
-        for (line, number) in lines.iter().zip(head.numbers()) {
+    /// Takes lines that have these numbers.
+    fn take_numbered(
+        &mut self,
+        alloc: Global,
+        lines: &[&[u8]],
+        numbers: &[u64],
+    ) -> Result<(), Complaint>
+        ensures { Walks self.old.judge (zip (map (λ line. line.now) lines.now) numbers.now) result self.new.judge self.new.number }
+    {
+        for (place, number) in numbers.iter().enumerate() {
+            let Some(line) = lines.get(place) else {
+                return Ok(());
+            };
             self.number = *number;
-            self.judge.take(alloc, line)?;
+            match self.judge.take(alloc, line) {
+                Ok(()) => {}
+                Err(complaint) => return Err(complaint),
+            }
         }
         Ok(())
     }
 
-    /// Takes the lines of a text after `before` lines. A line begins after the text's last 0A; if it is empty, it is no line. At the
-    /// end of the text the number is that of the next line.
-    fn take_tail(&mut self, alloc: Global, before: u64, octets: &[u8]) -> Result<(), Complaint> {
-        let mut lines = split(alloc, b'\n', octets)?;
-        if octets.is_empty() || octets.ends_with(b"\n") {
-            lines.pop();
-        }
-        self.number = before.saturating_add(1);
-        for line in &lines {
-            self.judge.take(alloc, line)?;
+    /// Takes lines that are numbered from this number on. At their end the number is that of the next line.
+    fn take_counted(&mut self, alloc: Global, lines: &[&[u8]]) -> Result<(), Complaint>
+        ensures walks { Walks self.old.judge (numbered self.old.number (map (λ line. line.now) lines.now)) result self.new.judge self.new.number }
+        ensures end { OnOk result (self.new.number ≡ number_past self.old.number (map (λ line. line.now) lines.now)) }
+    {
+        for line in lines {
+            match self.judge.take(alloc, line) {
+                Ok(()) => {}
+                Err(complaint) => return Err(complaint),
+            }
             self.number = self.number.saturating_add(1);
         }
         Ok(())
     }
 
-    fn take_kept(&mut self, alloc: Global, kept: &Kept) -> Result<(), Complaint> {
-        self.take_head(alloc, kept.head())?;
-        self.take_tail(alloc, kept.head().lines(), kept.tail())?;
+    fn take_head(&mut self, alloc: Global, head: &Head) -> Result<(), Complaint>
+        ensures { Walks self.old.judge (zip (lines head.now.octets) head.now.numbers) result self.new.judge self.new.number }
+    {
+        let lines = lines_of(alloc, head.octets())?;
+        self.take_numbered(alloc, &lines, head.numbers())
+    }
+
+    fn take_tail(&mut self, alloc: Global, before: u64, text: &[u8]) -> Result<(), Complaint>
+        ensures walks { Walks self.old.judge (numbered (number_after before) (lines text.now)) result self.new.judge self.new.number }
+        ensures end { OnOk result (self.new.number ≡ number_past (number_after before) (lines text.now)) }
+    {
+        let lines = lines_of(alloc, text)?;
+        self.number = before.saturating_add(1);
+        self.take_counted(alloc, &lines)
+    }
+
+    fn take_parts(&mut self, alloc: Global, head: &Head, tail: &[u8]) -> Result<(), Complaint>
+        ensures walks { Walks self.old.judge (zip (lines head.now.octets) head.now.numbers ++ numbered (number_after head.now.lines) (lines tail.now))
+            result self.new.judge self.new.number }
+        ensures end { OnOk result (self.new.number ≡ number_past (number_after head.now.lines) (lines tail.now)) }
+    {
+        match self.take_head(alloc, head) {
+            Ok(()) => {}
+            Err(complaint) => return Err(complaint),
+        }
+        self.take_tail(alloc, head.lines(), tail)
+    }
+
+    fn take_kept(&mut self, alloc: Global, kept: &Kept) -> Result<(), Complaint>
+        ensures { Finds (first_bad self.old.judge (kept_lines kept.now) (last_number kept.now)) result self.new.number }
+    {
+        match self.take_parts(alloc, kept.head(), kept.tail()) {
+            Ok(()) => {}
+            Err(complaint) => return Err(complaint),
+        }
         match self.judge.missing() {
             Some(reason) => Err(Complaint::Bad(reason)),
             None => Ok(()),
@@ -72,8 +135,12 @@ impl Walk {
     }
 }
 
-/// Returns the first bad line of the kept part of an input. An input without a `skew` line has a bad line after its last.
-pub fn first_bad_line(alloc: Global, kept: &Kept) -> Result<Option<BadLine>, OutOfMemory> {
+/// Returns the first bad line of the kept part of an input, or None if no line is bad. An input without a `skew` line has a bad line
+/// after its last. Fails if memory ran out, here or when the input was kept.
+pub fn first_bad_line(alloc: Global, kept: &Kept) -> Result<Option<BadLine>, OutOfMemory>
+    ensures first { IfOk result (λ found. found ≡ first_bad_of kept.now) }
+    ensures whole { OnOk result (kept.now.is_lost ≡ false) }
+{
     if kept.is_lost() {
         return Err(OutOfMemory);
     }

@@ -1,9 +1,10 @@
 //! The lines of an input, one after another.
 
-ghost use Rattle.std.specs.Prelude.{◌≡◌, not, is_some, Some};
+ghost use Rattle.std.specs.Prelude.{◌≡◌, not, is_some, Some, IfSome};
 ghost use Rattle.krb_reasons.specs.Shapes.{reason_of};
 ghost use Rattle.krb_reasons.specs.Judged.{needed, attribute_conflict, conflict, conflict_in};
 ghost use Rattle.krb_reasons.specs.declared.reason.Reason.{Reason};
+ghost use Rattle.krb_reasons.specs.declared.reason.Reason.TheVariants as reasons;
 ghost use Rattle.krb_reasons.specs.declared.judge.Complaint.TheVariants.{Bad};
 
 use crate::reason::Reason;
@@ -106,7 +107,8 @@ impl Judge {
 
     /// Returns the reason why the input may not end here, if there is one: no line set the skew.
     pub fn missing(&self) -> Option<Reason>
-        ensures { is_some result ≡ not (is_some self.now.setup.skew) }
+        ensures missing { is_some result ≡ not (is_some self.now.setup.skew) }
+        ensures reason { IfSome result (λ reason. reason ≡ reasons.NoSkew) }
     {
         if self.script.has_begun() {
             None
