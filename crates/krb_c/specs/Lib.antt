@@ -5,6 +5,7 @@ pub mod Copies
 pub mod Dialogues
 pub mod Failures
 pub mod Halves
+pub mod Keyrings
 pub mod Keytabs
 pub mod Ordered
 pub mod Places
