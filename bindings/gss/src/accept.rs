@@ -18,8 +18,8 @@ use std::ptr::null_mut;
 use std::sync::Mutex;
 use std::time::{Duration, Instant};
 
-/// What the library offers of what a client may ask for. Delegation is not among it, and neither is the order of messages: a client that
-/// asks for these is admitted without them.
+/// The flags that the library offers. Delegation and the order of messages are not among them: a client that asks for these is admitted
+/// without them.
 const OFFERED: u32 = REPLAY_FLAG | CONF_FLAG | INTEG_FLAG;
 
 /// The data of a channel's bindings. Those of addresses are not compared (RFC 5929 has data alone).
@@ -35,8 +35,8 @@ unsafe fn data_of<'a>(bindings: Bindings) -> Result<Option<&'a [u8]>, Refused> {
     Ok(Some(unsafe { octets((&raw const it.data).cast_mut()) }))
 }
 
-/// The flags of RFC 2744 for a client that asked for these: what it did not ask for is not among them. A client without flags is of
-/// another protocol, and messages can be sealed for it.
+/// The flags of RFC 2744 for a client that asked for these, and no others. A client without flags is of another protocol, and messages
+/// can be encrypted for it.
 fn flags_of(asked: Option<GssFlags>, is_answered: bool, is_bound: bool) -> u32 {
     let asked = asked.map_or(OFFERED, |it| it.bits() & OFFERED);
     let mutual = if is_answered { MUTUAL_FLAG } else { 0 };
@@ -95,7 +95,7 @@ unsafe fn decide(
     }
 }
 
-/// What is known of a client, for the log: one line.
+/// The line of the log for a client.
 fn shown(known: &Known) -> String {
     let name = |it: &Option<String>| it.as_deref().unwrap_or("-").escape_debug().to_string();
     let ahead = known.ahead.map_or("-".into(), |it| format!("{it:+}s"));

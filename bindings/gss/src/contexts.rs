@@ -40,7 +40,7 @@ pub fn lock(it: &Mutex<Proved>) -> MutexGuard<'_, Proved> {
     it.lock().unwrap_or_else(PoisonError::into_inner)
 }
 
-/// A call on a context: `$behind` where it is an initiator's, and `$ours` where it is an acceptor's.
+/// A call on a context: `$behind` if it is an initiator's, and `$ours` if it is an acceptor's.
 #[macro_export]
 macro_rules! on {
     ($ctx:expr, $inner:ident => $behind:expr, $it:ident => $ours:expr) => {
@@ -215,7 +215,7 @@ pub unsafe extern "C" fn gssi_inquire_context(
     })
 }
 
-/// What is told of a session by an OID: the octets, one or two of them.
+/// The octets, one or two of them, by which a session answers an OID.
 fn told(it: &mut Proved, what: &[u8]) -> Option<Vec<Vec<u8>>> {
     match what {
         TICKET_FLAGS => Some(vec![it.session.ticket_flags()?.to_ne_bytes().to_vec()]),

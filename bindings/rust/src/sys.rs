@@ -2,7 +2,7 @@
 
 use std::marker::{PhantomData, PhantomPinned};
 
-/// An address that only the library reads, and whether something is there.
+/// A handle of the library: a count and an address that only the library reads.
 #[repr(C)]
 pub struct Handle {
     count: u64,
@@ -28,7 +28,7 @@ pub const ASK_KDC: u32 = 0;
 pub const SEND_TOKEN: u32 = 1;
 pub const ESTABLISHED: u32 = 2;
 
-/// A call that puts octets into a room.
+/// A call that writes bytes into a buffer.
 pub type OutCall = unsafe extern "C" fn(*mut Handle, *mut u8, usize) -> Reply;
 
 #[repr(C)]
