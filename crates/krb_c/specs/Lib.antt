@@ -1,4 +1,5 @@
 pub mod Asked
+pub mod Authorization
 pub mod Calls
 pub mod Codes
 pub mod Copies
