@@ -7,6 +7,7 @@
 mod accept;
 mod acceptor;
 mod asked;
+mod authorization;
 mod codes;
 mod copies;
 mod delegation;
