@@ -5,6 +5,7 @@ mod Given
 mod JudgementBox
 mod KeyringBox
 mod Places
+mod RingLemmas
 mod SaslBox
 mod SaslLemmas
 mod Served

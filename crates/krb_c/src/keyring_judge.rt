@@ -34,6 +34,7 @@ fn channel_if(alloc: Global, is_bound: bool, octets: &[u8]) -> Result<Option<[u8
 }
 
 /// Returns a candidate in a box.
+#[tactic(auto, using(crate::proofs::RingLemmas::out_of_memory))]
 fn boxed_candidate(
     alloc: Global,
     ring: &Keyring,
@@ -49,6 +50,7 @@ fn boxed_candidate(
 }
 
 /// Returns the candidate of a token, bound to the channel that has these data if it is bound to one.
+#[tactic(auto, using(crate::proofs::RingLemmas::out_of_memory))]
 fn candidate_of(
     alloc: Global,
     ring: &Keyring,
