@@ -21,12 +21,7 @@ use krb_sasl::{Layer, SaslClient, SaslError, SaslServer};
 use std::alloc::Global;
 
 /// Returns the end of a server on a copy of the session's context, with the order of the session.
-fn server_of(
-    alloc: Global,
-    session: &Session,
-    layers: u32,
-    most: u32,
-) -> Result<SaslEnd, SaslError>
+fn server_of(alloc: Global, session: &Session, layers: u32, most: u32) -> Result<SaslEnd, SaslError>
     ensures { Answers (ServesAs layers most session.now) result }
 {
     if 7 < layers {
