@@ -2,7 +2,7 @@
 
 use crate::error::{Error, done, told_flags};
 use crate::options::GssFlags;
-use crate::session::Session;
+use crate::session::{Authorization, Session};
 use crate::sys::{self, Handle, Moment};
 use crate::{filled, microseconds, moment_of, random};
 use std::sync::atomic::{AtomicU32, Ordering};
@@ -92,6 +92,16 @@ impl Acceptor {
                 skew,
             )
         })?;
+        Ok(Acceptor::of(handle, skew))
+    }
+
+    /// Makes an acceptor without a key: its replay book admits what a [`Keyring`](crate::Keyring) judged. It refuses every token that it
+    /// judges itself.
+    pub fn keyless(skew: Duration) -> Result<Acceptor, Error> {
+        let skew = seconds(skew)?;
+        let mut handle = Handle::EMPTY;
+        // SAFETY: the handle is empty.
+        done(unsafe { sys::mk_acceptor_new_keyless(&mut handle, skew) })?;
         Ok(Acceptor::of(handle, skew))
     }
 
@@ -279,7 +289,7 @@ impl Acceptor {
         moment: &Moment,
     ) -> Result<Judged, Error> {
         let (changes, mut copy) = self.copy()?;
-        let mut judged = Judged(Handle::EMPTY);
+        let mut judged = Judged::empty();
         let (keys, to) = (&mut copy, &mut judged.0);
         // SAFETY: the copy is ours, the other handle is empty, and each pointer and length are those of one slice.
         let reply = unsafe {
@@ -334,6 +344,14 @@ impl Acceptor {
 }
 
 impl Judged {
+    pub(crate) fn empty() -> Judged {
+        Judged(Handle::EMPTY)
+    }
+
+    pub(crate) fn handle(&mut self) -> &mut Handle {
+        &mut self.0
+    }
+
     /// Returns the whole name of the client, in the form of [`Session::client`]. It is not admitted yet.
     pub fn client(&mut self) -> Result<String, Error> {
         let handle = &mut self.0;
@@ -376,6 +394,16 @@ impl Judged {
         // SAFETY: as above.
         filled(0, |out, room| unsafe {
             sys::mk_judged_get_delegation(handle, out, room)
+        })
+    }
+
+    /// Returns an element of the authorization data of the ticket, as a PAC, or `None` if there are fewer (RFC 4120, section 5.2.6). The
+    /// place counts from 0, and each AD-IF-RELEVANT counts as the elements inside it, one level deep. **Nothing in it is checked here.**
+    pub fn authorization(&mut self, place: usize) -> Result<Option<Authorization>, Error> {
+        let handle = &mut self.0;
+        // SAFETY: the handle and the number are ours, and the pointer and the length are those of one vector.
+        Authorization::of(|kind, out, room| unsafe {
+            sys::mk_judged_get_authorization(handle, place, kind, out, room)
         })
     }
 

@@ -24,8 +24,8 @@
 //!
 //! The library's code is proved before it is compiled: `crates/krb_c` states the contract of each call. This crate is a thin layer that is
 //! not proved: it declares the calls, passes slices as a pointer and a length, keeps each handle from two threads at once, and asks the
-//! system for the time and for random bytes. An [`Acceptor`] is [`Send`] and [`Sync`], by a lock; a [`Session`], an [`Initiator`], a
-//! [`SaslServer`] and a [`SaslClient`] are [`Send`], which is proved of their handles, and not [`Sync`].
+//! system for the time and for random bytes. An [`Acceptor`] is [`Send`] and [`Sync`], by a lock; a [`Keyring`], a [`Session`], an
+//! [`Initiator`], a [`SaslServer`] and a [`SaslClient`] are [`Send`], which is proved of their handles, and not [`Sync`].
 
 #![warn(missing_docs)]
 
@@ -33,6 +33,7 @@ mod acceptor;
 pub mod carrier;
 mod error;
 mod initiator;
+mod keyring;
 mod options;
 mod sasl;
 mod session;
@@ -41,9 +42,10 @@ mod sys;
 pub use acceptor::{Acceptor, Judged};
 pub use error::{Cause, Error, Kind, LayerRefusal, Refusal};
 pub use initiator::{Initiator, Next, Step};
+pub use keyring::Keyring;
 pub use options::{Flags, GssFlags, Rules};
 pub use sasl::{Layer, Layers, SaslClient, SaslServer};
-pub use session::{Opened, Session};
+pub use session::{Authorization, Opened, Session};
 
 use error::done;
 use std::fs::File;

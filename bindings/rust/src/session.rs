@@ -2,7 +2,7 @@
 
 use crate::error::{Cause, Error, done, told_flags};
 use crate::options::{GssFlags, Rules};
-use crate::sys::{self, Handle, Times};
+use crate::sys::{self, Handle, Reply, Times};
 use crate::{filled, random};
 use std::time::{Duration, SystemTime, UNIX_EPOCH};
 
@@ -28,6 +28,29 @@ pub struct Opened {
     pub text: Vec<u8>,
     /// True if the token was encrypted, false if it was in the clear.
     pub sealed: bool,
+}
+
+/// An element of authorization data (RFC 4120, section 5.2.6).
+#[derive(Clone, Debug, PartialEq, Eq)]
+pub struct Authorization {
+    /// The type (section 7.5.4), as 128 for a PAC.
+    pub kind: i32,
+    /// The bytes of the element.
+    pub data: Vec<u8>,
+}
+
+impl Authorization {
+    /// Returns the element that a call writes with its type, or `None` if the call says that there is none at its place.
+    pub(crate) fn of(
+        mut call: impl FnMut(*mut i32, *mut u8, usize) -> Reply,
+    ) -> Result<Option<Authorization>, Error> {
+        let mut kind = 0;
+        match filled(0, |out, room| call(&mut kind, out, room)) {
+            Ok(data) => Ok(Some(Authorization { kind, data })),
+            Err(Error::Argument) => Ok(None),
+            Err(error) => Err(error),
+        }
+    }
 }
 
 impl Session {
@@ -168,6 +191,31 @@ impl Session {
             return Ok(Vec::new());
         }
         self.octets(0, sys::mk_session_get_delegation)
+    }
+
+    /// Returns the last 12 bytes of the encrypted authenticator by which the client was admitted, as [`Judged::tag`](crate::Judged::tag)
+    /// does, or `None` for an initiator's session.
+    pub fn tag(&mut self) -> Result<Option<[u8; 12]>, Error> {
+        if self.client.is_none() {
+            return Ok(None);
+        }
+        let mut tag = [0; 12];
+        // SAFETY: the handle is ours, and the pointer and the length are those of one array.
+        done(unsafe { sys::mk_session_get_tag(&mut self.handle, tag.as_mut_ptr(), tag.len()) })?;
+        Ok(Some(tag))
+    }
+
+    /// Returns an element of the authorization data of the client's ticket, as [`Judged::authorization`](crate::Judged::authorization)
+    /// does, and `None` for an initiator's session.
+    pub fn authorization(&mut self, place: usize) -> Result<Option<Authorization>, Error> {
+        if self.client.is_none() {
+            return Ok(None);
+        }
+        let handle = &mut self.handle;
+        // SAFETY: the handle and the number are ours, and the pointer and the length are those of one vector.
+        Authorization::of(|kind, out, room| unsafe {
+            sys::mk_session_get_authorization(handle, place, kind, out, room)
+        })
     }
 
     /// Returns the key of its messages, for a program that encrypts by itself: 32 bytes for encryption type 18, and 16 for type 17

@@ -3,7 +3,9 @@ mod CodeLemmas
 mod DialogueBox
 mod Given
 mod JudgementBox
+mod KeyringBox
 mod Places
+mod RingLemmas
 mod SaslBox
 mod SaslLemmas
 mod Served

@@ -9,7 +9,7 @@ returns-in_err-wanted c = stops _ _ _ _ (answers _ _ c.in_err-wanted.ensures) c.
 
 pub returns-in-Ok : goal.returns-in-Ok
 unfolding WishesAs
-returns-in-Ok c = goes _ _ _ _ (answers _ _ c.in_ok-wanted.ensures) (goes _ _ _ _ (rw c.in_ok-context.ensures at c.in-Ok.ensures) (given _))
+returns-in-Ok c = rw c.set_order.ensures (rw c.in_order.ensures (goes _ _ _ _ (answers _ _ c.in_ok-wanted.ensures) (goes _ _ _ _ (rw c.in_ok-context.ensures at c.in-Ok.ensures) (given _))))
 
 pub returns-in-Err : goal.returns-in-Err
 unfolding WishesAs
