@@ -4,26 +4,28 @@ use crate::abi::*;
 use crate::buffers::{octets, put, set};
 use crate::config::{self, Settings};
 use crate::contexts::{Context, Proved, context, left, made};
-use crate::credentials::credential;
+use crate::credentials::{credential, of_behind};
 use crate::decide::{Admitted, Asked, Known, admit};
 use crate::guard::guard;
+use crate::names::machine;
 use crate::oids::KRB5;
 use crate::status::{
     ADDRESSES, INITIATOR, NAME, NO_MEMORY, Refused, SECOND_TOKEN, SETTINGS, words,
 };
-use crate::{counters, names, say, trace};
+use crate::{counters, delegated, names, say, trace};
 use menolavuri::GssFlags;
 use std::ffi::c_void;
 use std::ptr::null_mut;
 use std::sync::Mutex;
 use std::time::{Duration, Instant};
 
-/// What the library offers of what a client may ask for. Delegation is not among it, and neither is the order of messages: a client that
-/// asks for these is admitted without them.
-const OFFERED: u32 = REPLAY_FLAG | CONF_FLAG | INTEG_FLAG;
+/// The flags of a client that the library keeps to. A client that asks for others is admitted without them.
+const OFFERED: u32 = REPLAY_FLAG | SEQUENCE_FLAG | CONF_FLAG | INTEG_FLAG;
+/// Those of a client whose checksum has no flags: it is of another protocol, and messages can be encrypted for it.
+const WITHOUT_FLAGS: u32 = REPLAY_FLAG | CONF_FLAG | INTEG_FLAG;
 
 /// The data of a channel's bindings. Those of addresses are not compared (RFC 5929 has data alone).
-unsafe fn data_of<'a>(bindings: Bindings) -> Result<Option<&'a [u8]>, Refused> {
+pub unsafe fn data_of<'a>(bindings: Bindings) -> Result<Option<&'a [u8]>, Refused> {
     // SAFETY: of the caller.
     let Some(it) = (unsafe { bindings.as_ref() }) else {
         return Ok(None);
@@ -35,10 +37,9 @@ unsafe fn data_of<'a>(bindings: Bindings) -> Result<Option<&'a [u8]>, Refused> {
     Ok(Some(unsafe { octets((&raw const it.data).cast_mut()) }))
 }
 
-/// The flags of RFC 2744 for a client that asked for these: what it did not ask for is not among them. A client without flags is of
-/// another protocol, and messages can be sealed for it.
+/// The flags of RFC 2744 for a client that asked for these: what it did not ask for is not among them.
 fn flags_of(asked: Option<GssFlags>, is_answered: bool, is_bound: bool) -> u32 {
-    let asked = asked.map_or(OFFERED, |it| it.bits() & OFFERED);
+    let asked = asked.map_or(WITHOUT_FLAGS, |it| it.bits() & OFFERED);
     let mutual = if is_answered { MUTUAL_FLAG } else { 0 };
     let bound = if is_bound { CHANNEL_BOUND_FLAG } else { 0 };
     asked | mutual | bound | PROT_READY_FLAG
@@ -48,6 +49,8 @@ fn flags_of(asked: Option<GssFlags>, is_answered: bool, is_bound: bool) -> u32 {
 struct Accepted {
     name: Name,
     proved: Proved,
+    /// The ticket that it hands on, as MIT's mechanism has it.
+    delegated: Option<Cred>,
 }
 
 unsafe fn decide(
@@ -55,7 +58,8 @@ unsafe fn decide(
     ctx: *mut c_void,
     cred: *mut c_void,
     input: Buffer,
-    bindings: Bindings,
+    channel: Bindings,
+    takes_delegated: bool,
     known: &mut Known,
 ) -> Result<Accepted, Refused> {
     // SAFETY: of the caller.
@@ -67,7 +71,7 @@ unsafe fn decide(
         if it.as_ref().is_some_and(|it| !it.accepts) {
             return Err(Refused::of(NO_CRED, INITIATOR, ""));
         }
-        let bindings = data_of(bindings)?;
+        let bindings = data_of(channel)?;
         let it = it.as_deref();
         let asked = Asked {
             token: octets(input),
@@ -76,23 +80,46 @@ unsafe fn decide(
             bindings,
         };
         let Admitted {
-            session,
+            mut session,
             client,
             service,
             flags,
+            keytab,
         } = admit(settings, &asked, known)?;
         let Some(name) = names::of(&client) else {
             return Err(Refused::of(FAILURE, NAME, ""));
         };
-        let flags = flags_of(flags, !session.answer().is_empty(), bindings.is_some());
+        let hands_on = takes_delegated && session.delegation().is_ok_and(|it| !it.is_empty());
+        let delegated = match hands_on {
+            true => delegated::of(&keytab, input, channel),
+            false => None,
+        };
+        let mut flags = flags_of(flags, !session.answer().is_empty(), bindings.is_some());
+        if delegated.is_some() {
+            flags |= DELEG_FLAG;
+        }
         let proved = Proved {
+            ends: session.ends(),
             session,
             client,
             service,
             flags,
+            is_local: false,
         };
-        Ok(Accepted { name, proved })
+        Ok(Accepted {
+            name,
+            proved,
+            delegated,
+        })
     }
+}
+
+/// The name of the service that refuses a client: that of the ticket, of the credential, or the host's own.
+unsafe fn named(known: &Known, cred: *mut c_void) -> String {
+    // SAFETY: of the caller.
+    let wanted = unsafe { credential(cred) }.and_then(|it| it.service.clone());
+    let name = known.service.clone().or(wanted);
+    name.unwrap_or_else(|| format!("host/{}", machine()))
 }
 
 /// What is known of a client, for the log: one line.
@@ -144,6 +171,7 @@ struct Out {
     output: Buffer,
     flags: *mut u32,
     life: *mut u32,
+    delegated: *mut *mut c_void,
 }
 
 unsafe fn give(out: &Out, it: Accepted) {
@@ -154,9 +182,12 @@ unsafe fn give(out: &Out, it: Accepted) {
         } else {
             *out.source = it.name;
         }
+        if let Some(delegated) = it.delegated {
+            set(out.delegated, of_behind(delegated));
+        }
         set(out.mech, &raw const KRB5);
         set(out.flags, it.proved.flags);
-        set(out.life, left(&it.proved.session));
+        set(out.life, left(&it.proved));
         *out.ctx = made(Context::Proved(Box::new(Mutex::new(it.proved))));
     }
 }
@@ -174,7 +205,15 @@ unsafe fn accept(
     unsafe {
         let settings = config::get();
         let decided = match settings {
-            Ok(it) => decide(it, *out.ctx, cred, input, bindings, &mut known),
+            Ok(it) => decide(
+                it,
+                *out.ctx,
+                cred,
+                input,
+                bindings,
+                !out.delegated.is_null(),
+                &mut known,
+            ),
             Err(words) => Err(Refused::of(FAILURE, SETTINGS, words)),
         };
         let decided = decided.and_then(|it| match put(out.output, it.proved.session.answer()) {
@@ -188,7 +227,7 @@ unsafe fn accept(
                 COMPLETE
             }
             Err(it) => {
-                put(out.output, &it.token);
+                put(out.output, &it.token(&named(&known, cred)));
                 set(minor, it.minor);
                 it.major
             }
@@ -224,6 +263,7 @@ pub unsafe extern "C" fn gssi_accept_sec_context(
             output,
             flags,
             life,
+            delegated,
         };
         accept(minor, cred, input, bindings, &out)
     })
@@ -263,14 +303,14 @@ mod tests {
 
     #[test]
     fn flags_are_those_that_were_asked_for() {
-        assert_eq!(flags_of(Some(GssFlags::ALL), true, false), 0xb6);
+        assert_eq!(flags_of(Some(GssFlags::ALL), true, false), 0xbe);
         assert_eq!(
             flags_of(Some(GssFlags::NONE), false, false),
             PROT_READY_FLAG
         );
         assert_eq!(
             flags_of(Some(GssFlags::GSS_C_SEQUENCE_FLAG), false, true),
-            PROT_READY_FLAG | CHANNEL_BOUND_FLAG
+            SEQUENCE_FLAG | PROT_READY_FLAG | CHANNEL_BOUND_FLAG
         );
         assert_eq!(flags_of(None, true, false), 0xb6);
     }

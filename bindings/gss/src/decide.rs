@@ -33,6 +33,8 @@ pub struct Admitted {
     pub service: String,
     /// What the client asked for.
     pub flags: Option<GssFlags>,
+    /// The name of the keytab.
+    pub keytab: String,
 }
 
 fn by_library(error: Error) -> Refused {
@@ -75,6 +77,7 @@ pub fn admit(
         client,
         service,
         flags,
+        keytab: name,
     })
 }
 
@@ -94,6 +97,10 @@ fn ask_store(
         .map_err(by_library)?;
     if let Some(rules) = settings.rules {
         session.set_rules(rules).map_err(by_library)?;
+    }
+    let wants_order = |it: GssFlags| it.contains(GssFlags::GSS_C_SEQUENCE_FLAG);
+    if session.flags().is_some_and(wants_order) {
+        session.set_in_order(true).map_err(by_library)?;
     }
     Ok(session)
 }

@@ -4,19 +4,13 @@
 //! one version and one encryption type each. What is read here is a file of the administrator's.
 
 use crate::config::variable;
+use crate::krb5::Krb5;
 use std::collections::BTreeMap;
-use std::ffi::{CStr, c_char, c_int, c_void};
 use std::sync::{Mutex, OnceLock, PoisonError};
 
 /// The name that gsskrb5_register_acceptor_identity gave.
 static REGISTERED: Mutex<Option<String>> = Mutex::new(None);
 static DEFAULT: OnceLock<String> = OnceLock::new();
-
-unsafe extern "C" {
-    fn krb5_init_context(to: *mut *mut c_void) -> c_int;
-    fn krb5_free_context(context: *mut c_void);
-    fn krb5_kt_default_name(context: *mut c_void, to: *mut c_char, room: c_int) -> c_int;
-}
 
 /// Takes the name that a program registers; none where it is empty.
 pub fn register(name: &str) {
@@ -24,20 +18,10 @@ pub fn register(name: &str) {
     *REGISTERED.lock().unwrap_or_else(PoisonError::into_inner) = name;
 }
 
-/// What MIT krb5 says of krb5.conf and its own default, once for the process.
+/// The name in krb5.conf, or MIT krb5's own default, once for the process.
 fn default_of_mit() -> String {
-    let mut name: [c_char; 1024] = [0; 1024];
-    let mut context = std::ptr::null_mut();
-    // SAFETY: the context is MIT's, and is freed; the name is ours and ends with 0 where the call answers 0.
-    let told = unsafe {
-        if krb5_init_context(&mut context) != 0 {
-            return "/etc/krb5.keytab".into();
-        }
-        let status = krb5_kt_default_name(context, name.as_mut_ptr(), 1024);
-        krb5_free_context(context);
-        (status == 0).then(|| CStr::from_ptr(name.as_ptr()).to_string_lossy().into_owned())
-    };
-    told.unwrap_or_else(|| "/etc/krb5.keytab".into())
+    let name = Krb5::new().and_then(|it| it.default_keytab());
+    name.unwrap_or_else(|| "/etc/krb5.keytab".into())
 }
 
 /// The name of the keytab: that of the credential's store, else of the settings, else the one that the program registered, else
