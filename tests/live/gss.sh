@@ -20,10 +20,10 @@ gss_settings() {
     printf '%s = %s\n' keytab "$gss/keytab" store "$1" status "$gss/status" skew 60 log "${2:-$gss/log}"
 }
 
-# A folder of the room that each server's user may read, and the realm with the services that the servers need.
+# A folder of the room that each server's user may read, and the realm with the services that the servers need: gss_room [NAME]
 gss_room() {
     local service
-    gss=$room/gss
+    gss=$room/${1:-gss}
     chmod 755 "$room"
     mkdir "$gss" && mkdir -m 1777 "$gss/store" "$gss/status"
     touch "$gss/log" && chmod 666 "$gss/log"
