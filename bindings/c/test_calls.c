@@ -50,6 +50,18 @@ static void tell_flags(mk_reply flags, mk_reply ticket_flags) {
     CHECK(ticket_flags.status == MK_OK && ticket_flags.length == 0 && ticket_flags.number == 0x00290000);
 }
 
+/* A moment is that of the clock, and no two are alike. */
+static void moments(void) {
+    mk_moment first, second;
+    uint8_t out[16] = {0}, none[16] = {0};
+    time_t before = time(NULL);
+    CHECK(mk_now(&first) == 0 && mk_now(&second) == 0);
+    CHECK((uint64_t)before <= first.moment / 1000000 && first.moment <= second.moment && second.moment / 1000000 <= (uint64_t)time(NULL));
+    CHECK(memcmp(first.random, second.random, sizeof first.random) != 0);
+    CHECK(mk_random(out, 0) == 0 && memcmp(out, none, sizeof out) == 0);
+    CHECK(mk_random(out, sizeof out) == 0 && memcmp(out, none, sizeof out) != 0);
+}
+
 /* A client is admitted once, and each message of its is opened once. */
 static void good(const conversation *c) {
     mk_acceptor acceptor = MK_EMPTY;
@@ -383,6 +395,7 @@ int main(int count, char **words) {
         fprintf(stderr, "usage: test_calls CONVERSATION [ROUNDS]\n");
         return 2;
     }
+    moments();
     once(&c);
     for (int i = 0; i < rounds; i++) {
         good(&c);

@@ -37,8 +37,8 @@ abbrev pub arrivals_in : ℕ → List Event → List Arrival
 arrivals_in id [] = []
 arrivals_in id (event ∷ events) = arrivals_by id event ++ arrivals_in id events
 
--- one of these events, which is for the connection, begins an exchange; and in a stretch right after it the network brings the connection
--- these replies, in their order, and nothing else
+-- one of these events, which is for the connection, begins an exchange; and in a stretch right after it the network brings the
+-- connection these replies, in their order, and nothing else
 pub record IsExchange (id : ℕ) (start : Event) (arrivals : List Arrival) (events : List Event) : Type 0 where
   pub earlier : List Event
   pub during : List Event
@@ -47,8 +47,8 @@ pub record IsExchange (id : ℕ) (start : Event) (arrivals : List Arrival) (even
   pub is_for : is_heard id start ≡ true
   pub brought : arrivals_in id during ≡ arrivals
 
--- a ticket is sought to the connection's own target, for the client of its own identity, and by its own rules, with the flags of the event
--- that begins the exchange
+-- a ticket is sought for the connection's own target, for the client of its own identity, and by its own rules, with the flags of the
+-- event that begins the exchange
 pub record SeeksFor (connection : Connection) (start : Event) (seeker : Seeker) : Type 0 where
   pub identity : connection.context.auth_identity ≡ Some seeker.asker.credentials
   pub client : NamesClient seeker.asker.credentials connection.context.config.client_computer_name seeker.asker.env (Ok seeker.client)

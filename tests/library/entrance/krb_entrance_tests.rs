@@ -1,6 +1,7 @@
 //! Clients that are let in, in one call and in two halves, and their messages.
 
 mod bound;
+mod delegation;
 mod halves;
 mod keys;
 mod messages;
