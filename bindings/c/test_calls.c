@@ -268,6 +268,60 @@ static void keytabs(const conversation *c) {
     mk_acceptor_free(&acceptor);
 }
 
+/* A keyring judges by the keys of its keytabs, and an acceptor without a key admits what it judged, once. */
+static void keyrings(const conversation *c) {
+    mk_keyring ring = MK_EMPTY;
+    mk_acceptor book = MK_EMPTY, other_book = MK_EMPTY;
+    mk_judged judged = MK_EMPTY;
+    mk_session session = MK_EMPTY;
+    const uint8_t none[1] = {0};
+    const octets other = {{1, 2, 3}, 32};
+    octets file = keytab_of(&c->key, 2), newer = keytab_of(&other, 3);
+    uint8_t tag[12], again[12];
+    int32_t type = 7;
+    CHECK(mk_keyring_count(&ring) == 0 && mk_keyring_add_keytab(&ring, file.at, file.length).status == MK_HANDLE);
+    CHECK(mk_keyring_limit_tokens(&ring, 9).status == MK_HANDLE);
+    CHECK(mk_keyring_judge(&ring, &judged, c->token.at, c->token.length, 0, none, 0, &c->moment).status == MK_HANDLE);
+    CHECK(mk_keyring_new(&ring).status == MK_OK && mk_keyring_new(&ring).status == MK_HANDLE && mk_keyring_count(&ring) == 0);
+    CHECK(is_refused(mk_keyring_judge(&ring, &judged, c->token.at, c->token.length, 0, none, 0, &c->moment), MK_CAUSE_NO_SERVICE_KEY));
+    CHECK(is_refused(mk_keyring_add_keytab(&ring, file.at, file.length - 1), MK_CAUSE_SHAPE) && mk_keyring_count(&ring) == 0);
+    mk_reply reply = mk_keyring_add_keytab(&ring, newer.at, newer.length);
+    CHECK(reply.status == MK_OK && reply.length == 1 && mk_keyring_count(&ring) == 1);
+    CHECK(is_refused(mk_keyring_judge(&ring, &judged, c->token.at, c->token.length, 0, none, 0, &c->moment), MK_CAUSE_ALTERED));
+    reply = mk_keyring_add_keytab(&ring, file.at, file.length);
+    CHECK(reply.status == MK_OK && reply.length == 1 && mk_keyring_count(&ring) == 2);
+    /* The ticket names version 2. */
+    CHECK(mk_keyring_judge(&ring, &judged, c->token.at, c->token.length, 0, none, 0, &c->moment).status == MK_OK);
+    CHECK(mk_keyring_judge(&ring, &judged, c->token.at, c->token.length, 0, none, 0, &c->moment).status == MK_HANDLE);
+    CHECK(mk_judged_tag(&judged, tag, sizeof tag).status == MK_OK);
+    CHECK(mk_judged_get_authorization(&judged, SIZE_MAX, &type, again, 0).status == MK_ARGUMENT && type == 7);
+    CHECK(mk_acceptor_new_keyless(&book, 300).status == MK_OK && mk_acceptor_new_keyless(&book, 300).status == MK_HANDLE);
+    CHECK(mk_judge(&book, &judged, c->token.at, c->token.length, &c->moment).status == MK_HANDLE);
+    CHECK(mk_admit(&other_book, &judged, &session).status == MK_HANDLE && judged.count == 1);
+    CHECK(mk_admit(&book, &judged, &session).status == MK_OK && judged.count == 0);
+    CHECK(mk_session_get_tag(&session, again, 11).status == MK_ROOM);
+    reply = mk_session_get_tag(&session, again, sizeof again);
+    CHECK(reply.status == MK_OK && reply.length == 12 && memcmp(tag, again, 12) == 0);
+    CHECK(mk_session_get_authorization(&session, SIZE_MAX, &type, again, 0).status == MK_ARGUMENT && type == 7);
+    mk_session_free(&session);
+    CHECK(is_refused(mk_judge(&book, &judged, c->token.at, c->token.length, &c->moment), MK_CAUSE_NO_SERVICE_KEY));
+    /* This client gave no bindings of a channel. */
+    CHECK(is_refused(mk_keyring_judge(&ring, &judged, c->token.at, c->token.length, 1, none, 1, &c->moment), MK_CAUSE_BINDINGS));
+    CHECK(mk_keyring_judge(&ring, &judged, c->token.at, c->token.length, 0, none, 1, &c->moment).status == MK_OK);
+    CHECK(is_refused(mk_admit(&book, &judged, &session), MK_CAUSE_REPLAYED) && judged.count == 0);
+    CHECK(mk_keyring_limit_tokens(&ring, c->token.length - 1).status == MK_OK);
+    CHECK(is_refused(mk_keyring_judge(&ring, &judged, c->token.at, c->token.length, 0, none, 0, &c->moment), MK_CAUSE_SHAPE));
+    mk_moment late = c->moment;
+    late.moment = UINT64_MAX;
+    CHECK(mk_keyring_judge(&ring, &judged, c->token.at, c->token.length, 0, none, 0, &late).status == MK_ARGUMENT);
+    CHECK(mk_judged_get_authorization(&judged, 0, &type, again, 0).status == MK_HANDLE);
+    CHECK(mk_session_get_tag(&session, again, sizeof again).status == MK_HANDLE);
+    CHECK(mk_session_get_authorization(&session, 0, &type, again, 0).status == MK_HANDLE && type == 7);
+    mk_keyring_free(&ring);
+    mk_acceptor_free(&book);
+    CHECK(ring.count == 0 && book.count == 0);
+}
+
 /* The token of a refusal: the mechanism's name, 03 00 (RFC 4121, 4.1), and a KRB-ERROR (RFC 4120, 5.9.1). */
 static void tell_refusals(void) {
     static const uint8_t head[] = {0x06, 0x09, 0x2a, 0x86, 0x48, 0x86, 0xf7, 0x12, 0x01, 0x02, 0x02, 0x03, 0x00, 0x7e};
@@ -402,6 +456,7 @@ int main(int count, char **words) {
         halves(&c);
         told(&c);
         keytabs(&c);
+        keyrings(&c);
         tell_refusals();
         bad(&c);
     }

@@ -405,6 +405,31 @@ static void refuse_late(const exchange *x) {
     end_both(&server, &client);
 }
 
+/* An end goes on in the order of its session: a client's first token is not passed over, and a count that began goes on. */
+static void keep_order(const exchange *x) {
+    mk_session initiator = MK_EMPTY, acceptor = MK_EMPTY;
+    mk_sasl server = MK_EMPTY, client = MK_EMPTY;
+    uint8_t out[64], offer[32];
+    meet(x, &initiator, &acceptor);
+    CHECK(is_done(serve(&acceptor, &server, 7, 100), 0) && is_done(mk_sasl_offer(&server, offer, 32), 32));
+    octets first = says_choice(&initiator, 4, 200, "bob"), second = says_choice(&initiator, 4, 200, "alice");
+    CHECK(is_refused(accept(&server, &second, out, sizeof out), MK_CAUSE_NUMBER));
+    CHECK(gives(accept(&server, &first, out, sizeof out), out, "bob", 3));
+    mk_sasl_free(&server);
+    mk_session_free(&initiator);
+    meet(x, &initiator, &acceptor);
+    CHECK(mk_session_set_order(&acceptor, 1).status == MK_OK && mk_session_set_order(&initiator, 1).status == MK_OK);
+    first = said(&initiator, "to it", 5);
+    CHECK(gives(mk_unwrap(&acceptor, first.at, first.length, out, sizeof out), out, "to it", 5));
+    first = said(&acceptor, "from it", 7);
+    CHECK(gives(mk_unwrap(&initiator, first.at, first.length, out, sizeof out), out, "from it", 7));
+    said(&acceptor, "lost", 4);
+    CHECK(is_done(serve(&acceptor, &server, 7, 100), 0) && is_done(wish(&initiator, &client, 4, 100, "bob"), 0));
+    octets lent = {{0}, 32};
+    CHECK(is_done(mk_sasl_offer(&server, lent.at, 32), 32) && is_refused(answer(&client, &lent, out, sizeof out), MK_CAUSE_NUMBER));
+    end_both(&server, &client);
+}
+
 /* Makes a call with memory refused at its first growth, at its second and so on, until it is done. Before that nothing is changed. */
 #define PATIENTLY(reply, call)                                                                            \
     do {                                                                                                  \
@@ -474,6 +499,7 @@ int main(int count, char **words) {
     for (int i = 0; i < rounds || i < 4; i++) {
         converse(&x, i % 4);
         refuse_ends(&x);
+        keep_order(&x);
         refuse_steps(&x);
         refuse_answers(&x);
         refuse_offers(&x);

@@ -122,7 +122,7 @@ unsafe fn named(known: &Known, cred: *mut c_void) -> String {
     name.unwrap_or_else(|| format!("host/{}", machine()))
 }
 
-/// What is known of a client, for the log: one line.
+/// The line of the log for a client.
 fn shown(known: &Known) -> String {
     let name = |it: &Option<String>| it.as_deref().unwrap_or("-").escape_debug().to_string();
     let ahead = known.ahead.map_or("-".into(), |it| format!("{it:+}s"));

@@ -1,4 +1,4 @@
-//! Octets that come from the mechglue and go to it. A null pointer is no octets, and where nothing is wanted nothing is written.
+//! Octets that come from the mechglue and go to it. A null pointer is no octets, and nothing is written through one.
 
 use crate::abi::{Buffer, BufferDesc};
 use std::ffi::c_void;
@@ -36,7 +36,7 @@ pub unsafe fn text(buffer: Buffer) -> String {
 }
 
 /// Puts octets into a buffer for the caller, which frees them by `free`. An octet 0 comes after them and is not counted, since programs
-/// print the words of a status as text of C, and MIT's mechanism has it. Answers whether there was memory for them; else the buffer is empty.
+/// print the words of a status as text of C, and MIT's mechanism has it. Returns true if there was memory; otherwise the buffer is empty.
 ///
 /// # Safety
 /// The buffer is null or can be written.
@@ -64,7 +64,7 @@ pub unsafe fn put(buffer: Buffer, octets: &[u8]) -> bool {
     true
 }
 
-/// Writes a value where one is wanted.
+/// Writes a value, unless the pointer is null.
 ///
 /// # Safety
 /// The pointer is null or can be written.

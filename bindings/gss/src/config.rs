@@ -1,5 +1,5 @@
-//! The settings: a file of lines `word = value`, at the path in MENOLAVURI_GSS_CONF, else /etc/menolavuri/gss.conf. It is read once.
-//! docs/GSSAPI.md has each word. Where it cannot be read, or a line is not understood, nobody is admitted.
+//! The settings: a file of lines `word = value`, at the path in MENOLAVURI_GSS_CONF, otherwise /etc/menolavuri/gss.conf. It is read once.
+//! docs/GSSAPI.md has each word. If it cannot be read, or a line is not understood, nobody is admitted.
 
 use crate::behind::secure_getenv;
 use menolavuri::Rules;
@@ -10,7 +10,7 @@ use std::time::Duration;
 pub const DEFAULT_PATH: &str = "/etc/menolavuri/gss.conf";
 const DEFAULT_FOLDER: &str = "/run/menolavuri";
 
-/// Where the records of admitted clients are.
+/// The place of the records of admitted clients.
 #[derive(Clone, Debug, PartialEq)]
 pub enum Place {
     /// A folder of this machine.
@@ -19,7 +19,7 @@ pub enum Place {
     Redis(String),
 }
 
-/// Where the log goes.
+/// The place of the log.
 #[derive(Clone, Debug, PartialEq)]
 pub enum Target {
     Off,
@@ -32,15 +32,15 @@ pub enum Target {
 pub struct Settings {
     pub keytab: Option<String>,
     pub store: Place,
-    /// Where the counters are; none are kept in an empty one.
+    /// The folder of the counters; none are kept if it is empty.
     pub status: String,
     pub skew: Duration,
-    /// The rules of sessions, where they are others than the library begins with.
+    /// The rules of sessions, if they differ from those that the library begins with.
     pub rules: Option<Rules>,
     pub log: Target,
-    /// Whether the proved initiator begins contexts, if it can.
+    /// True if the proved initiator begins contexts, as far as it can.
     pub initiate: bool,
-    /// Whether each call is written down.
+    /// True if each call is logged.
     pub trace: bool,
 }
 

@@ -176,7 +176,7 @@ pub unsafe extern "C" fn gssi_inquire_context(
     })
 }
 
-/// What is told of a session by an OID: the octets, one or two of them.
+/// The octets, one or two of them, by which a session answers an OID.
 fn told(it: &mut Proved, what: &[u8]) -> Option<Vec<Vec<u8>>> {
     match what {
         TICKET_FLAGS => Some(vec![it.session.ticket_flags()?.to_ne_bytes().to_vec()]),

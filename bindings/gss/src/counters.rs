@@ -79,7 +79,7 @@ impl Counters {
         (self.0[LATENCY], self.0[SLOWEST])
     }
 
-    /// How many took less than so many microseconds, and not less than half of them.
+    /// The number that took less than this many microseconds, and not less than half of them.
     pub fn buckets(&self) -> Vec<(u64, u64)> {
         let all = (0..BUCKETS).map(|it| (1 << it, self.0[FIRST_BUCKET + it]));
         all.filter(|it| it.1 > 0).collect()
@@ -96,7 +96,7 @@ fn bucket_of(micros: u64) -> usize {
     (u64::BITS - micros.leading_zeros()).min(BUCKETS as u32 - 1) as usize
 }
 
-/// What is of no known cause is counted as the first own one.
+/// Returns the index of a cause: the first of this interposer's own if the cause is not known.
 fn place_of(minor: u32) -> usize {
     let number = (minor & 0xffff) as usize;
     match number.checked_sub(OWN as usize) {

@@ -86,7 +86,7 @@ pub unsafe fn one(minor: *mut u32, mech: Oid, out: *mut OidSet) -> u32 {
     }
 }
 
-/// Whether there is a keytab with keys, for a mechanism that is accepted at all: Kerberos itself.
+/// Checks that there is a keytab with keys, for a mechanism that is accepted at all: Kerberos itself.
 unsafe fn acceptor_there(mech: Oid, keytab: Option<&str>) -> Result<(), Refused> {
     // SAFETY: of the caller.
     if unsafe { oids::octets(mech) != oids::octets(&KRB5) } {
@@ -123,7 +123,7 @@ unsafe fn acquire_behind(
     }
 }
 
-/// Tells why there is no credential.
+/// Reports why there is no credential.
 unsafe fn refuse(minor: *mut u32, it: &Refused) -> u32 {
     if it.major != UNAVAILABLE {
         say!(

@@ -1,4 +1,4 @@
-//! Who is admitted: the library's checks, the store's answer, and the library's verdict on it.
+//! The decision about a client: the library's checks, the store's answer, and the library's verdict on it.
 
 use crate::abi::{FAILURE, NO_CRED};
 use crate::config::Settings;
@@ -7,23 +7,23 @@ use crate::{keys, keytab, store};
 use menolavuri::{Acceptor, Error, GssFlags, Judged, Session};
 use std::time::{SystemTime, UNIX_EPOCH};
 
-/// What a server brings.
+/// The input of a server.
 pub struct Asked<'a> {
     pub token: &'a [u8],
-    /// The keytab of its credential, where that names one.
+    /// The keytab of its credential, if that names one.
     pub keytab: Option<&'a str>,
-    /// The service that its credential is for, as "host/server.example.com@", where it is for one.
+    /// The service that its credential is for, as "host/server.example.com@", if it is for one.
     pub service: Option<&'a str>,
     /// The data of its channel's bindings.
     pub bindings: Option<&'a [u8]>,
 }
 
-/// What is known of a client, whether it is admitted or not.
+/// The facts of a client, admitted or not.
 #[derive(Clone, Debug, Default)]
 pub struct Known {
     pub client: Option<String>,
     pub service: Option<String>,
-    /// By how many seconds the client's clock is ahead.
+    /// The number of seconds by which the client's clock is ahead.
     pub ahead: Option<i64>,
 }
 
@@ -31,7 +31,7 @@ pub struct Admitted {
     pub session: Session,
     pub client: String,
     pub service: String,
-    /// What the client asked for.
+    /// The flags of the client's request.
     pub flags: Option<GssFlags>,
     /// The name of the keytab.
     pub keytab: String,
@@ -41,7 +41,7 @@ fn by_library(error: Error) -> Refused {
     Refused::by(&error)
 }
 
-/// Who sent the token, where the proved checks and the store let it in. What is known of the client is told either way.
+/// Admits the client of a token if the proved checks and the store do. Returns the facts of the client in either case.
 pub fn admit(
     settings: &Settings,
     asked: &Asked<'_>,
@@ -105,14 +105,14 @@ fn ask_store(
     Ok(session)
 }
 
-/// A name goes to MIT's mechanism as text, where an octet 0 would end it: "root\\0x" must not be root. The library's crate puts
-/// U+FFFD where a name is not UTF-8.
+/// A name goes to MIT's mechanism as text, which an octet 0 would end: "root\\0x" must not be root. The library's crate writes U+FFFD for
+/// octets that are not UTF-8.
 fn is_plain(name: &str) -> bool {
     !name.chars().any(|it| it.is_control() || it == '\u{fffd}')
 }
 
-/// Whether the service of a ticket is the one that the credential is for: as "host/server.example.com@EXAMPLE.COM", the realm maybe empty,
-/// or "host" alone.
+/// Returns true if the service of a ticket is the one that the credential is for: as "host/server.example.com@EXAMPLE.COM", the realm maybe
+/// empty, or "host" alone.
 pub fn serves(wanted: &str, service: &str) -> bool {
     let (name, realm) = wanted.rsplit_once('@').unwrap_or((wanted, ""));
     let (ticket, of) = service.rsplit_once('@').unwrap_or((service, ""));
@@ -121,7 +121,7 @@ pub fn serves(wanted: &str, service: &str) -> bool {
     is_named && (realm.is_empty() || realm == of)
 }
 
-/// By how many seconds a record's time, with which it begins (as 20231114221320Z), is ahead of this one.
+/// The number of seconds by which a record's time, with which it begins (as 20231114221320Z), is ahead of this one.
 fn ahead(record: &[u8], now: SystemTime) -> Option<i64> {
     let time = std::str::from_utf8(record.get(..15)?).ok()?;
     let number = |from: usize, to: usize| time.get(from..to)?.parse::<i64>().ok();

@@ -5,8 +5,8 @@ use crate::buffers::set;
 use crate::status::FAULT;
 use std::panic::{AssertUnwindSafe, catch_unwind};
 
-/// The status of a call. Where it panics that is a failure with the minor status of a fault, and what the panic says goes to standard
-/// error. Every lock is taken again after a panic: no state is left half changed under one.
+/// The status of a call. A panic is a failure with the minor status of a fault, and its message goes to standard error. Every lock is
+/// taken again after a panic: no state is left half changed under one.
 pub fn guard(minor: *mut u32, body: impl FnOnce() -> u32) -> u32 {
     catch_unwind(AssertUnwindSafe(body)).unwrap_or_else(|_| {
         // SAFETY: the mechglue's, or null.

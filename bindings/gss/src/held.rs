@@ -1,4 +1,4 @@
-//! What is said of credentials, and done with those that have a credential of MIT's mechanism.
+//! Calls about credentials, and calls that are passed on for those with a credential of MIT's mechanism.
 
 use crate::abi::*;
 use crate::behind::*;
@@ -13,7 +13,7 @@ use crate::trace;
 use std::ffi::{c_int, c_void};
 use std::ptr::{null, null_mut};
 
-/// What is said of an acceptor's credential, which has none of MIT's mechanism.
+/// Answers for an acceptor's credential, which has none of MIT's mechanism.
 unsafe fn tell(
     minor: *mut u32,
     it: &Credential,
@@ -84,7 +84,7 @@ pub unsafe extern "C" fn gssi_inquire_cred_by_mech(
     })
 }
 
-/// Whether a credential has one of MIT's mechanism, for the calls that are passed on.
+/// Returns true if a credential has one of MIT's mechanism, for the calls that are passed on.
 unsafe fn has_behind(minor: *mut u32, cred: *mut c_void) -> bool {
     // SAFETY: of the caller.
     unsafe {

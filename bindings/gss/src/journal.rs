@@ -1,5 +1,5 @@
-//! The log of decisions: one line for each client that is admitted or refused, and with `trace` one for each call. What comes from
-//! outside is escaped before it gets here, so that it is one line.
+//! The log of decisions: one line for each client that is admitted or refused, and with `trace` one for each call. Text from outside is
+//! escaped before it gets here, so that it is one line.
 
 use crate::behind::getpid;
 use crate::config::{self, Target};
@@ -15,7 +15,7 @@ unsafe extern "C" {
     fn syslog(priority: c_int, form: *const c_char, ...);
 }
 
-/// Writes a line to the log. Where there are no settings it is the system's.
+/// Writes a line to the log: the system's if there are no settings.
 pub fn write(words: Arguments<'_>) {
     match config::get().map(|it| &it.log) {
         Ok(Target::Off) => {}
@@ -42,7 +42,7 @@ fn stamped(words: Arguments<'_>) -> String {
     )
 }
 
-/// The program's own name and facility stay, which it may have told the system's log.
+/// Keeps the program's own name and facility, which it may have set for the system's log.
 fn to_syslog(text: &str) {
     if let Ok(text) = CString::new(format!("menolavuri: {}", text.replace('\0', "\\0"))) {
         // SAFETY: both texts end with 0, and the first one takes one text.
@@ -73,7 +73,7 @@ macro_rules! say {
     ($($word:tt)*) => { $crate::journal::write(format_args!($($word)*)) };
 }
 
-/// A line for a call, where calls are traced.
+/// A line for a call, if calls are traced.
 #[macro_export]
 macro_rules! trace {
     ($($word:tt)*) => { if $crate::journal::is_traced() { $crate::journal::write(format_args!($($word)*)) } };

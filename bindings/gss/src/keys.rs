@@ -72,8 +72,8 @@ impl Keys {
         Ok(Keys(all))
     }
 
-    /// The checks of a token before the store's. The newest keys are tried first. Where none opens the ticket the refusal is that of the
-    /// first that has the service, else that of the one that opens it.
+    /// Makes the checks of a token before the store's. The newest keys are tried first. The refusal is that of the keys that decrypt the
+    /// ticket, otherwise that of the first that have the service.
     pub fn judge(
         &self,
         token: &[u8],
@@ -101,7 +101,7 @@ fn has_service(error: &Error) -> bool {
     error.cause() != Some(Cause::NO_SERVICE_KEY)
 }
 
-/// Whether another key may open the ticket, as menolavuri.h has it.
+/// Returns true if another key may decrypt the ticket, as menolavuri.h has it.
 fn is_of_key(error: &Error) -> bool {
     matches!(
         error.cause(),

@@ -1,7 +1,7 @@
-//! Which keytab an acceptor has, and its parts.
+//! The keytab of an acceptor, and its parts.
 //!
 //! The library takes one key of each service of one realm from the octets of a keytab. So the file is taken apart into files of one realm,
-//! one version and one encryption type each. What is read here is a file of the administrator's.
+//! one version and one encryption type each. The file is the administrator's.
 
 use crate::config::variable;
 use crate::krb5::Krb5;
@@ -12,7 +12,7 @@ use std::sync::{Mutex, OnceLock, PoisonError};
 static REGISTERED: Mutex<Option<String>> = Mutex::new(None);
 static DEFAULT: OnceLock<String> = OnceLock::new();
 
-/// Takes the name that a program registers; none where it is empty.
+/// Takes the name that a program registers; none if it is empty.
 pub fn register(name: &str) {
     let name = (!name.is_empty()).then(|| name.to_owned());
     *REGISTERED.lock().unwrap_or_else(PoisonError::into_inner) = name;
@@ -24,8 +24,8 @@ fn default_of_mit() -> String {
     name.unwrap_or_else(|| "/etc/krb5.keytab".into())
 }
 
-/// The name of the keytab: that of the credential's store, else of the settings, else the one that the program registered, else
-/// KRB5_KTNAME, which a setuid program does not have, else that of krb5.conf, else /etc/krb5.keytab.
+/// The name of the keytab, the first that there is: of the credential's store, of the settings, the one that the program registered, of
+/// KRB5_KTNAME, which a setuid program does not have, of krb5.conf, /etc/krb5.keytab.
 pub fn name(stored: Option<&str>, settings: Option<&str>) -> String {
     let given = stored.or(settings).map(str::to_owned);
     given
@@ -39,7 +39,7 @@ pub fn name(stored: Option<&str>, settings: Option<&str>) -> String {
         .unwrap_or_else(|| DEFAULT.get_or_init(default_of_mit).clone())
 }
 
-/// The path of a keytab's name. Of a keytab that is no file nothing is there, and so nobody is admitted.
+/// The path of a keytab's name. A keytab that is not a file has none, and so nobody is admitted.
 pub fn path(name: &str) -> &str {
     let bare = name
         .strip_prefix("FILE:")
@@ -47,10 +47,10 @@ pub fn path(name: &str) -> &str {
     bare.unwrap_or(name)
 }
 
-/// What an entry is filed under: the realm, the version and the type, each counted down, so that the newest and strongest come first.
+/// The key of an entry: the realm, the version and the type, each counted down, so that the newest and strongest come first.
 type Group = (Vec<u8>, u32, u16);
 
-/// What is still to be read.
+/// The octets that are still to be read.
 struct Rest<'a>(&'a [u8]);
 
 impl<'a> Rest<'a> {

@@ -1,4 +1,4 @@
-//! Whether the interposer is loaded where this program runs: what `menolavuri-status --loaded` asks, before a service starts.
+//! Checks that the interposer is loaded in the environment of this program, for `menolavuri-status --loaded` before a service starts.
 
 use crate::abi::{BufferDesc, COMPLETE, OidDesc};
 use crate::behind::{gss_release_buffer, gssspi_mech_invoke};
@@ -10,7 +10,7 @@ use crate::oids::KRB5;
 /// is known to this machine's configuration alone, and is in no token.)
 static QUESTION: OidDesc = OidDesc::of(b"\x2b\x06\x01\x04\x01\x81\xfd\x59\xa0\x18\x01\x01");
 
-/// What the interposer tells of itself, or why it does not.
+/// Returns the interposer's words about itself, or why there are none.
 pub fn ask() -> Result<String, String> {
     config::get()?;
 

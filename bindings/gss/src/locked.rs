@@ -11,7 +11,7 @@ use std::os::unix::fs::{DirBuilderExt, FileExt, MetadataExt, OpenOptionsExt};
 use std::sync::{Mutex, PoisonError};
 use std::time::{Duration, Instant};
 
-/// For how long a lock is waited for.
+/// The time for which a lock is waited for.
 const PATIENCE: Duration = Duration::from_secs(5);
 
 #[repr(C)]
@@ -37,7 +37,7 @@ unsafe extern "C" {
 /// A file's device and number.
 type Key = (u64, u64);
 
-/// A file, and where it was opened.
+/// A file, and the process that opened it.
 struct Open {
     pid: c_int,
     key: Key,
@@ -46,14 +46,14 @@ struct Open {
     file: File,
 }
 
-/// A file that this process opens once, and anew after a fork, or where the path has another file than before.
+/// A file that this process opens once, and anew after a fork, or if the path has another file than before.
 pub struct Shared(Mutex<Option<Open>>);
 
 fn told(path: &str) -> impl Fn(std::io::Error) -> String + '_ {
     move |error| format!("{path}: {error}")
 }
 
-/// The folder of this user in a folder, which is made where it is not there. Nobody else may write to it.
+/// The folder of this user in a folder, which is made if it is not there. Nobody else may write to it.
 pub fn own_folder(folder: &str) -> Result<String, String> {
     // SAFETY: it takes nothing.
     let user = unsafe { geteuid() };
@@ -98,12 +98,12 @@ fn key_of(state: std::io::Result<Metadata>) -> Option<Key> {
 }
 
 impl Open {
-    /// Whether the descriptor still is this file's. A program may close what it did not open (closefrom), and open something else.
+    /// Returns true if the descriptor still is this file's. A program may close descriptors that it did not open (closefrom), and open others.
     fn is_own(&self) -> bool {
         key_of(self.file.metadata()) == Some(self.key)
     }
 
-    /// Whether the path still has this file: where it was removed, another process makes a new one, and both have to use that.
+    /// Returns true if the path still has this file. If it was removed, another process makes a new one, and both have to use that.
     fn is_there(&self) -> bool {
         key_of(std::fs::symlink_metadata(&self.path)) == Some(self.key)
     }
@@ -128,7 +128,7 @@ impl Flock {
     }
 }
 
-/// Whether the lock was taken, or given back.
+/// Takes the lock or gives it back: true if that was done.
 fn lock(file: &File, kind: i16) -> bool {
     // SAFETY: the file is open, and the lock is ours.
     unsafe { fcntl(file.as_raw_fd(), SETLK, &mut Flock::of(kind)) == 0 }
@@ -169,7 +169,7 @@ impl Shared {
         Shared(Mutex::new(None))
     }
 
-    /// Does something with the file of this name in this user's folder, which is opened where it is not yet.
+    /// Does something with the file of this name in this user's folder, which is opened if it is not yet.
     pub fn with<T>(
         &self,
         folder: &str,

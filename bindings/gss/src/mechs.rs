@@ -1,4 +1,4 @@
-//! Which mechanisms are interposed, and what is told of them.
+//! The mechanisms that are interposed, and their attributes.
 
 use crate::abi::*;
 use crate::behind::*;
@@ -8,7 +8,7 @@ use crate::oids::{self, CCACHE_NAME, FAMILY, REGISTER_IDENTITY, special};
 use crate::{cache, config, keytab, krb5, status, trace};
 use std::ptr::{null, null_mut};
 
-/// What the mechglue asks first: which mechanisms are interposed.
+/// Returns the mechanisms that are interposed: the mechglue asks this first.
 #[unsafe(no_mangle)]
 pub unsafe extern "C" fn gss_mech_interposer(mech: Oid) -> OidSet {
     let all = std::panic::catch_unwind(|| unsafe {
@@ -29,7 +29,7 @@ pub unsafe extern "C" fn gss_mech_interposer(mech: Oid) -> OidSet {
     all.unwrap_or(null_mut())
 }
 
-/// What a check before a service starts is told (`menolavuri-status --loaded`).
+/// The answer to a check before a service starts (`menolavuri-status --loaded`).
 fn told() -> Result<String, String> {
     let settings = config::get()?;
     Ok(format!(

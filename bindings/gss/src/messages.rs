@@ -1,4 +1,4 @@
-//! Messages (RFC 4121, section 4.2). A message that comes again is refused, and not handed out with a supplementary bit.
+//! Messages (RFC 4121, section 4.2). A message that comes again is refused, and not returned with a supplementary bit.
 
 use crate::abi::*;
 use crate::behind::*;
@@ -10,11 +10,11 @@ use crate::{say, trace};
 use menolavuri::Error;
 use std::ffi::{c_int, c_void};
 
-/// How many octets a sealed message has more than its text, and one in the clear.
+/// The number of octets that an encrypted message has more than its text, and a message in the clear.
 const SEALED: u32 = 60;
 const IN_CLEAR: u32 = 28;
 
-/// Hands octets to the caller.
+/// Copies octets for the caller.
 unsafe fn give(minor: *mut u32, to: Buffer, octets: &[u8]) -> u32 {
     // SAFETY: of the caller.
     unsafe {

@@ -8,7 +8,7 @@ pub static KRB5: OidDesc = OidDesc::of(b"\x2a\x86\x48\x86\xf7\x12\x01\x02\x02");
 pub static KRB5_OLD: OidDesc = OidDesc::of(b"\x2b\x05\x01\x05\x02");
 pub static KRB5_WRONG: OidDesc = OidDesc::of(b"\x2a\x86\x48\x82\xf7\x12\x01\x02\x02");
 pub static IAKERB: OidDesc = OidDesc::of(b"\x2b\x06\x01\x05\x02\x05");
-/// All of Kerberos. Where one were not interposed, a client could name it, and MIT's mechanism would admit it.
+/// All of Kerberos. If one were not interposed, a client could name it, and MIT's mechanism would admit it.
 pub static FAMILY: [&OidDesc; 4] = [&KRB5, &KRB5_OLD, &KRB5_WRONG, &IAKERB];
 
 /// GSS_KRB5_NT_PRINCIPAL_NAME
@@ -40,7 +40,7 @@ impl OidDesc {
     }
 }
 
-/// The octets of an OID; none where there is no OID.
+/// The octets of an OID; none if there is no OID.
 ///
 /// # Safety
 /// It is null or one of the mechglue's.
@@ -66,7 +66,7 @@ pub unsafe fn learn(oid: Oid) {
     let _ = OWN.set(unsafe { octets(oid) }.to_vec());
 }
 
-/// Whether an OID is this interposer's own with these octets after it.
+/// Returns true if an OID is this interposer's own with these octets after it.
 pub fn is_own(oid: &[u8], further: &[u8]) -> bool {
     let own = OWN.get().map_or(&[][..], |it| it);
     !own.is_empty() && oid.strip_prefix(own) == Some(further)
@@ -85,7 +85,7 @@ pub unsafe fn special(mech: Oid) -> OidDesc {
     OidDesc::of(&all[index.unwrap_or(0)])
 }
 
-/// The special OIDs of a set of mechanisms; of Kerberos' alone where there is no set.
+/// The special OIDs of a set of mechanisms; of Kerberos' alone if there is no set.
 pub struct Specials(Vec<OidDesc>);
 
 impl Specials {

@@ -1,10 +1,10 @@
-//! Refusals: the status of RFC 2744, a minor status that tells the exact cause, and its words.
+//! Refusals: the status of RFC 2744, a minor status for the exact cause, and its words.
 
 use crate::abi::*;
 use crate::krb5;
 use menolavuri::{Cause, Error, Refusal};
 
-/// What the minor statuses of this interposer begin with; after it comes the number of a cause, or one of those below.
+/// The first bits of the minor statuses of this interposer; after them comes the number of a cause, or one of those below.
 pub const MINOR: u32 = 0x4d4b_0000;
 /// From this number on they are this interposer's own.
 pub const OWN: u32 = 0xff00;
@@ -21,7 +21,7 @@ pub const SETTINGS: u32 = MINOR | 0xff08;
 pub const FAULT: u32 = MINOR | 0xff09;
 pub const NO_MEMORY: u32 = MINOR | 0xff0a;
 pub const NOT_OFFERED: u32 = MINOR | 0xff0b;
-/// How many own ones there are.
+/// The number of this interposer's own.
 pub const OWN_COUNT: usize = 12;
 
 /// The words of this interposer's own.
@@ -40,7 +40,7 @@ const OWN_WORDS: [&str; OWN_COUNT] = [
     "the call is not offered",
 ];
 
-/// What clients and administrators meet, in words (the numbers are mk_cause's in menolavuri.h).
+/// The words of the causes that clients and administrators meet (the numbers are mk_cause's in menolavuri.h).
 const CAUSE_WORDS: [(u32, &str); 38] = [
     (1, "memory ran out"),
     (2, "the clock of this machine is out of range"),
@@ -103,12 +103,12 @@ const CAUSE_WORDS: [(u32, &str); 38] = [
 /// The cause of a token that is not in the grammar of an AP-REQ.
 const SHAPE: Cause = Cause(6);
 
-/// Why a call is not done.
+/// The refusal of a call.
 #[derive(Debug)]
 pub struct Refused {
     pub major: u32,
     pub minor: u32,
-    /// What is not in the words of the minor status, as the path of a file. For the log alone.
+    /// Words in addition to the minor status's, as the path of a file. For the log alone.
     pub further: String,
     /// The refusal by the library, if it is one.
     pub refusal: Option<Refusal>,
@@ -152,7 +152,7 @@ fn minor_of(error: &Error) -> u32 {
     error.cause().map_or(NOT_DONE, |it| MINOR | it.0)
 }
 
-/// What the library says in addition to the cause.
+/// The words of an error that is not a refusal.
 fn further(error: &Error) -> String {
     match error {
         Error::Refused(_) => String::new(),
@@ -171,7 +171,7 @@ fn major_of(minor: u32) -> u32 {
     }
 }
 
-/// The status for a message that is refused. Each is an error: one that comes again is not handed out, so it is no supplementary bit.
+/// The status for a message that is refused. Each is an error: a message that comes again is not returned, so it is no supplementary bit.
 pub fn of_message(error: &Error, altered: u32) -> (u32, u32) {
     let minor = minor_of(error);
     let major = match Cause(minor & 0xffff) {
@@ -182,7 +182,7 @@ pub fn of_message(error: &Error, altered: u32) -> (u32, u32) {
     (major, minor)
 }
 
-/// Whether a minor status is one of this interposer's.
+/// Returns true if a minor status is one of this interposer's.
 pub fn is_ours(minor: u32) -> bool {
     minor & 0xffff_0000 == MINOR
 }

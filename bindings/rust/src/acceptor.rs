@@ -1,8 +1,8 @@
-//! Services, and the clients that they let in.
+//! Services, and the clients that they admit.
 
 use crate::error::{Error, done, told_flags};
 use crate::options::GssFlags;
-use crate::session::Session;
+use crate::session::{Authorization, Session};
 use crate::sys::{self, Handle, Moment};
 use crate::{filled, microseconds, moment_of, random};
 use std::sync::atomic::{AtomicU32, Ordering};
@@ -15,7 +15,7 @@ pub struct Acceptor {
     /// The services and the book.
     book: Mutex<Handle>,
     copies: Mutex<Copies>,
-    /// By how many seconds a client's clock may be wrong.
+    /// The number of seconds by which a client's clock may be wrong.
     skew: AtomicU32,
     older: Option<Box<Acceptor>>,
 }
@@ -47,7 +47,7 @@ impl Drop for Judged {
 }
 
 fn lock<T>(mutex: &Mutex<T>) -> MutexGuard<'_, T> {
-    // No call unwinds, so what is behind a poisoned lock is whole.
+    // No call unwinds, so the value in a poisoned lock is whole.
     mutex.lock().unwrap_or_else(PoisonError::into_inner)
 }
 
@@ -56,8 +56,8 @@ fn seconds(skew: Duration) -> Result<u32, Error> {
 }
 
 impl Acceptor {
-    /// An acceptor of the service with this name, as `host/server.example.com`, and its key, of 16 or 32 octets. A client's clock may
-    /// be wrong by so many seconds.
+    /// Makes an acceptor of the service with this name, as `host/server.example.com`, and its key, of 16 or 32 bytes. A client's clock may
+    /// be wrong by up to `skew`, in whole seconds.
     pub fn new(name: &str, key: &[u8], skew: Duration) -> Result<Acceptor, Error> {
         let skew = seconds(skew)?;
         let mut handle = Handle::EMPTY;
@@ -75,9 +75,9 @@ impl Acceptor {
         Ok(Acceptor::of(handle, skew))
     }
 
-    /// An acceptor of all services of this realm that have a key in the octets of a keytab file, each with one key: of type 18, else
-    /// of type 17, and of several the one of the greatest version. Refused as
-    /// [`Cause::NO_SERVICE_KEY`](crate::Cause::NO_SERVICE_KEY) where there is none.
+    /// Makes an acceptor of all services of this realm that have a key in the bytes of a keytab file, each with one key: of type 18, or of
+    /// type 17 if there is none, with the greatest version. Refused as [`Cause::NO_SERVICE_KEY`](crate::Cause::NO_SERVICE_KEY) if no
+    /// service has a key.
     pub fn with_keytab(file: &[u8], realm: &str, skew: Duration) -> Result<Acceptor, Error> {
         let skew = seconds(skew)?;
         let mut handle = Handle::EMPTY;
@@ -95,6 +95,16 @@ impl Acceptor {
         Ok(Acceptor::of(handle, skew))
     }
 
+    /// Makes an acceptor without a key: its replay book admits what a [`Keyring`](crate::Keyring) judged. It refuses every token that it
+    /// judges itself.
+    pub fn keyless(skew: Duration) -> Result<Acceptor, Error> {
+        let skew = seconds(skew)?;
+        let mut handle = Handle::EMPTY;
+        // SAFETY: the handle is empty.
+        done(unsafe { sys::mk_acceptor_new_keyless(&mut handle, skew) })?;
+        Ok(Acceptor::of(handle, skew))
+    }
+
     fn of(handle: Handle, skew: u32) -> Acceptor {
         Acceptor {
             book: Mutex::new(handle),
@@ -107,14 +117,14 @@ impl Acceptor {
         }
     }
 
-    /// Opens tickets by the keys of this other acceptor too, where its own do not open them: after a change of keys, tickets under the
-    /// older ones live on. The other's book is never asked.
+    /// Decrypts tickets by the keys of this other acceptor too, if its own do not decrypt them: after a change of keys, tickets under the
+    /// older ones stay valid. The other's book is never asked.
     pub fn with_older(mut self, older: Acceptor) -> Acceptor {
         self.older = Some(Box::new(older));
         self
     }
 
-    /// A copy of the services for this thread, with how many changes there had been before it was made.
+    /// Returns a copy of the services for this thread, with the number of changes before it was made.
     fn copy(&self) -> Result<(usize, Handle), Error> {
         let changes = {
             let mut copies = lock(&self.copies);
@@ -139,7 +149,7 @@ impl Acceptor {
         }
     }
 
-    /// A further service with its key.
+    /// Adds a service with its key.
     pub fn add_key(&self, name: &str, key: &[u8]) -> Result<(), Error> {
         // SAFETY: the handle is the lock's, and each pointer and length are those of one slice.
         done(unsafe {
@@ -161,7 +171,7 @@ impl Acceptor {
         copies.free();
     }
 
-    /// Sets how many octets a token may have: a longer one is refused unread. An acceptor begins with 65,536.
+    /// Sets the greatest length of a token, in bytes: a longer one is refused unread. An acceptor begins with 65,536.
     pub fn limit_tokens(&self, most: usize) -> Result<(), Error> {
         if let Some(older) = &self.older {
             older.limit_tokens(most)?;
@@ -172,12 +182,11 @@ impl Acceptor {
         Ok(())
     }
 
-    /// Begins a new replay book, in which nobody is, for clocks that are wrong by at most this number of seconds: where a token was judged by a
-    /// clock that was far ahead, and nobody is admitted since.
+    /// Begins a new, empty replay book, for clocks that may be wrong by up to this number of seconds. Call it after a token was judged by a
+    /// clock that was far ahead, so that every client is refused.
     ///
     /// # Security
-    /// Whoever was admitted before can be admitted again by the same token, as after a restart: wait for twice the skew before the next
-    /// admission.
+    /// A token that was admitted before can be admitted again, as after a restart: wait for twice the skew before the next admission.
     pub fn new_book(&self, skew: Duration) -> Result<(), Error> {
         let skew = seconds(skew)?;
         // SAFETY: the handle is the lock's.
@@ -193,7 +202,7 @@ impl Acceptor {
         Ok(())
     }
 
-    /// How many records of admitted clients are kept.
+    /// Returns the number of records of admitted clients that are kept.
     pub fn kept(&self) -> u64 {
         // SAFETY: the handle is the lock's.
         unsafe { sys::mk_acceptor_kept(&mut *lock(&self.book)) }
@@ -204,7 +213,7 @@ impl Acceptor {
         self.admit(self.judge(token)?)
     }
 
-    /// Admits the client that sent this token at this moment, with 64 octets that are random and fresh.
+    /// Admits the client that sent this token at this moment, with 64 bytes that are random and fresh.
     pub fn accept_at(
         &self,
         token: &[u8],
@@ -219,12 +228,12 @@ impl Acceptor {
         self.admit(self.judge_bound(token, data)?)
     }
 
-    /// The checks of a token before the replay book's, by the system's clock. Nobody is admitted yet.
+    /// Makes the checks of a token before the replay book's, by the system's clock. The client is not admitted yet.
     pub fn judge(&self, token: &[u8]) -> Result<Judged, Error> {
         self.judge_at(token, SystemTime::now(), random()?)
     }
 
-    /// The checks of a token before the replay book's, at this moment, with 64 octets that are random and fresh.
+    /// Makes the checks of a token before the replay book's, at this moment, with 64 bytes that are random and fresh.
     pub fn judge_at(
         &self,
         token: &[u8],
@@ -234,15 +243,15 @@ impl Acceptor {
         self.judge_in_turn(token, None, &moment_of(moment, random)?)
     }
 
-    /// As [`judge`](Acceptor::judge), and the client is held to the channel below, by the data that
-    /// [`Initiator::bind`](crate::Initiator::bind) takes: of a TLS channel those of RFC 5929, as `tls-server-end-point:` and the hash of
-    /// the server's certificate. Refused as [`Cause::CHECKSUM`](crate::Cause::CHECKSUM) where the client's checksum has no room for
-    /// bindings, and as [`Cause::BINDINGS`](crate::Cause::BINDINGS) where it gave others, or none.
+    /// Judges as [`judge`](Acceptor::judge) does, and requires that the client is on this channel. The data are those of
+    /// [`Initiator::bind`](crate::Initiator::bind): for a TLS channel those of RFC 5929, as `tls-server-end-point:` and the hash of the
+    /// server's certificate. Refused as [`Cause::CHECKSUM`](crate::Cause::CHECKSUM) if the client's checksum has no room for bindings,
+    /// and as [`Cause::BINDINGS`](crate::Cause::BINDINGS) if it has others, or none.
     pub fn judge_bound(&self, token: &[u8], data: &[u8]) -> Result<Judged, Error> {
         self.judge_bound_at(token, data, SystemTime::now(), random()?)
     }
 
-    /// The same at this moment, with 64 octets that are random and fresh.
+    /// Judges as [`judge_bound`](Acceptor::judge_bound) does, at this moment, with 64 bytes that are random and fresh.
     pub fn judge_bound_at(
         &self,
         token: &[u8],
@@ -253,7 +262,7 @@ impl Acceptor {
         self.judge_in_turn(token, Some(data), &moment_of(moment, random)?)
     }
 
-    /// The newest keys first. The refusal is theirs where none opens the ticket, and else that of those that open it.
+    /// Tries the newest keys first. Returns their refusal if no keys decrypt the ticket, otherwise that of the keys that decrypt it.
     fn judge_in_turn(
         &self,
         token: &[u8],
@@ -280,7 +289,7 @@ impl Acceptor {
         moment: &Moment,
     ) -> Result<Judged, Error> {
         let (changes, mut copy) = self.copy()?;
-        let mut judged = Judged(Handle::EMPTY);
+        let mut judged = Judged::empty();
         let (keys, to) = (&mut copy, &mut judged.0);
         // SAFETY: the copy is ours, the other handle is empty, and each pointer and length are those of one slice.
         let reply = unsafe {
@@ -308,9 +317,9 @@ impl Acceptor {
         Ok(session)
     }
 
-    /// Admits the client where a store that machines share did not have its [`record`](Judged::record): the store was asked about it
-    /// first, and keeps it from then on. `now` is the store's own time when it answered, and `seen` whether it had the record. No book
-    /// is asked. Where the store does not answer, admit nobody.
+    /// Admits the client by the reply of a store that machines share, which was asked about its [`record`](Judged::record) and keeps it from
+    /// then on. `now` is the store's own time when it replied; `seen` is true if it had the record. No book is asked. If the store does
+    /// not reply, admit nobody.
     pub fn admit_told(
         &self,
         mut judged: Judged,
@@ -335,7 +344,15 @@ impl Acceptor {
 }
 
 impl Judged {
-    /// Who the client is, whole, as [`Session::client`] tells it. It is not admitted yet.
+    pub(crate) fn empty() -> Judged {
+        Judged(Handle::EMPTY)
+    }
+
+    pub(crate) fn handle(&mut self) -> &mut Handle {
+        &mut self.0
+    }
+
+    /// Returns the whole name of the client, in the form of [`Session::client`]. It is not admitted yet.
     pub fn client(&mut self) -> Result<String, Error> {
         let handle = &mut self.0;
         // SAFETY: the handle is ours, and the pointer and the length are those of one vector.
@@ -345,7 +362,7 @@ impl Judged {
         Ok(String::from_utf8_lossy(&text).into_owned())
     }
 
-    /// The service that the ticket is for, as `host/server.example.com@EXAMPLE.COM`.
+    /// Returns the service that the ticket is for, as `host/server.example.com@EXAMPLE.COM`.
     pub fn service(&mut self) -> Result<String, Error> {
         let handle = &mut self.0;
         // SAFETY: as above.
@@ -355,13 +372,13 @@ impl Judged {
         Ok(String::from_utf8_lossy(&text).into_owned())
     }
 
-    /// What the client asked for. None where its checksum has no flags: a client of another protocol than GSS-API.
+    /// Returns the flags of the client's request, or `None` if its checksum has no flags, as that of a client of another protocol.
     pub fn flags(&mut self) -> Result<Option<GssFlags>, Error> {
         // SAFETY: the handle is ours.
         told_flags(unsafe { sys::mk_judged_flags(&mut self.0) })
     }
 
-    /// The last 12 octets of the encrypted authenticator. Two log-ins have the same ones by chance alone, once in 2^96, and a replay has
+    /// Returns the last 12 bytes of the encrypted authenticator. Two log-ins have equal ones by chance alone, once in 2^96; a replay has
     /// those of the first.
     pub fn tag(&mut self) -> Result<[u8; 12], Error> {
         let mut tag = [0; 12];
@@ -370,8 +387,8 @@ impl Judged {
         Ok(tag)
     }
 
-    /// Returns the KRB-CRED by which the client hands on a ticket of its own (RFC 4121, section 4.1.1): no bytes if it asked for no
-    /// delegation. It is not decrypted.
+    /// Returns the KRB-CRED by which the client delegates a ticket of its own (RFC 4121, section 4.1.1), as it came: no bytes if it asked
+    /// for no delegation. It is not decrypted.
     pub fn delegation(&mut self) -> Result<Vec<u8>, Error> {
         let handle = &mut self.0;
         // SAFETY: as above.
@@ -380,9 +397,19 @@ impl Judged {
         })
     }
 
-    /// What a store that machines share keeps of it, for [`Acceptor::admit_told`]: two uses of one authenticator have the same octets.
-    /// The store puts them in and says whether it had them, in one step, and may drop them once its own time is later than the
-    /// client's by more than the skew. The client's may be ahead by the skew.
+    /// Returns an element of the authorization data of the ticket, as a PAC, or `None` if there are fewer (RFC 4120, section 5.2.6). The
+    /// place counts from 0, and each AD-IF-RELEVANT counts as the elements inside it, one level deep. **Nothing in it is checked here.**
+    pub fn authorization(&mut self, place: usize) -> Result<Option<Authorization>, Error> {
+        let handle = &mut self.0;
+        // SAFETY: the handle and the number are ours, and the pointer and the length are those of one vector.
+        Authorization::of(|kind, out, room| unsafe {
+            sys::mk_judged_get_authorization(handle, place, kind, out, room)
+        })
+    }
+
+    /// Returns the replay record, for a store that machines share and [`Acceptor::admit_told`]. Two uses of one authenticator have equal
+    /// bytes. The store inserts them and says whether it had them, in one step. It may drop them when its own time is later than the
+    /// client's by more than the skew; the client's may be ahead by the skew.
     pub fn record(&mut self) -> Result<Vec<u8>, Error> {
         let handle = &mut self.0;
         // SAFETY: as above.

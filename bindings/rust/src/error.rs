@@ -1,4 +1,4 @@
-//! Why a call was not done.
+//! Errors of calls.
 
 use crate::options::GssFlags;
 use crate::sys;
@@ -6,34 +6,34 @@ use crate::{filled, microseconds};
 use std::time::SystemTime;
 use std::{fmt, io};
 
-/// Why a call was not done.
+/// The error of a call.
 #[derive(Debug)]
 pub enum Error {
-    /// The library refuses it. Write it to a log, and tell a client only that it was refused.
+    /// The library refuses it. Write it to a log, and send a client only that it was refused.
     Refused(Refusal),
     /// The rules of the security layers refuse it.
     Layer(LayerRefusal),
-    /// Memory ran out. Nothing is changed, so the call can be made again.
+    /// Memory ran out. Nothing is changed, so the call can be repeated.
     Memory,
-    /// An argument has a value that it may not have: a key of a service of another length than 16 and 32 octets, or a moment that
+    /// An argument has a value that is not allowed: a key of a service of another length than 16 and 32 bytes, or a moment that
     /// is past the year 9999 or before 1970.
     Argument,
-    /// The system gave no random octets.
+    /// The system returned no random bytes.
     Random(io::Error),
 }
 
-/// A refusal: what failed first. It is printed as `InvalidToken Replayed`.
+/// A refusal: the first check that failed. It is printed as `InvalidToken Replayed`.
 #[derive(Clone, Copy, Debug, PartialEq, Eq, Hash)]
 pub struct Refusal {
     /// The kind.
     pub kind: Kind,
-    /// What failed.
+    /// The check that failed.
     pub cause: Cause,
-    /// The code that some causes have, and else 0.
+    /// The code that some causes have, otherwise 0.
     pub number: u32,
 }
 
-/// Why the rules of the security layers refuse, one of `mk_sasl_refusal` in `menolavuri.h`. It is printed in words.
+/// The rule of the security layers that refuses, one of `mk_sasl_refusal` in `menolavuri.h`. It is printed in words.
 #[derive(Clone, Copy, Debug, PartialEq, Eq, Hash)]
 pub enum LayerRefusal {
     /// There is no such size of messages, or a size without a layer.
@@ -46,7 +46,7 @@ pub enum LayerRefusal {
     Layer,
     /// A message is longer than the other end, or this one, receives at most.
     TooLarge,
-    /// The octets are not one frame, or the message in it is not of the layer.
+    /// The bytes are not one frame, or the message in it is not of the layer.
     Frame,
 }
 
@@ -68,7 +68,7 @@ impl LayerRefusal {
 #[derive(Clone, Copy, Debug, PartialEq, Eq, Hash)]
 pub struct Kind(pub u32);
 
-/// What exactly failed, one of `mk_cause` in `menolavuri.h`. It is printed by its name.
+/// The check that failed, one of `mk_cause` in `menolavuri.h`. It is printed by its name.
 #[derive(Clone, Copy, Debug, PartialEq, Eq, Hash)]
 pub struct Cause(pub u32);
 
@@ -79,7 +79,7 @@ impl Cause {
     pub const NO_SERVICE_KEY: Cause = Cause(7);
     /// A key does not have the length of its encryption type.
     pub const KEY_LENGTH: Cause = Cause(9);
-    /// A checksum does not fit, or no plain text is sealed to these octets.
+    /// A checksum does not fit, or no plain text encrypts to these bytes.
     pub const ALTERED: Cause = Cause(11);
     /// The authenticator is too far from the clock.
     pub const SKEW: Cause = Cause(14);
@@ -89,9 +89,9 @@ impl Cause {
     pub const REPLAYED: Cause = Cause(17);
     /// The number of a message is not the next one: messages were lost or exchanged.
     pub const NUMBER: Cause = Cause(27);
-    /// A message was opened before.
+    /// A message was decrypted before.
     pub const REPEATED: Cause = Cause(52);
-    /// A message is too old to tell whether it was opened before.
+    /// A message is 64 or more before the newest: it may have been decrypted before.
     pub const OLD: Cause = Cause(51);
     /// No KDC answered: the refusal's number is the caller's code.
     pub const NETWORK: Cause = Cause(34);
@@ -101,7 +101,7 @@ impl Cause {
     pub const NONCE: Cause = Cause(60);
     /// A reply of the KDC is for another client or another service than the request.
     pub const REPLY_NAMES: Cause = Cause(61);
-    /// The ticket of a reply is not valid now, or the service's answer has not the time of the authenticator.
+    /// The ticket of a reply is not valid now, or the service's answer does not have the time of the authenticator.
     pub const REPLY_TIME: Cause = Cause(62);
     /// The ticket is not yet valid, or it has the flag INVALID.
     pub const NOT_YET: Cause = Cause(15);
@@ -116,9 +116,9 @@ impl Cause {
 }
 
 impl Refusal {
-    /// Returns the token that tells a client why it is refused, a KRB-ERROR (RFC 4120, section 5.9.1), by the system's clock. A client prints
+    /// Returns the token that reports the refusal to the client, a KRB-ERROR (RFC 4120, section 5.9.1), by the system's clock. A client prints
     /// it, as 'Clock skew too great'. The service is named as `host/server.example.com`, with its realm. Four causes have their own codes:
-    /// [`Cause::SKEW`], [`Cause::NOT_YET`], [`Cause::EXPIRED`] and [`Cause::REPLAYED`]. Every other cause is the general one.
+    /// [`Cause::SKEW`], [`Cause::NOT_YET`], [`Cause::EXPIRED`] and [`Cause::REPLAYED`]. Every other cause has the general one.
     ///
     /// # Errors
     /// `InvalidToken Room`: a text has over 65,536 bytes. `InternalError NotAscii`: a text is not ASCII.
@@ -226,7 +226,7 @@ impl From<io::Error> for Error {
 }
 
 impl Error {
-    /// Whether another key may open the ticket: there is none of this name, it has another length, or it does not open it.
+    /// Returns true if another key may decrypt the ticket: there is none of this name, it has another length, or it does not decrypt it.
     pub(crate) fn is_of_key(&self) -> bool {
         matches!(
             self.cause(),

@@ -1,4 +1,4 @@
-//! A client that is to reach a service.
+//! A client that logs in at a service.
 
 use crate::error::{Error, done};
 use crate::options::{Flags, Rules};
@@ -7,12 +7,12 @@ use crate::sys::{self, Handle, Reply};
 use crate::{filled, moment_of, random};
 use std::time::SystemTime;
 
-/// A client that is to reach a service. It has no network: each step says what comes next, and its caller carries that.
+/// A client that logs in at a service. It has no network: each step returns the next one, and its caller carries the bytes.
 ///
 /// ```
 /// use menolavuri::{Error, Flags, Initiator, Next, Session};
 ///
-/// /// Reaches the service. `carry` brings octets to the KDC at an address, and `send` a token to the service; both bring the answer.
+/// /// Logs in at the service. `carry` sends bytes to the KDC at a URL, and `send` a token to the service; both return the reply.
 /// fn reach(
 ///     mut initiator: Initiator,
 ///     carry: impl Fn(&str, &[u8]) -> Option<Vec<u8>>,
@@ -29,7 +29,7 @@ use std::time::SystemTime;
 ///                 let answer = send(&initiator.token()?);
 ///                 initiator.hear(&answer)?
 ///             }
-///             // session.answer() goes to the service, if it is not empty.
+///             // Send session.answer() to the service, unless it is empty.
 ///             Next::Established => return initiator.into_session(),
 ///         }
 ///     }
@@ -45,9 +45,9 @@ use std::time::SystemTime;
 ///
 /// # The steps
 ///
-/// A step out of its turn is refused as [`Cause::SEQUENCE`](crate::Cause::SEQUENCE), and changes nothing. An answer of a KDC that is
-/// refused, and a fault, end the exchange, and [`start`](Initiator::start) may come again. A start, or a token of the service, that is
-/// refused changes nothing. After [`Error::Memory`] the same step may come again. A KDC is asked at most twelve times in an exchange.
+/// A step out of its turn is refused as [`Cause::SEQUENCE`](crate::Cause::SEQUENCE), and changes nothing. A reply of a KDC that is
+/// refused, and a fault, end the exchange, and [`start`](Initiator::start) can be called again. A start, or a token of the service, that is
+/// refused changes nothing. After [`Error::Memory`] the same step can be repeated. A KDC is asked at most twelve times in an exchange.
 /// A KDC's reply to another request than that of this exchange is refused, and so is a service's answer to another token: a recorded log-in
 /// is not played back, unless [`set_rules`](Initiator::set_rules) gives that up. Without [`Flags::MUTUAL_AUTH`] an initiator is established
 /// at once; without [`Rules::ONE_WAY_IS_SETTLED`] among its rules it never is.
@@ -56,14 +56,14 @@ pub struct Initiator(Handle);
 // SAFETY: the library's handle of an initiator may go to another thread (`Send` is proved of it), and each call takes `&mut self`.
 unsafe impl Send for Initiator {}
 
-/// What comes next.
+/// The next step.
 #[derive(Clone, Copy, Debug, PartialEq, Eq, Hash)]
 pub enum Next {
-    /// [`request`](Initiator::request) is for the KDC at [`url`](Initiator::url): [`answer`](Initiator::answer) takes what it answers.
+    /// Send [`request`](Initiator::request) to the KDC at [`url`](Initiator::url), and pass its reply to [`answer`](Initiator::answer).
     AskKdc,
-    /// [`token`](Initiator::token) is for the service: [`hear`](Initiator::hear) takes what it answers.
+    /// Send [`token`](Initiator::token) to the service, and pass its reply to [`hear`](Initiator::hear).
     SendToken,
-    /// [`into_session`](Initiator::into_session) has the session. Its [`answer`](Session::answer) is for the service, if it is not empty.
+    /// Call [`into_session`](Initiator::into_session). Send its [`answer`](Session::answer) to the service, unless it is empty.
     Established,
 }
 
@@ -80,7 +80,7 @@ pub enum Step<'a> {
     Fault(u32),
 }
 
-/// What comes next, where the step was done.
+/// Returns the next step, if this one was done.
 fn next(reply: Reply) -> Result<Next, Error> {
     done(reply)?;
     match reply.number {
@@ -92,12 +92,13 @@ fn next(reply: Reply) -> Result<Next, Error> {
 }
 
 impl Initiator {
-    /// An initiator for a service, as `host/server.example.com`, in ASCII, at the machine of this name, which KDCs are told.
+    /// Makes an initiator for a service, as `host/server.example.com`, in ASCII. `machine` is the name of this machine, which requests to
+    /// KDCs contain.
     pub fn new(target: &str, machine: &str, flags: Flags) -> Result<Initiator, Error> {
         Initiator::with_number(target, machine, flags, random()?)
     }
 
-    /// The same with four random octets, from which its messages are numbered on.
+    /// Makes an initiator as [`new`](Initiator::new) does, with four random bytes: the first sequence number of its messages.
     pub fn with_number(
         target: &str,
         machine: &str,
@@ -131,15 +132,15 @@ impl Initiator {
         Ok(())
     }
 
-    /// The KDC of the user's own realm, as `tcp://kdc.example.com:88`; the schemes are `tcp`, `udp`, `http` and `https`. An address that
-    /// is no URL names none: then KDCs are looked for in the variables and files.
+    /// Sets the KDC of the user's own realm, as `tcp://kdc.example.com:88`; the schemes are `tcp`, `udp`, `http` and `https`. With an
+    /// address that is not a URL, KDCs are looked for in the variables and files.
     pub fn kdc(&mut self, address: &str) -> Result<(), Error> {
         // SAFETY: the handle is ours, and the pointer and the length are those of one slice.
         done(unsafe { sys::mk_initiator_kdc(&mut self.0, address.as_ptr(), address.len()) })?;
         Ok(())
     }
 
-    /// Who asks: a user, as `alice`, its realm, and its password.
+    /// Sets the user, as `alice`, its realm, and its password.
     pub fn password(&mut self, user: &str, realm: &str, password: &str) -> Result<(), Error> {
         // SAFETY: the handle is ours, and each pointer and length are those of one slice.
         done(unsafe {
@@ -156,7 +157,7 @@ impl Initiator {
         Ok(())
     }
 
-    /// Who asks: a user, as `alice`, its realm, and its key, of this encryption type, 17 or 18, from a keytab.
+    /// Sets the user, as `alice`, its realm, and its key of this encryption type, 17 or 18, from a keytab.
     pub fn key(&mut self, user: &str, realm: &str, etype: u8, key: &[u8]) -> Result<(), Error> {
         let principal = format!("{realm}\\{user}");
         // SAFETY: as above.
@@ -173,7 +174,7 @@ impl Initiator {
         Ok(())
     }
 
-    /// A variable of the environment, as `KRB5_CONFIG`. Nothing else is read of it; of several with one name the first counts.
+    /// Sets a variable of the environment, as `KRB5_CONFIG`. No other is read; of several with one name the first counts.
     pub fn variable(&mut self, name: &str, value: &str) -> Result<(), Error> {
         // SAFETY: as above.
         done(unsafe {
@@ -188,7 +189,7 @@ impl Initiator {
         Ok(())
     }
 
-    /// The text of a configuration file at its path, as `/etc/krb5.conf`. No file is read; of several with one path the first counts.
+    /// Sets the text of a configuration file at its path, as `/etc/krb5.conf`. No file is read; of several with one path the first counts.
     pub fn file(&mut self, path: &str, text: &str) -> Result<(), Error> {
         // SAFETY: as above.
         done(unsafe {
@@ -203,29 +204,29 @@ impl Initiator {
         Ok(())
     }
 
-    /// Binds the exchange to the channel below, by data of the application: of a TLS channel that of RFC 5929.
+    /// Binds the exchange to the channel that carries it, by data of the application: for a TLS channel those of RFC 5929.
     pub fn bind(&mut self, data: &[u8]) -> Result<(), Error> {
         // SAFETY: as above.
         done(unsafe { sys::mk_initiator_bind(&mut self.0, data.as_ptr(), data.len()) })?;
         Ok(())
     }
 
-    /// Begins, by the system's clock.
+    /// Begins the exchange, by the system's clock.
     pub fn start(&mut self) -> Result<Next, Error> {
         self.step(Step::Start)
     }
 
-    /// Takes what the service has answered to a token.
+    /// Takes the service's reply to a token.
     pub fn hear(&mut self, token: &[u8]) -> Result<Next, Error> {
         self.step(Step::Hear(token))
     }
 
-    /// Takes what a KDC has answered: over TCP with its four octets of length, over UDP behind any four octets, over HTTP the body.
+    /// Takes a KDC's reply: over TCP with its four bytes of length, over UDP after any four bytes, over HTTP the body.
     pub fn answer(&mut self, octets: &[u8]) -> Result<Next, Error> {
         self.step(Step::Answer(octets))
     }
 
-    /// Takes it that no KDC has answered, and why, in a code of the caller's. It is refused with that.
+    /// Reports that no KDC replied, with a code of the caller's. Always refused, as [`Cause::NETWORK`](crate::Cause::NETWORK) with that number.
     pub fn fault(&mut self, code: u32) -> Result<Next, Error> {
         self.step(Step::Fault(code))
     }
@@ -234,7 +235,7 @@ impl Initiator {
         self.step_at(step, SystemTime::now(), random()?)
     }
 
-    /// Takes a step at this moment, with 64 octets that are random and fresh.
+    /// Takes a step at this moment, with 64 bytes that are random and fresh.
     pub fn step_at(
         &mut self,
         step: Step,
@@ -269,27 +270,29 @@ impl Initiator {
         filled(room, |out, room| unsafe { call(handle, out, room) })
     }
 
-    /// Where the KDC is that is to be asked, as `tcp://kdc.example.com:88`.
+    /// Returns the address of the KDC to ask, as `tcp://kdc.example.com:88`.
     pub fn url(&mut self) -> Result<String, Error> {
         self.text(sys::mk_initiator_url)
     }
 
-    /// The octets for that KDC: over TCP and UDP they are sent as they stand, over HTTP they are the body of a POST.
+    /// Returns the bytes for that KDC: over TCP and UDP send them unchanged, over HTTP as the body of a POST.
     pub fn request(&mut self) -> Result<Vec<u8>, Error> {
         self.octets(1024, sys::mk_initiator_request)
     }
 
-    /// The token for the service. It stays until the next step that is not refused.
+    /// Returns the token for the service. It stays until the next step that is not refused.
     pub fn token(&mut self) -> Result<Vec<u8>, Error> {
         self.octets(1024, sys::mk_initiator_token)
     }
 
-    /// The service, as its name was given, once the initiator is established: with [`Flags::MUTUAL_AUTH`] it has shown who it is.
+    /// Returns the service's name, as [`new`](Initiator::new) got it, when the initiator is established: with [`Flags::MUTUAL_AUTH`] the
+    /// service has shown who it is.
     pub fn peer(&mut self) -> Result<String, Error> {
         self.text(sys::mk_initiator_peer)
     }
 
-    /// The session of an initiator that is established. Another is refused as [`Cause::SEQUENCE`](crate::Cause::SEQUENCE), and gone.
+    /// Returns the session of an initiator that is established. Refused as [`Cause::SEQUENCE`](crate::Cause::SEQUENCE) if it is not; the
+    /// initiator is then freed.
     pub fn into_session(mut self) -> Result<Session, Error> {
         let peer = self.peer()?;
         let mut session = Session::empty();

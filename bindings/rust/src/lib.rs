@@ -4,12 +4,12 @@
 //! use menolavuri::{Acceptor, Error};
 //! use std::time::Duration;
 //!
-//! /// Lets a client in by its first token, and tells it the time.
+//! /// Admits a client by its first token, and replies to its request.
 //! fn serve(acceptor: &Acceptor, token: &[u8], request: &[u8]) -> Result<Vec<u8>, Error> {
 //!     let mut session = acceptor.accept(token)?;
-//!     // session.answer() goes back to the client, if it is not empty.
-//!     let opened = session.unwrap(request)?;
-//!     println!("{} asks {:?}", session.client().unwrap_or_default(), opened.text); // alice@EXAMPLE.COM
+//!     // Send session.answer() to the client, unless it is empty.
+//!     let message = session.unwrap(request)?;
+//!     println!("{} asks {:?}", session.client().unwrap_or_default(), message.text); // alice@EXAMPLE.COM
 //!     session.wrap(b"it is late")
 //! }
 //!
@@ -22,10 +22,10 @@
 //!
 //! # What is proved, and what is not
 //!
-//! The library's code is proved before it is compiled: `crates/krb_c` states what each call does. This crate is the thin part that is
-//! not: it declares the calls, passes slices as a pointer and a length, keeps each handle from two threads at once, and asks the
-//! system for the time and for random octets. An [`Acceptor`] is [`Send`] and [`Sync`], by a lock; a [`Session`], an [`Initiator`], a
-//! [`SaslServer`] and a [`SaslClient`] are [`Send`], which is proved of their handles, and not [`Sync`].
+//! The library's code is proved before it is compiled: `crates/krb_c` states the contract of each call. This crate is a thin layer that is
+//! not proved: it declares the calls, passes slices as a pointer and a length, keeps each handle from two threads at once, and asks the
+//! system for the time and for random bytes. An [`Acceptor`] is [`Send`] and [`Sync`], by a lock; a [`Keyring`], a [`Session`], an
+//! [`Initiator`], a [`SaslServer`] and a [`SaslClient`] are [`Send`], which is proved of their handles, and not [`Sync`].
 
 #![warn(missing_docs)]
 
@@ -33,6 +33,7 @@ mod acceptor;
 pub mod carrier;
 mod error;
 mod initiator;
+mod keyring;
 mod options;
 mod sasl;
 mod session;
@@ -41,9 +42,10 @@ mod sys;
 pub use acceptor::{Acceptor, Judged};
 pub use error::{Cause, Error, Kind, LayerRefusal, Refusal};
 pub use initiator::{Initiator, Next, Step};
+pub use keyring::Keyring;
 pub use options::{Flags, GssFlags, Rules};
 pub use sasl::{Layer, Layers, SaslClient, SaslServer};
-pub use session::{Opened, Session};
+pub use session::{Authorization, Opened, Session};
 
 use error::done;
 use std::fs::File;
@@ -51,7 +53,7 @@ use std::io::Read;
 use std::time::{SystemTime, UNIX_EPOCH};
 use sys::{Moment, Reply};
 
-/// Microseconds since 1970.
+/// Returns the microseconds since 1970-01-01T00:00:00Z.
 fn microseconds(time: SystemTime) -> Result<u64, Error> {
     let since = time
         .duration_since(UNIX_EPOCH)
@@ -70,7 +72,7 @@ fn random<const N: usize>() -> Result<[u8; N], Error> {
     Ok(octets)
 }
 
-/// The octets that a call puts into a room, which is made longer where the call says so.
+/// Returns the bytes that a call writes into a buffer, which grows if the call needs more.
 fn filled(room: usize, mut call: impl FnMut(*mut u8, usize) -> Reply) -> Result<Vec<u8>, Error> {
     let mut out = vec![0; room.max(1)];
     loop {
@@ -85,7 +87,7 @@ fn filled(room: usize, mut call: impl FnMut(*mut u8, usize) -> Reply) -> Result<
     }
 }
 
-/// The version of the library.
+/// Returns the version of the library.
 pub fn version() -> String {
     // SAFETY: the pointer and the length are those of one vector.
     let text = filled(16, |out, room| unsafe { sys::mk_version(out, room) });

@@ -9,11 +9,11 @@ use std::ops::BitOr;
 /// A security layer of SASL GSSAPI (RFC 4752, section 3.3).
 #[derive(Clone, Copy, Debug, PartialEq, Eq, Hash)]
 pub enum Layer {
-    /// Data go as they are, without frames: nothing is to be sealed or unsealed.
+    /// Data go as they are, without frames: `seal` and `unseal` are not called.
     None = 1,
     /// Data go in the clear, with a checksum.
     Integrity = 2,
-    /// Data go sealed.
+    /// Data go encrypted.
     Confidentiality = 4,
 }
 
@@ -25,7 +25,7 @@ impl Layers {
     /// All three.
     pub const ALL: Layers = Layers(7);
 
-    /// Those of a sum of 1 (none), 2 (integrity) and 4 (confidentiality), where it is one.
+    /// Returns the layers of a sum of 1 (none), 2 (integrity) and 4 (confidentiality), or `None` for another number.
     pub const fn from_sum(sum: u32) -> Option<Layers> {
         match sum {
             1..=7 => Some(Layers(sum)),
@@ -33,7 +33,7 @@ impl Layers {
         }
     }
 
-    /// Whether the layer is among them.
+    /// Returns true if the layer is one of them.
     pub const fn contains(self, layer: Layer) -> bool {
         self.0 & layer as u32 != 0
     }
@@ -61,7 +61,7 @@ impl<T: Into<Layers>> BitOr<T> for Layer {
     }
 }
 
-/// An end, and what its session knew.
+/// An end, and its session.
 struct End {
     handle: Handle,
     session: Session,
@@ -78,7 +78,7 @@ impl End {
         }
     }
 
-    /// How long the frame of no data is, which is not made: its room is too short.
+    /// Returns the length of the frame of no data, which is not made: its buffer is too short.
     fn layer(&mut self) -> Result<Layer, Error> {
         let (nothing, mut out) = ([0; 16], [0]);
         // SAFETY: the handle is ours, and each pointer and length are those of one array, or the length is less.
@@ -134,13 +134,13 @@ impl Drop for End {
     }
 }
 
-/// The server's end of a session: it offers layers, accepts the client's answer, and then seals and unseals data.
+/// The server's end of a session: it offers layers, accepts the client's answer, and then makes and reads frames.
 ///
 /// ```
 /// use menolavuri::{Acceptor, Error, Layer, SaslServer};
 /// use std::time::Duration;
 ///
-/// /// Lets a client in by its first token. `ask` brings a token to the client, and what it answers.
+/// /// Admits a client by its first token. `ask` sends a token to the client and returns its reply.
 /// fn log_in(
 ///     acceptor: &Acceptor,
 ///     token: &[u8],
@@ -148,12 +148,12 @@ impl Drop for End {
 /// ) -> Result<SaslServer, Error> {
 ///     let session = acceptor.accept(token)?;
 ///     if !session.answer().is_empty() {
-///         ask(session.answer()); // the client answers with no octets
+///         ask(session.answer()); // the client replies with no bytes
 ///     }
 ///     let mut server = SaslServer::new(session, Layer::Integrity | Layer::Confidentiality, 65536)?;
 ///     let answer = ask(&server.offer()?);
 ///     let user = server.accept(&answer)?;
-///     // Whether the client may act for that user is for the server to decide: here for nobody but itself.
+///     // Decide for whom the client may act: here for nobody but itself.
 ///     if user.is_empty() || Some(user.as_str()) == server.session().client() {
 ///         return Ok(server);
 ///     }
@@ -167,12 +167,12 @@ impl Drop for End {
 /// ```
 ///
 /// Each step is made once, in this order: another is refused as [`LayerRefusal::State`](crate::LayerRefusal::State). After
-/// [`Error::Memory`] the same step may come again.
+/// [`Error::Memory`] the same step can be repeated.
 pub struct SaslServer(End);
 
 impl SaslServer {
-    /// Offers these layers, and receives messages of `most` octets at most, which is under 2^24, and 0 where [`Layer::None`] alone is
-    /// offered: else it is refused as [`LayerRefusal::Layers`](crate::LayerRefusal::Layers), and the session is gone.
+    /// Makes an end that offers these layers, and receives messages of at most `most` bytes: under 2^24, and 0 if [`Layer::None`] alone is
+    /// offered. Otherwise it is refused as [`LayerRefusal::Layers`](crate::LayerRefusal::Layers), and the session is freed.
     pub fn new(
         session: Session,
         layers: impl Into<Layers>,
@@ -191,12 +191,12 @@ impl SaslServer {
         Ok(SaslServer(end))
     }
 
-    /// What the session knew: who the other end is. Its messages are those of this end now.
+    /// Returns the session, for the name of the client. Its messages now belong to this end.
     pub fn session(&self) -> &Session {
         &self.0.session
     }
 
-    /// The offer, a token for the client.
+    /// Returns the offer, a token for the client.
     pub fn offer(&mut self) -> Result<Vec<u8>, Error> {
         let handle = &mut self.0.handle;
         // SAFETY: the handle is ours, and the pointer and the length are those of one vector.
@@ -205,10 +205,9 @@ impl SaslServer {
         })
     }
 
-    /// Accepts the client's answer, and tells the user that it asks to act for: no text where it is the client itself. **Whether it may
-    /// is for the caller to decide.** Where it does not choose one of the layers, or is malformed, it is refused as
-    /// [`LayerRefusal::Layer`](crate::LayerRefusal::Layer) or [`LayerRefusal::Offer`](crate::LayerRefusal::Offer), and the client may
-    /// send another.
+    /// Accepts the client's answer, and returns the user that it asks to act for: no text for the client itself. **Decide by the client's
+    /// name if it may.** Refused as [`LayerRefusal::Layer`](crate::LayerRefusal::Layer) if the answer chooses none of the layers, and as
+    /// [`LayerRefusal::Offer`](crate::LayerRefusal::Offer) if it is malformed; the client may then send another.
     pub fn accept(&mut self, token: &[u8]) -> Result<String, Error> {
         let handle = &mut self.0.handle;
         // SAFETY: as above, and each pointer and length are those of one slice or vector.
@@ -218,32 +217,32 @@ impl SaslServer {
         Ok(String::from_utf8_lossy(&user).into_owned())
     }
 
-    /// The layer that the client chose.
+    /// Returns the layer that the client chose.
     pub fn layer(&mut self) -> Result<Layer, Error> {
         self.0.layer()
     }
 
-    /// Seals data into a frame, which goes to the client as it stands. It is refused as
-    /// [`LayerRefusal::TooLarge`](crate::LayerRefusal::TooLarge) where the client does not receive so much: cut the data.
+    /// Makes a frame of data for the client. Refused as [`LayerRefusal::TooLarge`](crate::LayerRefusal::TooLarge) if it is longer than
+    /// the client receives: cut the data.
     pub fn seal(&mut self, data: &[u8]) -> Result<Vec<u8>, Error> {
         self.0.seal(data)
     }
 
-    /// The data of a whole frame of the client's: four octets, the highest first, and so many octets of message as they say. Refuse a
+    /// Returns the data of one whole frame of the client: four bytes of length, the highest first, and a message of that length. Refuse a
     /// length past `most` before you take memory for it.
     pub fn unseal(&mut self, frame: &[u8]) -> Result<Vec<u8>, Error> {
         self.0.unseal(frame)
     }
 }
 
-/// The client's end of a session: it answers the server's offer, and then seals and unseals data.
+/// The client's end of a session: it answers the server's offer, and then makes and reads frames.
 ///
 /// ```
 /// use menolavuri::{Error, Layer, SaslClient, Session};
 ///
-/// /// Goes on where the service is reached. `ask` brings a token to the service, and what it answers.
+/// /// Agrees on a layer with a service that was reached. `ask` sends a token to the service and returns its reply.
 /// fn log_in(session: Session, ask: impl Fn(&[u8]) -> Vec<u8>) -> Result<SaslClient, Error> {
-///     let offer = ask(session.answer()); // no octets, where the service has shown who it is
+///     let offer = ask(session.answer()); // no bytes, if the service has shown who it is
 ///     let mut client = SaslClient::new(session, Layer::Confidentiality, 65536, "")?;
 ///     ask(&client.answer(&offer)?);
 ///     Ok(client)
@@ -252,9 +251,9 @@ impl SaslServer {
 pub struct SaslClient(End);
 
 impl SaslClient {
-    /// Wants this layer, receives messages of `most` octets at most, which is under 2^24, and 0 for [`Layer::None`], and asks to act
-    /// for this user: no text where it acts for itself. Another size is refused as
-    /// [`LayerRefusal::Layers`](crate::LayerRefusal::Layers), and the session is gone.
+    /// Makes an end that asks for this layer, receives messages of at most `most` bytes, under 2^24, and 0 for [`Layer::None`], and asks to
+    /// act for this user: no text to act for itself. Another size is refused as
+    /// [`LayerRefusal::Layers`](crate::LayerRefusal::Layers), and the session is freed.
     pub fn new(session: Session, layer: Layer, most: u32, user: &str) -> Result<SaslClient, Error> {
         let mut end = End::new(session);
         // SAFETY: the session's handle is ours, the end's is empty, and the pointer and the length are those of one slice.
@@ -271,12 +270,12 @@ impl SaslClient {
         Ok(SaslClient(end))
     }
 
-    /// What the session knew: which service was reached. Its messages are those of this end now.
+    /// Returns the session, for the name of the service. Its messages now belong to this end.
     pub fn session(&self) -> &Session {
         &self.0.session
     }
 
-    /// The answer to the server's offer, a token for the server. An offer without the layer that is wanted is refused as
+    /// Returns the answer to the server's offer, a token for the server. An offer without the layer that was asked for is refused as
     /// [`LayerRefusal::Layer`](crate::LayerRefusal::Layer), and a malformed one as [`LayerRefusal::Offer`](crate::LayerRefusal::Offer).
     pub fn answer(&mut self, offer: &[u8]) -> Result<Vec<u8>, Error> {
         let handle = &mut self.0.handle;
@@ -286,18 +285,18 @@ impl SaslClient {
         })
     }
 
-    /// The layer that both ends agreed on.
+    /// Returns the layer that both ends agreed on.
     pub fn layer(&mut self) -> Result<Layer, Error> {
         self.0.layer()
     }
 
-    /// Seals data into a frame, which goes to the server as it stands. It is refused as
-    /// [`LayerRefusal::TooLarge`](crate::LayerRefusal::TooLarge) where the server does not receive so much: cut the data.
+    /// Makes a frame of data for the server. Refused as [`LayerRefusal::TooLarge`](crate::LayerRefusal::TooLarge) if it is longer than
+    /// the server receives: cut the data.
     pub fn seal(&mut self, data: &[u8]) -> Result<Vec<u8>, Error> {
         self.0.seal(data)
     }
 
-    /// The data of a whole frame of the server's: four octets, the highest first, and so many octets of message as they say. Refuse a
+    /// Returns the data of one whole frame of the server: four bytes of length, the highest first, and a message of that length. Refuse a
     /// length past `most` before you take memory for it.
     pub fn unseal(&mut self, frame: &[u8]) -> Result<Vec<u8>, Error> {
         self.0.unseal(frame)

@@ -2,7 +2,7 @@
 
 use crate::error::{Cause, Error, done, told_flags};
 use crate::options::{GssFlags, Rules};
-use crate::sys::{self, Handle, Times};
+use crate::sys::{self, Handle, Reply, Times};
 use crate::{filled, random};
 use std::time::{Duration, SystemTime, UNIX_EPOCH};
 
@@ -21,13 +21,36 @@ pub struct Session {
 // SAFETY: the library's handle of a session may go to another thread (`Send` is proved of it), and each call takes `&mut self`.
 unsafe impl Send for Session {}
 
-/// The text of a token that the other end made.
+/// The text of a token from the other end.
 #[derive(Clone, Debug, PartialEq, Eq)]
 pub struct Opened {
     /// The text.
     pub text: Vec<u8>,
-    /// Whether the token was sealed, and not in the clear.
+    /// True if the token was encrypted, false if it was in the clear.
     pub sealed: bool,
+}
+
+/// An element of authorization data (RFC 4120, section 5.2.6).
+#[derive(Clone, Debug, PartialEq, Eq)]
+pub struct Authorization {
+    /// The type (section 7.5.4), as 128 for a PAC.
+    pub kind: i32,
+    /// The bytes of the element.
+    pub data: Vec<u8>,
+}
+
+impl Authorization {
+    /// Returns the element that a call writes with its type, or `None` if the call says that there is none at its place.
+    pub(crate) fn of(
+        mut call: impl FnMut(*mut i32, *mut u8, usize) -> Reply,
+    ) -> Result<Option<Authorization>, Error> {
+        let mut kind = 0;
+        match filled(0, |out, room| call(&mut kind, out, room)) {
+            Ok(data) => Ok(Some(Authorization { kind, data })),
+            Err(Error::Argument) => Ok(None),
+            Err(error) => Err(error),
+        }
+    }
 }
 
 impl Session {
@@ -44,14 +67,14 @@ impl Session {
         }
     }
 
-    /// Learns which service an initiator has reached, and what is still to be sent to it.
+    /// Keeps the name of the service that an initiator reached, and its last token.
     pub(crate) fn reach(&mut self, peer: String) -> Result<(), Error> {
         self.peer = peer;
         self.answer = self.octets(64, sys::mk_session_answer)?;
         Ok(())
     }
 
-    /// Learns what the token of an admitted client said. The answer to it has this number of octets.
+    /// Keeps the name, flags and times of an admitted client, and the answer, which has this length in bytes.
     pub(crate) fn learn(&mut self, answer: usize) -> Result<(), Error> {
         self.answer = self.octets(answer, sys::mk_session_answer)?;
         let client = self.text(sys::mk_session_client)?;
@@ -91,20 +114,20 @@ impl Session {
         filled(room, |out, room| unsafe { call(handle, out, room) })
     }
 
-    /// Who the other end is, to show to a person: a service as the initiator was given its name, a client by its
-    /// [`local_name`](Session::local_name) where it has one, and otherwise by its whole name.
+    /// Returns the name of the other end, for display: of a service as the initiator got it, of a client its
+    /// [`local_name`](Session::local_name) if it has one, otherwise its whole name.
     pub fn peer(&self) -> &str {
         &self.peer
     }
 
-    /// Who the client is, whole: all components of its name and the realm, as `alice/admin@EXAMPLE.COM`. **Give rights by this name
+    /// Returns the whole name of the client: all components and the realm, as `alice/admin@EXAMPLE.COM`. **Give rights by this name
     /// alone.** Every client that was admitted has one, and an initiator's session has none.
     pub fn client(&self) -> Option<&str> {
         self.client.as_deref()
     }
 
-    /// The short name of a client, `alice@example.com`: the one component of its name and the realm in small letters. A client whose
-    /// name is of another type than 1 or has further components, as `alice/admin` and `host/server.example.com`, has none.
+    /// Returns the short name of a client, `alice@example.com`: the one component of its name and the realm in small letters. A client
+    /// whose name is of another type than 1 or has further components, as `alice/admin` and `host/server.example.com`, has none.
     ///
     /// # Security
     /// Clients of realms that differ in the case of letters have the same short name: give rights by [`client`](Session::client).
@@ -112,13 +135,13 @@ impl Session {
         self.local_name.as_deref()
     }
 
-    /// What the client asked for. None where its checksum has no flags, and for an initiator's session.
+    /// Returns the flags of the client's request, or `None` if its checksum has no flags, and for an initiator's session.
     pub fn flags(&self) -> Option<GssFlags> {
         self.flags
     }
 
-    /// The first 32 flags of the client's ticket, bit 0 the highest: FORWARDABLE, bit 1, is 0x40000000 (RFC 4120, section 5.3). An
-    /// initiator's session does not tell them.
+    /// Returns the first 32 flags of the client's ticket, bit 0 the highest: FORWARDABLE, bit 1, is 0x40000000 (RFC 4120, section 5.3).
+    /// An initiator's session does not have them.
     pub fn ticket_flags(&self) -> Option<u32> {
         self.ticket_flags
     }
@@ -134,18 +157,18 @@ impl Session {
         plain_user(self.client()?, realm)
     }
 
-    /// Until when the client's ticket is valid. An initiator's session does not tell it.
+    /// Returns the end of the client's ticket. An initiator's session does not have it.
     pub fn ends(&self) -> Option<SystemTime> {
         self.ends
     }
 
-    /// The last token for the other end; empty where there is nothing to be sent.
+    /// Returns the last token for the other end; empty if there is nothing to send.
     pub fn answer(&self) -> &[u8] {
         &self.answer
     }
 
-    /// Sets its rules: these from now on, and no others. It begins with [`Rules::RFC`], or with those of its initiator. Of a session only
-    /// [`Rules::SUBKEY_FLAG_BY_ORIGIN`] and [`Rules::EXTRA_COUNT_BY_TOKEN`] count.
+    /// Sets its rules: these from now on, and no others. It begins with [`Rules::RFC`], or with the rules of its initiator. Only
+    /// [`Rules::SUBKEY_FLAG_BY_ORIGIN`] and [`Rules::EXTRA_COUNT_BY_TOKEN`] matter to a session.
     pub fn set_rules(&mut self, rules: Rules) -> Result<(), Error> {
         // SAFETY: the handle is ours.
         done(unsafe { sys::mk_session_set_rules(&mut self.handle, rules.0) })?;
@@ -161,8 +184,8 @@ impl Session {
         Ok(())
     }
 
-    /// Returns the KRB-CRED by which the client handed on a ticket of its own (RFC 4121, section 4.1.1): no bytes if it asked for no
-    /// delegation, and for an initiator's session. It is not decrypted.
+    /// Returns the KRB-CRED by which the client delegates a ticket of its own (RFC 4121, section 4.1.1), as it came: no bytes if it asked
+    /// for no delegation, and for an initiator's session. It is not decrypted.
     pub fn delegation(&mut self) -> Result<Vec<u8>, Error> {
         if self.client.is_none() {
             return Ok(Vec::new());
@@ -170,13 +193,38 @@ impl Session {
         self.octets(0, sys::mk_session_get_delegation)
     }
 
-    /// The key of its messages, for what a program seals by itself: 32 octets where its encryption type is 18, and 16 where it is 17
+    /// Returns the last 12 bytes of the encrypted authenticator by which the client was admitted, as [`Judged::tag`](crate::Judged::tag)
+    /// does, or `None` for an initiator's session.
+    pub fn tag(&mut self) -> Result<Option<[u8; 12]>, Error> {
+        if self.client.is_none() {
+            return Ok(None);
+        }
+        let mut tag = [0; 12];
+        // SAFETY: the handle is ours, and the pointer and the length are those of one array.
+        done(unsafe { sys::mk_session_get_tag(&mut self.handle, tag.as_mut_ptr(), tag.len()) })?;
+        Ok(Some(tag))
+    }
+
+    /// Returns an element of the authorization data of the client's ticket, as [`Judged::authorization`](crate::Judged::authorization)
+    /// does, and `None` for an initiator's session.
+    pub fn authorization(&mut self, place: usize) -> Result<Option<Authorization>, Error> {
+        if self.client.is_none() {
+            return Ok(None);
+        }
+        let handle = &mut self.handle;
+        // SAFETY: the handle and the number are ours, and the pointer and the length are those of one vector.
+        Authorization::of(|kind, out, room| unsafe {
+            sys::mk_session_get_authorization(handle, place, kind, out, room)
+        })
+    }
+
+    /// Returns the key of its messages, for a program that encrypts by itself: 32 bytes for encryption type 18, and 16 for type 17
     /// (RFC 3962). **Whoever has it reads all messages of the session.**
     pub fn key(&mut self) -> Result<Vec<u8>, Error> {
         self.octets(32, sys::mk_session_key)
     }
 
-    /// Seals a text, for the other end's `gss_unwrap`.
+    /// Encrypts a text, for the other end's `gss_unwrap`.
     pub fn wrap(&mut self, text: &[u8]) -> Result<Vec<u8>, Error> {
         let confounder: [u8; 16] = random()?;
         let handle = &mut self.handle;
@@ -194,7 +242,7 @@ impl Session {
         })
     }
 
-    /// A text in the clear with a checksum, for the other end's `gss_unwrap`.
+    /// Makes a token with the text in the clear and a checksum, for the other end's `gss_unwrap`.
     pub fn wrap_in_clear(&mut self, text: &[u8]) -> Result<Vec<u8>, Error> {
         let handle = &mut self.handle;
         // SAFETY: as above.
@@ -203,7 +251,7 @@ impl Session {
         })
     }
 
-    /// Opens a token that the other end's `gss_wrap` made. Each is opened once.
+    /// Returns the text of a token that the other end's `gss_wrap` made. Each token is accepted once.
     pub fn unwrap(&mut self, token: &[u8]) -> Result<Opened, Error> {
         let handle = &mut self.handle;
         // SAFETY: as above.
@@ -214,7 +262,7 @@ impl Session {
         Ok(Opened { text, sealed })
     }
 
-    /// A MIC over a payload, for the other end's `gss_verify_mic`.
+    /// Makes a MIC over a payload, for the other end's `gss_verify_mic`.
     pub fn mic(&mut self, payload: &[u8]) -> Result<Vec<u8>, Error> {
         let handle = &mut self.handle;
         // SAFETY: as above.
@@ -223,7 +271,7 @@ impl Session {
         })
     }
 
-    /// Whether the token is a MIC over this payload that the other end's `gss_get_mic` made.
+    /// Verifies that the token is a MIC over this payload that the other end's `gss_get_mic` made.
     pub fn verify(&mut self, mic: &[u8], payload: &[u8]) -> Result<(), Error> {
         // SAFETY: the handle is ours, and each pointer and length are those of one slice.
         done(unsafe {
@@ -246,7 +294,7 @@ impl Drop for Session {
     }
 }
 
-/// The one component of a client's whole name, if its realm is this one and no letter of the component has a meaning of its own.
+/// Returns the one component of a client's whole name, if its realm is this one and the component has no character with a meaning of its own.
 fn plain_user<'a>(client: &'a str, realm: &str) -> Option<&'a str> {
     let user = client.strip_suffix(realm)?.strip_suffix('@')?;
     let is_plain = |letter: char| letter.is_ascii_graphic() && !matches!(letter, '/' | '@' | '\\');

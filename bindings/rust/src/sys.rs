@@ -2,7 +2,7 @@
 
 use std::marker::{PhantomData, PhantomPinned};
 
-/// An address that only the library reads, and whether something is there.
+/// A handle of the library: a count and an address that only the library reads.
 #[repr(C)]
 pub struct Handle {
     count: u64,
@@ -28,7 +28,7 @@ pub const ASK_KDC: u32 = 0;
 pub const SEND_TOKEN: u32 = 1;
 pub const ESTABLISHED: u32 = 2;
 
-/// A call that puts octets into a room.
+/// A call that writes bytes into a buffer.
 pub type OutCall = unsafe extern "C" fn(*mut Handle, *mut u8, usize) -> Reply;
 
 #[repr(C)]
@@ -83,6 +83,7 @@ unsafe extern "C" {
         realm_length: usize,
         skew: u32,
     ) -> Reply;
+    pub fn mk_acceptor_new_keyless(to: *mut Handle, skew: u32) -> Reply;
     pub fn mk_acceptor_copy(acceptor: *mut Handle, to: *mut Handle) -> Reply;
     pub fn mk_acceptor_reserve(acceptor: *mut Handle, records: usize) -> Reply;
     pub fn mk_acceptor_kept(acceptor: *mut Handle) -> u64;
@@ -106,11 +107,33 @@ unsafe extern "C" {
         moment: *const Moment,
     ) -> Reply;
     pub fn mk_admit(book: *mut Handle, judged: *mut Handle, to: *mut Handle) -> Reply;
+    pub fn mk_keyring_new(to: *mut Handle) -> Reply;
+    pub fn mk_keyring_add_keytab(ring: *mut Handle, file: *const u8, file_length: usize) -> Reply;
+    pub fn mk_keyring_limit_tokens(ring: *mut Handle, most: usize) -> Reply;
+    pub fn mk_keyring_count(ring: *mut Handle) -> u64;
+    pub fn mk_keyring_judge(
+        ring: *mut Handle,
+        to: *mut Handle,
+        token: *const u8,
+        token_length: usize,
+        bound: u32,
+        data: *const u8,
+        data_length: usize,
+        moment: *const Moment,
+    ) -> Reply;
+    pub fn mk_keyring_free(ring: *mut Handle);
     pub fn mk_judged_client(judged: *mut Handle, out: *mut u8, room: usize) -> Reply;
     pub fn mk_judged_service(judged: *mut Handle, out: *mut u8, room: usize) -> Reply;
     pub fn mk_judged_flags(judged: *mut Handle) -> Reply;
     pub fn mk_judged_tag(judged: *mut Handle, out: *mut u8, room: usize) -> Reply;
     pub fn mk_judged_get_delegation(judged: *mut Handle, out: *mut u8, room: usize) -> Reply;
+    pub fn mk_judged_get_authorization(
+        judged: *mut Handle,
+        place: usize,
+        kind: *mut i32,
+        out: *mut u8,
+        room: usize,
+    ) -> Reply;
     pub fn mk_error_token(
         cause: u32,
         service: *const u8,
@@ -137,6 +160,14 @@ unsafe extern "C" {
     pub fn mk_session_flags(session: *mut Handle) -> Reply;
     pub fn mk_session_ticket_flags(session: *mut Handle) -> Reply;
     pub fn mk_session_get_delegation(session: *mut Handle, out: *mut u8, room: usize) -> Reply;
+    pub fn mk_session_get_tag(session: *mut Handle, out: *mut u8, room: usize) -> Reply;
+    pub fn mk_session_get_authorization(
+        session: *mut Handle,
+        place: usize,
+        kind: *mut i32,
+        out: *mut u8,
+        room: usize,
+    ) -> Reply;
     pub fn mk_session_key(session: *mut Handle, out: *mut u8, room: usize) -> Reply;
     pub fn mk_session_set_rules(session: *mut Handle, rules: u32) -> Reply;
     pub fn mk_session_set_order(session: *mut Handle, in_order: u32) -> Reply;

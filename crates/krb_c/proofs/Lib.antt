@@ -3,6 +3,7 @@ mod CodeLemmas
 mod DialogueBox
 mod Given
 mod JudgementBox
+mod KeyringBox
 mod Places
 mod SaslBox
 mod SaslLemmas

@@ -2,7 +2,6 @@
 use Rattle.std.proofs.Common.{◌≡◌, ℕ, ◌<◌, List, Bool, true, false, refl, arith}
 use Rattle.std.proofs.lemmas.Bool.Decides.{nat_tests}
 use Rattle.std.specs.Prelude.{◌&&◌, nat_le, Ok, Err}
-use Rattle.krb_context.specs.declared.context.Kerberos.{Kerberos}
 use Rattle.krb_c.specs.declared.sasl_end.SaslEnd.{SaslEnd}
 use Rattle.krb_c.specs.declared.sasl_end.SaslEnd.TheVariants.{Server, Client}
 use Rattle.krb_c.specs.Sasl.{EndHandsNot, GivesOffer, GivesName, GivesAnswer, RefusesOffer, RefusesName, RefusesAnswer, ServesAs}
@@ -16,6 +15,7 @@ use Rattle.krb_sasl.specs.Clients.{AnswersOffer}
 use Rattle.krb_sasl.specs.Layers.{is_offer}
 use Rattle.krb_sasl.specs.Rooms.{Faults, IsNameIn, IsAnswerTo}
 use Rattle.krb_sasl.specs.Servers.{Offers, Accepts, MayServe, Serves, offered_by}
+use Rattle.krb_sessions.specs.declared.session.Session.{Session}
 use Rattle.sspi_core.specs.Checks.{Holds}
 use Rattle.sspi_core.proofs.Chain.{halts}
 
@@ -68,8 +68,8 @@ holds_not : {E : Type 0} (refusal : E) (test : Bool) → test ≡ false → Hold
 holds_not refusal true e = absurd cc
 holds_not refusal false e = record { is = refl }
 
-pub serves_none : (layers most : ℕ) (context : Kerberos) → 7 < layers → ServesAs layers most context (Err Layers)
+pub serves_none : (layers most : ℕ) (session : Session) → 7 < layers → ServesAs layers most session (Err Layers)
 unfolding ServesAs Serves MayServe
-serves_none layers most context h =
+serves_none layers most session h =
     halts _ _ Layers (Err Layers) (halts _ _ Layers (Err Layers)
     (halts _ _ Layers (Err Layers) (holds_not Layers (is_offer layers most) (no_offer layers most h)) refl) refl) refl

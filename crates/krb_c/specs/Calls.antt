@@ -42,6 +42,20 @@ pub record Makes (name key : List ℕ) (skew : ℕ) (old : Option Service) (coun
   pub is_new : IsNew name key skew service
   pub none_written : count ≡ 0
 
+-- a service without a name and a key, with an empty book
+pub record IsBookAlone (skew : ℕ) (service : Service) : Type 0 where
+  pub properties : service.keys.properties ≡ new_properties [] None skew None
+  pub limit : service.keys.token_limit ≡ token_limit
+  pub skew_is : service.book.skew ≡ skew
+  pub book : StandsFor service.book no_history
+
+pub record MakesBookAlone (skew : ℕ) (old : Option Service) (count : ℕ) (new : Option Service) : Type 0 where
+  pub service : Service
+  pub was_empty : old ≡ None
+  pub now : new ≡ Some service
+  pub is_book_alone : IsBookAlone skew service
+  pub none_written : count ≡ 0
+
 -- a further name with its key
 pub record Adds (name key : List ℕ) (old : Option Service) (count : ℕ) (new : Option Service) : Type 0 where
   pub before : Service

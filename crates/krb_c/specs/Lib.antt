@@ -1,10 +1,12 @@
 pub mod Asked
+pub mod Authorization
 pub mod Calls
 pub mod Codes
 pub mod Copies
 pub mod Dialogues
 pub mod Failures
 pub mod Halves
+pub mod Keyrings
 pub mod Keytabs
 pub mod Ordered
 pub mod Places

@@ -5,7 +5,6 @@ use Rattle.krb_c.specs.declared.sasl_end.SaslEnd.TheVariants.{Server, Client}
 use Rattle.krb_c.specs.declared.sasl_reply.SaslFailure.{SaslFailure}
 use Rattle.krb_c.specs.declared.sasl_reply.SaslFailure.TheVariants.{Refused, Room, Argument, Handle}
 use Rattle.krb_c.specs.Failures.{IsMisplaced}
-use Rattle.krb_context.specs.declared.context.Kerberos.{Kerberos}
 use Rattle.krb_sasl.specs.declared.channel.Channel.{Channel}
 use Rattle.krb_sasl.specs.declared.client.SaslClient.{SaslClient}
 use Rattle.krb_sasl.specs.declared.error.SaslError.{SaslError}
@@ -16,9 +15,10 @@ use Rattle.krb_sasl.specs.Channels.{Seals, Unseals, sealed_by, unsealed_by}
 use Rattle.krb_sasl.specs.Clients.{Wishes, AnswersOffer}
 use Rattle.krb_sasl.specs.Layers.{layer_of}
 use Rattle.krb_sasl.specs.Rooms.{Names, AnswersWith}
-use Rattle.krb_sasl.specs.Servers.{Serves, Offers, Accepts, offered_by, left_by}
+use Rattle.krb_sasl.specs.Servers.{Serves, Offers, Accepts, offered_by, left_by, ordered}
 use Rattle.krb_sessions.specs.declared.session.Session.{Session}
 use Rattle.krb_sessions.specs.Gives.{Delivers, IsShort}
+use Rattle.krb_sessions.specs.Orders.{order_asked}
 use Rattle.sspi_core.specs.Checks.{Takes, Gives, ◌>>=◌}
 
 -- the channel of an end, and the end with another
@@ -30,39 +30,43 @@ abbrev pub with_channel : SaslEnd → Channel → SaslEnd
 with_channel (Server server) channel = Server (record server { channel = channel })
 with_channel (Client client) channel = Client (record client { channel = channel })
 
--- all checks of a context that becomes a server's, and the end
-unfoldable pub ServesAs : ℕ → ℕ → Kerberos → Result SaslEnd SaslError → Type 0
-ServesAs layers most context = do
-  server ← Serves context layers most
-  Gives (Server server)
+-- an end that takes the peer's tokens in the order that its session is asked for
+abbrev pub in_its_order : Session → SaslEnd → SaslEnd
+in_its_order session end = with_channel end (ordered (order_asked session) (channel_of end))
 
--- all checks of a context that becomes a client's, with the layer of this octet, and the end
-unfoldable pub WishesAs : ℕ → ℕ → List ℕ → Kerberos → Result SaslEnd SaslError → Type 0
-WishesAs octet most user context = do
+-- all checks of a session that becomes a server's end, and the end
+unfoldable pub ServesAs : ℕ → ℕ → Session → Result SaslEnd SaslError → Type 0
+ServesAs layers most session = do
+  server ← Serves session.connection layers most
+  Gives (in_its_order session (Server server))
+
+-- all checks of a session that becomes a client's end, with the layer of this octet, and the end
+unfoldable pub WishesAs : ℕ → ℕ → List ℕ → Session → Result SaslEnd SaslError → Type 0
+WishesAs octet most user session = do
   wanted ← Takes Layers (layer_of octet)
-  client ← Wishes context wanted most user
-  Gives (Client client)
+  client ← Wishes session.connection wanted most user
+  Gives (in_its_order session (Client client))
 
 -- a session becomes an end in an empty handle, and its own handle is empty
-pub record Becomes (makes : Kerberos → Result SaslEnd SaslError → Type 0) (from : Option Session) (to : Option SaslEnd) (count : ℕ)
+pub record Becomes (makes : Session → Result SaslEnd SaslError → Type 0) (from : Option Session) (to : Option SaslEnd) (count : ℕ)
     (session : Option Session) (new : Option SaslEnd) : Type 0 where
   pub guest : Session
   pub made : SaslEnd
   pub was : from ≡ Some guest
   pub was_empty : to ≡ None
-  pub is_made : makes guest.connection (Ok made)
+  pub is_made : makes guest (Ok made)
   pub spent : session ≡ None
   pub now : new ≡ Some made
   pub none_written : count ≡ 0
 
 -- the session does not become one
-pub record SessionRefuses (makes : Kerberos → Result SaslEnd SaslError → Type 0) (from : Option Session) (refusal : SaslError) : Type 0 where
+pub record SessionRefuses (makes : Session → Result SaslEnd SaslError → Type 0) (from : Option Session) (refusal : SaslError) : Type 0 where
   pub guest : Session
   pub was : from ≡ Some guest
-  pub refuses : Refuses (makes guest.connection) refusal
+  pub refuses : Refuses (makes guest) refusal
 
 -- why no end is made
-abbrev pub BecomesNot : Type 0 → (Kerberos → Result SaslEnd SaslError → Type 0) → Option Session → Option SaslEnd → SaslFailure → Type 0
+abbrev pub BecomesNot : Type 0 → (Session → Result SaslEnd SaslError → Type 0) → Option Session → Option SaslEnd → SaslFailure → Type 0
 BecomesNot unfit makes from to (Refused refusal) = SessionRefuses makes from refusal
 BecomesNot unfit makes from to (Room count) = ⊥
 BecomesNot unfit makes from to Argument = unfit

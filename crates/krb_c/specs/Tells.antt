@@ -50,7 +50,18 @@ TellsNot gives session room Handle = client_of session ≡ None
 abbrev pub IsHandedOn : Client → List ℕ → Type 0
 IsHandedOn client octets = octets ≡ client.delegation
 
--- why it is not returned
+-- the last twelve octets of the encrypted authenticator, by which the client was admitted
+abbrev pub IsClientTag : Client → List ℕ → Type 0
+IsClientTag client octets = octets ≡ client.tag
+
+-- why octets of the client's, which are there, are not returned
+abbrev pub LendsNoneOf : (Client → List ℕ → Type 0) → Option Session → ℕ → Failure → Type 0
+LendsNoneOf gives session room (Refused error) = ⊥
+LendsNoneOf gives session room (Room count) = TellsShort gives session room count
+LendsNoneOf gives session room Argument = ⊥
+LendsNoneOf gives session room Handle = client_of session ≡ None
+
+-- why the KRB-CRED is not returned
 abbrev pub HandsOnNot : Option Session → ℕ → Failure → Type 0
 HandsOnNot session room (Refused error) = ⊥
 HandsOnNot session room (Room count) = TellsShort IsHandedOn session room count

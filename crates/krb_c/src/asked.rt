@@ -5,7 +5,7 @@ ghost use Rattle.krb_c.specs.declared.reply.Failure.{Failure};
 ghost use Rattle.krb_c.specs.declared.reply.Failure.TheVariants as failures;
 ghost use Rattle.krb_c.specs.Asked.{AsksFor, AsksNot, TellsTicketFlags, IsTag, LendsNot, candidate_flags, client_flags, flags_number};
 ghost use Rattle.krb_c.specs.Replies.{reply_of, number_reply};
-ghost use Rattle.krb_c.specs.Tells.{client_of};
+ghost use Rattle.krb_c.specs.Tells.{IsClientTag, LendsNoneOf, Tells, client_of};
 ghost use Rattle.krb_c.specs.Told.{Shows};
 
 use crate::handles::{Connection, Judgement};
@@ -171,4 +171,49 @@ pub extern "C" fn mk_judged_tag(alloc: Global, judged: &mut Judgement, out: &mut
     ensures stays { judged.new.place.value ≡ judged.old.place.value }
 {
     reply_of(judged_tag(alloc, judged, out))
+}
+
+fn client_tag(session: &Session, out: &mut [u8]) -> Result<usize, Failure>
+    ensures told { IfOk result (λ count. Tells IsClientTag (Some session.now) out.old count out.new) }
+    ensures fails { IfErr result (LendsNoneOf IsClientTag (Some session.now) (length out.old)) }
+    ensures room { OnErr result (out.new ≡ out.old) }
+{
+    match &session.client {
+        Some(client) => match put(out, client.tag.as_slice()) {
+            Ok(count) => Ok(count),
+            Err(fault) => Err(Failure::from(fault)),
+        },
+        None => Err(Failure::Handle),
+    }
+}
+
+fn session_tag(alloc: Global, session: &mut Connection, out: &mut [u8]) -> Result<usize, Failure>
+    ensures told { IfOk result (λ count. Tells IsClientTag session.old.place.value out.old count out.new) }
+    ensures fails { IfErr result (LendsNoneOf IsClientTag session.old.place.value (length out.old)) }
+    ensures stays { session.new.place.value ≡ session.old.place.value }
+    ensures room { OnErr result (out.new ≡ out.old) }
+{
+    let Some(guest) = session.take(alloc) else {
+        return Err(Failure::Handle);
+    };
+    let answer = client_tag(&guest, out);
+    session.put(guest);
+    answer
+}
+
+/// Writes the last twelve bytes of the encrypted authenticator by which the client was admitted, as `mk_judged_tag` does. Fails with
+/// HANDLE for an initiator's session.
+#[unsafe(no_mangle)]
+pub extern "C" fn mk_session_get_tag(
+    alloc: Global,
+    session: &mut Connection,
+    out: &mut [u8],
+) -> Reply
+    ensures told { (answer : Result ℕ Failure) × (result ≡ reply_of answer)
+        × IfOk answer (λ count. Tells IsClientTag session.old.place.value out.old count out.new)
+        × IfErr answer (LendsNoneOf IsClientTag session.old.place.value (length out.old))
+        × OnErr answer (out.new ≡ out.old) }
+    ensures stays { session.new.place.value ≡ session.old.place.value }
+{
+    reply_of(session_tag(alloc, session, out))
 }

@@ -35,7 +35,7 @@ fn data_bindings(alloc: Global, octets: &[u8]) -> Result<ChannelBindings, OutOfM
 }
 
 /// Returns the hash of a channel's bindings, if the data are not too long.
-fn channel_of(alloc: Global, octets: &[u8]) -> Result<[u8; 16], Failure>
+pub(crate) fn channel_of(alloc: Global, octets: &[u8]) -> Result<[u8; 16], Failure>
     ensures hash { IfOk result (λ hash. hash ≡ channel_of octets.now) }
     ensures fails { IfErr result (RefusedAs (IsLong octets.now) IsWant) }
 {

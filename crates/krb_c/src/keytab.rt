@@ -51,7 +51,7 @@ fn fault_error(fault: KeytabError) -> Error
     }
 }
 
-fn keytab_of(alloc: Global, file: &[u8]) -> Result<Keytab, Error>
+pub(crate) fn keytab_of(alloc: Global, file: &[u8]) -> Result<Keytab, Error>
     ensures read { IfOk result (λ keytab. Spells keytab.entries file.now) }
     ensures refused { IfErr result (IsNoKeytab file.now) }
 {
@@ -91,7 +91,7 @@ fn install(
 }
 
 /// Returns a service with an empty book.
-fn blank(alloc: Global, skew: u32) -> Result<Box<Service>, Error>
+pub(crate) fn blank(alloc: Global, skew: u32) -> Result<Box<Service>, Error>
     ensures properties { IfOk result (λ service. service.value.keys.properties ≡ new_properties [] None skew None) }
     ensures limit { IfOk result (λ service. service.value.keys.token_limit ≡ token_limit) }
     ensures skew { IfOk result (λ service. service.value.book.skew ≡ skew) }

@@ -7,6 +7,7 @@
 mod accept;
 mod acceptor;
 mod asked;
+mod authorization;
 mod codes;
 mod copies;
 mod delegation;
@@ -16,6 +17,9 @@ mod handles;
 mod initiator;
 mod judge;
 mod judge_bound;
+mod keyless;
+mod keyring;
+mod keyring_judge;
 mod keytab;
 mod messages;
 mod names;
@@ -36,7 +40,7 @@ mod texts;
 mod told;
 
 pub use accept::Moment;
-pub use handles::{Acceptor, Connection, Initiator, Judgement, Sasl};
+pub use handles::{Acceptor, Connection, Initiator, Judgement, Ring, Sasl};
 pub use reply::{Failure, Reply};
 pub use sasl_end::SaslEnd;
 pub use sasl_reply::SaslFailure;

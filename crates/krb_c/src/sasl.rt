@@ -15,26 +15,30 @@ use crate::reply::Reply;
 use crate::sasl_end::SaslEnd;
 use crate::sasl_reply::{SaslFailure, sasl_reply};
 use crate::texts::text_of;
-use krb_context::Kerberos;
 use krb_der::{TryCopy, boxed};
+use krb_entrance::Session;
 use krb_sasl::{Layer, SaslClient, SaslError, SaslServer};
 use std::alloc::Global;
 
-/// Returns the end of a server on a copy of the context.
+/// Returns the end of a server on a copy of the session's context, with the order of the session.
 fn server_of(
     alloc: Global,
-    context: &Kerberos,
+    session: &Session,
     layers: u32,
     most: u32,
 ) -> Result<SaslEnd, SaslError>
-    ensures { Answers (ServesAs layers most context.now) result }
+    ensures { Answers (ServesAs layers most session.now) result }
 {
     if 7 < layers {
         return Err(SaslError::Layers);
     }
-    let context = context.copy(alloc)?;
+    let context = session.connection.copy(alloc)?;
     match SaslServer::new(context, layers as u8, most) {
-        Ok(server) => Ok(SaslEnd::Server(server)),
+        Ok(server) => {
+            let mut end = SaslEnd::Server(server);
+            end.set_order(session.in_order());
+            Ok(end)
+        }
         Err(refusal) => Err(refusal),
     }
 }
@@ -51,20 +55,24 @@ fn layer_of(octet: u32) -> Result<Layer, SaslError>
     }
 }
 
-/// Returns the end of a client on a copy of the context.
+/// Returns the end of a client on a copy of the session's context, with the order of the session.
 fn client_of(
     alloc: Global,
-    context: &Kerberos,
+    session: &Session,
     octet: u32,
     most: u32,
     user: &str,
 ) -> Result<SaslEnd, SaslError>
-    ensures { Answers (WishesAs octet most user.now context.now) result }
+    ensures { Answers (WishesAs octet most user.now session.now) result }
 {
     let wanted = layer_of(octet)?;
-    let context = context.copy(alloc)?;
+    let context = session.connection.copy(alloc)?;
     match SaslClient::new(alloc, context, wanted, most, user) {
-        Ok(client) => Ok(SaslEnd::Client(client)),
+        Ok(client) => {
+            let mut end = SaslEnd::Client(client);
+            end.set_order(session.in_order());
+            Ok(end)
+        }
         Err(refusal) => Err(refusal),
     }
 }
@@ -95,7 +103,7 @@ fn server(
     let Some(guest) = from.take(alloc) else {
         return Err(SaslFailure::Handle);
     };
-    let end = server_of(alloc, &guest.connection, layers, most);
+    let end = server_of(alloc, &guest, layers, most);
     match boxed_end(alloc, end) {
         Ok(end) => {
             drop(guest);
@@ -111,6 +119,9 @@ fn server(
 
 /// Makes in the empty handle `to` a server's end of a session that is established: it offers these layers, the sum of 1 (none), 2
 /// (integrity) and 4 (confidentiality), and receives messages of `most` bytes at most. The session's handle is empty then.
+///
+/// The end takes the client's tokens in order: from the number that the session in order awaits, and otherwise from the first number
+/// of the client's authenticator. So a session in any order becomes an end before the client's first message.
 ///
 /// Fails with MK_SASL and 1 if there are no layers or unknown ones, if `most` is 2^24 or more, and if no layer alone is offered with a
 /// size; with MK_SASL and 2 if the session is not established; with HANDLE if there is no session, or `to` is not empty. Then nothing
@@ -156,7 +167,7 @@ fn client(
     let Some(guest) = from.take(alloc) else {
         return Err(SaslFailure::Handle);
     };
-    let end = client_of(alloc, &guest.connection, layer, most, user);
+    let end = client_of(alloc, &guest, layer, most, user);
     match boxed_end(alloc, end) {
         Ok(end) => {
             drop(guest);
@@ -173,6 +184,9 @@ fn client(
 /// Makes in the empty handle `to` a client's end of a session that is established: it chooses this layer, 1 (none), 2 (integrity) or 4
 /// (confidentiality), receives messages of `most` bytes at most, and its user has this name, which may be empty. The session's
 /// handle is empty then.
+///
+/// The end takes the server's tokens in order: from the number that the session in order awaits, and otherwise from the first one that
+/// decrypts.
 ///
 /// Fails with MK_SASL and 1 if the layer is another, if `most` is 2^24 or more, and if no layer is chosen with a size; with MK_SASL
 /// and 2 if the session is not established; with ARGUMENT if the name is not UTF-8; with HANDLE if there is no session, or `to` is

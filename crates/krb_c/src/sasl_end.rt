@@ -3,6 +3,7 @@
 ghost use Rattle.std.specs.Prelude.{◌≡◌, Some, Ok, length, IfOk, IfErr, OnOk, OnErr};
 ghost use Rattle.krb_sasl.specs.Channels.{Seals, Unseals, sealed_by, unsealed_by};
 ghost use Rattle.krb_sasl.specs.Rooms.{Faults};
+ghost use Rattle.krb_sasl.specs.Servers.{ordered};
 ghost use Rattle.krb_sessions.specs.Gives.{Delivers};
 ghost use Rattle.krb_c.specs.Sasl.{
   GivesOffer,
@@ -24,6 +25,7 @@ ghost use Rattle.krb_c.specs.Sasl.{
 };
 
 use crate::sasl_reply::SaslFailure;
+use krb_entrance::Order;
 use krb_sasl::{SaslClient, SaslFault, SaslServer};
 use std::alloc::Global;
 
@@ -35,6 +37,16 @@ pub enum SaslEnd {
 }
 
 impl SaslEnd {
+    /// Accepts the peer's tokens in this order from now on.
+    pub(crate) fn set_order(&mut self, order: Order)
+        ensures { self.new ≡ with_channel self.old (ordered order (channel_of self.old)) }
+    {
+        match self {
+            SaslEnd::Server(server) => server.set_order(order),
+            SaslEnd::Client(client) => client.set_order(order),
+        }
+    }
+
     /// Puts the token of a server's offer into `out`.
     pub(crate) fn offer(&mut self, alloc: Global, out: &mut [u8]) -> Result<usize, SaslFailure>
         ensures gives { IfOk result (λ count. Delivers (λ token. GivesOffer self.old token self.new) out.old count out.new) }

@@ -1,4 +1,4 @@
-//! What the services of this machine decided, and whether the interposer is loaded:
+//! Prints the decisions of the services of this machine, or that the interposer is loaded:
 //!
 //!     menolavuri-status [FOLDER]     the counters in /run/menolavuri, or in this folder: those that this user may read
 //!     menolavuri-status --loaded     whether the interposer is loaded in this environment, for ExecStartPre; the status is 1 where not

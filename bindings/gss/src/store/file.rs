@@ -21,7 +21,7 @@ unsafe extern "C" {
     fn clock_gettime(clock: c_int, to: *mut Timespec) -> c_int;
 }
 
-/// For how long the machine is up.
+/// The time since the machine was started.
 fn uptime() -> Duration {
     let mut it = Timespec {
         seconds: 0,

@@ -1,5 +1,5 @@
 //! The store of admitted clients' records, which outlives each process. It is asked after a token passed all other checks of the library,
-//! and before the client is admitted: its answer is the library's to judge. Where it does not answer nobody is admitted.
+//! and before the client is admitted: the library judges its answer. If it does not answer nobody is admitted.
 
 pub mod file;
 #[allow(dead_code)]
@@ -18,7 +18,7 @@ pub struct Answer {
     pub seen: bool,
 }
 
-/// Puts a record in where it is not there, in one step.
+/// Inserts a record unless it is there, in one step.
 pub fn ask(place: &Place, record: &[u8], skew: Duration) -> Result<Answer, String> {
     match place {
         Place::Folder(folder) => file::ask(folder, record, skew),

@@ -7,8 +7,8 @@
 //! The tag is 128 bits of SipHash over the record, under keys that are drawn with the file. Two uses of one authenticator have one tag, so
 //! none is missed; two records with one tag by chance are a refusal too many.
 //!
-//! The head has the newest time that the file was asked at. Where the clock goes back by less than the skew the file's time stands still;
-//! where it goes back further nobody is admitted, since records may be gone that would count again.
+//! The head has the newest time that the file was asked at. If the clock goes back by less than the skew the file's time does not change;
+//! if it goes back further nobody is admitted, since records may be gone that would count again.
 
 use crate::locked::{read_at, write_at};
 use std::fs::File;
@@ -83,7 +83,7 @@ fn tag_of(keys: [u64; 2], record: &[u8]) -> Tag {
     std::array::from_fn(|it| if it < 8 { one[it] } else { other[it - 8] })
 }
 
-/// The tag and the time of a place: no time where it was never written.
+/// The tag and the time of a place: no time if it was never written.
 fn row_at(file: &File, at: u64) -> Result<(Tag, u64), String> {
     let mut octets = [0; ROW as usize];
     if read_at(file, &mut octets, at)? < octets.len() {
@@ -92,7 +92,7 @@ fn row_at(file: &File, at: u64) -> Result<(Tag, u64), String> {
     Ok((std::array::from_fn(|it| octets[it]), word(&octets, 16)))
 }
 
-/// The place where a record is to be put, or none where it is there. Places of times before `old` can be taken.
+/// The place for a record, or none if the record is there. Places of times before `old` can be taken.
 fn place_for(file: &File, keys: [u64; 2], tag: &Tag, old: u64) -> Result<Option<u64>, String> {
     let mut free = None;
     let mut start = HEAD;

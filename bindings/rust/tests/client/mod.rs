@@ -234,6 +234,23 @@ fn encrypted(cipher: &[u8]) -> Vec<u8> {
     sequence(&[(0, number(18)), (2, der(4, cipher))])
 }
 
+/// EncryptedData with the version of its key, if there is one (RFC 4120, section 5.2.9).
+fn encrypted_by(version: Option<u32>, cipher: &[u8]) -> Vec<u8> {
+    match version {
+        None => encrypted(cipher),
+        Some(version) => sequence(&[(0, number(18)), (1, number(version)), (2, der(4, cipher))]),
+    }
+}
+
+/// AuthorizationData of these types and bytes (RFC 4120, section 5.2.6).
+pub fn authorization(elements: &[(u32, &[u8])]) -> Vec<u8> {
+    let elements: Vec<_> = elements
+        .iter()
+        .map(|(kind, octets)| sequence(&[(0, number(*kind)), (1, der(4, octets))]))
+        .collect();
+    der(0x30, &elements.concat())
+}
+
 /// What a KDC says of a client in a ticket for host/server.example.com.
 pub struct Ticket<'a> {
     pub name_type: u32,
@@ -241,6 +258,10 @@ pub struct Ticket<'a> {
     pub flags: [u8; 4],
     /// The realms that it came through, in RFC 4120's compression.
     pub transited: &'a [u8],
+    /// The version of the service's key, if the ticket names it.
+    pub version: Option<u32>,
+    /// The authorization data: types and bytes, in their order.
+    pub authorization: &'a [(u32, &'a [u8])],
 }
 
 /// A user of the realm, with the flags FORWARDABLE and RENEWABLE.
@@ -249,6 +270,8 @@ pub const USER: Ticket = Ticket {
     name: &["alice"],
     flags: [0x40, 0x80, 0, 0],
     transited: b"",
+    version: None,
+    authorization: &[],
 };
 
 /// What a client asks for in its authenticator.
@@ -286,7 +309,7 @@ impl Client {
     /// A client in EXAMPLE.COM with this ticket under the service's key.
     pub fn of(service_key: &[u8; 32], told: &Ticket) -> Client {
         let session_key = [0x5e; 32];
-        let part = sequence(&[
+        let mut fields = vec![
             (0, flags(told.flags)),
             (1, key(&session_key)),
             (2, text("EXAMPLE.COM")),
@@ -294,13 +317,17 @@ impl Client {
             (4, sequence(&[(0, number(1)), (1, der(4, told.transited))])),
             (5, time(NOW_TEXT)),
             (7, time("20261128165122Z")),
-        ]);
+        ];
+        if !told.authorization.is_empty() {
+            fields.push((10, authorization(told.authorization)));
+        }
+        let part = sequence(&fields);
         let cipher = sealed(service_key, 2, 0xc1, &der(0x63, &part));
         let ticket = sequence(&[
             (0, number(5)),
             (1, text("EXAMPLE.COM")),
             (2, name(3, &["host", "server.example.com"])),
-            (3, encrypted(&cipher)),
+            (3, encrypted_by(told.version, &cipher)),
         ]);
         Client {
             ticket: der(0x61, &ticket),

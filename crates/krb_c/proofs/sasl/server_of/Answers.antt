@@ -5,7 +5,7 @@ use Rattle.krb_sasl.proofs.Chain.{stops, goes, answers, given}
 use Rattle.krb_c.proofs.sasl.server_of.Goals as goal
 
 pub returns-then-layers-gt7 : goal.returns-then-layers-gt7
-returns-then-layers-gt7 c = answers _ _ (serves_none c.args.layers c.args.most c.args.context.now c.if-layers-gt7.true)
+returns-then-layers-gt7 c = answers _ _ (serves_none c.args.layers c.args.most c.args.session.now c.if-layers-gt7.true)
 
 pub returns-in-Ok : goal.returns-in-Ok
 unfolding ServesAs
