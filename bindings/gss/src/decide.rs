@@ -49,9 +49,8 @@ pub fn admit(
 ) -> Result<Admitted, Refused> {
     let name = keytab::name(asked.keytab, settings.keytab.as_deref());
     let keys = keys::of_file(keytab::path(&name), settings.skew)?;
-    let (acceptor, mut judged) = keys
-        .judge(asked.token, asked.bindings)
-        .map_err(by_library)?;
+    let judged = keys.judge(asked.token, asked.bindings);
+    let mut judged = judged.map_err(by_library)?;
     let client = judged.client().map_err(by_library)?;
     let service = judged.service().map_err(by_library)?;
     known.client = Some(client.clone());
@@ -70,7 +69,7 @@ pub fn admit(
             format!("wanted {wanted}"),
         ));
     }
-    let session = ask_store(settings, acceptor, judged, known)?;
+    let session = ask_store(settings, &keys.admits, judged, known)?;
     let flags = session.flags();
     Ok(Admitted {
         session,

@@ -27,7 +27,7 @@ pub const OWN_COUNT: usize = 12;
 /// The words of this interposer's own.
 const OWN_WORDS: [&str; OWN_COUNT] = [
     "the library did not do the call: its argument, memory or random octets failed",
-    "the keytab is not there or has no key of the types 17 and 18",
+    "the keytab cannot be read, or has no key",
     "the ticket is for another service than the credential",
     "the store of admitted clients does not answer: nobody is admitted",
     "a second token came where the first one ends the exchange",
