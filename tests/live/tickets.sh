@@ -17,6 +17,9 @@ initiator_says() {
 # Whether a client of a service gets through by the proved initiator: reaches_it SERVICE CLIENT..
 reaches_it() { initiator_says 0 "menolavuri.*: reached client=alice@EXAMPLE.COM service=$1 took=" "${@:2}"; }
 
+# Whether a client of a service gets through with a ticket by the proved initiator, and does not look at the answer: shows_a_ticket SERVICE CLIENT..
+shows_a_ticket() { initiator_says 0 "menolavuri.*: shows a ticket client=alice@EXAMPLE.COM service=$1 took=" "${@:2}"; }
+
 # Whether a client does not get through, and the proved initiator said why: misses_it PATTERN CLIENT..
 misses_it() { initiator_says 1 "menolavuri.*: not reached client=alice@EXAMPLE.COM .*: $1" "${@:2}"; }
 
@@ -86,7 +89,7 @@ try_ticket_clients() {
     check "ssh, gssapi-keyex" reaches_it host/localhost bash -c "ssh_client $ssh_port gssapi-keyex"
     [ -z "${pg_port:-}" ] || check "psql, gss" reaches_it postgres/localhost bash -c "pg_client $pg_port disable f"
     [ -z "${pg_port:-}" ] || check "psql, gssencmode=require" reaches_it postgres/localhost bash -c "pg_client $pg_port require t"
-    [ -z "${web_port:-}" ] || check "curl --negotiate" reaches_it HTTP/localhost bash -c "web_client $web_port"
+    [ -z "${web_port:-}" ] || check "curl --negotiate" shows_a_ticket HTTP/localhost bash -c "web_client $web_port"
     [ -z "${mail_port:-}" ] || check "imtest" reaches_it imap/localhost bash -c "imap_client $mail_port"
     "$python" -c 'import gssapi' 2> /dev/null || return
     check "Python: messages of each kind, in order" reaches_it host/localhost bash -c "python_client $python_port host@localhost"

@@ -117,17 +117,21 @@ unsafe fn ours(it: &Call) -> Result<(Ready, About), String> {
     }
 }
 
-/// Writes how an initiator ended to the log: one line.
-fn tell(it: &About, refused: Option<&Refused>) {
-    let who = format!(
+/// The part of a line of the log that says whose ticket it is, for which service, and how long it took.
+fn shown(it: &About) -> String {
+    format!(
         "client={} service={} took={}us",
         it.client.escape_debug(),
         it.service.escape_debug(),
         it.start.elapsed().as_micros()
-    );
+    )
+}
+
+/// Writes how an initiator ended to the log: one line.
+fn tell(it: &About, refused: Option<&Refused>) {
     match refused {
-        None => say!("reached {who}"),
-        Some(it) => say!("not reached {who}: {}", words(it.minor)),
+        None => say!("reached {}", shown(it)),
+        Some(refused) => say!("not reached {}: {}", shown(it), words(refused.minor)),
     }
 }
 
@@ -181,6 +185,7 @@ unsafe fn establish(it: &Call, begun: Begun) -> Result<Context, Refused> {
 unsafe fn show(it: &Call, mut begun: Begun) -> Result<Context, Refused> {
     let token = begun.initiator.token();
     let token = token.map_err(|error| refused(&error, &[]))?;
+    say!("shows a ticket {}", shown(&begun.about));
     // SAFETY: of the caller.
     match unsafe { give(it, &token, begun.about.flags, INDEFINITE) } {
         true => Ok(Context::Begun(Box::new(Mutex::new(Some(begun))))),

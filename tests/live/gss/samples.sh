@@ -2,7 +2,7 @@
 
 # Whether gss-client says so many times that the signature of what it sent is good: sample_client PORT COUNT OPTION..
 sample_client() {
-    [ "$(timeout 20 gss-client -port "$1" "${@:3}" 127.0.0.1 "${service:-host}@localhost" 'hello there' | grep -cx 'Signature verified.')" -eq "$2" ]
+    [ "$(timeout 20 gss-client -port "$1" "${@:3}" 127.0.0.1 "${sample_service:-host}@localhost" 'hello there' | grep -cx 'Signature verified.')" -eq "$2" ]
 }
 
 # Starts MIT's gss-server with the interposer: start_sample NAME WRAPPER.., and leaves its port in sample_port.
@@ -56,10 +56,10 @@ rolls_over() {
     sample_port=$(free_port)
     serve gss-rolled gss-server -port "$sample_port" roll@localhost
     await_port "$sample_port"
-    service=roll KRB5CCNAME=$older admits roll/localhost bash -c "sample_client $sample_port 1" || return 1
+    sample_service=roll KRB5CCNAME=$older admits roll/localhost bash -c "sample_client $sample_port 1" || return 1
     kadmin.local ktadd -k "$gss/rolled.keytab" roll/localhost
-    service=roll KRB5CCNAME=$older admits roll/localhost bash -c "sample_client $sample_port 1" || return 1
-    service=roll admits roll/localhost bash -c "sample_client $sample_port 1" || return 1
+    sample_service=roll KRB5CCNAME=$older admits roll/localhost bash -c "sample_client $sample_port 1" || return 1
+    sample_service=roll admits roll/localhost bash -c "sample_client $sample_port 1" || return 1
     klist -k "$gss/rolled.keytab" && klist -c "$older" | grep roll/localhost
 }
 
