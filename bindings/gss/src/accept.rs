@@ -5,7 +5,7 @@ use crate::buffers::{octets, put, set};
 use crate::config::{self, Settings};
 use crate::contexts::{Context, Proved, context, left, made};
 use crate::credentials::{credential, of_behind};
-use crate::decide::{Admitted, Asked, Known, admit};
+use crate::decide::{Asked, Known, admit};
 use crate::guard::guard;
 use crate::names::machine;
 use crate::oids::KRB5;
@@ -45,73 +45,76 @@ fn flags_of(asked: Option<GssFlags>, is_answered: bool, is_bound: bool) -> u32 {
     asked | mutual | bound | PROT_READY_FLAG
 }
 
+/// What a server brings to a call of RFC 2744, section 5.1.
+struct Call {
+    cred: *mut c_void,
+    input: Buffer,
+    bindings: Bindings,
+}
+
 /// A client that was admitted, as the caller learns of it.
 struct Accepted {
     name: Name,
     proved: Proved,
-    /// The ticket that it hands on, as MIT's mechanism has it.
-    delegated: Option<Cred>,
+    /// The name of the keytab.
+    keytab: String,
 }
 
 unsafe fn decide(
     settings: &Settings,
     ctx: *mut c_void,
-    cred: *mut c_void,
-    input: Buffer,
-    channel: Bindings,
-    takes_delegated: bool,
+    call: &Call,
     known: &mut Known,
 ) -> Result<Accepted, Refused> {
     // SAFETY: of the caller.
-    unsafe {
-        if !ctx.is_null() {
-            return Err(Refused::of(DEFECTIVE_TOKEN, SECOND_TOKEN, ""));
-        }
-        let it = credential(cred);
-        if it.as_ref().is_some_and(|it| !it.accepts) {
-            return Err(Refused::of(NO_CRED, INITIATOR, ""));
-        }
-        let bindings = data_of(channel)?;
-        let it = it.as_deref();
-        let asked = Asked {
-            token: octets(input),
-            keytab: it.and_then(|it| it.keytab.as_deref()),
-            service: it.and_then(|it| it.service.as_deref()),
-            bindings,
-        };
-        let Admitted {
-            mut session,
-            client,
-            service,
-            flags,
-            keytab,
-        } = admit(settings, &asked, known)?;
-        let Some(name) = names::of(&client) else {
-            return Err(Refused::of(FAILURE, NAME, ""));
-        };
-        let hands_on = takes_delegated && session.delegation().is_ok_and(|it| !it.is_empty());
-        let delegated = match hands_on {
-            true => delegated::of(&keytab, input, channel),
-            false => None,
-        };
-        let mut flags = flags_of(flags, !session.answer().is_empty(), bindings.is_some());
-        if delegated.is_some() {
-            flags |= DELEG_FLAG;
-        }
-        let proved = Proved {
-            ends: session.ends(),
-            session,
-            client,
-            service,
+    let (it, token) = unsafe { (credential(call.cred), octets(call.input)) };
+    if !ctx.is_null() {
+        return Err(Refused::of(DEFECTIVE_TOKEN, SECOND_TOKEN, ""));
+    }
+    if it.as_ref().is_some_and(|it| !it.accepts) {
+        return Err(Refused::of(NO_CRED, INITIATOR, ""));
+    }
+    // SAFETY: of the caller.
+    let bindings = unsafe { data_of(call.bindings) }?;
+    let it = it.as_deref();
+    let asked = Asked {
+        token,
+        keytab: it.and_then(|it| it.keytab.as_deref()),
+        service: it.and_then(|it| it.service.as_deref()),
+        bindings,
+    };
+    let it = admit(settings, &asked, known)?;
+    // SAFETY: of the caller.
+    let Some(name) = (unsafe { names::of(&it.client) }) else {
+        return Err(Refused::of(FAILURE, NAME, ""));
+    };
+    let flags = flags_of(
+        it.flags,
+        !it.session.answer().is_empty(),
+        bindings.is_some(),
+    );
+    Ok(Accepted {
+        name,
+        keytab: it.keytab,
+        proved: Proved {
+            ends: it.session.ends(),
+            session: it.session,
+            client: it.client,
+            service: it.service,
             flags,
             is_local: false,
-        };
-        Ok(Accepted {
-            name,
-            proved,
-            delegated,
-        })
+        },
+    })
+}
+
+/// The ticket that an admitted client hands on, as MIT's mechanism has it.
+unsafe fn handed_on(it: &mut Accepted, call: &Call) -> Option<Cred> {
+    let cred = it.proved.session.delegation();
+    if cred.map_or(true, |it| it.is_empty()) {
+        return None;
     }
+    // SAFETY: of the caller.
+    unsafe { delegated::of(&it.keytab, call.input, call.bindings) }
 }
 
 /// The name of the service that refuses a client: that of the ticket, of the credential, or the host's own.
@@ -174,16 +177,18 @@ struct Out {
     delegated: *mut *mut c_void,
 }
 
-unsafe fn give(out: &Out, it: Accepted) {
+unsafe fn give(out: &Out, mut it: Accepted, call: &Call) {
     // SAFETY: of the caller.
     unsafe {
+        let takes = !out.delegated.is_null();
+        if let Some(cred) = takes.then(|| handed_on(&mut it, call)).flatten() {
+            *out.delegated = of_behind(cred);
+            it.proved.flags |= DELEG_FLAG;
+        }
         if out.source.is_null() {
             names::release(it.name);
         } else {
             *out.source = it.name;
-        }
-        if let Some(delegated) = it.delegated {
-            set(out.delegated, of_behind(delegated));
         }
         set(out.mech, &raw const KRB5);
         set(out.flags, it.proved.flags);
@@ -192,28 +197,14 @@ unsafe fn give(out: &Out, it: Accepted) {
     }
 }
 
-unsafe fn accept(
-    minor: *mut u32,
-    cred: *mut c_void,
-    input: Buffer,
-    bindings: Bindings,
-    out: &Out,
-) -> u32 {
+unsafe fn accept(minor: *mut u32, call: &Call, out: &Out) -> u32 {
     let start = Instant::now();
     let mut known = Known::default();
     // SAFETY: of the caller.
     unsafe {
         let settings = config::get();
         let decided = match settings {
-            Ok(it) => decide(
-                it,
-                *out.ctx,
-                cred,
-                input,
-                bindings,
-                !out.delegated.is_null(),
-                &mut known,
-            ),
+            Ok(it) => decide(it, *out.ctx, call, &mut known),
             Err(words) => Err(Refused::of(FAILURE, SETTINGS, words)),
         };
         let decided = decided.and_then(|it| match put(out.output, it.proved.session.answer()) {
@@ -223,11 +214,11 @@ unsafe fn accept(
         tell(settings, &known, decided.as_ref().err(), start.elapsed());
         match decided {
             Ok(it) => {
-                give(out, it);
+                give(out, it, call);
                 COMPLETE
             }
             Err(it) => {
-                put(out.output, &it.token(&named(&known, cred)));
+                put(out.output, &it.token(&named(&known, call.cred)));
                 set(minor, it.minor);
                 it.major
             }
@@ -265,7 +256,12 @@ pub unsafe extern "C" fn gssi_accept_sec_context(
             life,
             delegated,
         };
-        accept(minor, cred, input, bindings, &out)
+        let call = Call {
+            cred,
+            input,
+            bindings,
+        };
+        accept(minor, &call, &out)
     })
 }
 

@@ -169,17 +169,17 @@ unsafe fn acquire(
         } else {
             acquire_behind(minor, name, time, mechs, store, actual, life)
         };
-        if status != COMPLETE {
-            return (status, null_mut());
-        }
-        let made = own(Credential {
+        let made = |behind| Credential {
             behind,
             accepts: usage != INITIATE,
             keytab,
             service: names::shown(name),
             source: source_of(store),
-        });
-        (status, made)
+        };
+        match status {
+            COMPLETE => (status, own(made(behind))),
+            _ => (status, null_mut()),
+        }
     }
 }
 
