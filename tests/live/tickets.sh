@@ -131,6 +131,12 @@ try_ticket_kdcs() {
     check "a proxy (MS-KKDCP)" finds_kdc proxy "http://127.0.0.1:$proxy_port/KdcProxy"
 }
 
+# Whether valgrind finds no error in gss-client and the interposer, and nothing lost but what the mechglue loses by itself.
+client_is_clean() {
+    reaches_it host/localhost timeout 60 valgrind --quiet --leak-check=full --error-exitcode=9 --suppressions="$live/gss/mechglue.supp" \
+        gss-client -port "$sample_port" -mcount 3 127.0.0.1 host@localhost hello
+}
+
 # What MIT's mechanism does, and what nobody does.
 try_ticket_limits() {
     local client=(bash -c "sample_client $sample_port 1") delegates=(bash -c "sample_client $sample_port 1 -d") other=$gss/other.ccache
@@ -143,6 +149,7 @@ try_ticket_limits() {
         env MENOLAVURI_TRACE="$gss/tickets.log" "${client[@]}"
     check "a service that the KDC does not know" misses_it 'Server not found in Kerberos database' \
         timeout 20 gss-client -port "$sample_port" 127.0.0.1 nobody@localhost hello
+    ! command -v valgrind > /dev/null || check "gss-client under valgrind" client_is_clean
     check "a client is told so" bash -c "env GSS_MECH_CONFIG=$gss/mech.conf MENOLAVURI_GSS_CONF=$gss/tickets.conf gss-client -port $sample_port \
         127.0.0.1 nobody@localhost hello 2>&1 | grep 'Server not found in Kerberos database'"
 }
