@@ -30,16 +30,17 @@ serve_checked() { serve "$1" valgrind --quiet --leak-check=no --trace-children=y
 # Whether valgrind wrote nothing of this server: was_clean NAME
 was_clean() { ! cat "$gss/$1".*.valgrind | grep .; }
 
-# Whether sshd and Python are clean with a client that is admitted, and one that is refused.
-sshd_is_clean() {
-    local ssh_port
-    ssh_port=$(free_port)
-    sed "s/^Port .*/Port $ssh_port/; s#^PidFile .*#PidFile $gss/checked.pid#" "$gss/sshd.conf" > "$gss/checked-sshd.conf"
-    serve_checked checked-sshd /usr/sbin/sshd -r -D -e -f "$gss/checked-sshd.conf"
-    await_slow_port "$ssh_port" || return 1
-    admits host/localhost bash -c "ssh_client $ssh_port gssapi-with-mic" || return 1
-    has_wrong_clock bash -c "ssh_client $ssh_port gssapi-with-mic" || return 1
-    was_clean checked-sshd
+# Whether Apache, in one process, and Python are clean with a client that is admitted and one that is refused. (sshd's sandbox ends it under
+# valgrind.)
+apache_is_clean() {
+    local port gss_conf=$gss/apache.conf
+    port=$(free_port)
+    sed "s/^Listen .*/Listen 127.0.0.1:$port/; s#^PidFile .*#PidFile $gss/checked.pid#" "$gss/apache-prefork/conf" > "$gss/checked-apache.conf"
+    serve_checked checked-apache /usr/sbin/apache2 -X -f "$gss/checked-apache.conf"
+    await_slow_port "$port" || return 1
+    admits HTTP/localhost bash -c "web_client $port" || return 1
+    has_wrong_clock bash -c "web_client $port" || return 1
+    was_clean checked-apache
 }
 
 python_is_clean() {
@@ -57,10 +58,10 @@ await_slow_port() { await_port "$1" 2> /dev/null || await_port "$1" 2> /dev/null
 
 try_gss_checked() {
     local runtime sanitized sample_port
-    export -f sample_client ssh_client python_client && export python live
+    export -f sample_client web_client python_client && export python live
     if build_sanitized > "$room/sanitized" 2>&1; then check "gss-server under the address sanitizer" is_sane
     else echo "not tried: the address sanitizer, which needs Rust's nightly and Debian's clang"; fi
     command -v valgrind > /dev/null || { echo "not tried: servers under valgrind, of Debian's package valgrind"; return; }
-    [ ! -e "$gss/sshd.conf" ] || check "sshd under valgrind" sshd_is_clean
+    [ ! -e "$gss/apache-prefork/conf" ] || check "Apache under valgrind" apache_is_clean
     ! "$python" -c 'import gssapi' 2> /dev/null || check "Python under valgrind" python_is_clean
 }
