@@ -21,7 +21,7 @@ PROGRAM = crates/krb_run/out/krb_run
 PREFIX ?= /usr/local
 BINDIR ?= $(PREFIX)/bin
 MANDIR ?= $(PREFIX)/share/man
-VERSION := $(shell sed -n 's/^Version: //p' bindings/c/menolavuri.pc.in)
+VERSION := $(shell cat VERSION)
 # The pages that make install copies to DOCDIR, and those of man.
 PAGES = README.md CHANGELOG.md LICENSE-APACHE LICENSE-MIT $(wildcard docs/*.md)
 CALLS = $(notdir $(wildcard man/*.3))

@@ -1,4 +1,4 @@
-"""What `rt ci` kept of the crates on this machine, for scripts that go on from there. The toolchain is that of the rt on the PATH: this
+"""Takes what `rt ci` kept of the crates on this machine, for scripts that go on from there. The toolchain is that of the rt on the PATH: this
 calls rt's own functions."""
 
 import importlib.machinery

@@ -17,7 +17,7 @@ use std::time::{Duration, Instant};
 /// The skew of each book, in seconds.
 const SKEW: u32 = 300;
 
-/// By how many microseconds the asks of one thread come behind those of the other.
+/// The number of microseconds by which the asks of one thread come after those of the other.
 const APART: u32 = 200_000_000;
 
 /// How many batches of asks each thread has.
@@ -172,7 +172,7 @@ fn report(rt: &(impl Print + Eprint), book: &str, answered: u32, spent: Duration
     Ok(())
 }
 
-/// Both streams of so many batches.
+/// Both streams of this many batches.
 fn both_streams(alloc: Global, batches: u32) -> Option<(Stream, Stream)> {
     let first = stream(alloc, 0, batches)?;
     Some((first, stream(alloc, APART, batches)?))
@@ -189,7 +189,7 @@ fn measure_both<R: Print + Eprint + Clock + AllocGlobal + Threads + Wait + Sync>
     report(rt, "a book on a table", answered, spent)
 }
 
-/// Measures both books over the same asks: with `full` 100,000 of them, and else 2,000.
+/// Measures both books over the same asks: with `full` 100,000 of them, otherwise 2,000.
 pub fn run<R: Print + Eprint + Clock + AllocGlobal + Threads + Wait + Sync>(
     rt: &R,
     full: bool,

@@ -12,7 +12,7 @@ use std::time::{Duration, Instant};
 /// The skew of each book, in seconds.
 const SKEW: u32 = 300;
 
-/// The same in microseconds.
+/// A time in microseconds.
 const WINDOW_TIME: u32 = 300_000_000;
 
 /// When the first ask comes, in microseconds since 1970.
@@ -43,7 +43,7 @@ pub(crate) struct Stretch {
     pub(crate) late: u32,
 }
 
-/// What a book answered.
+/// The answer of a book.
 #[derive(Clone, Copy)]
 struct Tally {
     admitted: u32,
@@ -64,7 +64,7 @@ fn principal(alloc: Global, component: &[u8]) -> Option<PrincipalName> {
     })
 }
 
-/// What is remembered of ask number `k`. Its octets of cusec are of no other ask.
+/// The record of ask number `k`. Its octets of cusec are of no other ask.
 fn record(alloc: Global, k: u32, ctime: Time) -> Option<Record> {
     let cusec = Vec::from_slice(alloc, &k.to_be_bytes()).ok()?;
     let realm = name(alloc, b"EXAMPLE.COM")?;

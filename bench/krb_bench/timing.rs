@@ -11,7 +11,7 @@ const FULL_OCTETS: usize = 50_000_000;
 /// The most repetitions of a full measurement.
 const MOST_REPETITIONS: usize = 200_000;
 
-/// What is measured: the subject and what is done with it, how many octets that goes over, and how often it is done.
+/// A measurement: the subject and its operation, the number of octets, and the number of repetitions.
 #[derive(Clone, Copy)]
 pub struct Measurement<'a> {
     pub subject: &'a str,
@@ -28,7 +28,7 @@ pub fn last_octets(text: &[u8]) -> u32 {
     }
 }
 
-/// How often work over so many octets is done.
+/// The number of times that work over this number of octets is done.
 pub fn repetitions(octets: usize, full: bool) -> usize {
     if full {
         FULL_OCTETS
@@ -59,7 +59,7 @@ impl Measurement<'_> {
         self.report(rt, checksum, start.elapsed(rt)?.as_nanos())
     }
 
-    /// Prints the checksum of the last result, and the time: so many nanoseconds for all repetitions.
+    /// Prints the checksum of the last result, and the time: this many nanoseconds for all repetitions.
     fn report(&self, rt: &(impl Print + Eprint), checksum: u32, spent: u128) -> Result<()> {
         let subject = self.subject;
         let action = self.action;

@@ -17,7 +17,7 @@ const KEY: &str = "72e14c8e96dfba330802c689e06448591bc19da4f18500d9d63671d6ce24d
 /// When all happens, in microseconds from the beginning of 1970.
 const MOMENT: u64 = 1_700_000_000_000_000;
 
-/// What she draws at each step.
+/// Her draw at each step.
 pub fn draw() -> Draw
     ensures { IsInRange result }
 {
@@ -27,7 +27,7 @@ pub fn draw() -> Draw
     }
 }
 
-/// What she draws at each of the steps that an exchange may take.
+/// Her draws at the steps that an exchange may take.
 pub fn draws() -> [Draw; 13]
     ensures { AreInRange result }
 {
@@ -95,7 +95,7 @@ fn add_answers(
     Ok(())
 }
 
-/// A KDC that answers so many clients, each by these replies.
+/// A KDC that answers this many clients, each by these replies.
 pub fn network(alloc: Global, replies: &[&str], count: u32) -> Result<Box<MemClient>> {
     let mut answers = VecDeque::new(alloc);
     for _ in 0..count {

@@ -25,7 +25,7 @@ use std::alloc::Global;
 use std::rt::Clock;
 use std::time::Instant;
 
-/// Who asks, and where the KDC is looked for.
+/// The user, and the place of the KDC.
 #[derive(Clone, Copy)]
 struct Setting<'a> {
     context: &'a Kerberos,
@@ -33,10 +33,10 @@ struct Setting<'a> {
     env: &'a Env,
 }
 
-/// What a KDC replies to one exchange.
+/// The replies of a KDC to one exchange.
 const REPLIES: [&str; 2] = [KRB_ERROR, AS_REP];
 
-/// What alice asks for.
+/// The request of alice.
 fn body(alloc: Global, client: &Client) -> Result<KdcReqBody, OutOfMemory>
     requires { IsShort client.now }
     ensures { IfOk result (λ body. Fits kdc_req_body_layout (2 ^ 28) body) }
@@ -54,7 +54,7 @@ fn granted_sum(turn: &Turn<AsPhase, Grant>) -> Result<u64, Cause> {
     }
 }
 
-/// What follows the first reply: the sum of the octets of the key that the second one brings.
+/// Goes on after the first reply: returns the sum of the octets of the key that the second one brings.
 fn end_of(
     alloc: Global,
     asker: &Asker,
@@ -73,7 +73,7 @@ fn end_of(
     }
 }
 
-/// What follows the first request.
+/// Goes on after the first request.
 fn end_behind(
     alloc: Global,
     asker: &Asker,
@@ -89,7 +89,7 @@ fn end_behind(
     end_of(alloc, asker, &turn, network)
 }
 
-/// What an exchange for this body ends with.
+/// The end of an exchange for this body.
 fn exchange(
     alloc: Global,
     asker: &Asker,

@@ -21,10 +21,10 @@ use std::alloc::Global;
 use std::rt::Clock;
 use std::time::Instant;
 
-/// What a KDC replies to one initialization.
+/// The replies of a KDC to one initialization.
 const REPLIES: [&str; 3] = [KRB_ERROR, AS_REP, TGS_REP];
 
-/// Who asks, and what the service answers.
+/// The user, and the answer of the service.
 #[derive(Drop)]
 struct Setting {
     config: Box<KerberosConfig>,
@@ -43,7 +43,7 @@ fn new_setting(alloc: Global) -> Result<Setting> {
     })
 }
 
-/// What alice asks for when the service has sent this token.
+/// The request of alice after this token of the service.
 fn options(
     alloc: Global,
     credentials: &CredentialsBuffers,
@@ -62,7 +62,7 @@ fn options(
     })
 }
 
-/// What her context begins, on the heap.
+/// The run of her context, on the heap.
 fn run_of(
     alloc: Global,
     context: &Kerberos,
@@ -77,7 +77,7 @@ fn run_of(
     }
 }
 
-/// What it ends with over the replies.
+/// The end of the run over the replies.
 fn end_of(
     run: Box<GeneratorInitSecurityContext>,
     network: &mut MemClient,

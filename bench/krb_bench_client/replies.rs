@@ -1,4 +1,4 @@
-//! What a KDC and a service answered, in hex. A reply of the KDC stands behind its length.
+//! The answers of a KDC and of a service, in hex. A reply of the KDC comes after its length.
 
 /// Pre-authentication is required. The salt is `EXAMPLE.COMalice`.
 pub const KRB_ERROR: &str =

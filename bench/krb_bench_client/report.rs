@@ -1,4 +1,4 @@
-//! What a measurement prints.
+//! The lines that a measurement prints.
 
 use anyhow::Result;
 use std::time::Duration;
@@ -12,7 +12,7 @@ pub fn sum(key: &[u8]) -> u64 {
     sum
 }
 
-/// Prints the sum of the keys that so many brought, and the time of one.
+/// Prints the sum of the keys that this many brought, and the time of one.
 pub fn report(
     rt: &(impl Print + Eprint),
     name: &str,

@@ -2,7 +2,7 @@
 //!
 //! Standard output has a line for each measurement, its name and a checksum of what was done, which are the same on every
 //! machine; standard error has the times. With no argument each measurement is tried once; with the word `full` it runs
-//! long enough to measure. With the word `threads` and a number, those of two threads alone do, in so many rounds.
+//! long enough to measure. With the word `threads` and a number, those of two threads alone do, in this many rounds.
 #![tactic(auto)]
 
 mod messages;
@@ -20,12 +20,12 @@ use std::thread::Threads;
 /// How many rounds `full` has on one thread and on two, in turn.
 const ROUNDS: u32 = 20;
 
-/// What the words after the program's name ask for.
+/// The choice that the words after the program's name make.
 enum Asked {
     /// Each measurement once, of a few events.
     Trial,
     Full,
-    /// Those of two threads alone, in so many rounds.
+    /// Two threads alone, in this many rounds.
     Threads(u32),
 }
 

@@ -71,7 +71,7 @@ fn event_line(alloc: Global, connection: u32, call: &str, message: &Message) -> 
     ).ok()
 }
 
-/// Puts an event with a message behind an input.
+/// Puts an event with a message after an input.
 fn put_event(
     alloc: Global,
     connection: u32,
@@ -83,7 +83,7 @@ fn put_event(
     input.extend_from_slice(line.as_bytes()).ok()
 }
 
-/// An input of admissions, with room for so many messages behind them.
+/// An input of admissions, with room for this many messages after them.
 fn admitted(alloc: Global, connections: u32, count: u32) -> Option<Vec<u8>> {
     let mut input = admissions(alloc, connections, false)?;
     let room = (count as usize).saturating_mul(OCTETS_AN_EVENT);
@@ -96,7 +96,7 @@ fn connection_of(k: u32, connections: u32) -> u32 {
     k.checked_rem(connections).unwrap_or(0).saturating_add(1)
 }
 
-/// Puts a message behind an input so many times, to be sealed, at the connections in turn.
+/// Puts a message after an input this many times, to be sealed, at the connections in turn.
 fn put_wraps(
     alloc: Global,
     connections: u32,
@@ -118,7 +118,7 @@ pub(crate) fn wraps(alloc: Global, connections: u32, count: u32) -> Option<Vec<u
     Some(input)
 }
 
-/// Puts the next message of the client behind an input, sealed, to be opened at a connection.
+/// Puts the next message of the client after an input, sealed, to be opened at a connection.
 fn put_unwrap(
     alloc: Global,
     connection: u32,
@@ -129,7 +129,7 @@ fn put_unwrap(
     put_event(alloc, connection, "unwrap", &message, input)
 }
 
-/// Puts so many there, at the connections in turn.
+/// Puts this many there, at the connections in turn.
 fn put_unwraps(
     alloc: Global,
     connections: u32,
@@ -170,7 +170,7 @@ fn measure_messages(
     measure(rt, &load)
 }
 
-/// Measures so many messages to open.
+/// Measures this many messages to open.
 fn measure_unwraps(
     rt: &(impl Print + Eprint + Clock + AllocGlobal),
     connections: u32,
@@ -180,7 +180,7 @@ fn measure_unwraps(
     measure_messages(rt, "unwrap", connections, events, input.as_slice())
 }
 
-/// Measures so many messages to seal, and so many to open.
+/// Measures this many messages to seal, and this many to open.
 fn measure_both(
     rt: &(impl Print + Eprint + Clock + AllocGlobal),
     connections: u32,

@@ -28,12 +28,12 @@ const KEY: &str = "000102030405060708090a0b0c0d0e0f101112131415161718191a1b1c1d1
 pub(crate) const ZEROS: &str =
     "00000000000000000000000000000000000000000000000000000000000000000000000000000000000000000000000000000000000000000000000000000000";
 
-/// An input in memory, and what is told of it.
+/// An input in memory, and its last line.
 #[derive(Clone, Copy)]
 pub(crate) struct Load<'a> {
     pub(crate) name: &'a str,
     pub(crate) events: u32,
-    /// What each answer begins with that is counted.
+    /// The words with which each answer begins that is counted.
     pub(crate) answer: &'a str,
     /// How many octets go through the service: of the input, or of the messages' texts.
     pub(crate) octets: usize,
@@ -77,13 +77,13 @@ fn new_client(alloc: Global) -> Result<Box<DemoClient>, OutOfMemory> {
     boxed(alloc, DemoClient::new(alloc)?)
 }
 
-/// Puts an acceptor behind an input.
+/// Puts an acceptor after an input.
 fn put_acceptor(alloc: Global, k: u32, input: &mut Vec<u8>) -> Option<()> {
     let lines = acceptor_lines(alloc, k)?;
     input.extend_from_slice(lines.as_bytes()).ok()
 }
 
-/// Puts so many acceptors there.
+/// Puts this many acceptors there.
 fn put_acceptors(alloc: Global, count: u32, input: &mut Vec<u8>) -> Option<()> {
     for k in 1..count.saturating_add(1) {
         put_acceptor(alloc, k, input)?;
@@ -91,7 +91,7 @@ fn put_acceptors(alloc: Global, count: u32, input: &mut Vec<u8>) -> Option<()> {
     Some(())
 }
 
-/// Puts the event of an acceptor behind an input.
+/// Puts the event of an acceptor after an input.
 fn put_event(
     alloc: Global,
     client: &DemoClient,
@@ -103,7 +103,7 @@ fn put_event(
     input.extend_from_slice(line.as_bytes()).ok()
 }
 
-/// Puts an event at each of so many acceptors there.
+/// Puts an event at each of this many acceptors there.
 fn put_events(
     alloc: Global,
     client: &DemoClient,
@@ -117,14 +117,14 @@ fn put_events(
     Some(())
 }
 
-/// Puts so many acceptors behind an input, and an event at each.
+/// Puts this many acceptors after an input, and an event at each.
 fn put_admissions(alloc: Global, count: u32, repeats: bool, input: &mut Vec<u8>) -> Option<()> {
     put_acceptors(alloc, count, input)?;
     let client = new_client(alloc).ok()?;
     put_events(alloc, &client, count, repeats, input)
 }
 
-/// An input of so many acceptors, and an event at each, ten in a second.
+/// An input of this many acceptors, and an event at each, ten in a second.
 pub(crate) fn admissions(alloc: Global, count: u32, repeats: bool) -> Option<Vec<u8>> {
     let room = (count as usize).saturating_mul(OCTETS_A_CONNECTION);
     let mut input = Vec::with_capacity(alloc, room).ok()?;
@@ -174,7 +174,7 @@ fn time_serve(
     Ok(start.elapsed(rt)?)
 }
 
-/// What `serve` writes for an input, and how long it takes.
+/// The output of `serve` for an input, and the time that it takes.
 pub(crate) fn served(rt: &(impl Clock + AllocGlobal), input: &[u8]) -> Result<(MemSink, Duration)> {
     let alloc = rt.alloc();
     let words = command(alloc, "serve").context("out of memory")?;

@@ -22,13 +22,13 @@ fn start_line(alloc: Global, k: u32) -> Option<String> {
     format!(in alloc; "event {k} 1700000000000000 {ZEROS} M start\n").ok()
 }
 
-/// Puts an initiator behind an input.
+/// Puts an initiator after an input.
 fn put_initiator(alloc: Global, k: u32, input: &mut Vec<u8>) -> Option<()> {
     let lines = initiator_lines(alloc, k)?;
     input.extend_from_slice(lines.as_bytes()).ok()
 }
 
-/// Puts so many initiators there.
+/// Puts this many initiators there.
 fn put_initiators(alloc: Global, count: u32, input: &mut Vec<u8>) -> Option<()> {
     for k in 1..count.saturating_add(1) {
         put_initiator(alloc, k, input)?;
@@ -36,13 +36,13 @@ fn put_initiators(alloc: Global, count: u32, input: &mut Vec<u8>) -> Option<()> 
     Some(())
 }
 
-/// Puts the start of an initiator behind an input.
+/// Puts the start of an initiator after an input.
 fn put_start(alloc: Global, k: u32, input: &mut Vec<u8>) -> Option<()> {
     let line = start_line(alloc, k)?;
     input.extend_from_slice(line.as_bytes()).ok()
 }
 
-/// Puts the starts of so many there.
+/// Puts the starts of this many there.
 fn put_starts(alloc: Global, count: u32, input: &mut Vec<u8>) -> Option<()> {
     for k in 1..count.saturating_add(1) {
         put_start(alloc, k, input)?;
@@ -50,7 +50,7 @@ fn put_starts(alloc: Global, count: u32, input: &mut Vec<u8>) -> Option<()> {
     Some(())
 }
 
-/// An input of so many initiators, and the start of each.
+/// An input of this many initiators, and the start of each.
 fn starts(alloc: Global, count: u32) -> Option<Vec<u8>> {
     let room = (count as usize).saturating_mul(OCTETS_A_CONNECTION);
     let mut input = Vec::with_capacity(alloc, room).ok()?;

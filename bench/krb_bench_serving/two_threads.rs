@@ -1,4 +1,4 @@
-//! `threads` beside `serve`, over the same inputs in memory: an admission a connection, and messages that two connections seal.
+//! `threads` next to `serve`, over the same inputs in memory: an admission a connection, and messages that two connections seal.
 
 use crate::messages::wraps;
 use crate::serving::{admissions, command, last_line, served};
@@ -104,7 +104,7 @@ fn measure_round<R: Print + Clock + AllocGlobal + Threads + Wait + Sync>(
     answer_and_tell(rt, named, is_first, input, &mut sink)
 }
 
-/// Answers an input of so many events on one thread and on two, in turn. Prints the last line that two threads write, and the
+/// Answers an input of this many events on one thread and on two, in turn. Prints the last line that two threads write, and the
 /// least time of each way, with their ratio in hundredths.
 fn measure<R: Print + Eprint + Clock + AllocGlobal + Threads + Wait + Sync>(
     rt: &R,

@@ -1,4 +1,4 @@
-/* What the tests of the library share: checks that are counted, and octets in hex. */
+/* Shared by the tests of the library: checks that are counted, and octets in hex. */
 #ifndef CHECKS_H
 #define CHECKS_H
 

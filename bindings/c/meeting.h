@@ -4,7 +4,7 @@
 
 #include "checks.h"
 
-/* What both ends are told. */
+/* The input of both ends. */
 typedef struct {
     char name[64], machine[64], target[64], url[64];
     octets key;

@@ -1,5 +1,5 @@
 /* test_calls CONVERSATION [ROUNDS]: the calls of an acceptor and of a session, over a conversation with a client of MIT's that was
- * recorded: what is done, bad input, and so many rounds of both. Prints how long a call took, and 'N passed, M failed'. */
+ * recorded: what is done, bad input, and this many rounds of both. Prints how long a call took, and 'N passed, M failed'. */
 #include "checks.h"
 
 #include <stdio.h>
@@ -43,7 +43,7 @@ static mk_reply make(const conversation *c, mk_acceptor *to) {
     return mk_acceptor_new(to, (const uint8_t *)c->name, strlen(c->name), c->key.at, c->key.length, 300);
 }
 
-/* What the client's checksum and its ticket have, as libkrb5 decrypts them: the flags REPLAY, SEQUENCE, CONF, INTEG and TRANS, and
+/* The contents of the client's checksum and of its ticket, as libkrb5 decrypts them: the flags REPLAY, SEQUENCE, CONF, INTEG and TRANS, and
  * PRE-AUTHENT, TRANSITED-POLICY-CHECKED and ENC-PA-REP (RFC 4120, 5.3; RFC 6806, 11). */
 static void tell_flags(mk_reply flags, mk_reply ticket_flags) {
     CHECK(flags.status == MK_OK && flags.length == 0 && flags.number == 0x13c);
@@ -153,7 +153,7 @@ static mk_reply bound(const conversation *c, mk_acceptor *keys, mk_judged *to, c
     return mk_judge_bound(keys, to, c->token.at, c->token.length, text(data), strlen(data), &c->moment);
 }
 
-/* What a judged token tells, and an admission by what a store has answered: once where it had no record. */
+/* The facts of a judged token, and an admission by the answer of a store: once if it had no record. */
 static void told(const conversation *c) {
     static const char service[] = "host/server.example.com@EXAMPLE.COM";
     mk_acceptor keys = MK_EMPTY;
@@ -225,7 +225,7 @@ static void put_counted(octets *o, const char *text) {
     put(o, text, strlen(text));
 }
 
-/* A keytab with one entry of host/server.example.com in EXAMPLE.COM: the version 05 02, and the entry behind its size. */
+/* A keytab with one entry of host/server.example.com in EXAMPLE.COM: the version 05 02, and the entry after its size. */
 static octets keytab_of(const octets *key, uint8_t version) {
     octets entry = {{0}, 0}, file = {{0}, 0};
     const uint8_t two[2] = {0, 2}, type_and_time[8] = {0, 0, 0, 3, 0, 0, 0, 1}, suite_and_size[4] = {0, 18, 0, 32};
@@ -411,7 +411,8 @@ static void once(const conversation *c) {
     CHECK(mk_cause_name(1000, out, sizeof out).status == MK_ARGUMENT);
     CHECK(mk_kind_name(1, out, 3).status == MK_ROOM);
     reply = mk_version(out, sizeof out);
-    CHECK(reply.status == MK_OK && reply.length == 5 && memcmp(out, "0.1.0", 5) == 0);
+    static const char version[] = "0.1.0";
+    CHECK(reply.status == MK_OK && reply.length == sizeof version - 1 && memcmp(out, version, sizeof version - 1) == 0);
     CHECK(make(c, &acceptor).status == MK_OK);
     if (large != NULL) {
         memcpy(large, c->token.at, c->token.length);

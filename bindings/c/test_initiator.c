@@ -1,12 +1,12 @@
 /* test_initiator LOGIN ANSWERS [ROUNDS]: the calls of an initiator, over a log-in at a KDC and a service that was recorded: what is done,
- * bad input, and so many rounds. A whole log-in, whose password's key takes its time, is in one round of a thousand. */
+ * bad input, and this many rounds. A whole log-in, whose password's key takes its time, is in one round of a thousand. */
 #include "checks.h"
 
 #include <stdio.h>
 #include <stdlib.h>
 #include <string.h>
 
-/* What an initiator was told, as crates/example_initiator reads it, and what it asked, showed and sealed. */
+/* The input of an initiator, as crates/example_initiator reads it, and its requests, tokens and messages. */
 typedef struct {
     char user[64], realm[64], machine[64], url[64], password[64], target[64];
     uint8_t number[4];
@@ -295,7 +295,7 @@ static void refuse_arguments(const login *l, mk_initiator *initiator) {
 
 static int is_late(mk_reply reply) { return is_refused(reply, MK_CAUSE_MOMENT); }
 
-/* What begins and is not done leaves all as it was, and a fault or a refused answer ends the exchange: it may begin again. */
+/* A step that fails changes nothing, and a fault or a refused answer ends the exchange: it can begin again. */
 static void refuse_steps(const login *l, mk_initiator *initiator) {
     mk_moment late = l->steps[0];
     uint8_t out[4096] = {0};

@@ -1,5 +1,5 @@
 /* test_sasl EXCHANGE [ROUNDS]: the security layers of SASL GSSAPI between two ends of the library: what is done, bad input, short rooms,
- * memory that is refused, and so many rounds, but at least four, each with one of four conversations. What tokens and frames are to be is
+ * memory that is refused, and this many rounds, but at least four, each with one of four conversations. What tokens and frames are to be is
  * that of RFC 4752, section 3, RFC 4422, section 3.7, and RFC 4121, section 4.2. */
 #include "meeting.h"
 
@@ -22,14 +22,14 @@ static int gives(mk_reply reply, const uint8_t *out, const void *wanted, size_t 
     return is_done(reply, length) && memcmp(out, wanted, length) == 0;
 }
 
-/* Whether a token has this text in the clear, with a checksum (RFC 4121, section 4.2.4): behind a header of 16 octets, before 12 others. */
+/* Whether a token has this text in the clear, with a checksum (RFC 4121, section 4.2.4): after a header of 16 octets, before 12 others. */
 static int is_in_clear(const uint8_t *token, size_t length, const void *wanted, size_t wanted_length) {
     const uint8_t spelt[] = {5, 4}, counts[] = {0xff, 0, 12, 0, 0};
     return length == wanted_length + 28 && memcmp(token, spelt, 2) == 0 && !mk_is_sealed(token) && memcmp(token + 3, counts, 5) == 0 &&
            memcmp(token + 16, wanted, wanted_length) == 0;
 }
 
-/* Whether the first of some data, where they are more than a few, stand in a message as they are. */
+/* True if a message contains the first of some data, which are more than a few, in the clear. */
 static int holds(const uint8_t *message, size_t length, const uint8_t *data, size_t data_length) {
     for (size_t i = 0; data_length >= 16 && i + 16 <= length; i++) {
         if (memcmp(message + i, data, 16) == 0) {
@@ -57,7 +57,7 @@ static octets choice(uint32_t layers, uint32_t size, const char *user) {
     return o;
 }
 
-/* What a session's end says in the clear, as a peer of another's would. */
+/* A text of a session's end in the clear, as another peer would send it. */
 static octets said(mk_session *from, const void *words, size_t length) {
     octets token = {{0}, 0};
     mk_reply reply = mk_wrap_in_clear(from, words, length, token.at, sizeof token.at);
@@ -71,7 +71,7 @@ static octets says_choice(mk_session *from, uint32_t layers, uint32_t size, cons
     return said(from, words.at, words.length);
 }
 
-/* A message behind its length. */
+/* A message after its length. */
 static octets framed(const uint8_t *message, size_t length) {
     octets frame = {{0, 0, (uint8_t)(length >> 8), (uint8_t)length}, length + 4};
     memcpy(frame.at + 4, message, length);
@@ -187,7 +187,7 @@ static void turn(const exchange *x) {
     end_both(&server, &client);
 }
 
-/* No end is made of layers and sizes that there are not, and none where a handle is not as it is wanted: the session stays. */
+/* No end is made of unknown layers and sizes, and none if a handle is not as it should be: the session stays. */
 static void refuse_ends(const exchange *x) {
     static const uint32_t offers[][2] = {{0, 0}, {8, 0}, {256 + 4, 9}, {UINT32_MAX, 9}, {1, 1}, {4, 1 << 24}, {7, UINT32_MAX}};
     static const uint32_t wishes[][2] = {{0, 0}, {3, 0}, {6, 9}, {8, 9}, {256 + 4, 9}, {UINT32_MAX, 9}, {1, 1}, {2, 1 << 24}, {4, UINT32_MAX}};
@@ -324,7 +324,7 @@ static void begin_alone(const exchange *x, mk_sasl *server, mk_session *client, 
     CHECK(is_done(accept(server, &token, out, 0), 0));
 }
 
-/* What is no frame of a layer, or too long, is not opened. It changes nothing: the next frame is. */
+/* Octets that are not a frame of the layer, or too long, are refused and change nothing: the next frame is decrypted. */
 static void refuse_frames(const exchange *x, uint32_t layer) {
     const size_t over = layer == MK_LAYER_INTEGRITY ? 28 : 60;
     mk_session client = MK_EMPTY;
@@ -360,7 +360,7 @@ static void refuse_frames(const exchange *x, uint32_t layer) {
     mk_session_free(&client);
 }
 
-/* Where a room is too short the length is told, nothing is written or lost, and the same call with room is done. */
+/* If a room is too short the length is returned, nothing is written or lost, and the same call with room is done. */
 static void refuse_rooms(const exchange *x) {
     mk_session initiator = MK_EMPTY, acceptor = MK_EMPTY;
     mk_sasl server = MK_EMPTY, client = MK_EMPTY;

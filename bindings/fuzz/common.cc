@@ -1,4 +1,4 @@
-/* Octets beside guard pages, replies, and bounds. */
+/* Octets next to guard pages, replies, and bounds. */
 #include "common.h"
 
 #include <sys/mman.h>

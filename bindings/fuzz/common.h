@@ -1,4 +1,4 @@
-/* What the harnesses share: records, octets beside guard pages, replies that are checked, and DER that is sealed by MIT krb5's library. */
+/* Shared by the harnesses: records, octets next to guard pages, replies that are checked, and DER that is sealed by MIT krb5's library. */
 #ifndef COMMON_H
 #define COMMON_H
 
@@ -65,7 +65,7 @@ struct Got {
     bytes octets;
 };
 
-/* Calls with no room, with one octet too few, and with as much as is wanted: it is the same length each time, and too short a room changes
+/* Calls with no room, with one octet too few, and with as much as is needed: it is the same length each time, and too short a room changes
  * nothing in it. */
 template <class Call> Got get(const char *name, Call call) {
     Room none(0);

@@ -1,4 +1,4 @@
-/* What the proved archive has reached: a trap at the start of each of its basic blocks, which is taken away once it was hit, and then counts
+/* The parts of the proved archive that were reached: a trap at the start of each of its basic blocks, which is taken away once it was hit, and then counts
  * for libFuzzer. PROGRAM.blocks has the addresses (blocks.py). Without that file nothing is counted. */
 #include "common.h"
 

@@ -1,6 +1,6 @@
 /* Clients' tokens, to an acceptor: mk_accept, and mk_judge with mk_admit or mk_admit_told, which have to agree, and mk_judge_bound. Records:
  *   1 the plain text of a ticket, and 2 that of an authenticator: both are sealed, and shown
- *   3 a token as it stands   4 options of the AP-REQ   6 a service's name, an octet 0, its key   7 the moment, eight octets */
+ *   3 a token unchanged   4 options of the AP-REQ   6 a service's name, an octet 0, its key   7 the moment, eight octets */
 #include "common.h"
 
 static Count accepted("accepted"), halves("admitted in halves"), refused("refused"), bound("bound to the channel");
@@ -36,7 +36,7 @@ static void send(mk_session *s) {
     }
 }
 
-/* What is told of a session that was admitted: its answer has the length that was said. */
+/* The calls about a session that was admitted: its answer has the length that was returned. */
 static void ask(mk_session *s, size_t answer_length) {
     mk_times times;
     Got answer = get("mk_session_answer", [&](uint8_t *out, size_t room) { return mk_session_answer(s, out, room); });
@@ -70,7 +70,7 @@ static mk_reply accept(const Service &service, mk_acceptor *acceptor, const Lent
     return reply;
 }
 
-/* Who the candidate is: the record of one token is the same each time. */
+/* The candidate's name: the record of one token is the same each time. */
 static void ask_judged(mk_judged *judged) {
     Got client = get("mk_judged_client", [&](uint8_t *out, size_t room) { return mk_judged_client(judged, out, room); });
     Got service = get("mk_judged_service", [&](uint8_t *out, size_t room) { return mk_judged_service(judged, out, room); });

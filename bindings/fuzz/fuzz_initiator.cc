@@ -1,9 +1,9 @@
-/* What KDCs and a service answer an initiator: each input once with the rules that it begins with, once with none, and once with its own.
+/* Answers of KDCs and of a service to an initiator: each input once with the rules that it begins with, once with none, and once with its own.
  * Records, in their order:
  *   1 octets as a KDC's answer   2 an EncASRepPart, which is sealed under the user's key   3 an EncTGSRepPart, under the key of the last reply
  *   4 octets as the service's token   5 an EncAPRepPart, under the last key   9 a KRB-ERROR   10 a fault of the network
  *   6 flags, 7 rules, 8 the service's name in the tickets, 11 the moment of the steps from here on, 12 (at any place) a password and no key
- * In 2 and 3 the four octets NONC stand for the nonce of the request. */
+ * In 2 and 3 the four octets NONC are replaced by the nonce of the request. */
 #include "common.h"
 
 #include <algorithm>
@@ -50,7 +50,7 @@ static bool make(Run &run, bool has_password) {
     return true;
 }
 
-/* What each reply that is MK_OK leaves: a request for a KDC, or a token for the service. */
+/* After a reply that is MK_OK there is a request for a KDC, or a token for the service. */
 static void look(Run &run) {
     Got request = request_of(&run.it), token = token_of(&run.it);
     PROMISE(run.last.number <= MK_ESTABLISHED, "number %u", run.last.number);

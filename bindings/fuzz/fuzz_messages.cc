@@ -1,4 +1,4 @@
-/* What a peer sends in a session, to its acceptor or its initiator: mk_unwrap and mk_verify. Records, in their order:
+/* Messages of a peer in a session, to its acceptor or its initiator: mk_unwrap and mk_verify. Records, in their order:
  *   0 (at any place) the end is the initiator's   9 rules   1 octets for mk_unwrap
  *   2 header and text that are sealed under the session's key   4 the same in the clear, with a right checksum
  *   3 a MIC and a payload: the first octet says where the one ends   5 flags and a payload with a right MIC */

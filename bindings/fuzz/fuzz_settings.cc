@@ -1,4 +1,4 @@
-/* What an initiator is told, and its first step: names, files, variables, addresses. Records:
+/* The settings of an initiator, and its first step: names, files, variables, addresses. Records:
  *   1 the text of /etc/krb5.conf   2 the text of /b   3 KRB5_CONFIG   4 the address of a KDC   5 a user   6 a realm   7 the target
  *   8 SSPI_KDC_URL   9 flags   10 the name of a key's owner   11 the machine   12 data of a channel */
 #include "common.h"

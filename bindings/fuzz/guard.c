@@ -27,7 +27,7 @@ enum { SLOTS = 16384, ROOM = 65536, PAGE = 4096, SLOT = ROOM + PAGE, LARGES = 64
 static const uint8_t BEHIND[EDGE] = {0xc3, 0x5a, 0xc3, 0x5a, 0xc3, 0x5a, 0xc3, 0x5a, 0xc3, 0x5a, 0xc3, 0x5a, 0xc3, 0x5a, 0xc3, 0x5a};
 static const uint64_t BEFORE = UINT64_C(0x6d61726b2d6d6b00), GONE = UINT64_C(0x676f6e652d6d6b00);
 
-/* What stands before a block that has marks. */
+/* The head of a block that has marks. */
 typedef struct {
     uint64_t mark, size;
 } edge;

@@ -39,7 +39,7 @@ static void answer(mk_initiator *initiator, const bytes &reply, uint32_t next) {
     PROMISE(told.status == MK_OK && told.number == next, "an honest reply: status %u, cause %u, number %u", told.status, told.cause, told.number);
 }
 
-/* What was said at the first meeting. All draws are the same each time, so each later one goes by it, and MIT's library seals nothing anew. */
+/* The tokens of the first meeting. All draws are the same each time, so each later meeting uses them, and MIT's library seals nothing anew. */
 static struct {
     bytes replies[2], token, answer, key;
 } said;

@@ -47,7 +47,7 @@ class Edit:
 
 
 def changed(crate, pairs):
-    """The files' texts with each pair's first text replaced by its second, or {} where one does not stand there exactly once."""
+    """The files' texts with each pair's first text replaced by its second, or {} if one is not there exactly once."""
     texts = {}
     for file, old, new in pairs:
         text = texts.get(file) or text_of(f"{crate}/{file}")
@@ -58,7 +58,7 @@ def changed(crate, pairs):
 
 
 def function_at(crate, file, lines, row):
-    """The function that a line of a file of src/ stands in, by the name that a check prints, without the crate's; None outside of one."""
+    """The function that contains a line of a file of src/, by the name that a check prints, without the crate's; None outside of one."""
     at = next((at for at in range(row, -1, -1) if FUNCTION.match(lines[at])), None)
     if at is None or not file.startswith("src/"):
         return None
@@ -72,14 +72,14 @@ def function_at(crate, file, lines, row):
 
 
 def home_of(crate, file, name):
-    """The file that declares this type, by whose module the type's own methods are named wherever their impl stands; else the file."""
+    """The file that declares this type, by whose module the type's own methods are named wherever their impl is; otherwise the file."""
     declared = re.compile(rf"^(?:pub(?:\([^)]*\))? )?(?:struct|enum) {re.escape(name)}\b", re.MULTILINE)
     files = [file, *sorted(glob.glob("src/**/*.rt", root_dir=crate, recursive=True))]
     return next((it for it in files if declared.search(text_of(f"{crate}/{it}"))), file)
 
 
 def type_at(lines, row):
-    """The type whose impl a line stands in, with the trait's name behind it, or the trait itself."""
+    """The type whose impl contains a line, with the trait's name after it, or the trait itself."""
     at = next((at for at in range(row, -1, -1) if TYPE.match(lines[at])), None)
     if at is None or "}" in lines[at:row]:
         return None

@@ -1,7 +1,7 @@
 """The folders of tests: what `run` and `prove` share.
 
 A folder NAME has the sources of a crate `krb_tests_NAME`: `lib.rs` and what its `mod` items name, and where a proof needs them
-`specs` and `proofs`, whose files end in `.antt.txt`. `libraries.txt` beside this file lists the libraries of each. A crate
+`specs` and `proofs`, whose files end in `.antt.txt`. `libraries.txt` next to this file lists the libraries of each. A crate
 `crates/krb_tests_NAME`, which the gate proves, counts as the folder NAME too."""
 
 import os
@@ -92,7 +92,7 @@ def all_folders():
 
 
 def stop_on_unlisted(folders):
-    """Stops where a folder beside this file has no line, or a line no folder."""
+    """Stops where a folder next to this file has no line, or a line no folder."""
     there = {it.name for it in os.scandir(HERE) if it.is_dir() and it.name != "__pycache__"}
     listed = {it.name for it in folders.values() if it.place.startswith(f"{HERE}/")}
     for name in sorted(there ^ listed):

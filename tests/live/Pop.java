@@ -1,5 +1,5 @@
 // A client of POP3 that logs in by Java's own mechanism GSSAPI of SASL: java Pop PORT CASE .., a case being QOP/AUTHORIZATION_ID/COUNT,
-// without an authorization id where that is empty. For each case it logs in, says STAT so many times and QUIT, and prints the case,
+// without an authorization id where that is empty. For each case it logs in, says STAT this many times and QUIT, and prints the case,
 // the end of the log-in with the layer that Java tells, and how many times STAT was answered. A ticket is taken from the cache.
 import java.io.*;
 import java.net.Socket;
@@ -54,7 +54,7 @@ public class Pop {
         while (line.startsWith("+") && !line.startsWith("+OK")) {
             byte[] challenge = Base64.getDecoder().decode(line.substring(1).trim());
             byte[] answer = client.evaluateChallenge(challenge);
-            // The layer begins behind the server's last line, which is in the clear.
+            // The layer begins after the server's last line, which is in the clear.
             to.write((Base64.getEncoder().encodeToString(answer == null ? new byte[0] : answer) + "\r\n").getBytes());
             StringBuilder text = new StringBuilder();
             for (int octet = from.read(); octet >= 0 && octet != '\n'; octet = from.read()) text.append((char) octet);

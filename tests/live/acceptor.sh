@@ -17,7 +17,7 @@ is_refused() {
     logged "$name" "$pattern"
 }
 
-# Whether gss-client is answered where it wants no signature.
+# gss-client gets an answer if it asks for no signature.
 is_answered() {
     timeout 20 gss-client -port "$acceptor_port" -nm 127.0.0.1 host@server.example.com hello | grep '^Response received'
 }
@@ -121,7 +121,7 @@ try_wait() {
     check "and then clients are let in" verifies 1 "$acceptor_port" hello
 }
 
-# What fails at the start names its file or its address, in one line.
+# A failure at the start names its file or its address, in one line.
 try_failures() {
     local busy=127.0.0.1:$acceptor_port service=host/server.example.com
     echo 0123 > "$room/short.key"

@@ -1,6 +1,6 @@
 # The example carry, which brings requests to KDCs, at MIT's KDC, at one that is silent, at none, and through a proxy.
 
-# What is answered to an AS-REQ of this user: carried USER PROTOCOL URL OTHER..
+# Prints the answer to an AS-REQ of this user: carried USER PROTOCOL URL OTHER..
 carried() {
     local user=$1 protocol=$2 url=$3
     shift 3

@@ -6,7 +6,7 @@ mit_speaks() {
     timeout 20 "$python" "$live/gss.py" speak libgssapi_krb5.so.2 "$acceptor_port" host@server.example.com "$@"
 }
 
-# The same by the keytab of a host, whose name the library gives the type 3: host_speaks FLAGS COUNT
+# Speaks with the keytab of a host, whose name the library gives the type 3: host_speaks FLAGS COUNT
 host_speaks() { KRB5CCNAME=FILE:$room/typed-ccache KRB5_CLIENT_KTNAME=FILE:$mit/client.keytab mit_speaks "$@" as=host@client.example.com; }
 
 # Whether a client, by its command, does not get through, and the server's log says why: turned_away NAME PATTERN COMMAND..

@@ -2,9 +2,9 @@
 #   python3 gss.py serve LIBRARY PORT whole|parts mic|wrapped
 #                                                           answers each message by a MIC over its text, or by the text itself, wrapped
 #   python3 gss.py speak LIBRARY PORT SERVICE FLAGS COUNT [as=NAME] [channel=DATA]
-#                                                           sends so many sealed messages, and verifies the MICs that come back
+#                                                           sends this many sealed messages, and verifies the MICs that come back
 #   python3 gss.py crowd LIBRARY PORT SERVICE FLAGS PROCESSES EACH
-#                                                           makes so many first tokens in so many processes at once, logs in with each
+#                                                           makes this many first tokens in this many processes at once, logs in with each
 #                                                           and tells with how many it was let in
 # NAME is a service, as host@client.example.com, whose key the library finds by KRB5_CLIENT_KTNAME. DATA are those of the bindings of a
 # channel. FLAGS are the sum of GSS-API's own, as 62: mutual 2, replay 4, sequence 8, sealed 16, whole 32. Messages are opened by gss_unwrap, as
@@ -97,7 +97,7 @@ def unwrap(context, token):
 
 
 def unwrap_parts(context, token):
-    """The head of a message of DCE style has all that is sealed beside the text."""
+    """The head of a message of DCE style has all that is sealed next to the text."""
     kept = c.create_string_buffer(token, len(token))
     head, text = Room(HEAD_LENGTH, c.addressof(kept)), Room(len(token) - HEAD_LENGTH, c.addressof(kept) + HEAD_LENGTH)
     parts, is_sealed = (Part * 2)(Part(HEAD, head), Part(TEXT, text)), c.c_int()
@@ -178,7 +178,7 @@ class Client:
         self.channel = c.byref(Channel(0, none, 0, none, Octets(len(data), data.encode()))) if data else None
 
     def step(self, token=b""):
-        """What goes to the service after this token of it, and whether the exchange goes on."""
+        """Returns the token for the service after this token of it, and whether the exchange goes on."""
         out = Room()
         status = call(
             "gss_init_sec_context", self.own, c.byref(self.context), self.name, c.byref(KERBEROS), self.flags, 0, self.channel, octets(token), None,

@@ -122,7 +122,7 @@ is_deaf_as_setuid() {
     ! served "$gss/setuid-status" --loaded
 }
 
-# Whether settings that cannot be read are a refusal, and are told.
+# Settings that cannot be read are a refusal, with a reason in the log.
 tells_bad_settings() {
     local gss_conf=$gss/bad.conf
     echo 'stores = file:/tmp' > "$gss_conf"

@@ -51,7 +51,7 @@ def framed(protocol, message):
 
 
 def told(reply):
-    """The answer is behind four octets, and those behind a head of DER where a proxy brought it."""
+    """The answer is after four octets, and those after a head of DER where a proxy brought it."""
     octets = bytes.fromhex(reply)
     if octets[0] == 0x30:
         octets = octets[octets.index(4) + 1 :]

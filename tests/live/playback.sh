@@ -42,14 +42,14 @@ plays() {
     return $status
 }
 
-# It is refused with these words, after so many replies of the KDC and frames of the service: is_not_played NAME PATTERN REPLIES FRAMES RULE..
+# It is refused with these words, after this many replies of the KDC and frames of the service: is_not_played NAME PATTERN REPLIES FRAMES RULE..
 is_not_played() {
     plays "$1" "${@:5}" && { echo "it logged in"; return 1; }
     grep -q -- "refused: .*$2" "$room/said" || return 1
     [ "$(grep -c ^reply "$room/$1-player.log")" -eq "$3" ] && [ "$(grep -c ^frame "$room/$1-player.log")" -eq "$4" ]
 }
 
-# What is checked when KDC and service are gone: the AS-REP is the reply with this number. try_player NAME WHOSE NUMBER
+# Checks an initiator when KDC and service are gone: the AS-REP is the reply with this number. try_player NAME WHOSE NUMBER
 try_player() {
     check "$2, played back: refused at its AS-REP" is_not_played "$1" Nonce "$3" 0
     check "the same without FRESH_REPLIES: refused at the service's answer" is_not_played "$1" ReplyTime $(($3 + 1)) 1 "${takes[@]}" "${checks[1]}"

@@ -1,5 +1,5 @@
 # A client of POP3 that logs in by Cyrus' library of SASL:  python3 pop.py PORT LEAST MOST AUTHORIZATION_ID|- LONGEST COUNT
-# The strength of its layer is between LEAST and MOST: 0 none, 1 integrity, more confidentiality. It says STAT so many times and
+# The strength of its layer is between LEAST and MOST: 0 none, 1 integrity, more confidentiality. It says STAT this many times and
 # QUIT, and prints what is answered.
 import base64, ctypes as c, socket, sys
 
@@ -34,7 +34,7 @@ def call(name, *arguments):
 
 
 def step(name, *arguments):
-    """What a call gives back as octets."""
+    """Returns the result of a call as octets."""
     out, length = c.c_void_p(), c.c_uint()
     call(name, connection, *arguments, c.byref(out), c.byref(length))
     return c.string_at(out, length.value) if out.value else b""

@@ -71,7 +71,7 @@ service_key() {
     klist -k -K "$mit/keytab" | sed -n "s#.* $1/${2:-server.example.com}@.*(0x\(.\{64\}\))\$#\1#p" | tail -n 1
 }
 
-# The same of Heimdal, from packages that tests/live/unpack left in a folder. Answers of more than 400 octets are too long
+# Makes a realm of Heimdal, from packages that tests/live/unpack left in a folder. Answers of more than 400 octets are too long
 # for UDP at its KDC. Its programs run by `heimdal PROGRAM ARGUMENT..`, and MIT's in this realm by `in_heimdal COMMAND..`.
 heimdal_folder=${HEIMDAL:-$live/out/heimdal}
 

@@ -1,6 +1,6 @@
 # A relay over TCP for one connection that keeps what the client sends:  relay.py PORT TO_PORT FILE
 # what sends that again, and says how it was answered:                   relay.py again TO_PORT FILE
-# and what sends it so many times, with another octet changed each time: relay.py altered TO_PORT FILE COUNT
+# and what sends it this many times, with another octet changed each time: relay.py altered TO_PORT FILE COUNT
 import socket, sys, threading
 
 
@@ -32,7 +32,7 @@ def read(file):
 
 
 def answer(to_port, octets):
-    """What is answered to these octets before the connection ends."""
+    """Returns the answer to these octets before the connection ends."""
     answer = bytearray()
     with socket.create_connection(("127.0.0.1", to_port), timeout=10) as server:
         try:
@@ -46,7 +46,7 @@ def answer(to_port, octets):
 
 
 def altered(to_port, octets, count):
-    """The token stands behind a greeting of five octets and its own head."""
+    """The token comes after a greeting of five octets and its own head."""
     length = int.from_bytes(octets[6:10], "big")
     answered = 0
     for number in range(count):

@@ -3,7 +3,7 @@
 all_rules=(AS_REP_TAGGED_26 NO_PREAUTHENTICATION SUITE_OF_EACH_KEY SUBKEY_FLAG_BY_ORIGIN FIRST_NUMBER_AS_SHOWN AP_REP_WITHOUT_SUBKEY
     THIRD_LEG_BY_VALUE ONE_WAY_IS_SETTLED EXTRA_COUNT_BY_TOKEN FRESH_REPLIES ANSWERS_ITS_AUTHENTICATOR)
 
-# Starts a service, and leaves its port in `port`: start_service NAME COMMAND.., which is told its port in the place of the word PORT.
+# Starts a service, and leaves its port in `port`: start_service NAME COMMAND.., which gets its port in place of the word PORT.
 start_service() {
     local name=$1 words=("${@:2}")
     port=$(free_port)
@@ -41,10 +41,10 @@ refuses_without_rules() {
     grep -q -- "$1" "$room/said"
 }
 
-# is_away, and the initiator says so: wants RULE PATTERN USER ASKED
+# is_away, and the initiator says so: `wants RULE PATTERN USER ASKED`
 wants() { is_away "$1" "$3" "$4" && grep -q -- "$2" "$room/said"; }
 
-# The same, and the service says so in its log: its_service_wants RULE NAME PATTERN USER ASKED
+# As `wants`, and the service says so in its log: `its_service_wants RULE NAME PATTERN USER ASKED`
 its_service_wants() {
     local before
     before=$(wc -l < "$room/$2.log")

@@ -1,6 +1,6 @@
 # MIT's gss-client at MIT's gss-server: shows that the realm works, without anything of this repository.
 
-# Whether gss-client, with these options, says so many times that a signature is good: verifies COUNT PORT OPTION.. MESSAGE
+# Whether gss-client, with these options, says this many times that a signature is good: verifies COUNT PORT OPTION.. MESSAGE
 verifies() {
     local count=$1 port=$2 message=${*: -1} said
     local options=("${@:3:$#-3}")

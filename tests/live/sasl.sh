@@ -64,7 +64,7 @@ client_in() {
     grep -qxF "logged in: pop/server.example.com, layer $3" "$room/said" && [ "$(grep -c '^+OK 0 0$' "$room/said")" -eq "$4" ]
 }
 
-# Whether it is told so, and ends: client_is_told PATTERN PORT LAYER RULE..
+# It gets this error, and ends: client_is_told PATTERN PORT LAYER RULE..
 client_is_told() {
     client_in "$2" "$3" - 1 "${@:4}" && { echo "it was let in"; return 1; }
     grep -q -- "$1" "$room/said"

@@ -3,8 +3,8 @@
 
     read.py PROGRAM
 
-What is loaded from memory or comes out of a vector register is a secret, and so is what is computed from one. What a function is given
-in general registers, and past the sixth on the stack, is none: pointers, lengths and counts. Nor is what the program has as a constant, at
+A value that is loaded from memory or comes out of a vector register is a secret, and so is a value computed from one. The arguments of a function
+in general registers, and past the sixth on the stack, are none: pointers, lengths and counts. Nor is what the program has as a constant, at
 an address that is no secret. A register that is kept on the stack stays what it is. Refused are
 
 - an address that has a secret in it;
@@ -21,9 +21,9 @@ import re
 import subprocess
 import sys
 
-# What is read, by the names of its functions, each with what is inlined in it. Each of these must be there. In the library
+# The code that is read, by the names of its functions, each with the code that is inlined in it. Each of these must be there. In the library
 # `SealingKey::new` is inlined in `Kept::boxed`, `decrypt` in `unseal`, what seals a text in `encrypt`, and the comparison in
-# `opened_under`: they are read where they stand alone too.
+# `opened_under`: they are read where they are alone too.
 READ = [
     r"^krb_aes::encryption::encrypted$",
     r"^krb_aes::encryption::encrypted_two$",
@@ -60,15 +60,15 @@ PUBLIC_LOADS = [
     # how many octets were digested
     (r"^sha1::Sha1::update$", r"(rdi|r15)\+0x58"),
 ]
-# What a call writes that is no secret: how far behind the place on the stack that it is given to write to, and how wide it is.
+# The values that a call writes and that are no secret: how far past the place on the stack that it writes to, and how wide.
 GROWS = r"<std_alloc::vec::Vec::grow_amortized"
 PUBLIC_FIELDS = [
-    # the number of rounds, which a schedule for encryption has behind the 240 octets of its round keys
+    # the number of rounds, which a schedule for encryption has after the 240 octets of its round keys
     (r"<krb_aes::schedule::EncryptionSchedule::new>", 240, "QWORD"),
-    # whether the two keys of a usage have 16 octets or 32: the front of each, of which the second lies 33 octets behind the first
+    # whether the two keys of a usage have 16 octets or 32: the front of each, of which the second is 33 octets after the first
     (r"<krb_crypto::suite::sealing_keys>", 0, "BYTE"),
     (r"<krb_crypto::suite::sealing_keys>", 33, "BYTE"),
-    # how many octets both digests of a key have taken, each behind its 84 octets
+    # how many octets both digests of a key have taken, each after its 84 octets
     (r"<krb_crypto::hmac::HmacKey::new>", 88, "QWORD"),
     (r"<krb_crypto::hmac::HmacKey::new>", 184, "QWORD"),
     # where a vector's octets lie, how many they are and how many fit
@@ -125,16 +125,16 @@ def functions(program):
         yield name, body
 
 
-# An operand on the stack at a fixed place: how wide it is, and how far behind `rsp`.
+# An operand on the stack at a fixed place: how wide it is, and how far past `rsp`.
 ON_STACK = re.compile(r"\b(BYTE|WORD|DWORD|QWORD|XMMWORD|YMMWORD) PTR \[rsp([+-]0x[0-9a-f]+)?\]")
 OCTETS = {"BYTE": 1, "WORD": 2, "DWORD": 4, "QWORD": 8, "XMMWORD": 16, "YMMWORD": 32}
 TOP = "QWORD PTR [rsp]"
-# Where a function is given what has no register: behind the place to return to.
+# The place of the arguments that have no register: after the place to return to.
 GIVEN_ON_STACK = range(8, 72)
 
 
 def octets_at(behind, width):
-    """The octets of the stack from so far behind `rsp` on."""
+    """The octets of the stack from this distance past `rsp` on."""
     return set(range(behind, behind + OCTETS[width]))
 
 
@@ -149,7 +149,7 @@ def registers(text):
 
 
 class Reading:
-    """What is known before an instruction: which registers and flags are secret, which octets of the stack are not, which registers
+    """The state before an instruction: which registers and flags are secret, which octets of the stack are not, which registers
     point to the stack, and where, and which to a constant."""
 
     def __init__(self, secrets, octets, pointers=(), constants=()):
@@ -159,7 +159,7 @@ class Reading:
         return Reading(self.secrets, self.octets, self.pointers, self.constants)
 
     def move(self, by):
-        """The stack grows by so many octets. What lies beyond it is lost."""
+        """The stack grows by this number of octets. Octets beyond it are lost."""
         self.octets = {at + by for at in self.octets if at + by >= 0}
         self.pointers = {register: at + by for register, at in self.pointers.items()}
 
@@ -194,7 +194,7 @@ class Reading:
         self.constants.discard(register)
 
     def point(self, register, source):
-        """A register takes an address: `source` is a register, or what stands between the brackets."""
+        """A register takes an address: `source` is a register, or the text between the brackets."""
         at = re.fullmatch(r"(\w+)(?:\+(0x[0-9a-f]+))?", source)
         start = 0 if at and at[1] == "rsp" else self.pointers.get(at[1]) if at else None
         is_constant = bool(at) and at[1] in {"rip", *self.constants}
@@ -206,7 +206,7 @@ class Reading:
 
 
 def step(name, now, mnemonic, operands):
-    """What an instruction leaves, and what is wrong with it."""
+    """Returns the state after an instruction, and what is wrong with it."""
     after = now.copy()
     wrong = None
     for operand in operands:

@@ -1,5 +1,5 @@
 // Refuses one growth of memory to the program that it is loaded into (LD_PRELOAD): the call of malloc and its kin whose number,
-// from 1 on, is REFUSED. The others are answered as ever. At the end the number of calls is written to the file that COUNTED
+// from 1 on, is REFUSED. The others are answered as before. At the end the number of calls is written to the file that COUNTED
 // names. Calls before the program begins, those of the loader, are not counted; those of the C library for a thread are.
 #define _GNU_SOURCE
 #include <dlfcn.h>

@@ -13,7 +13,7 @@ pub fn by_this(acceptor: &Acceptor, tokens: &[Octets]) -> Outcome<()> {
     Ok(())
 }
 
-/// The same by MIT's library.
+/// Admissions by MIT's library.
 pub fn by_mit(credential: &Credential, tokens: &[Octets]) -> Outcome<()> {
     for token in tokens {
         mit::accept(credential, token)?;
@@ -21,7 +21,7 @@ pub fn by_mit(credential: &Credential, tokens: &[Octets]) -> Outcome<()> {
     Ok(())
 }
 
-/// Measures admissions of clients that want no answer, and of clients that do.
+/// Measures admissions of clients that ask for no answer, and of clients that do.
 pub fn measure(service: &Service, count: usize) -> Outcome<()> {
     let credential = service.credential()?;
     for (flags, words) in [(0, "without"), (MUTUAL, "with")] {

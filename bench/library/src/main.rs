@@ -49,7 +49,7 @@ impl Service {
         Ok(Credential::acquire(&self.name)?)
     }
 
-    /// Tokens of so many clients.
+    /// Tokens of this many clients.
     fn tokens(&self, flags: u32, count: usize) -> Outcome<Vec<Octets>> {
         let clients = (0..count).map(|_| Ok(mit::begin(&self.name, flags)?.1));
         clients.collect()

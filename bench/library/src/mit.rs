@@ -163,7 +163,7 @@ impl Deref for Octets {
         if self.0.value.is_null() {
             return &[];
         }
-        // SAFETY: the library made so many octets there, and they stay until they are dropped.
+        // SAFETY: the library made this many octets there, and they stay until they are dropped.
         unsafe { slice::from_raw_parts(self.0.value.cast(), self.0.length) }
     }
 }

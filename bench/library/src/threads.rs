@@ -7,7 +7,7 @@ use crate::timing::{Outcome, a_second, least};
 use menolavuri::Acceptor;
 use std::thread;
 
-/// Work by so many threads at once, each over its part of the tokens.
+/// Work by this many threads at once, each over its part of the tokens.
 fn share(
     threads: usize,
     tokens: &[Octets],

@@ -28,12 +28,12 @@ pub fn least<T, const N: usize>(
     Ok(least)
 }
 
-/// How many there are in a second, where so many take this time.
+/// How many there are in a second, where this many take this time.
 pub fn a_second(count: usize, time: Duration) -> f64 {
     count as f64 / time.as_secs_f64()
 }
 
-/// How many microseconds one takes, where so many take this time.
+/// How many microseconds one takes, where this many take this time.
 pub fn microseconds(count: usize, time: Duration) -> f64 {
     time.as_secs_f64() * 1e6 / count as f64
 }

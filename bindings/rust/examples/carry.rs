@@ -1,5 +1,5 @@
 //! Carries the requests of `krb_run` to KDCs. Each line of input that is its reply `ask PROTOCOL URL HEX` is answered by the rest of
-//! an event, `reply HEX` or `fault 1`, and why it failed is told on the standard error:
+//! an event, `reply HEX` or `fault 1`, and why it failed is printed on standard error:
 //!
 //!     cargo run --offline --example carry 127.0.0.1:1088 < asks
 //!

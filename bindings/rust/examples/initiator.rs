@@ -6,7 +6,8 @@
 //!     cargo run --offline --example initiator 127.0.0.1:4444 host/server.example.com alice@EXAMPLE.COM FILE:/tmp/krb5cc_0 usual udp://127.0.0.1:88
 //!
 //! After the user comes a file with its key, a keytab or the key in hex, or `FILE:` and the path of a credential cache, as KRB5CCNAME has
-//! it, or `-` if its password is to be read from the standard input. `usual` asks the server to show who it is, `one-way` does not, and with `dce-style` the client has the last word. The KDCs are
+//! it, or `-` if its password is to be read from the standard input. `usual` asks the server to show who it is, `one-way` does not, and
+//! with `dce-style` the client sends a third leg. The KDCs are
 //! asked in turn, with commas between them, until one answers. The client goes by the RFCs. Who needs other rules names them after the
 //! KDCs (docs/DIFFERENCES.md), or `NONE`: then a recorded log-in can be played back to it.
 
@@ -39,7 +40,7 @@ use telling::log;
 
 type Answer<T> = Result<T, Box<dyn Error + Send + Sync>>;
 
-/// What is asked of the server.
+/// The request to the server.
 fn flags(word: &str) -> Answer<Flags> {
     match word {
         "usual" => Ok(Flags::USUAL),

@@ -1,10 +1,10 @@
 //! A client that logs in at a KDC, and at a message server by the mechanism GSSAPI of SASL (RFC 4752), as POP3 speaks it (RFC 1939,
-//! RFC 5034), `sasl_server` or another. It asks for the number of its mails so many times:
+//! RFC 5034), `sasl_server` or another. It asks for the number of its mails this many times:
 //!
 //!     cargo run --offline --example sasl_client 127.0.0.1:1110 pop/server.example.com alice@EXAMPLE.COM - 4 5 tcp://127.0.0.1:88 < password
 //!
-//! Behind the user stands a file with its key, a keytab or the key in hex, or `-` where its password is to be read from the standard
-//! input. 4 is the layer that it wants: 1 (none), 2 (integrity) or 4 (confidentiality), and 5 how many times it asks. The KDCs, and the
+//! After the user comes a file with its key, a keytab or the key in hex, or `-` where its password is to be read from the standard
+//! input. 4 is the layer that it asks for: 1 (none), 2 (integrity) or 4 (confidentiality), and 5 how many times it asks. The KDCs, and the
 //! rules after them, are those of `initiator`.
 
 #[path = "parts/base64.rs"]

@@ -106,7 +106,7 @@ fn serve(peer: Peer, acceptor: &Acceptor, layers: Layers) -> Answer<()> {
     }
 }
 
-/// Lets the client in. From then on the connection is in the layer that it chose. A client that is not let in is told so, and then
+/// Admits the client. From then on the connection is in the layer that it chose. A client that is refused gets an error, and then
 /// its connection ends. Why is for the log alone.
 fn authenticate(
     connection: &mut Connection<SaslServer>,

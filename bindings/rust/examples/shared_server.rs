@@ -59,7 +59,7 @@ impl Shared {
             None => Store::connect(&self.address, self.skew)?,
         };
         let now = store.now()?;
-        // A client's clock may be ahead by the skew, and its token is good for the skew behind that.
+        // A client's clock may be ahead by the skew, and its token is good for the skew after that.
         let seen = store.was_there(record, 3 * self.skew)?;
         *connection = Some(store);
         Ok((now, seen))

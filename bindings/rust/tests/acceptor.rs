@@ -32,7 +32,7 @@ fn accept_bound(acceptor: &Acceptor, token: &[u8], data: &[u8]) -> Result<Sessio
     acceptor.admit(acceptor.judge_bound_at(token, data, now(), [1; 64])?)
 }
 
-/// What alice asks for by default: no bindings; replay, sequence, confidentiality and integrity.
+/// The request of alice by default: no bindings; replay, sequence, confidentiality and integrity.
 fn asked() -> Asked<'static> {
     Asked {
         microsecond: 7,

@@ -224,7 +224,7 @@ fn bad_arguments_are_told() {
         .err()
         .unwrap();
     assert_eq!(error.to_string(), "refused: InternalError NotAscii");
-    assert_eq!(version(), "0.1.0");
+    assert_eq!(version(), env!("CARGO_PKG_VERSION"));
 }
 
 #[test]

@@ -3,7 +3,7 @@
 use menolavuri::{Cause, Error, Flags, Initiator, Next, Rules, Session, Step};
 use std::time::{Duration, SystemTime, UNIX_EPOCH};
 
-/// What an initiator was told, up to its first message, and what it asked and showed.
+/// The input of an initiator, up to its first message, and its requests and tokens.
 const TOLD: &str = include_str!("../../../crates/example_initiator/stdin");
 const ANSWERED: &str = include_str!("../../../crates/example_initiator/stdout");
 
@@ -138,7 +138,7 @@ fn a_recorded_log_in_is_not_played_back() {
     let fresh = Rules::RFC.without(Rules::FRESH_REPLIES);
     let error = play_back(Some(fresh)).err().unwrap();
     assert_eq!(error.cause(), Some(Cause::REPLY_TIME));
-    // Who gives the checks up is fooled.
+    // Without the checks the initiator is fooled.
     let session = play_back(Some(Rules::NONE)).unwrap();
     assert_eq!(session.peer(), "host/server.example.com");
 }

@@ -1,4 +1,4 @@
-//! What the acceptor answers and keeps where the inputs of tests/cases cannot show it: messages after an admission, another
+//! Answers and changes of the acceptor that the inputs of tests/cases cannot show: messages after an admission, another
 //! gate, each state, names of clients, the longest token, and an AP-REP alone.
 
 mod ap_rep;
@@ -81,7 +81,7 @@ fn draw() -> Draw {
     }
 }
 
-/// What the token is answered at this acceptor and gate: the token that goes back, or the cause of the refusal.
+/// The answer to the token at this acceptor and gate: the token that goes back, or the cause of the refusal.
 fn answer_at<G: ReplayGate>(
     alloc: Global,
     server: &mut Kerberos,
@@ -97,7 +97,7 @@ fn answer_at<G: ReplayGate>(
     }
 }
 
-/// The same with a new book.
+/// Answers at a new book.
 fn answer(
     alloc: Global,
     server: &mut Kerberos,

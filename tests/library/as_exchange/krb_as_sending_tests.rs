@@ -185,7 +185,7 @@ fn is_error(found: &KrbResult<AsRep>, code: u32) -> bool {
     }
 }
 
-/// What a reply over TCP is read as.
+/// The value that a reply over TCP is read as.
 fn read_at(alloc: Global, octets: &[u8]) -> Result<Box<KrbResult<AsRep>>, Cause> {
     let read = read_reply::<AsRep>(alloc, NetworkProtocol::Tcp, reply_of(alloc, octets))?;
     Ok(boxed(alloc, read)?)

@@ -37,7 +37,7 @@ use std::alloc::Global;
 use std::collections::VecDeque;
 use std::test::Fail;
 
-/// What a client has.
+/// The keys and names of a client.
 #[derive(Clone, Copy)]
 pub enum Has {
     /// A user, a domain and a password.
@@ -54,7 +54,7 @@ pub struct Who {
     pub url: &'static str,
 }
 
-/// What the network brings.
+/// The replies of the network.
 #[derive(Clone, Copy)]
 pub enum Reply {
     /// These octets in hex.
@@ -64,7 +64,7 @@ pub enum Reply {
     Fault(u32),
 }
 
-/// What a step is given, what it asks for, in hex, and what it is answered.
+/// The input of a step, its request in hex, and the answer.
 #[derive(Clone, Copy)]
 pub struct Turn {
     pub seconds: u32,
@@ -105,7 +105,7 @@ fn with_password(
     }))
 }
 
-/// Who stands in a keytab for AES, under such a key.
+/// A user of a keytab for AES, under such a key.
 fn with_key(
     alloc: Global,
     principal: &str,
@@ -192,14 +192,14 @@ impl NetworkClient for Recorded<'_> {
     }
 }
 
-/// So many microseconds behind that second.
+/// This many microseconds after that second.
 fn moment(seconds: u32, microseconds: u32) -> u64
     ensures { result ≤ last_moment }
 {
     u64::from(seconds) * 1_000_000 + u64::from(microseconds)
 }
 
-/// What a step is given.
+/// The input of a step.
 fn draw(turn: &Turn) -> Draw
     ensures { IsInRange result }
 {
@@ -211,7 +211,7 @@ fn draw(turn: &Turn) -> Draw
     }
 }
 
-/// What the steps of an exchange are given. Where one was ended, the last one is there again.
+/// The inputs of the steps of an exchange. If one was ended, the last one is there again.
 fn draws(turns: &[Turn]) -> [Draw; 3]
     ensures { AreInRange result }
 {
@@ -323,7 +323,7 @@ fn key_in(alloc: Global, who: &Who, done: &AsDone) -> Result<ReplyKey, Cause> {
     reply_key(alloc, &asker, &done.salt, &done.as_rep)
 }
 
-/// What an exchange ends with over a network.
+/// The end of an exchange over a network.
 fn end_over(
     alloc: Global,
     who: &Who,
@@ -475,7 +475,7 @@ fn an_exchange_sends_nothing_itself(rt: HostRuntime) {
     assert!(rt; is_refused(refusal_unsent(rt.alloc()), Cause::Suspended));
 }
 
-/// What an exchange ends with over a client that fails at once.
+/// The end of an exchange over a client that fails at once.
 fn end_of_failed(alloc: Global, client: &mut MemClient) -> Result<Box<AsDone>, Error> {
     let draws = draws(&[FIRST]);
     let exchange = new_exchange(alloc, &ALICE, &draws[0])?;

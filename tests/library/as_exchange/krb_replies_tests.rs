@@ -1,4 +1,4 @@
-//! What a client takes from replies, and octets from which it takes nothing.
+//! Values that a client takes from replies, and octets from which it takes nothing.
 
 mod answers;
 mod facts;
@@ -21,7 +21,7 @@ use sspi_core::{Cause, Error, Secret};
 use std::alloc::Global;
 use std::test::Fail;
 
-/// What was read, on the heap; None where nothing was.
+/// The value that was read, on the heap; None if there was none.
 fn found<T: Drop>(alloc: Global, read: Result<T, Fault>) -> Option<Box<T>> {
     match read {
         Ok(value) => boxed(alloc, value).ok(),
@@ -65,7 +65,7 @@ fn errors_name_salts(rt: HostRuntime) -> Result<(), Fail> {
     Ok(())
 }
 
-/// Whether an encryption type and a salt are told so.
+/// True if an encryption type and a salt are read so.
 fn is_told(answer: &Result<(u8, Text), Error>, end: &Result<(u8, &str), Cause>) -> bool {
     match (answer, end) {
         (Ok((etype, salt)), Ok((number, wanted))) => etype == number && salt.as_str() == *wanted,
@@ -258,7 +258,7 @@ fn answers_to_a_new_password_have_codes(rt: HostRuntime) -> Result<(), Fail> {
     Ok(())
 }
 
-/// Names of tickets, and the realm that each refers to: `krbtgt` in letters of either case with one component behind it.
+/// Names of tickets, and the realm that each refers to: `krbtgt` in letters of either case with one component after it.
 static REALMS: [(&str, Option<&str>); 6] = [
     (
         "3020a003020102a11930171b066b72627467741b0d4445562e524a4d2e4c4f43414c",

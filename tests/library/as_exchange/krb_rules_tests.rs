@@ -1,4 +1,4 @@
-//! What a client takes from replies of the KDCs of MIT krb5 and of Heimdal, by rules that its context goes by.
+//! Values that a client takes from replies of the KDCs of MIT krb5 and of Heimdal, by rules that its context goes by.
 
 use crate::rows::is_row;
 use bitflags::Flags;
@@ -58,7 +58,7 @@ fn asker(alloc: Global, password: &str, rules: Rules) -> Result<Asker, Fail> {
     })
 }
 
-/// What the AS-REP brings alice with these rules.
+/// The result of the AS-REP for alice with these rules.
 fn brought(alloc: Global, password: &str, rules: Rules) -> Result<Result<ReplyKey, Cause>, Fail> {
     let asker = asker(alloc, password, rules)?;
     let salt = Text::from_str(alloc, "EXAMPLE.COMalice")?;

@@ -1,4 +1,4 @@
-//! What an initiator makes of the answer of a service in Java, by rules that its context goes by.
+//! An initiator and the answer of a service in Java, by the rules of its context.
 
 use crate::krb_ends_tests::tokens::is_hex;
 use krb_ap::{Initiator, take_ap_rep};
@@ -43,7 +43,7 @@ fn initiator(alloc: Global, rules: Rules, kept: bool) -> Result<Initiator, Fail>
     })
 }
 
-/// What it makes of the answer where it showed its authenticator at this moment.
+/// Its result after the answer, if it showed its authenticator at this moment.
 fn taken_at(
     alloc: Global,
     rules: Rules,
@@ -59,7 +59,7 @@ fn taken_at(
     Ok(take_ap_rep(alloc, &initiator, &token, &draw))
 }
 
-/// What it makes of the answer.
+/// Its result after the answer.
 fn taken(alloc: Global, rules: Rules, kept: bool) -> Result<Result<InitDone, Cause>, Fail> {
     let initiator = boxed(alloc, initiator(alloc, rules, kept)?)?;
     let token = hex::decode(alloc, ANSWER)?;

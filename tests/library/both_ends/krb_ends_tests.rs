@@ -22,12 +22,12 @@ use std::test::Fail;
 use talk::{IN_ANOTHER_ORDER, IN_ORDER, IN_TURNS, Turn, WITH_LOSSES, understand};
 use tokens::{answer, ends_so, establishes, establishes_one_way, is_answered_so, is_hex, offer};
 
-/// Who a client is.
+/// The name of a client.
 #[derive(Drop)]
 pub enum Has {
     /// The user `alice` of EXAMPLE.COM, with this password.
     Password(&'static str),
-    /// The same, with this key in hex, and its encryption type.
+    /// A client with this key in hex, and its encryption type.
     Key(&'static str, u8),
 }
 
@@ -49,7 +49,7 @@ pub struct Session {
     pub offer: &'static str,
     /// The AP-REP.
     pub answer: &'static str,
-    /// The last word, or nothing.
+    /// The third leg, or nothing.
     pub last: &'static str,
     pub suite: CipherSuite,
     /// The key in the service's ticket.
@@ -68,7 +68,7 @@ impl Session {
     }
 }
 
-/// What is tried with both ends of a session.
+/// A test of both ends of a session.
 #[derive(Clone, Copy)]
 enum Trial {
     /// The initiator begins, over the replies of the KDCs: twice, and each time it ends with the offer.
@@ -200,7 +200,7 @@ fn both_ends_reach_one_context(rt: HostRuntime) -> Result<(), Fail> {
     Ok(())
 }
 
-/// In DCE style the initiator has the last word.
+/// In DCE style the initiator has the third leg.
 #[test]
 fn both_ends_reach_one_context_in_dce_style(rt: HostRuntime) -> Result<(), Fail> {
     assert!(rt; holds(rt.alloc(), &IN_DCE_STYLE, Trial::Talks(&[]))?);
@@ -229,7 +229,7 @@ fn messages_open_where_others_are_lost(rt: HostRuntime) -> Result<(), Fail> {
     Ok(())
 }
 
-/// Both directions go on beside each other, also where MIC tokens take numbers.
+/// Both directions go on next to each other, also where MIC tokens take numbers.
 #[test]
 fn established_ends_understand_each_other(rt: HostRuntime) -> Result<(), Fail> {
     assert!(rt; holds(rt.alloc(), &OVER_A_REFERRAL, Trial::Talks(&IN_TURNS))?);
@@ -263,7 +263,7 @@ fn talks_one_way(alloc: Global, rules: Rules) -> Result<bool, Fail> {
     Ok(tokens && understand(alloc, &mut initiator, &mut acceptor, &IN_ORDER)?)
 }
 
-/// Who asks for no answer is established where that is a rule.
+/// An initiator that asks for no answer is established if that is a rule.
 #[test]
 fn no_answer_is_awaited_where_that_is_a_rule(rt: HostRuntime) -> Result<(), Fail> {
     let alloc = rt.alloc();

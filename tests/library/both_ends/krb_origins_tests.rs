@@ -12,23 +12,23 @@ use sspi_core::{ClientRequestFlags, Secret};
 use std::alloc::Global;
 use std::test::Fail;
 
-/// What an event brings.
+/// The input of an event.
 enum Brought {
     Start,
     /// The reply of a KDC that has this place among those of the session.
     Reply(usize),
-    /// The same past the last moment.
+    /// An event past the last moment.
     LateReply(usize),
     Fault(u32),
 }
 
-/// What comes at connections one after another, and whether the initiator at connection 10 then has a session key.
+/// Tokens at connections one after another, and whether the initiator at connection 10 then has a session key.
 struct Stretch {
     events: &'static [(u32, Brought)],
     has_key: bool,
 }
 
-/// An exchange that ends with a fault in the place of the last reply, with events beside it that bring it nothing; and then one that
+/// An exchange that ends with a fault in the place of the last reply, with events next to it that bring it nothing; and then one that
 /// ends well.
 static STRETCHES: [Stretch; 4] = [
     Stretch {
@@ -147,7 +147,7 @@ fn runs(
     Ok(ran && are_keys(alloc, service, session, stretch.has_key))
 }
 
-/// Whether a service has the keys of a stretch behind its events.
+/// Whether a service has the keys of a stretch after its events.
 fn leads_to_keys(
     alloc: Global,
     service: &mut Service<ReplayBook>,

@@ -14,7 +14,7 @@ use sspi_core::{Draw, SecurityStatus};
 use std::alloc::Global;
 use std::test::Fail;
 
-/// What an event brings.
+/// The input of an event.
 enum Brought {
     Start,
     /// The reply of a KDC that has this place among those of the session.
@@ -23,11 +23,11 @@ enum Brought {
     Offer,
     /// The acceptor's.
     Answer,
-    /// The initiator's last word.
+    /// The initiator's third leg.
     LastWord,
 }
 
-/// What comes at the initiator, connection 10, at the acceptor, connection 20, and at an initiator beside them.
+/// The input of the initiator, connection 10, at the acceptor, connection 20, and at an initiator next to them.
 static EVENTS: [(u32, Brought); 8] = [
     (10, Brought::Start),
     (10, Brought::Reply(0)),
@@ -39,7 +39,7 @@ static EVENTS: [(u32, Brought); 8] = [
     (10, Brought::Answer),
 ];
 
-/// And behind these in DCE style.
+/// And after these in DCE style.
 static LAST: [(u32, Brought); 1] = [(20, Brought::LastWord)];
 
 fn input(alloc: Global, session: &Session, brought: &Brought) -> Result<Input, Fail> {
@@ -52,7 +52,7 @@ fn input(alloc: Global, session: &Session, brought: &Brought) -> Result<Input, F
     }
 }
 
-/// What a connection draws.
+/// The draw of a connection.
 fn draw_at(connection: u32) -> Draw {
     if connection == 20 {
         service_draw()
@@ -196,7 +196,7 @@ fn add_all(
     Ok(service.add_acceptor(20, Box::into_inner(acceptor))?)
 }
 
-/// Whether both ends have one context behind the events, and none before them.
+/// Whether both ends have one context after the events, and none before them.
 fn reach_one_context(
     alloc: Global,
     service: &mut Service<ReplayBook>,

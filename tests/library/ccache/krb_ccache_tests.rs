@@ -281,7 +281,7 @@ fn headers_tell_the_time_offset(rt: HostRuntime) -> Result<(), Fail> {
     Ok(())
 }
 
-/// What a file is refused as that is cut at this octet: 0 as no version, 1 as no head, else the place of a credential; a whole file is 2.
+/// The refusal of a file that is cut at this octet: 0 is no version, 1 no head, otherwise the place of a credential; a whole file is 2.
 fn refusal(alloc: Global, octets: &[u8]) -> usize {
     match Ccache::read(alloc, octets) {
         Ok(_) => 2,

@@ -115,7 +115,7 @@ fn a_read_or_write_that_would_block_or_was_interrupted_is_waited_for(rt: HostRun
     }
 }
 
-/// How a run ended, behind 5 lines that were read and 3 that were written, and what is said of it.
+/// How a run ended, after 5 lines that were read and 3 that were written, and what is said of it.
 static REPORTS: [(Status, &str); 7] = [
     (Status::Done, ""),
     (

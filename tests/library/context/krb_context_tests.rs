@@ -29,7 +29,7 @@ fn cause_of<T: Drop>(answer: Result<T, Error>) -> Option<Cause> {
     }
 }
 
-/// What an end is asked to do with a message.
+/// A call of an end with a message.
 #[derive(Clone, Copy)]
 enum Call {
     Open,

@@ -1,4 +1,4 @@
-//! Dialogues, and what they are told line by line.
+//! Dialogues, and their input line by line.
 
 use crate::octets::{are_octets, octets};
 use krb_der::OutOfMemory;
@@ -9,22 +9,22 @@ use std::test::Fail;
 /// The moment of each step, 1700000000 s.
 const MOMENT: u64 = 1_700_000_000_000_000;
 
-/// Room for all that is handed out.
+/// Room for all that is written.
 const ROOM: usize = 1024;
 
-/// What each step may draw, in hex: the octets 0 to 63.
+/// The draw of each step, in hex: the octets 0 to 63.
 const RANDOM: &str = "\
      000102030405060708090a0b0c0d0e0f101112131415161718191a1b1c1d1e1f202122232425262728292a2b2c2d2e2f303132333435363738393a3b3\
      c3d3e3f";
 
-/// What a step at this moment may use.
+/// The draw of a step at this moment.
 pub fn draw_at(moment: u64) -> Draw {
     let mut random = [0; 64];
     let _is_read = hex::decode_to_slice(RANDOM, &mut random).is_ok();
     Draw { moment, random }
 }
 
-/// What a start may use: the octets 0 to 63, or, with the word `other`, from 64 on.
+/// The draw of a start: the octets 0 to 63, or, with the word `other`, from 64 on.
 fn draw_at_start(word: &str) -> Draw {
     let mut draw = draw_at(MOMENT);
     if word == "other" {
@@ -61,7 +61,7 @@ fn tell_alice_and_kdc(alloc: Global, dialogue: &mut Dialogue) -> Result<(), OutO
     dialogue.set_kdc(alloc, "tcp://kdc.example:88")
 }
 
-/// The same of alice with her password, at her KDC.
+/// A dialogue of alice with her password, at her KDC.
 pub fn of_alice(alloc: Global) -> Result<Box<Dialogue>, Error> {
     let mut dialogue = with_host(alloc)?;
     tell_alice_and_kdc(alloc, &mut dialogue)?;
@@ -76,7 +76,7 @@ fn word_of(next: Next) -> &'static str {
     }
 }
 
-/// What comes next, or the refusal as it is printed.
+/// The next step, or the refusal as it is printed.
 fn printed(alloc: Global, next: Result<Next, Error>) -> Result<String, AllocError> {
     match next {
         Ok(next) => String::from_str(alloc, word_of(next)),

@@ -1,4 +1,4 @@
-//! What dialogues are asked, answer and hand out.
+//! Calls of dialogues, their answers and results.
 
 use crate::conversation::{draw_at, first_wrong, of_alice, tell_alice, with_host};
 use krb_dialogue::{Cause, Dialogue, Error, Fault, MAX_MOMENT, Next, Rules};

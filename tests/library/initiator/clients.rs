@@ -55,7 +55,7 @@ impl Initiator {
         boxed(alloc, client)
     }
 
-    /// What it seeks, if anything.
+    /// Its request, if it has one.
     pub fn target(&self, alloc: Global) -> Result<Option<Name>, Fail> {
         let mut words = self.itself.split(' ');
         match words.nth(2).unwrap_or("-") {

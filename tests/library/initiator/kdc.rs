@@ -7,7 +7,7 @@ use sspi_generator::{NetFault, NetworkClient, NetworkRequest};
 use std::alloc::Global;
 
 /// Answers whatever it is asked, and remembers whether each request was the script's: a line `ask`, with the protocol, the URL and
-/// the octets, and behind it a line `reply` with octets or `fault` with the network's code. It counts a fault at each call.
+/// the octets, and after it a line `reply` with octets or `fault` with the network's code. It counts a fault at each call.
 #[derive(Drop)]
 pub struct Kdc {
     alloc: Global,
@@ -31,7 +31,7 @@ impl Kdc {
         self.is_asked_so
     }
 
-    /// What is left of the script.
+    /// The rest of the script.
     pub fn script(&self) -> Script {
         self.script
     }

@@ -1,4 +1,4 @@
-//! What an initiator sends, is answered and becomes, call by call.
+//! Tokens, answers and states of an initiator, call by call.
 
 ghost use Rattle.std.specs.Prelude.{◌≡◌, IfOk};
 ghost use Rattle.sspi_generator.specs.Draws.{IsInRange, AreInRange};
@@ -33,12 +33,12 @@ use std::collections::VecDeque;
 use std::process::Abort;
 use std::test::Fail;
 
-/// What a step is given where its script says nothing: 1700000000 s, and the octets 0 to 63.
+/// The input of a step without a line of its script: 1700000000 s, and the octets 0 to 63.
 const CHANCE: &str = "1700000000000000 \
      000102030405060708090a0b0c0d0e0f101112131415161718191a1b1c1d1e1f202122232425262728292a2b2c2d2e2f303132333435363738393a3b3\
      c3d3e3f";
 
-/// What a step is given: a moment, and random octets.
+/// The input of a step: a moment, and random octets.
 fn draw_of(chance: &str) -> Draw
     ensures { IsInRange result }
 {
@@ -52,14 +52,14 @@ fn draw_of(chance: &str) -> Draw
     }
 }
 
-/// What a line `chance` says.
+/// The value of a line `chance`.
 fn next_draw(script: &mut Script) -> Draw
     ensures { IsInRange result }
 {
     draw_of(script.take("chance").unwrap_or(CHANCE))
 }
 
-/// What the steps of a call are given: only the first four have lines of their own.
+/// The inputs of the steps of a call: only the first four have lines of their own.
 fn draws_of(script: &mut Script) -> [Draw; 13]
     ensures { AreInRange result }
 {
@@ -97,7 +97,7 @@ fn flags_of(letters: &str) -> ClientRequestFlags {
     all
 }
 
-/// What a caller asks for that has these flags alone.
+/// The request of a caller with these flags alone.
 fn options_with(alloc: Global, flags: ClientRequestFlags) -> InitOptions {
     InitOptions {
         flags,
@@ -123,7 +123,7 @@ fn fill(
     Ok(())
 }
 
-/// What its caller asks for: a line `call` has the flags, and the token of the service.
+/// The request of its caller: a line `call` has the flags, and the token of the service.
 fn options_of(
     alloc: Global,
     initiator: &Initiator,
@@ -135,7 +135,7 @@ fn options_of(
     Ok(options)
 }
 
-/// What a call begins.
+/// The run of a call.
 fn run_of(
     alloc: Global,
     client: &Kerberos,
@@ -150,7 +150,7 @@ fn run_of(
     }
 }
 
-/// What a run ends with over a network, and settles the initiator by: the status and the token.
+/// The end of a run over a network, by which the initiator is settled: the status and the token.
 fn end_over(
     run: Box<GeneratorInitSecurityContext>,
     client: &mut Kerberos,
@@ -171,7 +171,7 @@ fn end_over(
     }
 }
 
-/// What a call ends with over a network.
+/// The end of a call over a network.
 fn end_of(
     alloc: Global,
     client: &mut Kerberos,
@@ -213,7 +213,7 @@ fn printed(alloc: Global, client: &Kerberos) -> Result<String, AllocError> {
     )
 }
 
-/// What a line with this word says; by the rules of the RFCs what the next line says, where it has the other word.
+/// The value of a line with this word; by the rules of the RFCs that of the next line, if it has the other word.
 fn line_by(client: &Kerberos, script: &mut Script, word: &str, word_by_rfc: &str) -> &'static str {
     let line = script.take(word).unwrap_or("");
     match script.take(word_by_rfc) {
@@ -232,7 +232,7 @@ fn is_as(alloc: Global, client: &Kerberos, script: &mut Script) -> bool {
     }
 }
 
-/// Whether that is handed out, a line `ok` or `continue` with the token, and the context is so now.
+/// True if that is returned, a line `ok` or `continue` with the token, and the context is so now.
 fn settles_so(
     alloc: Global,
     client: &Kerberos,
@@ -299,7 +299,7 @@ fn goes_so(
     Ok(goes_with(alloc, client, options, &draws, script))
 }
 
-/// What is left of the script where a call goes otherwise: nothing where all go so.
+/// The rest of the script if a call goes otherwise: nothing if all go so.
 fn left_of(
     alloc: Global,
     client: &mut Kerberos,
@@ -324,14 +324,14 @@ fn left_at(
     left_of(alloc, &mut client, initiator, script)
 }
 
-/// The same of a text that begins with its initiator.
+/// The rest of a text that begins with its initiator.
 fn left(alloc: Global, text: &'static str) -> Result<&'static str, Fail> {
     let mut script = Script::new(text);
     let initiator = Initiator::next(&mut script);
     left_at(alloc, &initiator, &mut script)
 }
 
-/// The same where the initiator goes by the rules of the RFCs.
+/// The rest if the initiator has the rules of the RFCs.
 fn left_by_rfc(alloc: Global, text: &'static str) -> Result<&'static str, Fail> {
     let mut script = Script::new(text);
     let initiator = Initiator {

@@ -35,7 +35,7 @@ fn draw() -> Draw
     }
 }
 
-/// What the steps of a change are given.
+/// The inputs of the steps of a change.
 fn draws() -> [Draw; 4]
     ensures { AreInRange result }
 {
@@ -65,7 +65,7 @@ fn client_of(alloc: Global, url: &str) -> Result<Box<Kerberos>, OutOfMemory> {
     )
 }
 
-/// What a change begins with.
+/// The options of a change.
 fn run_of(
     alloc: Global,
     client: &Kerberos,
@@ -81,7 +81,7 @@ fn run_of(
     }
 }
 
-/// What a run ends with: the number of the context.
+/// The end of a run: the number of the context.
 fn end_over(run: Box<GeneratorChangePassword>, kdc: &mut Kdc) -> Result<u32, Error>
     requires new { IsNew run.value }
     requires turns { turns_left run.value.phase ≡ 3 }
@@ -93,7 +93,7 @@ fn end_over(run: Box<GeneratorChangePassword>, kdc: &mut Kdc) -> Result<u32, Err
     }
 }
 
-/// What a change ends with.
+/// The end of a change.
 fn end_of(
     alloc: Global,
     client: &Kerberos,
@@ -142,7 +142,7 @@ fn goes_for(
     Ok(goes_with(alloc, client, change, script))
 }
 
-/// The same with a new context: a line `change` has the user, and the URL of its KDC or `-`; a line `rules` the bits of its rules.
+/// A change with a new context: a line `change` has the user, and the URL of its KDC or `-`; a line `rules` the bits of its rules.
 fn goes_so(alloc: Global, script: &mut Script) -> Result<bool, OutOfMemory> {
     let _note = script.take("note");
     let line = script.take("change").unwrap_or("");
@@ -152,7 +152,7 @@ fn goes_so(alloc: Global, script: &mut Script) -> Result<bool, OutOfMemory> {
     goes_for(alloc, &client, account, script)
 }
 
-/// What is left of the text where a change goes otherwise: nothing where all go so.
+/// The rest of the text if a change goes otherwise: nothing if all go so.
 fn left(alloc: Global, text: &'static str) -> Result<&'static str, OutOfMemory> {
     let mut script = Script::new(text);
     for _ in 0..text.len() {

@@ -1,4 +1,4 @@
-//! What tests go by, line by line.
+//! Scripts of tests, line by line.
 
 /// Lines that are left. Each is a word, a space, and what it says.
 #[derive(Clone, Copy)]
@@ -15,7 +15,7 @@ impl Script {
         self.rest
     }
 
-    /// What the next line says, if it begins with the word; it is then taken.
+    /// The value of the next line, if it begins with the word; it is then taken.
     pub fn take(&mut self, word: &str) -> Option<&'static str> {
         let (line, rest) = self.rest.split_once('\n').unwrap_or((self.rest, ""));
         let (first, says) = line.split_once(' ')?;

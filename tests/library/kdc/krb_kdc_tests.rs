@@ -1,4 +1,4 @@
-//! What a KDC takes, what it answers to single requests, and initiators that get through it to an acceptor.
+//! Entries of a KDC, its answers to single requests, and initiators that get through it to an acceptor.
 
 mod as_rows;
 mod chains;

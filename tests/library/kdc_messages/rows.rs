@@ -4,7 +4,7 @@ ghost use Rattle.std.specs.Prelude.{◌≡◌, ◌<◌, ◌+◌, length};
 
 use std::test::Fail;
 
-/// The octets of a row. They lie in place, so that a row owns nothing, and a zero octet lies behind them.
+/// The octets of a row. They lie in place, so that a row owns nothing, and a zero octet lies after them.
 #[derive(Clone, Copy)]
 pub struct Row {
     octets: [u8; 1280],

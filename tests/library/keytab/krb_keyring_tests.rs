@@ -99,7 +99,7 @@ fn refusal_at(
     Ok(refused_by(alloc, book, judged))
 }
 
-/// The same at a new book.
+/// The answer at a new book.
 fn refusal(alloc: Global, ring: &Keyring, token: &str, moment: u64) -> Result<Option<Cause>, Fail> {
     let mut book = boxed(alloc, ReplayBook::new(alloc, 300)?)?;
     refusal_at(alloc, ring, &mut book, token, moment)

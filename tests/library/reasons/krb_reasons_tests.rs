@@ -5,11 +5,11 @@ use krb_text::{Source, SureSource};
 use std::alloc::{AllocError, Global};
 use std::test::Fail;
 
-/// Five lines that stand before each line of the table.
+/// Five lines that come before each line of the table.
 static BEFORE: &str =
     "skew 300\nacceptor 1 100 server host/s\ninitiator 2 0 client -\nkdc 1 tcp://k\npassword 2 u - 61\n";
 
-/// A sixth line, and why it is bad. A `~` stands for 128 zeros.
+/// A sixth line, and why it is bad. A `~` is 128 zeros.
 static LINES: [(&str, &str); 38] = [
     (
         "key 1 host/s 00f",
@@ -191,7 +191,7 @@ fn octets_of(alloc: Global, before: &str, text: &str) -> Result<Vec<u8>, AllocEr
     Ok(octets)
 }
 
-/// The bad line of an input that was read in pieces of so many octets.
+/// The bad line of an input that was read in pieces of this many octets.
 fn bad_line_of(alloc: Global, octets: &[u8], count: usize) -> Result<Option<BadLine>, Fail> {
     let mut kept = Kept::new(alloc);
     for piece in octets.chunks(count.max(1)) {

@@ -8,14 +8,14 @@ use std::test::Fail;
 /// 123456 microseconds after 2023-11-14T22:13:20Z.
 const MOMENT: u64 = 1_700_000_000_123_456;
 
-/// What is before the code and after it, of host/server.example.com in EXAMPLE.COM at that moment.
+/// The octets before the code and after it, of host/server.example.com in EXAMPLE.COM at that moment.
 const BEFORE: &str =
     "607006092a864886f71201020203007e61305fa003020105a10302011ea411180f32303233313131343232313332305aa505020301e240a6030201";
 
 const AFTER: &str =
     "a90d1b0b4558414d504c452e434f4daa253023a003020102a11c301a1b04686f73741b127365727665722e6578616d706c652e636f6d";
 
-/// A cause, and the code that the client is told, in hex.
+/// A cause, and the code that the client gets, in hex.
 static TOLD: [(Cause, &str); 10] = [
     (Cause::Skew, "25"),
     (Cause::NotYet, "21"),
@@ -57,7 +57,7 @@ fn a_client_is_told_the_clock_and_replays_alone(rt: HostRuntime) -> Result<(), F
     Ok(())
 }
 
-/// Microseconds, and the token of the service `a` in the realm `A` so many after 2023-11-14T22:13:20Z.
+/// Microseconds, and the token of the service `a` in the realm `A` this many after 2023-11-14T22:13:20Z.
 static MICROSECONDS: [(u64, &str); 6] = [
     (
         0,
@@ -132,7 +132,7 @@ fn no_token_is_made_of_other_names_and_moments(rt: HostRuntime) -> Result<(), Fa
     Ok(())
 }
 
-/// A text of so many slashes.
+/// A text of this many slashes.
 fn slashes(alloc: Global, count: usize) -> Result<String, Fail> {
     Ok("/".repeat(alloc, count)?)
 }

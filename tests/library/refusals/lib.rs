@@ -1,4 +1,4 @@
-//! Tests of `krb_refusals`: what a client is told of a refusal.
+//! Tests of `krb_refusals`.
 #![tactic(auto)]
 
 #[cfg(test)]

@@ -13,7 +13,7 @@ use std::test::Fail;
 /// 2023-11-14T22:13:20Z, in seconds.
 const T0: i64 = 1_700_000_000;
 
-/// The same in microseconds.
+/// A time in microseconds.
 const M0: u64 = 1_700_000_000_000_000;
 
 /// A time after each other one.
@@ -130,7 +130,7 @@ fn clocked() -> &'static [Clocked] {
     &CLOCKED
 }
 
-/// What a new book and a new cache say of one row.
+/// The verdicts of a new book and of a new cache on one row.
 fn verdicts_of_row(alloc: Global, row: &Clocked) -> Result<[Verdict; 2], Fail> {
     let &(skew, ctime, start, end, moment, _) = row;
     let ask = ask(alloc, ctime, start, end, moment)?;

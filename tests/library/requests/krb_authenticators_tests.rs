@@ -1,4 +1,4 @@
-//! What a client shows to services and to ticket-granting services, octet by octet.
+//! Tokens of a client for services and for ticket-granting services, octet by octet.
 
 mod messages;
 mod tgs_requests;
@@ -31,10 +31,10 @@ use std::alloc::Global;
 /// 2023-11-14 22:13:20.
 const T0: u64 = 1_700_000_000_000_000;
 
-/// The microseconds behind it.
+/// The microseconds after it.
 const BEHIND: u32 = 123_456;
 
-/// So many microseconds behind that second.
+/// This many microseconds after that second.
 fn behind(microseconds: u32) -> u64
     ensures { result ≤ last_moment }
 {
@@ -64,7 +64,7 @@ enum Sum {
     Md5(&'static str),
 }
 
-/// What an authenticator has.
+/// The fields of an authenticator.
 #[derive(Clone, Copy)]
 struct Shown {
     seq_num: u32,
@@ -186,7 +186,7 @@ fn authenticator(alloc: Global, rep: &KdcRep, shown: &Shown) -> Result<Authentic
     authenticator_over(alloc, rep, shown, &bindings)
 }
 
-/// A message of a KDC as UDP brings it here, behind four octets.
+/// A message of a KDC as UDP brings it here, after four octets.
 fn reply(alloc: Global, digits: &str) -> Result<Octets, NetFault> {
     match behind_four(alloc, digits) {
         Ok(reply) => Ok(reply),

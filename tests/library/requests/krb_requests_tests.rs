@@ -1,4 +1,4 @@
-//! What a client asks a KDC for, octet by octet.
+//! Requests of a client to a KDC, octet by octet.
 
 mod bodies;
 mod pa_datas;
@@ -22,7 +22,7 @@ use krb_requests::{
 use sspi_core::{Cause, ClientRequestFlags, Error, Secret};
 use std::alloc::Global;
 
-/// 123456 microseconds behind 2023-11-14 22:13:20.
+/// 123456 microseconds after 2023-11-14 22:13:20.
 const MOMENT: u64 = 1_700_000_000_123_456;
 
 /// The octets 0 to 15.

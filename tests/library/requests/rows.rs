@@ -8,7 +8,7 @@ use krb_der::{Asn1, Octets, OutOfMemory};
 use sspi_core::{Cause, Error};
 use std::alloc::Global;
 
-/// The octets of a row. They lie in place, so that a row owns nothing, and a zero octet lies behind them.
+/// The octets of a row. They lie in place, so that a row owns nothing, and a zero octet lies after them.
 #[derive(Clone, Copy)]
 pub struct Row {
     octets: [u8; 1280],

@@ -21,7 +21,7 @@ use std::test::Fail;
 
 const CONFOUNDER: [u8; 16] = [0, 1, 2, 3, 4, 5, 6, 7, 8, 9, 10, 11, 12, 13, 14, 15];
 
-/// What is tried with a server: that it refuses to offer, a call, what it sends, frames that are refused or have texts, rooms that
+/// A test of a server: that it refuses to offer, a call, what it sends, frames that are refused or have texts, rooms that
 /// are too short and then long enough, and what it refuses with no room.
 #[derive(Clone, Copy)]
 enum ServerCase {
@@ -64,7 +64,7 @@ fn new_server_passes(
     server_passes(alloc, &mut server, case)
 }
 
-/// What is tried with a client: a call, what it sends, rooms, and what it refuses with none.
+/// A test of a client: a call, its token, rooms, and its refusals with none.
 #[derive(Clone, Copy)]
 enum ClientCase {
     Call(&'static ClientRow),

@@ -1,4 +1,4 @@
-//! A service over events that are handed in.
+//! A service over events that the test passes.
 
 mod added;
 mod serve;
@@ -69,7 +69,7 @@ fn add_acceptors<G: ReplayGate>(alloc: Global, service: &mut Service<G>) -> Resu
     Ok(())
 }
 
-/// The token comes at these connections, one behind the other.
+/// The token comes at these connections, one after the other.
 fn add_events(alloc: Global, events: &mut Vec<Event>, connections: &[u32]) -> Result<(), Fail> {
     for connection in connections {
         events.push(event(alloc, *connection)?)?;
@@ -123,7 +123,7 @@ fn service(alloc: Global) -> Result<Box<Service<ReplayBook>>, Fail> {
     Ok(boxed(alloc, Service::new(alloc, book))?)
 }
 
-/// What is set as the environment of a service.
+/// The environment of a service.
 fn no_env(alloc: Global) -> Env {
     Env {
         vars: Items::new(Vec::new(alloc)),

@@ -30,7 +30,7 @@ fn request(alloc: Global) -> Result<NetworkRequest, NetFault> {
     }
 }
 
-/// Asks as often as it is told. It ends with the first random octet of each draw, a decimal digit each in their order, or with
+/// Asks as often as its number says. It ends with the first random octet of each draw, a decimal digit each in their order, or with
 /// the fault that it was handed.
 #[derive(Drop)]
 struct Asks {
@@ -179,7 +179,7 @@ fn draw(digit: u8) -> Draw
     }
 }
 
-/// What a task that asks so often ends with over a client.
+/// The end of a task that asks this often over a client.
 fn end_over(task: Asks, client: &mut MemClient) -> Result<u64, NetFault>
     requires { task.left < 3 }
 {
@@ -187,7 +187,7 @@ fn end_over(task: Asks, client: &mut MemClient) -> Result<u64, NetFault>
     run.resolve_with(client, &[draw(1), draw(2), draw(3)])
 }
 
-/// The same over a client of which only the count of faults is seen.
+/// Its end over a client of which only the count of faults is seen.
 fn end_over_any(task: Asks, client: &mut dyn NetworkClient) -> Result<u64, NetFault>
     requires { task.left < 3 }
 {

@@ -1,4 +1,4 @@
-//! A book on a table, asked from two threads behind pauses that wait for each other.
+//! A book on a table, asked from two threads after pauses that wait for each other.
 
 ghost use Rattle.std.specs.Prelude.{◌≡◌};
 
@@ -26,7 +26,7 @@ fn principal(alloc: Global, name_type: u8) -> Result<PrincipalName, OutOfMemory>
     })
 }
 
-/// The same client at the same microsecond.
+/// That client at that microsecond.
 pub(crate) fn ask(alloc: Global) -> Result<Ask, Fail> {
     let realm = Name::new(Vec::from_slice(alloc, b"EXAMPLE.COM")?).ok_or("not ASCII")?;
     Ok(Ask {
@@ -44,7 +44,7 @@ pub(crate) fn ask(alloc: Global) -> Result<Ask, Fail> {
     })
 }
 
-/// What a pass is answered behind a pause, and how far it has seen.
+/// The answer to a pass after a pause, and how far it has seen.
 fn ask_held<R: Wait>(
     rt: &R,
     book: &TableBook,
@@ -59,7 +59,7 @@ fn ask_held<R: Wait>(
     (answer, pass.seen())
 }
 
-/// Two passes ask the same behind these pauses, each in a thread of its own.
+/// Two passes ask the same after these pauses, each in a thread of its own.
 fn ask_both<R: Threads + Wait + Sync>(
     rt: &R,
     alloc: Global,

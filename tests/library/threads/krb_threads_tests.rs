@@ -18,7 +18,7 @@ static TOKEN: &str =
 /// The key of that service: the octets 0 to 31.
 static KEY: &str = "000102030405060708090a0b0c0d0e0f101112131415161718191a1b1c1d1e1f";
 
-/// What each event may draw: the octets 0 to 63.
+/// The draw of each event: the octets 0 to 63.
 static RANDOM: &str = "000102030405060708090a0b0c0d0e0f101112131415161718191a1b1c1d1e1f\
 202122232425262728292a2b2c2d2e2f303132333435363738393a3b3c3d3e3f";
 
@@ -74,7 +74,7 @@ fn check<R: AllocGlobal + Abort + Threads + Wait + Sync>(
     assert_eq!(rt; sink.bytes(), text);
 }
 
-/// The same, where no call fails.
+/// The output if no call fails.
 fn check_sound<R: AllocGlobal + Abort + Threads + Wait + Sync>(
     rt: &R,
     input: &[u8],
@@ -110,11 +110,11 @@ fn inputs_without_events_are_answered(rt: HostRuntime) -> Result<(), Fail> {
     Ok(())
 }
 
-/// What is written where one worker has all the connections.
+/// The output if one worker has all connections.
 static ONE_WORKER: &str = "w 1 1 ok -\nw 1 2 refused InvalidToken Replayed\n\
 j 1 1 1 Admitted\nj 2 1 2 Replayed\nend 1 1\n";
 
-/// What is written where no line declares the connections 8 and 9.
+/// The output if no line declares the connections 8 and 9.
 static UNDECLARED: &str = "w 0 1 refused InvalidHandle Connection\nw 0 3 ok -\n\
 w 1 2 refused InvalidHandle Connection\nj 1 0 1 Admitted\nend 1 1\n";
 
@@ -127,7 +127,7 @@ fn a_worker_has_the_connections_of_its_parity(rt: HostRuntime) -> Result<(), Fai
     Ok(())
 }
 
-/// A start at each of so many connections, none of which a line declares, and what the two workers answer.
+/// A start at each of this many connections, none of which a line declares, and what the two workers answer.
 fn starts(alloc: Global, count: u32) -> Result<(String, String), AllocError> {
     let mut input = String::from_str(alloc, "skew 300\n")?;
     let mut low = String::new(alloc);
@@ -163,7 +163,7 @@ fn a_long_input_is_read_in_order(rt: HostRuntime) -> Result<(), Fail> {
     Ok(())
 }
 
-/// A line 2 of so many octets behind the skew.
+/// A line 2 of this many octets after the skew.
 fn check_line_of<R: AllocGlobal + Abort + Threads + Wait + Sync>(
     rt: &R,
     length: usize,
@@ -237,7 +237,7 @@ static BEHIND_BOTH: &str = "w 0 1 ok -\nw 0 2 refused InvalidToken Replayed\n\
 w 1 3 refused InvalidToken Replayed\n\
 j 1 0 1 Admitted\nj 2 0 2 Replayed\nj 3 1 1 Replayed\nend 1 1\n";
 
-/// Answers the token at these connections, behind these pauses, and compares the text with those that are allowed.
+/// Answers the token at these connections, after these pauses, and compares the text with those that are allowed.
 fn check_among<R: AllocGlobal + Abort + Threads + Wait + Sync, P: Pause + Send, Q: Pause + Send>(
     rt: &R,
     connections: &[u32],

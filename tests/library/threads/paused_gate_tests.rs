@@ -1,4 +1,4 @@
-//! A gate behind a pause, which sees that its pause was asked before it.
+//! A gate after a pause, which sees that its pause was asked before it.
 
 use crate::krb_shared_tests::ask;
 use krb_der::OutOfMemory;

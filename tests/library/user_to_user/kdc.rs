@@ -6,7 +6,7 @@ use sspi_core::NetworkProtocol;
 use sspi_generator::{NetFault, NetworkClient, NetworkRequest};
 use std::alloc::Global;
 
-/// What a request is answered.
+/// The answer to a request.
 pub enum Reply {
     /// These octets, in hex.
     Octets(&'static str),

@@ -1,4 +1,4 @@
-//! Who asks a KDC, what it asks for first, and what the reply brings.
+//! Users of a KDC, their first requests, and the results of the replies.
 
 mod clients;
 mod keys;

@@ -1,4 +1,4 @@
-//! What the acceptor whole answers to tokens that come one after another.
+//! Answers of the whole acceptor to tokens that come one after another.
 
 mod further_names;
 mod last_words;
@@ -16,7 +16,7 @@ use sspi_core::{Cause, Error, SecurityStatus};
 use std::alloc::Global;
 use std::test::Fail;
 
-/// What a token is answered.
+/// The answer to a token.
 enum Answer {
     /// The status, the token that goes back in hex, and whether a client is admitted.
     Done(SecurityStatus, &'static str, bool),
@@ -101,7 +101,7 @@ fn first_other(
     Ok(None)
 }
 
-/// The same with a new book.
+/// Answers at a new book.
 fn first_other_at(
     alloc: Global,
     server: &mut Kerberos,
@@ -111,7 +111,7 @@ fn first_other_at(
     first_other(alloc, server, &mut book, steps)
 }
 
-/// The same at a new acceptor of the row's service.
+/// The answer at a new acceptor of the row's service.
 fn first_other_of(alloc: Global, session: &Session) -> Result<Option<usize>, Fail> {
     let mut server = acceptor_of(alloc, &session.service)?;
     first_other_at(alloc, &mut server, session.steps)

@@ -38,7 +38,7 @@ static REQUESTS: [Request; 6] = [
         has_key: false,
         refusal: Some(Cause::ServerName),
     },
-    // The same components, in a name of type 1, with another version and type of message.
+    // These components, in a name of type 1, with another version and type of message.
     Request {
         tgt_req: "3031a003020109a103020109a2253023a003020101a11c301a1b04686f73741b127365727665722e6578616d706c652e636f6d",
         realm: "EXAMPLE.COM",

@@ -140,7 +140,7 @@ pub fn acceptor_of(alloc: Global, service: &Service) -> Result<Box<Kerberos>, Fa
     acceptor_with(alloc, service.kdc, properties)
 }
 
-/// What a caller asks for, in DCE style or not.
+/// The request of a caller, in DCE style or not.
 pub fn flags_of(dce: bool) -> ServerRequestFlags {
     if dce {
         ServerRequestFlags::USE_DCE_STYLE

@@ -74,7 +74,7 @@ fn shown(value: &Option<Text>) -> &str {
 static VALUES: [(&str, &[&str], &str); 21] = [
     // Outside every section nothing is read.
     (MIT, &["stray"], "none"),
-    // A tab before, a carriage return behind.
+    // A tab before, a carriage return after.
     (MIT, &["logging", "default"], "FILE:/var/log/krb5libs.log"),
     // A comment that is indented.
     (MIT, &["logging", "; kdc"], "none"),
@@ -145,7 +145,7 @@ fn values_are_those_of_the_rules(rt: HostRuntime) -> Result<(), Fail> {
     Ok(())
 }
 
-/// A file, dropped behind its copy.
+/// A file, dropped after its copy.
 fn copied_file(alloc: Global, text: &str) -> Result<Box<ConfigFile>, OutOfMemory> {
     let text = Text::from_str(alloc, text)?;
     let file = boxed(alloc, ConfigFile::new(alloc, text)?)?;

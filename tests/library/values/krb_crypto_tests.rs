@@ -170,7 +170,7 @@ fn codes_are_those_of_rfc_2202(rt: HostRuntime) -> Result<(), Fail> {
     Ok(())
 }
 
-/// The key derived from a usage and an octet behind it.
+/// The key derived from a usage and an octet after it.
 fn usage_key(suite: CipherSuite, key: &[u8], usage: u32, octet: u8) -> DerivedKey
     requires { length key.now ≡ key_size suite }
 {
@@ -197,7 +197,7 @@ fn usages_have_their_keys(rt: HostRuntime) -> Result<(), Fail> {
     Ok(())
 }
 
-/// The checksum by each call that makes one beside a sealed text.
+/// The checksum by each call that makes one next to a sealed text.
 fn seals_a_checksum(
     rt: &impl Abort,
     suite: CipherSuite,
@@ -296,7 +296,7 @@ fn seals(rt: &(impl Abort + AllocGlobal), row: &Row) -> Result<(), Fail> {
     Ok(())
 }
 
-/// The same by a key that keeps them.
+/// The result by a key that keeps them.
 fn keeps(rt: &(impl Abort + AllocGlobal), kept: &SealingKey, row: &Row) -> Result<(), Fail> {
     let (plain, expected) = (row.plain.as_slice(), row.expected.as_slice());
     let sealed = kept.seal(rt.alloc(), row.confounder, plain)?;
@@ -306,7 +306,7 @@ fn keeps(rt: &(impl Abort + AllocGlobal), kept: &SealingKey, row: &Row) -> Resul
     Ok(())
 }
 
-/// The same in place.
+/// The result in place.
 fn keeps_in_place(rt: &impl Abort, kept: &SealingKey, row: &Row) -> Result<(), Fail> {
     let mut field = row.expected;
     let length = field.length;
@@ -332,7 +332,7 @@ fn texts_are_sealed_and_opened(rt: HostRuntime) -> Result<(), Fail> {
     Ok(())
 }
 
-/// Encrypts a text, and decrypts it with twelve octets behind it.
+/// Encrypts a text, and decrypts it with twelve octets after it.
 fn encrypts(rt: &(impl Abort + AllocGlobal), row: &Row) -> Result<(), Fail> {
     let (suite, key, usage, plain) = (
         row.suite,

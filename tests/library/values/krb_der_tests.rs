@@ -30,7 +30,7 @@ fn octet_string(alloc: Global, contents: &[u8]) -> Result<Octets, Fault>
     Ok(writer.finish())
 }
 
-/// Whether these contents are written behind the header, and read again.
+/// Whether these contents are written after the header, and read again.
 fn is_headed(alloc: Global, contents: &[u8], header: &[u8]) -> Result<bool, Fault>
     requires { length contents.now ≤ 65536 }
 {
@@ -52,7 +52,7 @@ fn a_length_takes_its_shortest_form(rt: HostRuntime) {
     }
 }
 
-/// What is not in the grammar: too short, a longer length than needed, a leading zero octet, 80, 85 and the indefinite
+/// Octets that are not in the grammar: too short, a longer length than needed, a leading zero octet, 80, 85 and the indefinite
 /// form, another tag.
 static REFUSED: [&[u8]; 9] = [
     &[],
@@ -99,7 +99,7 @@ fn integers() -> &'static [&'static [u8]] {
     &INTEGERS
 }
 
-/// What is written of the INTEGER that was read.
+/// The octets of the INTEGER that was read.
 fn integer_written_again(alloc: Global, octets: &[u8]) -> Result<Octets, Fault> {
     let contents = Reader::new(octets).integer()?;
     let mut writer = Writer::new(alloc);
@@ -334,7 +334,7 @@ fn the_fields_of_a_principal_are_read(rt: HostRuntime) -> Result<(), Fault> {
     Ok(())
 }
 
-/// Bits with the first one set, in so many octets of these two.
+/// Bits with the first one set, in this many octets of these two.
 fn first_bit(alloc: Global, count: usize) -> Result<Bits, OutOfMemory> {
     let octets: &[u8] = if count == 1 { &[0x40] } else { &[0x40, 0x00] };
     Ok(Bits {

@@ -109,7 +109,7 @@ fn a_buffer_takes_what_its_limit_allows(rt: HostRuntime) {
     assert!(rt; is_data_of_three(&buffer, b"abc"));
 }
 
-/// Type 2 and `ab`, type 3 and `cde`, and `f`, behind the eight numbers.
+/// Type 2 and `ab`, type 3 and `cde`, and `f`, after the eight numbers.
 static BINDINGS: &[u8] =
     b"\x02\0\0\0\x02\0\0\0\x20\0\0\0\x03\0\0\0\x03\0\0\0\x22\0\0\0\x01\0\0\0\x25\0\0\0abcdef";
 

@@ -1,5 +1,5 @@
 # How many clients a second a server in this process admits, over python3-gssapi:  rate.py COUNT KEYTAB [PROCESSES]
-# The tokens are made first, by another process, with MIT's library alone. Each of so many processes then takes COUNT tokens of its own.
+# The tokens are made first, by another process, with MIT's library alone. Each of this many processes then takes COUNT tokens of its own.
 # Run it with the interposer (GSS_MECH_CONFIG, MENOLAVURI_GSS_CONF) and without, and without with KRB5RCACHENAME=none: too.
 import os, pickle, sys, tempfile, time
 

@@ -1,6 +1,6 @@
 # MIT's sample programs: gss-server, and gss-client, which verifies a MIC over what it sent.
 
-# Whether gss-client says so many times that the signature of what it sent is good: sample_client PORT COUNT OPTION..
+# Whether gss-client says this many times that the signature of what it sent is good: sample_client PORT COUNT OPTION..
 sample_client() {
     [ "$(timeout 20 gss-client -port "$1" "${@:3}" 127.0.0.1 "${sample_service:-host}@localhost" 'hello there' | grep -cx 'Signature verified.')" -eq "$2" ]
 }
@@ -71,7 +71,7 @@ is_closed_without_store() {
     turns_away 'the store of admitted clients does not answer: nobody is admitted (/nonexistent/' bash -c "sample_client $sample_port 1"
 }
 
-# Whether a keytab is found by KRB5_KTNAME, and each call is told on standard error, where the settings name none of these.
+# A keytab is found by KRB5_KTNAME, and each call is traced on standard error, if the settings name neither.
 has_environment() {
     local gss_conf=$gss/plain.conf
     gss_settings "file:$gss/store" | sed '/^keytab/d' > "$gss_conf"

@@ -1,8 +1,8 @@
-//! What a person can do about a refusal.
+//! Advice for a person after a refusal.
 
 use menolavuri::{Cause, Error};
 
-/// What to look at, where the cause of a refusal tells it.
+/// The thing to look at, if the cause of a refusal says it.
 pub fn advice(error: &Error) -> Option<&'static str> {
     let Error::Refused(refusal) = error else {
         return None;

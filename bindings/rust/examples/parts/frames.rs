@@ -4,7 +4,7 @@
 use crate::Answer;
 use std::io::{Read, Write};
 
-/// What the first octet of a frame says, of which several may be set.
+/// The flags in the first octet of a frame.
 pub const NO_OPERATION: u8 = 0x01;
 pub const CONTEXT: u8 = 0x02;
 pub const DATA: u8 = 0x04;

@@ -1,4 +1,4 @@
-//! Who an initiator is, and what it asks KDCs.
+//! The user of an initiator, and its requests to KDCs.
 
 use crate::Answer;
 use crate::keys::keys;
@@ -47,7 +47,7 @@ pub fn identify(initiator: &mut Initiator, user: &str, file: &str) -> Answer<()>
         .map_err(about_user)?)
 }
 
-/// Brings what the initiator asks to the KDC that it names, and else to the others, and takes the answer.
+/// Sends the initiator's request to the KDC that it names, otherwise to the others, and takes the answer.
 pub fn ask(initiator: &mut Initiator, others: &[&str]) -> Answer<Next> {
     let (url, request) = (initiator.url()?, initiator.request()?);
     let urls = [url.as_str()].into_iter().chain(others.iter().copied());

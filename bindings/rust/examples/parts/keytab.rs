@@ -1,6 +1,6 @@
 //! The keys in a keytab file (format 0502).
 
-/// What is still to be read.
+/// The octets that are still to be read.
 struct Rest<'a>(&'a [u8]);
 
 impl<'a> Rest<'a> {
@@ -10,13 +10,13 @@ impl<'a> Rest<'a> {
         Some(taken)
     }
 
-    /// A number of so many octets, the highest first.
+    /// A number of this many octets, the highest first.
     fn number(&mut self, count: usize) -> Option<u32> {
         let octets = self.take(count)?;
         Some(octets.iter().fold(0, |n, octet| n << 8 | u32::from(*octet)))
     }
 
-    /// Octets behind their length.
+    /// Octets after their length.
     fn counted(&mut self) -> Option<&'a [u8]> {
         let length = self.number(2)?;
         self.take(length as usize)

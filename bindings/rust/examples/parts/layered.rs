@@ -11,7 +11,7 @@ use std::time::SystemTime;
 const LONGEST_LINE: usize = 100_000;
 pub const LONGEST_MESSAGE: u32 = 65_536;
 
-/// What became of a connection that ends too soon.
+/// The end of a connection that ends too soon.
 const GONE: &str = "the other end is gone without taking leave";
 
 /// A failure in words, where it is that the connection ends too soon.
@@ -62,7 +62,7 @@ fn sealed(end: &mut impl End, data: &[u8]) -> Result<Vec<u8>, Error> {
 /// A connection, and its layer where one is agreed.
 pub struct Connection<E> {
     from: BufReader<Peer>,
-    /// What was opened, and not read yet.
+    /// The text that was decrypted and not read yet.
     opened: Vec<u8>,
     layer: Option<E>,
 }
@@ -94,7 +94,7 @@ impl<E: End> Connection<E> {
         }
     }
 
-    /// What the peer sent next, as a frame brings it or as it stands.
+    /// The next data of the peer, out of a frame or unchanged.
     fn receive(&mut self) -> Answer<Vec<u8>> {
         let Some(layer) = &mut self.layer else {
             let octets = self.from.fill_buf()?.to_vec();
@@ -145,7 +145,7 @@ impl<E: End> Connection<E> {
         Ok(self.from.get_mut().write_all(&octets)?)
     }
 
-    /// The token in a line, behind this word.
+    /// The token in a line, after this word.
     pub fn token(&mut self, word: &str) -> Answer<Vec<u8>> {
         let line = self.line()?;
         let token = line.strip_prefix(word).map(str::trim_start);

@@ -4,7 +4,7 @@ use std::collections::HashMap;
 use std::net::{IpAddr, Ipv6Addr};
 use std::sync::{Mutex, MutexGuard, PoisonError};
 
-/// So many places, and so many of them for one address.
+/// This many places, and this many of them for one address.
 pub struct Places {
     most: usize,
     most_of_one: usize,
@@ -17,7 +17,7 @@ pub struct Place<'a> {
     holder: IpAddr,
 }
 
-/// Who counts as one: an address, of IPv6 its first 64 bits, since a client has all addresses of those.
+/// The part of an address that counts as one client: of IPv6 its first 64 bits, since a client has all addresses of those.
 fn holder(address: IpAddr) -> IpAddr {
     match address.to_canonical() {
         IpAddr::V6(address) => Ipv6Addr::from_bits(address.to_bits() >> 64 << 64).into(),

@@ -15,7 +15,7 @@ pub struct Store {
     stream: BufReader<TcpStream>,
 }
 
-/// What the store answers (RESP, version 2).
+/// An answer of the store (RESP, version 2).
 #[derive(Debug, PartialEq)]
 enum Reply {
     Word(String),
@@ -78,7 +78,7 @@ fn reply(from: &mut impl BufRead, depth: u32) -> io::Result<Reply> {
 }
 
 impl Store {
-    /// The store at this address. One that was started less than twice `skew` ago may have forgotten what it was told, and
+    /// The store at this address. One that was started less than twice `skew` ago may lack records of before, and
     /// is refused.
     pub fn connect(address: &str, skew: Duration) -> io::Result<Store> {
         let mut failed = invalid("the store has no address");
@@ -131,7 +131,7 @@ impl Store {
             .ok_or_else(|| invalid("the store does not tell its age"))
     }
 
-    /// The store's own time, which the clocks of all its acceptors stand behind.
+    /// The store's own time, which is compared with the clients' times for all its acceptors.
     pub fn now(&mut self) -> io::Result<SystemTime> {
         let Reply::Several(parts) = self.ask(&[b"TIME"])? else {
             return Err(invalid("the store does not tell its time"));

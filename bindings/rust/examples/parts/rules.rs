@@ -1,9 +1,9 @@
-//! Rules by their names, for those who want others than the library begins with.
+//! Rules by their names, for users who need others than the library begins with.
 
 use crate::Answer;
 use menolavuri::Rules;
 
-/// The rules of these names together; `RFC` stands for all, and `NONE` for none. Without a name the library's own stay.
+/// The rules of these names together; `RFC` is all of them, and `NONE` none. Without a name the library's own stay.
 pub fn named(words: &[String]) -> Answer<Option<Rules>> {
     let mut rules = None;
     for word in words {

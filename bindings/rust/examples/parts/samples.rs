@@ -7,7 +7,7 @@ use crate::telling::log;
 use menolavuri::Session;
 use std::io::{BufReader, Read};
 
-/// The client's first token, behind its greeting.
+/// The client's first token, after its greeting.
 fn first_token(from: &mut impl Read) -> Answer<Vec<u8>> {
     match read_frame(from, LONGEST_TOKEN)?.says {
         says if says == NO_OPERATION | CONTEXT_NEXT => Ok(read_frame(from, LONGEST_TOKEN)?.octets),

@@ -1,4 +1,4 @@
-//! What a program tells: lines of its log, and why it failed, in words that a person can act on.
+//! The output of a program: lines of its log, and why it failed, in words that a person can act on.
 
 use crate::Answer;
 use crate::causes::advice;

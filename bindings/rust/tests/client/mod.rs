@@ -251,7 +251,7 @@ pub fn authorization(elements: &[(u32, &[u8])]) -> Vec<u8> {
     der(0x30, &elements.concat())
 }
 
-/// What a KDC says of a client in a ticket for host/server.example.com.
+/// The facts of a client in a ticket for host/server.example.com.
 pub struct Ticket<'a> {
     pub name_type: u32,
     pub name: &'a [&'a str],
@@ -274,7 +274,7 @@ pub const USER: Ticket = Ticket {
     authorization: &[],
 };
 
-/// What a client asks for in its authenticator.
+/// The request of a client in its authenticator.
 #[derive(Clone)]
 pub struct Asked<'a> {
     /// The microsecond of the second `NOW`.

@@ -1,4 +1,4 @@
-//! The last word of DCE style at an acceptor that compares its number by value, as other implementations spell it.
+//! The third leg of DCE style at an acceptor that compares its number by value, as other implementations spell it.
 
 use super::{answer, context_of};
 use krb_context::{Kerberos, KerberosState, Rules};
@@ -7,7 +7,7 @@ use sspi_core::{Cause, Secret, ServerRequestFlags};
 use std::alloc::Global;
 use std::test::Fail;
 
-/// A last word: the session key under which it is sealed, the acceptor's number before that of its AP-REP, and the token.
+/// A third leg: the session key under which it is sealed, the acceptor's number before that of its AP-REP, and the token.
 struct Word {
     key: &'static str,
     number: u32,
@@ -45,7 +45,7 @@ fn words() -> &'static [Word] {
     &WORDS
 }
 
-/// Lets an acceptor wait for the last word.
+/// Lets an acceptor wait for the third leg.
 fn wait(server: &mut Kerberos, key: Octets, rules: Option<Rules>) {
     server.state = KerberosState::ApExchange;
     server.encryption_params.session_key = Some(Secret::new(key));

@@ -1,4 +1,4 @@
-//! What an admission leaves: the octets of the answer and of the first message that the acceptor seals, as a second
+//! The results of an admission: the octets of the answer and of the first message that the acceptor seals, as a second
 //! implementation has them.
 
 use super::{answer, context_with, octets, properties};

@@ -39,7 +39,7 @@ static PAIRS: [Pair; 3] = [
         second: OTHER_NAME,
         second_refusal: None,
     },
-    // What is refused behind the gate was admitted by it.
+    // The gate admitted the records of later refusals.
     Pair {
         first: SHORT_OPTIONS,
         first_refusal: Some(Cause::ApOptions),
@@ -62,7 +62,7 @@ fn refusal_at(
     Ok(answer_at(alloc, server, gate, &token, ServerRequestFlags::empty()).err())
 }
 
-/// What the token is refused with at a new acceptor with this gate.
+/// The refusal of the token at a new acceptor with this gate.
 fn refusal_of(alloc: Global, gate: &mut CacheGate, token: &str) -> Result<Option<Cause>, Fail> {
     let mut server = context_of(alloc, 100)?;
     refusal_at(alloc, &mut server, gate, token)

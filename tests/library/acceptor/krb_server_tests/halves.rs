@@ -1,4 +1,4 @@
-//! Admissions in two halves: what stands between them tells who the client is, and the second refuses what the whole call would.
+//! Admissions in two halves: the value between them has the client's name, and the second refuses what the whole call would.
 
 use super::gates::SHORT_OPTIONS;
 use super::{ONE_WAY, context_of, draw};
@@ -89,7 +89,7 @@ fn what_was_judged_tells_its_client(rt: HostRuntime) -> Result<(), Fail> {
     Ok(())
 }
 
-/// What the second half refuses.
+/// The refusals of the second half.
 fn second<G: ReplayGate>(
     alloc: Global,
     server: &mut Kerberos,
@@ -102,7 +102,7 @@ fn second<G: ReplayGate>(
     }
 }
 
-/// What each half refuses.
+/// The refusals of each half.
 type Refusals = [Option<Cause>; 2];
 
 fn refusals_at(
@@ -124,7 +124,7 @@ fn refusals(alloc: Global, book: &mut ReplayBook, token: &str) -> Result<Refusal
 }
 
 /// Tokens that come to acceptors of their own over one book. The second has the authenticator of the first, whose options are
-/// refused behind the gate.
+/// refused after the gate.
 static TOKENS: [(&str, Refusals); 5] = [
     (SHORT_OPTIONS, [None, Some(Cause::ApOptions)]),
     (ONE_WAY, [None, Some(Cause::Replayed)]),
@@ -167,7 +167,7 @@ fn an_established_acceptor_admits_nobody(rt: HostRuntime) -> Result<(), Fail> {
     Ok(())
 }
 
-/// What is refused where a store outside had the record, or did not, and its own time is this.
+/// The refusal if a store outside had the record, or did not, at its own time.
 fn refused_by_a_store(
     alloc: Global,
     server: &mut Kerberos,

@@ -1,4 +1,4 @@
-//! What each rule of an acceptor refuses and admits, of tokens that other programs made: by no rule, by this one alone, and by all.
+//! Refusals and admissions of each rule of an acceptor, of tokens that other programs made: by no rule, by this one alone, and by all.
 
 use super::recorded::{
     ADMIN, ALICE, AT_ONCE, BOUND, BOUND_TO_OTHERS, CHECKED, DELEGATED, DIRECT, ENTERPRISE, HEIMDAL,
@@ -30,7 +30,7 @@ const ONE: [u8; 16] = [
     0x48, 0x6b, 0x55, 0xae, 0xd1, 0xff, 0x64, 0x35, 0x75, 0xfa, 0xc8, 0x9b, 0x1e, 0x01, 0x70, 0x92,
 ];
 
-/// The same with addresses of type 255 and no octets, as Java gives them.
+/// Bindings with addresses of type 255 and no octets, as Java gives them.
 const ONE_OF_JAVA: [u8; 16] = [
     0x7c, 0xcc, 0x71, 0x08, 0x5e, 0x69, 0x6e, 0x39, 0x43, 0x07, 0x0c, 0x8b, 0x39, 0xd5, 0x40, 0x09,
 ];
@@ -327,7 +327,7 @@ fn early() -> &'static [Early] {
     &EARLY
 }
 
-/// What a new acceptor with this book answers.
+/// The answer of a new acceptor with this book.
 fn answer_by(
     alloc: Global,
     row: &Early,

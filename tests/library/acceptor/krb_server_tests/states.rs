@@ -30,7 +30,7 @@ static WAITS: [Wait; 4] = [
         dce: false,
         refusal: Some(Cause::Sequence),
     },
-    // Where the last word is awaited, a frame is none.
+    // Where the third leg is awaited, a frame is none.
     Wait {
         state: KerberosState::ApExchange,
         dce: true,
@@ -57,7 +57,7 @@ fn refusal_in(alloc: Global, server: &mut Kerberos, wait: &Wait) -> Result<Optio
     Ok(answer(alloc, server, &token, flags_of(wait.dce))?.err())
 }
 
-/// The same of a new acceptor.
+/// The answer of a new acceptor.
 fn new_acceptors_refusal(alloc: Global, wait: &Wait) -> Result<Option<Cause>, Fail> {
     let mut server = context_of(alloc, 100)?;
     refusal_in(alloc, &mut server, wait)

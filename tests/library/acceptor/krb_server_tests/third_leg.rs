@@ -42,7 +42,7 @@ static BEFORE: [Leg; 5] = [
     },
 ];
 
-/// And behind it.
+/// And after it.
 static BEHIND: [Leg; 3] = [
     // The number that the acceptor sent, before its MIC token.
     Leg {
@@ -54,7 +54,7 @@ static BEHIND: [Leg; 3] = [
         token: "6f5c305aa003020105a10302010fa24e304ca003020112a24504435b96298e732827e205ccf8c450a262dea67f0843b442a6f61a0ef9c4c26781740ecc93a95d8d38dc7db1ed9e32563b0d2324966c4e1128256a4f382fa4c66f7a43a681",
         refusal: None,
     },
-    // The same again.
+    // Once more.
     Leg {
         token: "6f5c305aa003020105a10302010fa24e304ca003020112a24504435b96298e732827e205ccf8c450a262dea67f0843b442a6f61a0ef9c4c26781740ecc93a95d8d38dc7db1ed9e32563b0d2324966c4e1128256a4f382fa4c66f7a43a681",
         refusal: Some(Cause::Sequence),
@@ -97,7 +97,7 @@ fn is_established(server: &Kerberos) -> Result<bool, Fail> {
     Ok(server.state == KerberosState::Final && sizes.security_trailer == 76)
 }
 
-/// Whether the tokens are answered so before and behind a MIC token of the acceptor's, which is established then.
+/// Whether the tokens are answered so before and after a MIC token of the acceptor's, which is established then.
 fn ends_so(alloc: Global, server: &mut Kerberos, book: &mut ReplayBook) -> Result<bool, Fail> {
     let first = goes_so(alloc, server, book, before())?;
     server.generate_mic_token(alloc, b"a")?;

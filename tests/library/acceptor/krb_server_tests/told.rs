@@ -1,4 +1,4 @@
-//! What is told of a client's checksum and of its cipher, as a second implementation opened the tokens.
+//! Facts of a client's checksum and of its cipher, as a second implementation decrypted the tokens.
 
 use super::recorded::{
     ADMIN, BOUND, DELEGATED, HEIMDAL_BOUND, JAVA_BOUND, NO_GSS_CHECKSUM, Recorded,

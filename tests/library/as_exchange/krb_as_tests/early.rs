@@ -7,7 +7,7 @@ use krb_replies::ReplyKey;
 use sspi_core::Cause;
 use std::alloc::Global;
 
-/// What an exchange of alice ends with whose first reply is an AS-REP, where a rule takes that.
+/// The end of an exchange of alice whose first reply is an AS-REP, if a rule accepts that.
 fn early_end(alloc: Global) -> Result<ReplyKey, Cause> {
     let turns = [Turn {
         reply: SECOND.reply,

@@ -55,7 +55,7 @@ const OF_MIT: Exchange = Exchange {
     end: "a5160f7f3d7d0c96d98ec38c5fec165095ebf2121017378e7031562b2fee2610",
 };
 
-/// The same KDC, with a key of a keytab for AES-256.
+/// That KDC, with a key of a keytab for AES-256.
 const OF_MIT_WITH_A_KEYTAB: Exchange = Exchange {
     who: Who {
         has: Has::Key(
@@ -166,7 +166,7 @@ const OF_HEIMDAL: Exchange = Exchange {
     end: "0bc8df36c8b85eac089fa7e006fac2e817a399bf2481427626baeaa708269add",
 };
 
-/// The same KDC, through a proxy over HTTP.
+/// That KDC, through a proxy over HTTP.
 const OF_HEIMDAL_THROUGH_A_PROXY: Exchange = Exchange {
     who: Who {
         has: Has::Password("alice", "EXAMPLE.COM", "alice-password"),
@@ -221,7 +221,7 @@ const OF_HEIMDAL_THROUGH_A_PROXY: Exchange = Exchange {
     end: "549fe16592a1ac6f1cdd89a1a205375b15b76f248ed850d8236c3cb7f21dfa38",
 };
 
-/// The same KDC, with an enterprise name.
+/// That KDC, with an enterprise name.
 const OF_HEIMDAL_BY_ANOTHER_NAME: Exchange = Exchange {
     who: Who {
         has: Has::Password("alice@EXAMPLE.COM", "", "alice-password"),

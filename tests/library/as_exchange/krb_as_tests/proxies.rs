@@ -4,13 +4,13 @@ use super::exchanges::{ALICE, FIRST};
 use super::{Reply, Turn, Who};
 use sspi_core::Cause;
 
-/// Alice, whose KDC is behind a proxy.
+/// Alice, whose KDC is reached through a proxy.
 pub const PROXIED: Who = Who {
     url: "https://p.example/k",
     ..ALICE
 };
 
-/// What she asks for at first. A KRB-ERROR names the salt `EXAMPLE.COMalice`.
+/// Her first request. A KRB-ERROR names the salt `EXAMPLE.COMalice`.
 pub const PROXIED_FIRST: Turn = Turn {
     request: "3081dda081cb0481c8000000c46a81c13081bea103020105a20302010aa31530133011a10402020080a20904073005a0030101ffa4819a308197a007\
          03050000810010a1123010a003020101a10930071b05616c696365a20d1b0b4558414d504c452e434f4da320301ea003020102a11730151b066b7262\
@@ -24,7 +24,7 @@ pub const PROXIED_FIRST: Turn = Turn {
     ..FIRST
 };
 
-/// The same with the time under her key of that salt.
+/// Her request with the time under her key of that salt.
 pub const PROXIED_SECOND: Turn = Turn {
     request: "30820130a082011d04820119000001156a8201113082010da103020105a20302010aa3643062304da103020102a24604443042a003020112a23b0439\
          ea4e7829e23710c65c8728307afb1e8956549f566c9107497fcae24cfe0777fe26d1a928177cab2f9d706155c8bb96beed12b7f8345c6efec93011a1\

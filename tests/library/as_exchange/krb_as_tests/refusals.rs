@@ -1,4 +1,4 @@
-//! What a client cannot begin with, and replies that end an exchange.
+//! Values that a client cannot begin with, and replies that end an exchange.
 
 use super::exchanges::ALICE;
 use super::{Exchange, Has, Reply, Turn, Who};

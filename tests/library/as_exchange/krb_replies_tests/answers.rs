@@ -1,4 +1,4 @@
-//! What services answer, as a second implementation makes it, and what is to be taken from each.
+//! Answers of services, as a second implementation makes them, and the values to be taken from each.
 
 use sspi_core::Cause;
 
@@ -71,7 +71,7 @@ pub static STATUSES: [(&str, Result<u16, Cause>); 3] = [
     ),
 ];
 
-/// What a token for user-to-user has: the contents of its mechanism's OID, and the sealed part of its ticket.
+/// The parts of a token for user-to-user: the contents of its mechanism's OID, and the sealed part of its ticket.
 pub type Found = Option<(&'static str, &'static str)>;
 
 /// Tokens, and what each has. The token ids of the third and the fourth are 00 00 and ff ff; the last two are a TGT-REP without a

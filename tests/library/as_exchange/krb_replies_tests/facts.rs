@@ -1,4 +1,4 @@
-//! What is sealed in a reply beside the key: whose number it is, and when its ticket is valid.
+//! The encrypted facts of a reply besides the key: whose number it is, and when its ticket is valid.
 
 use crate::rows::octets;
 use krb_der::{Asn1, IntegerAsn1, Time, boxed};

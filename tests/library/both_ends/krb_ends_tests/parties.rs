@@ -18,7 +18,7 @@ use sspi_core::{
 use std::alloc::Global;
 use std::test::Fail;
 
-/// What an initiator's caller asks for.
+/// The request of an initiator's caller.
 pub fn client_flags(all: bool, dce: bool) -> ClientRequestFlags {
     let mut flags = ClientRequestFlags::MUTUAL_AUTH;
     if all {
@@ -33,7 +33,7 @@ pub fn client_flags(all: bool, dce: bool) -> ClientRequestFlags {
     flags
 }
 
-/// What an acceptor's caller asks for.
+/// The request of an acceptor's caller.
 pub fn server_flags(dce: bool) -> ServerRequestFlags {
     if dce {
         ServerRequestFlags::USE_DCE_STYLE
@@ -58,14 +58,14 @@ fn draw_from(first: u8) -> Draw
     }
 }
 
-/// What a client draws: the octets 0 to 63.
+/// The draw of a client: the octets 0 to 63.
 pub fn client_draw() -> Draw
     ensures { IsInRange result }
 {
     draw_from(0)
 }
 
-/// What a client draws at each of the steps that a run may take.
+/// The draws of a client at the steps that a run may take.
 pub fn draws() -> [Draw; 13]
     ensures { AreInRange result }
 {
@@ -75,7 +75,7 @@ pub fn draws() -> [Draw; 13]
     ]
 }
 
-/// What a service draws: the octets 64 to 127.
+/// The draw of a service: the octets 64 to 127.
 pub fn service_draw() -> Draw
     ensures { IsInRange result }
 {
@@ -127,7 +127,7 @@ pub fn env(alloc: Global) -> Result<Env, Fail> {
     })
 }
 
-/// What a session's client is called with, beside a token in hex.
+/// The options of a session's client, besides a token in hex.
 pub fn options_with(alloc: Global, session: &Session, token: &str) -> Result<InitOptions, Fail> {
     let target = name_of(alloc, "host/server.example.com")?;
     let token = octets(alloc, token)?;

@@ -47,7 +47,7 @@ pub static FRAMED: Session = Session {
     sub_session_key: "404142434445464748494a4b4c4d4e4f505152535455565758595a5b5c5d5e5f",
 };
 
-/// Bare tokens, and a last word.
+/// Bare tokens, and a third leg.
 pub static IN_DCE_STYLE: Session = Session {
     has: Has::Key(KEY, 18),
     number: [0, 0, 0x04, 0xd2],
@@ -137,7 +137,7 @@ pub static OVER_NINE_REFERRALS: Session = Session {
     sub_session_key: "404142434445464748494a4b4c4d4e4f505152535455565758595a5b5c5d5e5f",
 };
 
-/// The same with bare tokens, and a last word.
+/// A session with bare tokens, and a third leg.
 pub static OVER_A_REFERRAL_IN_DCE_STYLE: Session = Session {
     has: Has::Key(KEY, 18),
     number: [0, 0, 0, 0x07],

@@ -6,12 +6,12 @@ use sspi_core::{Message, Part, SecurityBufferRef};
 use std::alloc::Global;
 use std::test::Fail;
 
-/// What an end does.
+/// An action of an end.
 pub enum Turn {
-    /// It wraps so many messages.
+    /// It wraps this many messages.
     InitiatorWraps(usize),
     AcceptorWraps(usize),
-    /// It is handed the message that the other wrapped behind so many others.
+    /// It is handed the message that the other wrapped after this many others.
     InitiatorGets(usize),
     AcceptorGets(usize),
     /// It makes a MIC token, which takes a number, and the other verifies it.
@@ -19,12 +19,12 @@ pub enum Turn {
     AcceptorSigns,
 }
 
-/// The octet that the text of the message behind so many others has everywhere.
+/// The octet that the text of the message after this many others has everywhere.
 fn octet_of(behind: usize) -> u8 {
     (behind % 256) as u8
 }
 
-/// The message behind so many others, with room for a token.
+/// The message after this many others, with room for a token.
 fn message(alloc: Global, behind: usize) -> Result<Message, Fail> {
     let text = Octets::new(vec![in alloc; octet_of(behind); 17]?);
     let buffers = vec![in alloc;
@@ -85,7 +85,7 @@ fn signs(alloc: Global, sender: &mut Kerberos, receiver: &Kerberos) -> bool {
     }
 }
 
-/// Whether a turn goes well, behind what each end has sent.
+/// Whether a turn goes well, after what each end has sent.
 fn goes_well(
     alloc: Global,
     initiator: &mut Kerberos,
@@ -142,7 +142,7 @@ pub static IN_ORDER: [Turn; 7] = [
     Turn::InitiatorGets(1),
 ];
 
-/// In another order: the furthest first, then one 63 behind it, and some between.
+/// In another order: the furthest first, then one 63 before it, and some between.
 pub static IN_ANOTHER_ORDER: [Turn; 9] = [
     Turn::InitiatorWraps(70),
     Turn::AcceptorGets(63),

@@ -17,16 +17,16 @@ use sspi_generator::{Generator, NetworkClient};
 use std::alloc::Global;
 use std::test::Fail;
 
-/// What comes to an end, and what it answers: tokens in hex.
+/// The input of an end, and its answer: tokens in hex.
 #[derive(Clone, Copy)]
 pub struct Step {
     /// Nothing where an initiator begins.
     token: &'static str,
-    /// What KDCs reply to it.
+    /// The replies of KDCs to it.
     replies: &'static [&'static str],
     status: SecurityStatus,
     answer: &'static str,
-    /// What the acceptor's caller asks for.
+    /// The request of the acceptor's caller.
     flags: ServerRequestFlags,
 }
 
@@ -56,7 +56,7 @@ pub fn answer(session: &Session) -> Step {
     }
 }
 
-/// The initiator takes the answer, and has the last word in DCE style.
+/// The initiator takes the answer, and has the third leg in DCE style.
 pub fn last_word(session: &Session) -> Step {
     Step {
         token: session.answer,
@@ -86,7 +86,7 @@ pub fn is_hex(alloc: Global, octets: &[u8], digits: &str) -> bool {
     }
 }
 
-/// What an initiator begins.
+/// The run of an initiator.
 fn run_of(
     alloc: Global,
     initiator: &Kerberos,
@@ -101,7 +101,7 @@ fn run_of(
     }
 }
 
-/// What a run ends with over a network.
+/// The end of a run over a network.
 fn end_of(
     run: Box<GeneratorInitSecurityContext>,
     network: &mut dyn NetworkClient,
@@ -113,7 +113,7 @@ fn end_of(
     run.resolve_with_client(network, &draws())
 }
 
-/// What an initiator ends with where it is called with these options.
+/// The end of an initiator that is called with these options.
 fn end_over(
     alloc: Global,
     initiator: &Kerberos,
@@ -126,7 +126,7 @@ fn end_over(
     }
 }
 
-/// The same with the token of a step.
+/// The end with the token of a step.
 fn done_of(
     alloc: Global,
     initiator: &Kerberos,
@@ -156,14 +156,14 @@ pub fn ends_so(
     }
 }
 
-/// What it ends with is put into it.
+/// Its end is put into it.
 fn settles(alloc: Global, initiator: &mut Kerberos, done: InitDone, step: &Step) -> bool {
     let is_same = is_done_so(alloc, &done, step);
     initiator.settle(done.change);
     is_same
 }
 
-/// The same, and what it ends with is put into it.
+/// The end of that run is put into the initiator.
 pub fn goes_on_so(
     alloc: Global,
     initiator: &mut Kerberos,
@@ -226,7 +226,7 @@ fn is_token_answered_so(
     is_answer(alloc, answer, step, is_admitted)
 }
 
-/// The same with the token of a step.
+/// The end with the token of a step.
 pub fn is_answered_so(
     alloc: Global,
     acceptor: &mut Kerberos,
@@ -253,7 +253,7 @@ pub fn establishes(
     Ok(offers && answers && takes && ends)
 }
 
-/// What an initiator ends with that asks for no answer.
+/// The end of an initiator that asks for no answer.
 fn unanswered(
     alloc: Global,
     initiator: &Kerberos,

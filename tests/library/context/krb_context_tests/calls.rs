@@ -79,7 +79,7 @@ fn takes_credentials(alloc: Global, client: &mut Kerberos) -> Result<bool, Fail>
     takes(alloc, client, &credentials, &wanted)
 }
 
-/// What an exchange makes of a context.
+/// The context after an exchange.
 fn change(realm: Text) -> ContextChange {
     ContextChange {
         state: KerberosState::Final,

@@ -122,7 +122,7 @@ fn changed() -> &'static [(&'static str, Cause)] {
     &CHANGED
 }
 
-/// What a new end makes.
+/// The token of a new end.
 fn made(alloc: Global, end: &End, payload: &str) -> Result<Result<Octets, Error>, Fail> {
     let mut context = context_of(alloc, end)?;
     Ok(context.generate_mic_token(alloc, payload.as_bytes()))
@@ -142,14 +142,14 @@ fn mic_tokens_are_those_of_a_second_implementation(rt: HostRuntime) -> Result<()
     Ok(())
 }
 
-/// What a new end answers to a token.
+/// The answer of a new end to a token.
 fn verdict(alloc: Global, end: &End, token: &str, payload: &str) -> Result<Option<Cause>, Fail> {
     let token = octets(alloc, token)?;
     let context = context_of(alloc, end)?;
     Ok(cause_of(context.verify_mic_token(token.as_slice(), payload.as_bytes())))
 }
 
-/// What the other side answers to the row's token, what its own side does, and what the other side does to it beside other octets.
+/// The answer of the other side to the row's token, that of the token's own side, and that of the other side with other octets.
 fn verdicts(alloc: Global, row: &Mic) -> Result<[Option<Cause>; 3], Fail> {
     let peer = End {
         acceptor: !row.end.acceptor,
@@ -182,7 +182,7 @@ fn changed_mic_tokens_are_refused(rt: HostRuntime) -> Result<(), Fail> {
     Ok(())
 }
 
-/// What a context without a sub-session key answers where a token is asked for.
+/// The answer of a context without a sub-session key to a call for a token.
 fn unsigned(alloc: Global) -> Result<Option<Error>, Fail> {
     let mut context = context_of(alloc, &ACCEPTOR)?;
     context.encryption_params.sub_session_key = None;

@@ -1,4 +1,4 @@
-//! What contexts tell of themselves.
+//! Queries of contexts.
 
 use super::ends::{INITIATOR, SHORT_ACCEPTOR, config, context_of, octets, properties};
 use krb_context::{Kerberos, KerberosServerConfig, ProtocolConfig};
@@ -18,7 +18,7 @@ enum Asked {
     Initiator,
     /// An acceptor with a key of 16 octets and a filler.
     Acceptor,
-    /// The same once it has admitted alice@example.com.
+    /// That context after it has admitted alice@example.com.
     Admitting,
 }
 

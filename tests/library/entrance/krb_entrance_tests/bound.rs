@@ -9,7 +9,7 @@ use std::test::Fail;
 /// The service's key, of AES-256.
 const KEY: &str = "5a671b3d066fa0b6f821b094016d54ec413cc87854c65730969de3ea7b47b1f9";
 
-/// What a client sent, and the microsecond when.
+/// A token of a client, and its microsecond.
 struct Recorded {
     moment: u64,
     token: &'static str,

@@ -5,7 +5,7 @@ use krb_entrance::{Candidate, Cause, Error, Service, admit_told, stored_record};
 use std::alloc::Global;
 use std::test::Fail;
 
-/// What each half refuses.
+/// The refusals of each half.
 type Refusals = [Option<Cause>; 2];
 
 fn judged(alloc: Global, service: &Service, token: &str) -> Result<Result<Candidate, Error>, Fail> {
@@ -75,7 +75,7 @@ fn the_book_is_asked_in_the_second_half(rt: HostRuntime) -> Result<(), Fail> {
     Ok(())
 }
 
-/// What a store answers: whether it had the record.
+/// The answer of a store: true if it had the record.
 fn refused_as_told(alloc: Global, candidate: Candidate, seen: bool) -> Option<Cause> {
     match admit_told(alloc, candidate, 300, draw().moment, seen) {
         Ok(_) => None,

@@ -60,7 +60,7 @@ fn a_new_book_was_asked_nothing(rt: HostRuntime) -> Result<(), Fail> {
     Ok(())
 }
 
-/// The key of this service, of so many octets.
+/// The key of this service, of this many octets.
 fn keys(alloc: Global, name: &str, count: u8) -> Result<Box<Keys>, Fail> {
     let keys = Keys::new(alloc, name, octets(alloc, count)?, 300)?;
     Ok(boxed(alloc, keys)?)

@@ -6,7 +6,7 @@ use krb_entrance::{Cause, Error, Service, Session};
 use std::alloc::Global;
 use std::test::Fail;
 
-/// What goes back to the client, as a second implementation has it.
+/// The answer to the client, as a second implementation has it.
 const ANSWER: &str =
     "60819a06092a864886f71201020202006f818a308187a003020105a10302010fa27b3079a003020112a2720470807297625500f63d4210f4a2cf15e3219cc5204dda7aa6f63d419262a1af2264426ab9962d4db7b24a0a8974ead22d9b246c2bd660df641c5713fde227bdde90eba975855737c3fb632806a7c5189694196afe38e297578c66541bbf336792a6ebefd683d9513178a276afac069aac91";
 

@@ -50,7 +50,7 @@ const FIRST_MIC: u32 = 0x1027af0f;
 /// The texts of each kind of messages, in their order.
 const TEXTS: [&str; 3] = ["", "22", "fc1b1af75abc7f354fcdfb02067585"];
 
-/// What comes next, by its place among those of its kind: a sealed message, one in the clear, or a MIC token.
+/// The next message, by its place among those of its kind: an encrypted message, one in the clear, or a MIC token.
 #[derive(Clone, Copy)]
 enum Step {
     Sealed(usize),

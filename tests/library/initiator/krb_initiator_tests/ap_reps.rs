@@ -124,7 +124,7 @@ const IN_DCE_STYLE: &str = "\
      context Final 4294967295 EXAMPLE.COM - 16\n\
      key 616e79206b6579";
 
-/// What is not the answer to the AP-REQ, and the answer.
+/// Tokens that are not the answer to the AP-REQ, and the answer.
 const NOT_THE_ANSWER: &str = "\
      initiator 1234 hostname host/server.example.com\n\
      kdc tcp://kdc.example:88\n\

@@ -1,4 +1,4 @@
-//! What cannot be asked for.
+//! Requests that are refused at once.
 
 const WITHOUT_A_TARGET: &str = "\
      initiator 7 pc -\n\

@@ -1,5 +1,5 @@
 //! Initiators whose contexts go by rules of their own, over replies and answers that were recorded with KDCs and services of others.
-//! What was not asked or said then is that of a second implementation. A line `rules` has the bits.
+//! Lines that were not recorded then are those of a second implementation. A line `rules` has the bits.
 
 mod kdcs;
 mod services;

@@ -315,7 +315,7 @@ pub const OF_HEIMDAL_IN_USER_TO_USER: &str = "\
      rfc-context Final 16909060 EXAMPLE.COM user-to-user 0\n\
      key dbd6e2c0d2ab560f405e42d15c92c67b9f30f001ccd1d35171da988903a0c5cb";
 
-/// The same KDC, and a service in Java that answers without a subkey.
+/// That KDC, and a service in Java that answers without a subkey.
 const OF_HEIMDAL_AND_JAVA: &str = "\
      initiator 16909060 workstation host/server.example.com\n\
      kdc tcp://127.0.0.1:55813\n\

@@ -49,7 +49,7 @@ const FOR_ANOTHER_HOST: &str = "\
      context Preauthentication 500 - user-to-user 0\n\
      key -";
 
-/// The same in DCE style.
+/// A run in DCE style.
 const ASKED_FOR_IN_DCE_STYLE: &str = "\
      initiator 500 pc host/server.example.com\n\
      kdc udp://kdc.example:88\n\
@@ -154,7 +154,7 @@ const OF_KERBEROS: &str = "\
      context ApExchange 4294967295 EXAMPLE.COM - 0\n\
      key 202122232425262728292a2b2c2d2e2f303132333435363738393a3b3c3d3e3f";
 
-/// With one that is not known, behind a question.
+/// With one that is not known, after a question.
 const OF_AN_UNKNOWN_MECHANISM: &str = "\
      initiator 4294967295 pc a/b/c\n\
      keytab EXAMPLE.COM\\alice 18 72e14c8e96dfba330802c689e06448591bc19da4f18500d9d63671d6ce24d52d\n\

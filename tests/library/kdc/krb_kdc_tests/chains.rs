@@ -122,7 +122,7 @@ fn add_service(
     }
 }
 
-/// What the KDC at a place has, between the one before it and the next.
+/// The entries of the KDC at a place, between the one before it and the next.
 fn fill(
     alloc: Global,
     kdc: &mut Kdc,
@@ -153,7 +153,7 @@ fn kdc_at(
     Ok(kdc)
 }
 
-/// One KDC more, behind the others.
+/// One KDC more, after the others.
 fn add_kdc(
     alloc: Global,
     pairs: &mut Vec<(Text, Kdc)>,
@@ -169,7 +169,7 @@ fn add_kdc(
     Ok(())
 }
 
-/// What the KDCs draw, one behind the other.
+/// The draws of the KDCs, one after the other.
 fn kdc_draws() -> [Draw; 12]
     ensures { AreInRange result }
 {
@@ -189,7 +189,7 @@ fn kdc_draws() -> [Draw; 12]
     ]
 }
 
-/// KDCs over so many referrals: the first has the client, and the last the service.
+/// KDCs over this many referrals: the first has the client, and the last the service.
 fn pairs(alloc: Global, suite: CipherSuite, referrals: usize) -> Result<Vec<(Text, Kdc)>, Fail> {
     let mut pairs = Vec::new(alloc);
     let mut before = None;
@@ -245,10 +245,10 @@ impl Wire {
     }
 }
 
-/// The element behind the sealed time in an AS-REQ: a wish for a PAC.
+/// The element after the sealed time in an AS-REQ: a wish for a PAC.
 const PAC_REQUEST: [u8; 8] = [0x30, 0x11, 0xa1, 0x04, 0x02, 0x02, 0x00, 0x80];
 
-/// Whether the wish for a PAC stands there.
+/// True if the wish for a PAC is there.
 fn is_wish(octets: &[u8], place: usize) -> bool {
     match octets.get(place..) {
         Some(rest) => rest.starts_with(&PAC_REQUEST),
@@ -256,7 +256,7 @@ fn is_wish(octets: &[u8], place: usize) -> bool {
     }
 }
 
-/// Flips the octet in front of the wish for a PAC: the last of the cipher.
+/// Flips the octet before the wish for a PAC: the last of the cipher.
 fn flip(octets: &mut [u8]) {
     for place in 1..octets.len() {
         if is_wish(octets, place) {

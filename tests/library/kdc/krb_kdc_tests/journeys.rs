@@ -24,7 +24,7 @@ use sspi_generator::{Generator, NetworkClient};
 use std::alloc::Global;
 use std::test::Fail;
 
-/// What an initiator ends with.
+/// The end of an initiator.
 #[derive(Clone, Copy)]
 pub enum End {
     /// This token, in hex.
@@ -103,7 +103,7 @@ pub static JOURNEYS: [Journey; 6] = [
     },
 ];
 
-/// What a client draws at each of the steps that a run may take.
+/// The draws of a client at the steps that a run may take.
 fn draws() -> [Draw; 13]
     ensures { AreInRange result }
 {
@@ -219,7 +219,7 @@ fn run_of(
     }
 }
 
-/// What a run ends with that begins at this initiator, which is settled: its token.
+/// The end of a run that begins at this initiator, which is settled: its token.
 fn settled(
     run: Box<GeneratorInitSecurityContext>,
     initiator: &mut Kerberos,
@@ -238,7 +238,7 @@ fn settled(
     }
 }
 
-/// What an initiator ends with where this token came.
+/// The end of an initiator after this token.
 fn end_of(
     alloc: Global,
     suite: CipherSuite,
@@ -296,7 +296,7 @@ fn takes(
     }
 }
 
-/// Whether both ends are established behind the acceptor's answer, and understand each other.
+/// Whether both ends are established after the acceptor's answer, and understand each other.
 fn understands(
     alloc: Global,
     suite: CipherSuite,
@@ -308,7 +308,7 @@ fn understands(
     Ok(takes(alloc, suite, initiator, token, wire)? && understand(alloc, initiator, acceptor)?)
 }
 
-/// The same behind the initiator's token.
+/// True if that holds after the initiator's token.
 fn arrives(
     alloc: Global,
     suite: CipherSuite,
@@ -324,7 +324,7 @@ fn arrives(
     }
 }
 
-/// The same at a new acceptor.
+/// True if that holds at a new acceptor.
 fn arrives_at(
     alloc: Global,
     suite: CipherSuite,
@@ -380,7 +380,7 @@ fn goes_so(
     }
 }
 
-/// The same with that wire, over which the requests went.
+/// The end with that wire, over which the requests went.
 fn goes_over(
     alloc: Global,
     journey: &Journey,
@@ -391,7 +391,7 @@ fn goes_over(
     goes_so(alloc, journey, &mut initiator, wire)
 }
 
-/// Whether a journey by these rules has its end after so many requests.
+/// Whether a journey by these rules has its end after this many requests.
 pub fn ends_so(alloc: Global, journey: &Journey, rules: Rules) -> Result<bool, Fail> {
     let mut wire = Wire::new(alloc, journey.suite, journey.referrals, journey.alters)?;
     let is_so = goes_over(alloc, journey, rules, &mut wire)?;

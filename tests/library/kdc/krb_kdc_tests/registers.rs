@@ -1,4 +1,4 @@
-//! What a KDC takes, in the order of its refusals.
+//! Entries that a KDC accepts, in the order of its refusals.
 
 use super::parties::{components, name};
 use krb_crypto::CipherSuite;
@@ -8,7 +8,7 @@ use sspi_core::Secret;
 use std::alloc::Global;
 use std::test::Fail;
 
-/// What is added: names with slashes between components, realms, and how many octets a key has.
+/// An entry: names with slashes between components, realms, and the length of a key in octets.
 #[derive(Clone, Copy)]
 pub enum Addition {
     Principal(&'static str, usize),
@@ -16,10 +16,10 @@ pub enum Addition {
     Route(&'static str, &'static str),
 }
 
-/// What is added, and why it is not taken, if it is not.
+/// An entry, and why it is refused, if it is.
 pub type Register = (Addition, Option<KdcError>);
 
-/// One behind the other, with one KDC of AES-256.
+/// One after the other, with one KDC of AES-256.
 pub static REGISTERS: [Register; 20] = [
     (Addition::Principal("alice", 32), None),
     (Addition::Principal("alice", 16), Some(KdcError::Taken)),
@@ -109,7 +109,7 @@ fn count_of_taken(alloc: Global, kdc: &mut Kdc, registers: &[Register]) -> Resul
     Ok(count)
 }
 
-/// A KDC whose key has so many octets.
+/// A KDC whose key has this many octets.
 fn kdc_with(
     alloc: Global,
     suite: CipherSuite,

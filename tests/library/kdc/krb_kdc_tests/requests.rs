@@ -63,14 +63,14 @@ pub fn cuts_are_refused(alloc: Global, kdc: &Kdc, row: &Row) -> Result<bool, Fai
 pub const TO_NEITHER: &str =
     "0000005f7e5d305ba003020105a10302011ea411180f32303233313131343232313332305aa50602040001e240a60302013ca90d1b0b4558414d504c452e434f4daa20301ea003020102a11730151b066b72627467741b0b4558414d504c452e434f4d";
 
-/// The reply to the long request, and what stands behind its zero octets.
+/// The reply to the long request, and the octets after its zero octets.
 pub const TO_LONG: &str =
     "000000797e773075a003020105a10302011ea411180f32303233313131343232313332305aa50602040001e240a603020119a90d1b0b4558414d504c452e434f4daa20301ea003020102a11730151b066b72627467741b0b4558414d504c452e434f4dac18041630143012a103020113a20b040930073005a003020112";
 
 const BEHIND: &str =
     "a48188308185a00703050000810010a111300fa003020101a10830061b0462617265a20d1b0b4558414d504c452e434f4da320301ea003020102a11730151b066b72627467741b0b4558414d504c452e434f4da511180f32303233313131373232313332305aa611180f32303233313131373232313332305aa706020401020304a8083006020112020111";
 
-/// What stands in front of the zero octets of a long AS-REQ: its first length is that of the request less four.
+/// The octets before the zero octets of a long AS-REQ: its first length is that of the request less four.
 fn front(alloc: Global, length: usize) -> Result<Vec<u8>, Fail> {
     let digits = if length == 16_777_216 {
         "00fffffc6a83fffff73083fffff2a103020105a20302010aa383ffff583083ffff533083ffff4ea103020180a283ffff440483ffff3f"

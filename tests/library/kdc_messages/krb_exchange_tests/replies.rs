@@ -250,7 +250,7 @@ pub const UNCOMPARED: &str = "\
     6127ba7ad7e7ff86ebdb8c7f796f8edcef9581754f304da003020105a103020115a341303fa003020112a2380436012303694d7d83e99385564c3d7b4c1bd1bbce65d16ef847\
     e6dd5241572c817c9e1f77c26dfb03e53fce1c5cf0223002f9b3a748c334";
 
-/// Lengths of the AP message that do not cut it: none, one less, one more, too many; and nothing behind the lengths.
+/// Lengths of the AP message that do not cut it: none, one less, one more, too many; and nothing after the lengths.
 pub const UNCUT: &str = "\
     00aa000100006f51304fa003020105a10302010fa2433041a003020112a23a0438a596337a1559a11be005c804a7e4e0eec2af253e67b34a00855eaf6caa98cd5fa1a743d85a\
     6127ba7ad7e7ff86ebdb8c7f796f8edcef9581754f304da003020105a103020115a341303fa003020112a2380436012303694d7d83e99385564c3d7b4c1bd1bbce65d16ef847\

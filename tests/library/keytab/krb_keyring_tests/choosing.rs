@@ -17,7 +17,7 @@ const NEW: Entry<'static> = ("EXAMPLE.COM", HOST, 18, 2, NEW_KEY);
 /// A newer key, which has not the length of its type.
 const SHORT: Entry<'static> = ("EXAMPLE.COM", HOST, 18, 3, "00");
 
-/// The same of version 2.
+/// A key of version 2.
 const SHORT_TWO: Entry<'static> = ("EXAMPLE.COM", HOST, 18, 2, "00");
 
 /// The key of version 1 under version 0.
@@ -74,7 +74,7 @@ static OF_VERSION_1: [Row; 13] = [
     (&[AES128, RC4, OLD], None),
 ];
 
-/// The same that names version 2, of which there is another key.
+/// A ticket that names version 2, of which there is another key.
 static OF_VERSION_2: [Row; 5] = [
     (&[OLD, NEW], Some(Cause::Altered)),
     (&[OLD, SHORT_TWO], Some(Cause::KeyLength)),
@@ -83,7 +83,7 @@ static OF_VERSION_2: [Row; 5] = [
     (&[OLD, SHORT], None),
 ];
 
-/// The same that names none.
+/// A ticket that names none.
 static OF_NO_VERSION: [Row; 9] = [
     (&[OLD, NEW], None),
     (&[NEW, OLD], None),

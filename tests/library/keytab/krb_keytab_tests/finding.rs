@@ -6,7 +6,7 @@ use krb_keytab::Keytab;
 use std::alloc::Global;
 use std::test::Fail;
 
-/// What is asked for, and the version and the first octet of the key that are found.
+/// A search, and the version and the first octet of the key that it finds.
 struct Asked {
     realm: &'static str,
     first: &'static str,

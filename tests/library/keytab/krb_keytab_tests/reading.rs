@@ -1,4 +1,4 @@
-//! What a file is read as, and where it is none.
+//! Files that are read, and octets that are none.
 
 use super::files::{
     HEIMDAL, HEIMDAL_AGAIN, KAFKA, KAFKA_BEHIND_A_HOLE, KAFKA_LONG_ZERO, KAFKA_PAST_ASCII,
@@ -142,14 +142,14 @@ fn what_is_no_item_is_told_with_its_place(rt: HostRuntime) -> Result<(), Fail> {
     Ok(())
 }
 
-/// Where the items of MIT's file begin, and where it ends: how many entries stand before.
+/// The places where the items of MIT's file begin, and where it ends, each with the number of entries before it.
 static BOUNDS: [(usize, usize); 5] = [(2, 0), (96, 1), (174, 2), (249, 2), (343, 3)];
 
 fn bounds() -> &'static [(usize, usize)] {
     &BOUNDS
 }
 
-/// What MIT's file, cut there, is read as: the item in which the cut falls is none.
+/// The items of MIT's file, cut there: the item in which the cut falls is none.
 fn cut_answer(end: usize) -> Result<usize, KeytabError> {
     let mut answer = Err(KeytabError::Version);
     for (place, entries) in bounds() {

@@ -1,4 +1,4 @@
-//! What a keytab is written as.
+//! The octets that a keytab is written as.
 
 use super::files::{
     HEIMDAL, HEIMDAL_AGAIN, KAFKA, KAFKA_BEHIND_A_HOLE, KAFKA_LONG_ZERO, KAFKA_RC4,

@@ -62,7 +62,7 @@ fn may_be_absent<T: Asn1 + TryCopy>(alloc: Global, table: &Table, at: usize) -> 
     }
 }
 
-/// Whether the record is refused with this field twice, and with it behind the next one.
+/// Whether the record is refused with this field twice, and with it after the next one.
 fn stands_once<T: Asn1>(alloc: Global, table: &Table, at: usize) -> Result<bool, Fail> {
     let (front, back) = table.fields.split_at_checked(at).ok_or("past the end")?;
     let (field, rest) = back.split_first().ok_or("no field")?;
@@ -74,7 +74,7 @@ fn stands_once<T: Asn1>(alloc: Global, table: &Table, at: usize) -> Result<bool,
     Ok(is_refused::<T>(alloc, &twice) && is_refused::<T>(alloc, &exchanged))
 }
 
-/// Whether the octets are the record of its fields, which is refused with an unknown one behind them.
+/// Whether the octets are the record of its fields, which is refused with an unknown one after them.
 fn is_whole<T: Asn1>(alloc: Global, table: &Table, octets: &[u8]) -> Result<bool, Fail> {
     let whole = record(alloc, table.tag, table.fields, &[], &[])?;
     let longer = record(alloc, table.tag, table.fields, &[UNKNOWN], &[])?;

@@ -1,5 +1,5 @@
 //! Two hundred asks over few records, by clocks that jump back, with the answers of a reference that shares no code with the
-//! books: a moment and a list of records that only grows. It stands here as plain code too.
+//! books: a moment and a list of records that only grows. It is here as plain code too.
 
 use super::{ask_for, record, verdict_of};
 use krb_replay::Verdict::{self, Admitted, Expired, NotYet, Replayed, Skew};

@@ -1,4 +1,4 @@
-//! What a client was given, and what it shows.
+//! The tickets of a client, and its tokens.
 
 /// An AS-REP for alice.
 pub const AS_REP: &str =
@@ -40,7 +40,7 @@ pub const TGS_REQ: &str =
      301a1b04686f73741b127365727665722e6578616d706c652e636f6da511180f32303233313131373232313332305aa706020400010203a808300602\
      0112020111";
 
-/// The same for a client that delegates, under the session key of that ticket, which is beside it.
+/// The token of a client that delegates, under the session key of that ticket, which is next to it.
 pub const USER_TO_USER: &str =
     "6c82026d30820269a103020105a20302010ca38201673082016330820148a103020101a282013f0482013b6e82013730820133a003020105a1030201\
      0ea20703050000000000a38184618181307fa003020105a10d1b0b4558414d504c452e434f4da220301ea003020102a11730151b066b72627467741b\

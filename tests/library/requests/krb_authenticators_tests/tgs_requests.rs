@@ -1,4 +1,4 @@
-//! What a client asks of a ticket-granting service.
+//! Requests of a client to a ticket-granting service.
 
 ghost use Rattle.std.specs.Prelude.{◌≡◌, ◌<◌, ◌≤◌, ◌^◌, IfOk, IfSome, true, length};
 ghost use Rattle.krb_messages.specs.Layouts.{ticket_layout};
@@ -18,13 +18,13 @@ use krb_messages::Ticket;
 use sspi_core::{Cause, ClientRequestFlags, Error};
 use std::alloc::Global;
 
-/// What is asked of a ticket-granting service, with a key of so many octets from 20 hex on.
+/// A request to a ticket-granting service, with a key of this many octets from 20 hex on.
 #[derive(Clone, Copy)]
 struct Wanted {
     realm: &'static str,
     service: &'static str,
     length: usize,
-    /// The client delegates, and wants a ticket under the session key of its ticket.
+    /// The client delegates, and asks for a ticket under the session key of its ticket.
     is_user_to_user: bool,
 }
 

@@ -1,9 +1,9 @@
-//! What is asked for, and as which octets.
+//! Requests, and their octets.
 
 use super::Asked;
 use sspi_core::Cause;
 
-/// What is asked for, and the body or the refusal that it leads to. The second client delegates.
+/// A request, and its body or refusal. The second client delegates.
 pub static BODIES: [(Asked, Result<&str, Cause>); 7] = [
     (
         Asked {

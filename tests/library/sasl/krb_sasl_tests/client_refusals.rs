@@ -11,13 +11,13 @@ use std::test::Fail;
 /// An offer of all layers, of a server that receives messages of 65535 octets at most.
 const OFFER: &str = "050405ff000c000000000000000000010700ffff90f6409b0f5d060e5d5b6f9c";
 
-/// The same of a server that receives 62 octets at most.
+/// An offer of a server that receives 62 octets at most.
 const SHORT_OFFER: &str = "050405ff000c000000000000000000010700003e06064c3d0ed01863a680e3e4";
 
-/// The same of one that receives 63.
+/// One that receives 63.
 const ROOMY_OFFER: &str = "050405ff000c000000000000000000010700003f115e476bf625f8f6509e10ad";
 
-/// A client that wants a layer and receives messages of so many octets, the offer that it answered before, and how it refuses
+/// A client that asks for a layer and receives messages of this many octets, the offer that it answered before, and how it refuses
 /// a call.
 pub struct ClientRow {
     layer: Layer,
@@ -91,7 +91,7 @@ static CLIENT_ROWS: [ClientRow; 22] = [
         call: Call::Take("050405ff000c000000000000000000010700ffff0071b557bb3044f365eb7f5a22"),
         wanted: Some(Wanted::Offer),
     },
-    // The wanted layer is not offered, or no layer alone with a size.
+    // The layer is not offered, or no layer alone with a size.
     ClientRow {
         layer: Layer::Confidentiality,
         size: 65535,

@@ -25,7 +25,7 @@ fn lengths() -> &'static [usize] {
     &LENGTHS
 }
 
-/// Both agree; the name that the server is told.
+/// Both agree; the name that the server gets.
 fn agree(
     alloc: Global,
     server: &mut SaslServer,
@@ -78,7 +78,7 @@ fn is_so(answer: Result<bool, SaslError>, is_short: bool) -> bool {
     }
 }
 
-/// Whether so many octets go there and back, or are refused where they are more than the longest.
+/// Whether this many octets go there and back, or are refused where they are more than the longest.
 fn crosses(
     alloc: Global,
     server: &mut SaslServer,

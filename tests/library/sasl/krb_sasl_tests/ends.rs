@@ -45,7 +45,7 @@ pub enum Wanted {
     Context(Cause),
 }
 
-/// Whether a call was refused so, or was not where nothing is wanted.
+/// True if a call was refused so, or was not refused if none is expected.
 pub fn is_refused(refusal: &Option<SaslError>, wanted: Option<Wanted>) -> bool {
     match (refusal, wanted) {
         (None, None) => true,
@@ -74,7 +74,7 @@ pub fn octets(alloc: Global, text: &str) -> Result<Octets, Fail> {
     Ok(Octets::new(hex::decode(alloc, text)?))
 }
 
-/// Data of so many octets: `abc` alone, or any.
+/// Data of this many octets: `abc` alone, or any.
 pub fn plain(alloc: Global, len: usize) -> Result<Octets, Fail> {
     if len == 3 {
         Ok(Octets::from_slice(alloc, "abc".as_bytes())?)
@@ -144,7 +144,7 @@ pub fn new_server(
     boxed(alloc, SaslServer::new(context, layers, size).map_err(fail)?)
 }
 
-/// A client that wants this layer, and receives messages of `size` octets at most.
+/// A client that asks for this layer, and receives messages of `size` octets at most.
 pub fn new_client(
     alloc: Global,
     wanted: Layer,

@@ -76,7 +76,7 @@ fn a_server_has_layers_and_an_exchange_that_is_over(rt: HostRuntime) -> Result<(
     Ok(())
 }
 
-/// The layer that a client wants and its size, and how it is refused.
+/// The layer that a client asks for and its size, and how it is refused.
 static CLIENTS: [(End, Layer, u32, Option<Wanted>); 6] = [
     (INITIATOR, Layer::Integrity, 16777216, Some(Wanted::Layers)),
     (INITIATOR, Layer::None, 1, Some(Wanted::Layers)),

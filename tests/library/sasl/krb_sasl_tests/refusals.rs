@@ -1,6 +1,6 @@
-//! What the ends of the tables of refusals are asked.
+//! The calls of the tables of refusals.
 
-/// What an end is asked: a server for its offer, to accept a token, a client to answer one, both to seal octets, or to unseal
+/// A call of an end: a server for its offer, to accept a token, a client to answer one, both to seal octets, or to unseal
 /// a frame.
 #[derive(Clone, Copy)]
 pub enum Call {

@@ -9,7 +9,7 @@ use sspi_core::Cause;
 use std::alloc::Global;
 use std::test::Fail;
 
-/// What an end is asked: a server for its offer, to accept a token, a client to answer one, both to seal octets, or to unseal
+/// A call of an end: a server for its offer, to accept a token, a client to answer one, both to seal octets, or to unseal
 /// a frame.
 #[derive(Clone, Copy)]
 pub enum Ask {
@@ -209,24 +209,24 @@ const TOO_FEW: &str = "050405ff000c000000000000000000010300fffff5ce7aa2e5c4fadc1
 
 const SERVER_FRAME: &str = "0000001f050405ff000c00000000000000000002616263e7c7e775f4e27c958959f9d3";
 
-/// What is asked, with which octets, and how it is refused.
+/// A call, its octets, and its refusal.
 type Refusal = (Ask, &'static str, Wanted);
 
-/// What a server refuses before its offer.
+/// The refusals of a server before its offer.
 static BEFORE: [Refusal; 3] = [
     (Ask::Take, TWO_LAYERS, Wanted::State),
     (Ask::Seal, "616263", Wanted::State),
     (Ask::Unseal, CLIENT_FRAME, Wanted::State),
 ];
 
-/// What it refuses then. The number of an answer with a wrong text is kept.
+/// Its refusals then. The number of an answer with a wrong text is kept.
 static BEHIND: [Refusal; 3] = [
     (Ask::Offer, "", Wanted::State),
     (Ask::Take, TWO_LAYERS, Wanted::Layer),
     (Ask::Take, TWO_LAYERS, Wanted::Context(Cause::Repeated)),
 ];
 
-/// What a client refuses that wants Confidentiality.
+/// The refusals of a client that asks for Confidentiality.
 static OF_CLIENT: [Refusal; 4] = [
     (Ask::Seal, "616263", Wanted::State),
     (Ask::Unseal, SERVER_FRAME, Wanted::State),

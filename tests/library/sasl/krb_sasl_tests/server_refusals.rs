@@ -11,10 +11,10 @@ use std::test::Fail;
 /// An answer in Confidentiality, of a client that receives messages of 65535 octets at most.
 const SEALED: &str = "050404ff000c000000000000000004d30400ffff616c6963650ec7253ea1ce4b57d5ce3d3b";
 
-/// The same of a client that receives 62 octets at most.
+/// An answer of a client that receives 62 octets at most.
 const SHORT: &str = "050404ff000c000000000000000004d30400003e616c696365068da9f790a115fa1495f385";
 
-/// The same of one that receives 63.
+/// One that receives 63.
 const ROOMY: &str = "050404ff000c000000000000000004d30400003f616c696365ad2fb7562205ccfcab836896";
 
 /// An answer in Integrity.
@@ -23,7 +23,7 @@ const CHECKED: &str = "050404ff000c000000000000000004d30200ffff616c6963658c5dc7f
 /// An answer without a layer.
 const BARE: &str = "050404ff000c000000000000000004d301000000616c6963655a152f6c306108a6f9f8ccbf";
 
-/// What a server did before: nothing, its offer, or all up to this answer.
+/// The steps of a server before: none, its offer, or all up to this answer.
 #[derive(Clone, Copy)]
 pub enum Stage {
     New,
@@ -31,7 +31,7 @@ pub enum Stage {
     Agreed(&'static str),
 }
 
-/// A server that offers these layers and receives messages of so many octets, and how it refuses a call.
+/// A server that offers these layers and receives messages of this many octets, and how it refuses a call.
 pub struct ServerRow {
     layers: u8,
     size: u32,

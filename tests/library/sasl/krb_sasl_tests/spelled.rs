@@ -1,4 +1,4 @@
-//! What both ends send, octet by octet, as a second implementation spells it.
+//! Tokens and frames of both ends, octet by octet, as a second implementation spells them.
 
 use super::ends::{ACCEPTOR, fail, octets};
 use super::{CONFOUNDER, ClientCase, ServerCase, new_client_passes, new_server_passes};
@@ -10,7 +10,7 @@ use std::test::Fail;
 /// The offer of a server with all layers, which receives messages of 65535 octets at most: a token of 32 octets.
 pub const OFFER: &str = "050405ff000c000000000000000000010700ffff90f6409b0f5d060e5d5b6f9c";
 
-/// What a client wants, the name of its user, and then: its answer to that offer, the frame in which the server sends `abc`, and
+/// The layer that a client asks for, the name of its user, and then: its answer to that offer, the frame in which the server sends `abc`, and
 /// the one in which the client sends it.
 pub struct Row {
     pub layer: Layer,
@@ -77,7 +77,7 @@ fn gives(alloc: Global, answer: Result<Octets, SaslError>, wanted: &str) -> Resu
     }
 }
 
-/// Whether the server offers so, is told the user's name, sends `abc` so, and receives it.
+/// True if the server offers so, gets the user's name, sends `abc` so, and receives it.
 pub fn server_speaks(alloc: Global, server: &mut SaslServer, row: &Row) -> Result<bool, Fail> {
     let offers = gives(alloc, server.offer(alloc), OFFER)?;
     let answer = octets(alloc, row.answer)?;

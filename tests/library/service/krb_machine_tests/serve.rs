@@ -1,5 +1,5 @@
 //! `serve` over an admission and a replay whose reads and writes fail in turn, that a reply is written before the next read, and
-//! long lines. What whole inputs are answered stands in tests/cases.
+//! long lines. The answers to whole inputs are in tests/cases.
 
 ghost use Rattle.std.specs.Prelude.{None};
 
@@ -17,7 +17,7 @@ event 1 0 00112233445566778899aabbccddeeff00112233445566778899aabbccddeeff\
 event 1 253402041600000000 00112233445566778899aabbccddeeff00112233445566778899aabbccddeeff\
 00112233445566778899aabbccddeeff00112233445566778899aabbccddeeff - start\n";
 
-/// What is written for the two events.
+/// The output for the two events.
 static WHOLE_TEXT: &str =
     "refused OutOfSequence Sequence\nrefused InvalidParameter Moment\nend 0 0\n";
 
@@ -35,7 +35,7 @@ fn word(alloc: Global, word: &str) -> Result<Words, AllocError> {
     Ok(Words::new(words))
 }
 
-/// The call with this number fails, and each moves so many octets at most.
+/// The call with this number fails, and each moves this many octets at most.
 fn failing_call(alloc: Global, number: u64, most: usize) -> Result<Calls, AllocError> {
     let mut numbers = Vec::new(alloc);
     numbers.push(number)?;
@@ -57,7 +57,7 @@ fn check(
     assert_eq!(rt; sink.bytes(), text);
 }
 
-/// The same, where no call fails.
+/// The output if no call fails.
 fn check_sound(
     rt: &(impl AllocGlobal + Abort),
     input: &[u8],
@@ -75,7 +75,7 @@ fn check_sound(
     Ok(())
 }
 
-/// A line 2 of so many octets behind the skew.
+/// A line 2 of this many octets after the skew.
 fn check_line_of(
     rt: &(impl AllocGlobal + Abort),
     length: usize,
@@ -108,7 +108,7 @@ fn other_words_are_refused(rt: HostRuntime) -> Result<(), Fail> {
     Ok(())
 }
 
-/// Each read and each write moves so many octets at most.
+/// Each read and each write moves this many octets at most.
 fn check_pieces(rt: &(impl AllocGlobal + Abort), words: &Words, most: usize) {
     let alloc = rt.alloc();
     let input = (two_events(), Calls::new(Vec::new(alloc), Some(most)));
@@ -141,7 +141,7 @@ static TO_THE_SECOND: &str = "
 event 2 1700000000000000 000102030405060708090a0b0c0d0e0f101112131415161718191a1b1c1d1e1f\
 202122232425262728292a2b2c2d2e2f303132333435363738393a3b3c3d3e3f - token ";
 
-/// What is written where a token comes at one acceptor, and again at another.
+/// The output for a token that comes at one acceptor, and again at another.
 static ADMITTED_AND_REPLAYED: &str = "ok -\nrefused InvalidToken Replayed\nend 1 1\n";
 
 /// That input: 2538 octets, of which 1485 are there with the first event.
@@ -202,7 +202,7 @@ fn failed_calls() -> &'static [FailedCalls] {
     &FAILED_CALLS
 }
 
-/// Lets the call with this number fail. The others move so many octets at most, and where the writes fail the reads 64, where the
+/// Lets the call with this number fail. The others move this many octets at most, and where the writes fail the reads 64, where the
 /// reads fail the writes 16.
 fn check_failed_call(
     rt: &(impl AllocGlobal + Abort),

@@ -92,7 +92,7 @@ static FIRST_LINES: &str = "ok -\nrefused InvalidParameter Moment\nrefused Inval
 static ALL_LINES: &str = "ok -\nrefused InvalidParameter Moment\nrefused InvalidToken Replayed\n\
 refused InvalidToken Replayed\nrefused InvalidParameter Moment\n";
 
-/// A run over these events ends so behind these replies, and one record is kept.
+/// A run over these events ends so after these replies, and one record is kept.
 fn check_run(
     rt: &(impl AllocGlobal + Abort),
     service: &mut Service<ScantGate>,

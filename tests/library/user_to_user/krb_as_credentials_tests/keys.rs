@@ -107,7 +107,7 @@ fn realm(alloc: Global) -> Result<Name, Fail> {
     Ok(Name::new(realm).ok_or("not ASCII")?)
 }
 
-/// Who asks with these credentials. Nothing else of it counts.
+/// The user with these credentials. Nothing else of it counts.
 fn asker_of(alloc: Global, row: &AsReply) -> Result<Box<Asker>, Fail> {
     let credentials = credentials_of(alloc, &row.credentials)?;
     let realm = realm(alloc)?;
@@ -127,7 +127,7 @@ fn as_rep_of(alloc: Global, digits: &str) -> Result<Box<AsRep>, Fail> {
     Ok(boxed(alloc, AsRep::read(alloc, &octets)?)?)
 }
 
-/// What the AS-REP brings who asks.
+/// The result of the AS-REP for the user.
 fn key_of(alloc: Global, asker: &Asker, row: &AsReply) -> Result<Result<ReplyKey, Cause>, Fail> {
     let salt = Text::from_str(alloc, row.salt)?;
     let as_rep = as_rep_of(alloc, row.as_rep)?;

@@ -9,7 +9,7 @@ use std::test::Fail;
 const FRAMED: &str =
     "6041060a2a864886f7120102020304003031a003020105a103020110a2253023a003020102a11c301a1b04686f73741b127365727665722e6578616d706c652e636f6d";
 
-/// The same without a frame.
+/// The token without a frame.
 const BARE: &str =
     "3031a003020105a103020110a2253023a003020102a11c301a1b04686f73741b127365727665722e6578616d706c652e636f6d";
 
@@ -34,7 +34,7 @@ static SESSIONS: [Session; 4] = [
                 dce: false,
                 answer: Answer::Refused(Cause::ServerName),
             },
-            // Out of its frame, in one where none may be, and with an octet behind it.
+            // Out of its frame, in one where none may be, and with an octet after it.
             Step {
                 token: BARE,
                 dce: false,
@@ -72,7 +72,7 @@ static SESSIONS: [Session; 4] = [
                 dce: false,
                 answer: Answer::Refused(Cause::Shape),
             },
-            // An AP-REQ behind the token identifier of a TGT-REQ.
+            // An AP-REQ after the token identifier of a TGT-REQ.
             Step {
                 token: "608201b906092a864886f71201020204006e8201a8308201a4a003020105a10302010ea20703050000000000a3820115618201113082010da003020105a10d1b0b4558414d504c452e434f4da2253023a003020102a11c301a1b04686f73741b127365727665722e6578616d706c652e636f6da381cf3081cca003020112a281c40481c15c112a47a169c3267a9ff3afbdc5f126179eb939d1669b6d4c3033c2154b15e507170affa88bdd8b06aa49b779a104602531976088d214bc08a463fab523069fb7c94ea703b6e00281e48ed27136bca13d61c864e575f489e30a33c70c11b7bd9ba6027437381531a755ffae453277ca7a5eaaf8984e949155f774b66049188699095c77f195e32b49f019b3598f6601434cb5fe852befebef4ca476341c6b34d6fa7ce2fa1e5fa3a7da091cc1ea32013bca694ae5498b2645c1e94afb3888eed5a4763074a003020112a26d046b1ff72444274c816836e6309012203556e5cff8258d53b31409abe24459c6bc95ed5f7617f8309492bbb2cd02ed22dac4d510c48803e5bd9319679929712b670874c86bb9117ffa2395eecfb38cc5922055cd42465c5be3debf481fd0ed7a975cc255fcb4c013872857dca8",
                 dce: false,

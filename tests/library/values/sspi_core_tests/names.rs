@@ -121,7 +121,7 @@ fn keytab(alloc: Global) -> Result<Box<KeytabIdentity>, Fail> {
     Ok(boxed(alloc, identity)?)
 }
 
-/// What is kept of credentials, copied.
+/// The credentials that are kept, copied.
 fn kept(alloc: Global, credentials: &Credentials) -> Result<Box<CredentialsBuffers>, Fail> {
     let kept = boxed(
         alloc,

@@ -1,4 +1,4 @@
-//! What KDCs of MIT krb5 and Heimdal reply otherwise.
+//! Replies of KDCs of MIT krb5 and Heimdal that need rules.
 
 /// A service whose one key is of AES-128, at Heimdal's KDC: its ticket comes with a key of that suite.
 pub const OF_AES_128: &str = "\
@@ -176,7 +176,7 @@ pub const TAGGED_26: &str = "\
      key 1b3f1f582d934d9de14b0cb28691005a344aa7a92df54134d8c015a8aab35b4c\n\
      rfc-key 179f2edf02b8acc50e6a56a0be0ad53760f19c200c50f2ef6ea907473eb8e935";
 
-/// The same for a user of whom it wants no pre-authentication: its first reply is the AS-REP.
+/// That KDC for a user without required pre-authentication: its first reply is the AS-REP.
 pub const TAGGED_26_AT_ONCE: &str = "\
      initiator 16909060 workstation host/server.example.com\n\
      rules 3\n\

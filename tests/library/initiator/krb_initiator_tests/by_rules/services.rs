@@ -1,4 +1,4 @@
-//! What services reply otherwise, in Java and one that is not asked for an answer.
+//! Replies of services that need rules: one in Java, and one that is not asked for an answer.
 
 /// A service in Java, whose AP-REP has no subkey: the authenticator's stays.
 pub const WITHOUT_A_SUBKEY: &str = "\
