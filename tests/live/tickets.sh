@@ -137,7 +137,7 @@ client_is_clean() {
         gss-client -port "$sample_port" -mcount 3 127.0.0.1 host@localhost hello
 }
 
-# What MIT's mechanism does, and what nobody does.
+# Contexts that MIT's mechanism begins, and contexts that nobody establishes.
 try_ticket_limits() {
     local client=(bash -c "sample_client $sample_port 1") delegates=(bash -c "sample_client $sample_port 1 -d") other=$gss/other.ccache
     KRB5CCNAME=FILE:$other kinit alice <<< secret > /dev/null

@@ -21,7 +21,7 @@ use std::time::{Duration, Instant};
 
 /// The flags of a client that the library keeps to. A client that asks for others is admitted without them.
 const OFFERED: u32 = REPLAY_FLAG | SEQUENCE_FLAG | CONF_FLAG | INTEG_FLAG;
-/// Those of a client whose checksum has no flags: it is of another protocol, and messages can be encrypted for it.
+/// The flags of a client whose checksum has none: it is of another protocol, and messages can be encrypted for it.
 const WITHOUT_FLAGS: u32 = REPLAY_FLAG | CONF_FLAG | INTEG_FLAG;
 
 /// The data of a channel's bindings. Those of addresses are not compared (RFC 5929 has data alone).
@@ -45,7 +45,7 @@ fn flags_of(asked: Option<GssFlags>, is_answered: bool, is_bound: bool) -> u32 {
     asked | mutual | bound | PROT_READY_FLAG
 }
 
-/// What a server brings to a call of RFC 2744, section 5.1.
+/// A server's part of a call of RFC 2744, section 5.1.
 struct Call {
     cred: *mut c_void,
     input: Buffer,

@@ -12,9 +12,9 @@ use crate::{config, target};
 use menolavuri::{Cause, Error, Flags, Initiator, Next, carrier};
 use std::time::{Duration, SystemTime};
 
-/// What a program asks for.
+/// The request of a program.
 pub struct Wanted<'a> {
-    /// Who the credential is of, as "alice@EXAMPLE.COM".
+    /// The client of the credential, as "alice@EXAMPLE.COM".
     pub client: &'a str,
     /// Where the client's tickets are.
     pub source: &'a Source,
@@ -38,10 +38,10 @@ pub struct Ready {
 const READINGS: usize = 3;
 const PAUSE: Duration = Duration::from_millis(50);
 
-/// The code by which the library is told that no KDC replied.
+/// The code for the library if no KDC replied.
 const NO_REPLY: u32 = 1;
 
-/// What the library is asked for, for these flags.
+/// The request to the library for these flags.
 fn flags_of(flags: u32) -> Flags {
     let pairs = [
         (MUTUAL_FLAG, Flags::MUTUAL_AUTH),

@@ -24,7 +24,7 @@ const LONGEST: u64 = 16 << 20;
 const TRIES: usize = 50;
 const PAUSE: Duration = Duration::from_millis(20);
 
-/// Whether the program gave a thread another default cache (gss_krb5_ccache_name), which is not known here.
+/// True if the program gave a thread another default cache (gss_krb5_ccache_name), which is not known here.
 static RENAMED: AtomicBool = AtomicBool::new(false);
 
 /// Takes note that a program names its default cache anew.

@@ -29,7 +29,7 @@ pub struct Proved {
     pub flags: u32,
     /// Until when the ticket is valid, if that is known.
     pub ends: Option<SystemTime>,
-    /// Whether it is an initiator's.
+    /// True if it is an initiator's.
     pub is_local: bool,
 }
 

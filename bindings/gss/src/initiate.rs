@@ -23,7 +23,7 @@ const OFFERED: u32 = MUTUAL_FLAG | REPLAY_FLAG | SEQUENCE_FLAG | CONF_FLAG | INT
 /// The flags with which MIT's mechanism begins.
 const UNKEPT: u32 = DELEG_FLAG | DELEG_POLICY_FLAG | ANON_FLAG | DCE_STYLE;
 
-/// An initiator that has sent its token, and what is told of it.
+/// An initiator that has sent its token, and what is known of it.
 pub struct Begun {
     initiator: Initiator,
     about: About,
@@ -54,7 +54,7 @@ struct Call {
     life: *mut u32,
 }
 
-/// Who a credential is of, and until when its tickets are valid, as MIT's mechanism tells it. It may get tickets first, by a client's keytab.
+/// The client of a credential, and until when its tickets are valid, by MIT's mechanism. It may get tickets first, by a client's keytab.
 unsafe fn holder(it: &Call) -> Result<(String, Option<SystemTime>), String> {
     let (mut minor, mut name, mut life) = (0, null_mut(), 0);
     // SAFETY: of the caller.

@@ -93,7 +93,7 @@ fn told(error: &Error) -> String {
     }
 }
 
-/// What a KDC is sent, without the framing of TCP.
+/// A request without the framing of TCP.
 enum Message<'a> {
     Bare(&'a [u8]),
     /// The body of a POST.
