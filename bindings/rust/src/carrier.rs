@@ -93,7 +93,7 @@ fn told(error: &Error) -> String {
     }
 }
 
-/// A request without the framing of TCP.
+/// A request to a KDC, without the framing of TCP.
 enum Message<'a> {
     Bare(&'a [u8]),
     /// The body of a POST.
