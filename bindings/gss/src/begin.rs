@@ -10,7 +10,6 @@ use crate::say;
 use crate::status::Refused;
 use crate::{config, target};
 use menolavuri::{Cause, Error, Flags, Initiator, Next, carrier};
-use std::time::{Duration, SystemTime};
 
 /// The request of a program.
 pub struct Wanted<'a> {
@@ -33,10 +32,6 @@ pub struct Ready {
     pub next: Next,
     kdcs: Kdcs,
 }
-
-/// How often a cache is read if somebody writes to it meanwhile, and the pause before the next time.
-const READINGS: usize = 3;
-const PAUSE: Duration = Duration::from_millis(50);
 
 /// The code for the library if no KDC replied.
 const NO_REPLY: u32 = 1;
@@ -64,18 +59,10 @@ fn service_of(wanted: &Wanted<'_>) -> Result<String, String> {
     Err(format!("the target is of the realm {}", it.realm))
 }
 
-/// Gives an initiator the tickets of a cache.
-fn hold(initiator: &mut Initiator, path: &str) -> Result<(), String> {
-    let mut failed = String::new();
-    for _ in 0..READINGS {
-        let file = cache::read(path)?;
-        match initiator.set_ccache(&file, SystemTime::now()) {
-            Ok(_) => return Ok(()),
-            Err(error) => failed = format!("{path}: {error}"),
-        }
-        std::thread::sleep(PAUSE);
-    }
-    Err(failed)
+/// Gives an initiator the tickets of a cache: the library has no call for that yet.
+fn hold(_: &mut Initiator, path: &str) -> Result<(), String> {
+    cache::read(path)?;
+    Err(format!("{path}: the library takes no credential cache"))
 }
 
 /// Starts an initiator. Nothing is sent: an error says why MIT's mechanism is asked.
