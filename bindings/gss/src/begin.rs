@@ -71,6 +71,9 @@ fn hold(initiator: &mut Initiator, path: &str) -> Result<(), String> {
         let file = cache::read(path)?;
         match initiator.set_ccache(&file, SystemTime::now()) {
             Ok(_) => return Ok(()),
+            Err(error) if error.cause() == Some(Cause::NO_IDENTITY) => {
+                return Err(format!("{path} has no ticket that is valid"));
+            }
             Err(error) => failed = format!("{path}: {error}"),
         }
         std::thread::sleep(PAUSE);
