@@ -9,7 +9,7 @@ initiates() { env GSS_MECH_CONFIG="$gss/mech.conf" MENOLAVURI_GSS_CONF="${ticket
 initiator_says() {
     local wanted=$1 pattern=$2 ended=0
     : > "$gss/tickets.log"
-    timeout 30 env GSS_MECH_CONFIG="$gss/mech.conf" MENOLAVURI_GSS_CONF="${tickets_conf:-$gss/tickets.conf}" "${@:3}" || ended=1
+    timeout 30 env GSS_MECH_CONFIG="${gss_mech:-$gss/mech.conf}" MENOLAVURI_GSS_CONF="${tickets_conf:-$gss/tickets.conf}" "${@:3}" || ended=1
     cut -d' ' -f2- "$gss/tickets.log" | tail -n 5
     [ "$ended" -eq "$wanted" ] && grep -q -- "$pattern" "$gss/tickets.log"
 }
@@ -137,6 +137,15 @@ client_is_clean() {
         gss-client -port "$sample_port" -mcount 3 127.0.0.1 host@localhost hello
 }
 
+# Whether the address sanitizer finds nothing in the interposer of gss-client.
+client_is_sane() {
+    local gss_mech=$gss/sanitized.conf
+    echo "menolavuri 1.3.6.1.4.1.32473.4120.1 $sanitized <interposer>" > "$gss_mech"
+    reaches_it host/localhost timeout 60 env LD_PRELOAD="$runtime" ASAN_OPTIONS="detect_leaks=0:log_path=$gss/asan:verify_asan_link_order=0" \
+        gss-client -port "$sample_port" -mcount 3 127.0.0.1 host@localhost hello || return 1
+    ! cat "$gss"/asan.* 2> /dev/null
+}
+
 # Contexts that MIT's mechanism begins, and contexts that nobody establishes.
 try_ticket_limits() {
     local client=(bash -c "sample_client $sample_port 1") delegates=(bash -c "sample_client $sample_port 1 -d") other=$gss/other.ccache
@@ -150,6 +159,7 @@ try_ticket_limits() {
     check "a service that the KDC does not know" misses_it 'Server not found in Kerberos database' \
         timeout 20 gss-client -port "$sample_port" 127.0.0.1 nobody@localhost hello
     ! command -v valgrind > /dev/null || check "gss-client under valgrind" client_is_clean
+    ! build_sanitized > "$room/sanitized" 2>&1 || check "gss-client under the address sanitizer" client_is_sane
     check "a client is told so" bash -c "env GSS_MECH_CONFIG=$gss/mech.conf MENOLAVURI_GSS_CONF=$gss/tickets.conf gss-client -port $sample_port \
         127.0.0.1 nobody@localhost hello 2>&1 | grep 'Server not found in Kerberos database'"
 }
@@ -171,7 +181,7 @@ start_ticket_servers() {
 }
 
 try_tickets() {
-    local gss gss_built gss_conf='' tickets_conf='' KRB5_CONFIG=$KRB5_CONFIG kdcs_conf
+    local gss gss_built gss_conf='' gss_mech='' tickets_conf='' runtime sanitized KRB5_CONFIG=$KRB5_CONFIG kdcs_conf
     local sample_port ssh_port pg_bin pg_port='' web_port='' mail_port='' python_port bound_port postgres imtest
     has_krb5 2> /dev/null || { echo "not tried: tickets over the interposer, which wants Debian's package libkrb5-dev"; return; }
     build_gss > "$room/built" 2>&1 || { cat "$room/built"; check "bindings/gss is built" false; return; }

@@ -29,7 +29,7 @@ fn host(url: &str) -> &str {
 }
 
 /// The order in which a realm's KDCs are asked: each over UDP, and then each over TCP.
-fn rank(url: &String) -> usize {
+fn rank(url: &str) -> usize {
     let schemes = ["udp://", "tcp://"];
     let place = schemes.iter().position(|it| url.starts_with(it));
     place.unwrap_or(schemes.len())
@@ -75,7 +75,7 @@ impl Kdcs {
             None if url.starts_with("http") => vec![url.to_owned()],
             None => urls_of(host(url)),
         };
-        places.sort_by_key(rank);
+        places.sort_by_key(|it| rank(it));
         places
     }
 }
