@@ -3,7 +3,7 @@
 # process or connection is refused, and so are a clock that is wrong and a key that is another one, each with its words. The last of these
 # is undone, and a client is admitted again.
 # shellcheck disable=SC1090
-for server in samples sshd postgres apache sasl dovecot python java redis kadmin; do . "$live/gss/$server.sh"; done
+for server in samples sshd postgres apache sasl dovecot python java redis kadmin checked; do . "$live/gss/$server.sh"; done
 
 # Runs a program with the interposer: served COMMAND.. Its settings are those of gss_conf, or of the folder's gss.conf, and the line that
 # loads it that of gss_mech, or of the folder's mech.conf.
@@ -20,10 +20,10 @@ gss_settings() {
     printf '%s = %s\n' keytab "$gss/keytab" store "$1" status "$gss/status" skew 60 log "${2:-$gss/log}"
 }
 
-# A folder of the room that each server's user may read, and the realm with the services that the servers need.
+# A folder of the room that each server's user may read, and the realm with the services that the servers need: gss_room [NAME]
 gss_room() {
     local service
-    gss=$room/gss
+    gss=$room/${1:-gss}
     chmod 755 "$room"
     mkdir "$gss" && mkdir -m 1777 "$gss/store" "$gss/status"
     touch "$gss/log" && chmod 666 "$gss/log"
@@ -149,6 +149,6 @@ try_gss() {
     check "settings that cannot be read are told" tells_bad_settings
     [ "$(id -u)" -ne 0 ] || check "a setuid program reads no environment" is_deaf_as_setuid
     local server
-    for server in ${GSS_SERVERS:-samples sshd postgres apache sasl dovecot python java redis kadmin}; do "try_gss_$server"; done
+    for server in ${GSS_SERVERS:-samples sshd postgres apache sasl dovecot python java redis kadmin checked}; do "try_gss_$server"; done
     [ -n "${GSS_SERVERS:-}" ] || check "the counters" counts
 }

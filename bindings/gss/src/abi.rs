@@ -58,6 +58,7 @@ pub type Cred = *mut c_void;
 pub type Ctx = *mut c_void;
 
 pub const COMPLETE: u32 = 0;
+pub const CONTINUE_NEEDED: u32 = 1;
 pub const BAD_BINDINGS: u32 = 4 << 16;
 pub const BAD_MIC: u32 = 6 << 16;
 pub const NO_CRED: u32 = 7 << 16;
@@ -69,12 +70,17 @@ pub const FAILURE: u32 = 13 << 16;
 pub const BAD_QOP: u32 = 14 << 16;
 pub const UNAVAILABLE: u32 = 16 << 16;
 
+pub const DELEG_FLAG: u32 = 1;
 pub const MUTUAL_FLAG: u32 = 2;
 pub const REPLAY_FLAG: u32 = 4;
+pub const SEQUENCE_FLAG: u32 = 8;
 pub const CONF_FLAG: u32 = 16;
 pub const INTEG_FLAG: u32 = 32;
+pub const ANON_FLAG: u32 = 64;
 pub const PROT_READY_FLAG: u32 = 128;
 pub const CHANNEL_BOUND_FLAG: u32 = 2048;
+pub const DCE_STYLE: u32 = 0x1000;
+pub const DELEG_POLICY_FLAG: u32 = 0x8000;
 
 pub const INITIATE: c_int = 1;
 pub const ACCEPT: c_int = 2;

@@ -4,26 +4,28 @@ use crate::abi::*;
 use crate::buffers::{octets, put, set};
 use crate::config::{self, Settings};
 use crate::contexts::{Context, Proved, context, left, made};
-use crate::credentials::credential;
-use crate::decide::{Admitted, Asked, Known, admit};
+use crate::credentials::{credential, of_behind};
+use crate::decide::{Asked, Known, admit};
 use crate::guard::guard;
+use crate::names::machine;
 use crate::oids::KRB5;
 use crate::status::{
     ADDRESSES, INITIATOR, NAME, NO_MEMORY, Refused, SECOND_TOKEN, SETTINGS, words,
 };
-use crate::{counters, names, say, trace};
+use crate::{counters, delegated, names, say, trace};
 use menolavuri::GssFlags;
 use std::ffi::c_void;
 use std::ptr::null_mut;
 use std::sync::Mutex;
 use std::time::{Duration, Instant};
 
-/// The flags that the library offers. Delegation and the order of messages are not among them: a client that asks for these is admitted
-/// without them.
-const OFFERED: u32 = REPLAY_FLAG | CONF_FLAG | INTEG_FLAG;
+/// The flags of a client that the library keeps to. A client that asks for others is admitted without them.
+const OFFERED: u32 = REPLAY_FLAG | SEQUENCE_FLAG | CONF_FLAG | INTEG_FLAG;
+/// The flags of a client whose checksum has none: it is of another protocol, and messages can be encrypted for it.
+const WITHOUT_FLAGS: u32 = REPLAY_FLAG | CONF_FLAG | INTEG_FLAG;
 
 /// The data of a channel's bindings. Those of addresses are not compared (RFC 5929 has data alone).
-unsafe fn data_of<'a>(bindings: Bindings) -> Result<Option<&'a [u8]>, Refused> {
+pub unsafe fn data_of<'a>(bindings: Bindings) -> Result<Option<&'a [u8]>, Refused> {
     // SAFETY: of the caller.
     let Some(it) = (unsafe { bindings.as_ref() }) else {
         return Ok(None);
@@ -35,64 +37,92 @@ unsafe fn data_of<'a>(bindings: Bindings) -> Result<Option<&'a [u8]>, Refused> {
     Ok(Some(unsafe { octets((&raw const it.data).cast_mut()) }))
 }
 
-/// The flags of RFC 2744 for a client that asked for these, and no others. A client without flags is of another protocol, and messages
-/// can be encrypted for it.
+/// The flags of RFC 2744 for a client that asked for these: what it did not ask for is not among them.
 fn flags_of(asked: Option<GssFlags>, is_answered: bool, is_bound: bool) -> u32 {
-    let asked = asked.map_or(OFFERED, |it| it.bits() & OFFERED);
+    let asked = asked.map_or(WITHOUT_FLAGS, |it| it.bits() & OFFERED);
     let mutual = if is_answered { MUTUAL_FLAG } else { 0 };
     let bound = if is_bound { CHANNEL_BOUND_FLAG } else { 0 };
     asked | mutual | bound | PROT_READY_FLAG
+}
+
+/// A server's part of a call of RFC 2744, section 5.1.
+struct Call {
+    cred: *mut c_void,
+    input: Buffer,
+    bindings: Bindings,
 }
 
 /// A client that was admitted, as the caller learns of it.
 struct Accepted {
     name: Name,
     proved: Proved,
+    /// The name of the keytab.
+    keytab: String,
 }
 
 unsafe fn decide(
     settings: &Settings,
     ctx: *mut c_void,
-    cred: *mut c_void,
-    input: Buffer,
-    bindings: Bindings,
+    call: &Call,
     known: &mut Known,
 ) -> Result<Accepted, Refused> {
     // SAFETY: of the caller.
-    unsafe {
-        if !ctx.is_null() {
-            return Err(Refused::of(DEFECTIVE_TOKEN, SECOND_TOKEN, ""));
-        }
-        let it = credential(cred);
-        if it.as_ref().is_some_and(|it| !it.accepts) {
-            return Err(Refused::of(NO_CRED, INITIATOR, ""));
-        }
-        let bindings = data_of(bindings)?;
-        let it = it.as_deref();
-        let asked = Asked {
-            token: octets(input),
-            keytab: it.and_then(|it| it.keytab.as_deref()),
-            service: it.and_then(|it| it.service.as_deref()),
-            bindings,
-        };
-        let Admitted {
-            session,
-            client,
-            service,
-            flags,
-        } = admit(settings, &asked, known)?;
-        let Some(name) = names::of(&client) else {
-            return Err(Refused::of(FAILURE, NAME, ""));
-        };
-        let flags = flags_of(flags, !session.answer().is_empty(), bindings.is_some());
-        let proved = Proved {
-            session,
-            client,
-            service,
-            flags,
-        };
-        Ok(Accepted { name, proved })
+    let (it, token) = unsafe { (credential(call.cred), octets(call.input)) };
+    if !ctx.is_null() {
+        return Err(Refused::of(DEFECTIVE_TOKEN, SECOND_TOKEN, ""));
     }
+    if it.as_ref().is_some_and(|it| !it.accepts) {
+        return Err(Refused::of(NO_CRED, INITIATOR, ""));
+    }
+    // SAFETY: of the caller.
+    let bindings = unsafe { data_of(call.bindings) }?;
+    let it = it.as_deref();
+    let asked = Asked {
+        token,
+        keytab: it.and_then(|it| it.keytab.as_deref()),
+        service: it.and_then(|it| it.service.as_deref()),
+        bindings,
+    };
+    let it = admit(settings, &asked, known)?;
+    // SAFETY: of the caller.
+    let Some(name) = (unsafe { names::of(&it.client) }) else {
+        return Err(Refused::of(FAILURE, NAME, ""));
+    };
+    let flags = flags_of(
+        it.flags,
+        !it.session.answer().is_empty(),
+        bindings.is_some(),
+    );
+    Ok(Accepted {
+        name,
+        keytab: it.keytab,
+        proved: Proved {
+            ends: it.session.ends(),
+            session: it.session,
+            client: it.client,
+            service: it.service,
+            flags,
+            is_local: false,
+        },
+    })
+}
+
+/// The ticket that an admitted client hands on, as MIT's mechanism has it.
+unsafe fn handed_on(it: &mut Accepted, call: &Call) -> Option<Cred> {
+    let cred = it.proved.session.delegation();
+    if cred.map_or(true, |it| it.is_empty()) {
+        return None;
+    }
+    // SAFETY: of the caller.
+    unsafe { delegated::of(&it.keytab, call.input, call.bindings) }
+}
+
+/// The name of the service that refuses a client: that of the ticket, of the credential, or the host's own.
+unsafe fn named(known: &Known, cred: *mut c_void) -> String {
+    // SAFETY: of the caller.
+    let wanted = unsafe { credential(cred) }.and_then(|it| it.service.clone());
+    let name = known.service.clone().or(wanted);
+    name.unwrap_or_else(|| format!("host/{}", machine()))
 }
 
 /// The line of the log for a client.
@@ -144,11 +174,17 @@ struct Out {
     output: Buffer,
     flags: *mut u32,
     life: *mut u32,
+    delegated: *mut *mut c_void,
 }
 
-unsafe fn give(out: &Out, it: Accepted) {
+unsafe fn give(out: &Out, mut it: Accepted, call: &Call) {
     // SAFETY: of the caller.
     unsafe {
+        let takes = !out.delegated.is_null();
+        if let Some(cred) = takes.then(|| handed_on(&mut it, call)).flatten() {
+            *out.delegated = of_behind(cred);
+            it.proved.flags |= DELEG_FLAG;
+        }
         if out.source.is_null() {
             names::release(it.name);
         } else {
@@ -156,25 +192,19 @@ unsafe fn give(out: &Out, it: Accepted) {
         }
         set(out.mech, &raw const KRB5);
         set(out.flags, it.proved.flags);
-        set(out.life, left(&it.proved.session));
+        set(out.life, left(&it.proved));
         *out.ctx = made(Context::Proved(Box::new(Mutex::new(it.proved))));
     }
 }
 
-unsafe fn accept(
-    minor: *mut u32,
-    cred: *mut c_void,
-    input: Buffer,
-    bindings: Bindings,
-    out: &Out,
-) -> u32 {
+unsafe fn accept(minor: *mut u32, call: &Call, out: &Out) -> u32 {
     let start = Instant::now();
     let mut known = Known::default();
     // SAFETY: of the caller.
     unsafe {
         let settings = config::get();
         let decided = match settings {
-            Ok(it) => decide(it, *out.ctx, cred, input, bindings, &mut known),
+            Ok(it) => decide(it, *out.ctx, call, &mut known),
             Err(words) => Err(Refused::of(FAILURE, SETTINGS, words)),
         };
         let decided = decided.and_then(|it| match put(out.output, it.proved.session.answer()) {
@@ -184,11 +214,11 @@ unsafe fn accept(
         tell(settings, &known, decided.as_ref().err(), start.elapsed());
         match decided {
             Ok(it) => {
-                give(out, it);
+                give(out, it, call);
                 COMPLETE
             }
             Err(it) => {
-                put(out.output, &it.token);
+                put(out.output, &it.token(&named(&known, call.cred)));
                 set(minor, it.minor);
                 it.major
             }
@@ -224,8 +254,14 @@ pub unsafe extern "C" fn gssi_accept_sec_context(
             output,
             flags,
             life,
+            delegated,
         };
-        accept(minor, cred, input, bindings, &out)
+        let call = Call {
+            cred,
+            input,
+            bindings,
+        };
+        accept(minor, &call, &out)
     })
 }
 
@@ -263,14 +299,14 @@ mod tests {
 
     #[test]
     fn flags_are_those_that_were_asked_for() {
-        assert_eq!(flags_of(Some(GssFlags::ALL), true, false), 0xb6);
+        assert_eq!(flags_of(Some(GssFlags::ALL), true, false), 0xbe);
         assert_eq!(
             flags_of(Some(GssFlags::NONE), false, false),
             PROT_READY_FLAG
         );
         assert_eq!(
             flags_of(Some(GssFlags::GSS_C_SEQUENCE_FLAG), false, true),
-            PROT_READY_FLAG | CHANNEL_BOUND_FLAG
+            SEQUENCE_FLAG | PROT_READY_FLAG | CHANNEL_BOUND_FLAG
         );
         assert_eq!(flags_of(None, true, false), 0xb6);
     }

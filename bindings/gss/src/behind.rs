@@ -102,6 +102,19 @@ unsafe extern "C" {
         ret_flags: *mut u32,
         life: *mut u32,
     ) -> u32;
+    pub fn gss_accept_sec_context(
+        minor: *mut u32,
+        ctx: *mut Ctx,
+        cred: Cred,
+        input: Buffer,
+        bindings: Bindings,
+        source: *mut Name,
+        mech: *mut Oid,
+        output: Buffer,
+        ret_flags: *mut u32,
+        life: *mut u32,
+        delegated: *mut Cred,
+    ) -> u32;
     pub fn gss_process_context_token(minor: *mut u32, ctx: Ctx, token: Buffer) -> u32;
     pub fn gss_delete_sec_context(minor: *mut u32, ctx: *mut Ctx, token: Buffer) -> u32;
     pub fn gss_context_time(minor: *mut u32, ctx: Ctx, life: *mut u32) -> u32;

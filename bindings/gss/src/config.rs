@@ -38,6 +38,8 @@ pub struct Settings {
     /// The rules of sessions, if they differ from those that the library begins with.
     pub rules: Option<Rules>,
     pub log: Target,
+    /// True if the proved initiator begins contexts, as far as it can.
+    pub initiate: bool,
     /// True if each call is logged.
     pub trace: bool,
 }
@@ -51,6 +53,7 @@ impl Settings {
             skew: Duration::from_secs(300),
             rules: None,
             log: Target::Syslog,
+            initiate: false,
             trace: false,
         }
     }
@@ -63,6 +66,7 @@ impl Settings {
             "skew" => self.skew = seconds(value)?,
             "rules" => self.rules = Some(rules(value)?),
             "log" => self.log = target(value)?,
+            "initiate" => self.initiate = is_yes(value)?,
             "trace" => self.trace = is_yes(value)?,
             _ => return Err("there is no such word".into()),
         }
@@ -195,7 +199,7 @@ mod tests {
     #[test]
     fn a_file_is_read() {
         let text = "# of sshd\nkeytab = FILE:/etc/krb5.keytab\nstore=redis:127.0.0.1:6379 # shared\n\
-                    skew = 60\nlog = stderr\ntrace = yes\nrules = RFC\nstatus = /run/x\n";
+                    skew = 60\nlog = stderr\ntrace = yes\nrules = RFC\nstatus = /run/x\ninitiate = yes\n";
         let settings = parse(text).unwrap();
         assert_eq!(settings.keytab.as_deref(), Some("FILE:/etc/krb5.keytab"));
         assert_eq!(settings.store, Place::Redis("127.0.0.1:6379".into()));
@@ -203,7 +207,7 @@ mod tests {
         assert_eq!(settings.log, Target::Stderr);
         assert_eq!(settings.rules, Some(Rules::RFC));
         assert_eq!(settings.status, "/run/x");
-        assert!(settings.trace);
+        assert!(settings.trace && settings.initiate);
     }
 
     #[test]
@@ -229,6 +233,7 @@ mod tests {
             "rules = ANY_NAME",
             "log = nowhere",
             "trace = 1",
+            "initiate = maybe",
             "skew = 60\nskew = 60",
             "status = x",
         ] {

@@ -1,12 +1,12 @@
-//! Contexts: an acceptor's is the library's session, and an initiator's that of MIT's mechanism.
+//! Contexts: an acceptor's is the library's session. An initiator's is that too, or MIT's mechanism has it.
 
 use crate::abi::*;
 use crate::behind::*;
 use crate::buffers::{put, set};
-use crate::credentials::behind;
 use crate::guard::guard;
+use crate::initiate::Begun;
 use crate::names;
-use crate::oids::{self, KEY_TYPE, KRB5, SASL_SSF, SESSION_KEY, TICKET_FLAGS, special};
+use crate::oids::{self, KEY_TYPE, KRB5, SASL_SSF, SESSION_KEY, TICKET_FLAGS};
 use crate::trace;
 use menolavuri::Session;
 use std::ffi::{c_int, c_void};
@@ -15,8 +15,10 @@ use std::sync::{Mutex, MutexGuard, PoisonError};
 use std::time::SystemTime;
 
 pub enum Context {
-    /// An initiator's.
+    /// An initiator's of MIT's mechanism.
     Behind(Ctx),
+    /// The library's initiator, which awaits the service's token.
+    Begun(Box<Mutex<Option<Begun>>>),
     Proved(Box<Mutex<Proved>>),
 }
 
@@ -25,6 +27,10 @@ pub struct Proved {
     pub client: String,
     pub service: String,
     pub flags: u32,
+    /// Until when the ticket is valid, if that is known.
+    pub ends: Option<SystemTime>,
+    /// True if it is an initiator's.
+    pub is_local: bool,
 }
 
 pub unsafe fn context<'a>(ctx: *mut c_void) -> Option<&'a mut Context> {
@@ -36,16 +42,17 @@ pub fn made(context: Context) -> *mut c_void {
     Box::into_raw(Box::new(context)).cast()
 }
 
-pub fn lock(it: &Mutex<Proved>) -> MutexGuard<'_, Proved> {
+pub fn lock<T>(it: &Mutex<T>) -> MutexGuard<'_, T> {
     it.lock().unwrap_or_else(PoisonError::into_inner)
 }
 
-/// A call on a context: `$behind` if it is an initiator's, and `$ours` if it is an acceptor's.
+/// A call on a context: `$behind` if MIT's mechanism has it, and `$ours` if it is the library's session. A context that is not established
+/// has no call.
 #[macro_export]
 macro_rules! on {
     ($ctx:expr, $inner:ident => $behind:expr, $it:ident => $ours:expr) => {
         match $crate::contexts::context($ctx) {
-            None => $crate::abi::NO_CONTEXT,
+            None | Some($crate::contexts::Context::Begun(_)) => $crate::abi::NO_CONTEXT,
             Some($crate::contexts::Context::Behind($inner)) => $behind,
             Some($crate::contexts::Context::Proved(it)) => {
                 #[allow(unused_mut)]
@@ -56,66 +63,20 @@ macro_rules! on {
     };
     ($ctx:expr, $inner:ident => $behind:expr) => {
         match $crate::contexts::context($ctx) {
-            None => $crate::abi::NO_CONTEXT,
+            None | Some($crate::contexts::Context::Begun(_)) => $crate::abi::NO_CONTEXT,
             Some($crate::contexts::Context::Behind($inner)) => $behind,
             Some($crate::contexts::Context::Proved(_)) => $crate::abi::UNAVAILABLE,
         }
     };
 }
 
-/// For how many seconds the client's ticket is still valid.
-pub fn left(session: &Session) -> u32 {
-    let left = session
-        .ends()
-        .and_then(|it| it.duration_since(SystemTime::now()).ok());
+/// For how many seconds the ticket is still valid. A time that is not known has no end.
+pub fn left(it: &Proved) -> u32 {
+    let Some(ends) = it.ends else {
+        return INDEFINITE;
+    };
+    let left = ends.duration_since(SystemTime::now()).ok();
     left.map_or(0, |it| u32::try_from(it.as_secs()).unwrap_or(INDEFINITE))
-}
-
-#[unsafe(no_mangle)]
-pub unsafe extern "C" fn gssi_init_sec_context(
-    minor: *mut u32,
-    cred: *mut c_void,
-    ctx: *mut *mut c_void,
-    target: Name,
-    mech: Oid,
-    flags: u32,
-    time: u32,
-    bindings: Bindings,
-    input: Buffer,
-    actual: *mut Oid,
-    output: Buffer,
-    ret_flags: *mut u32,
-    life: *mut u32,
-) -> u32 {
-    guard(minor, || unsafe {
-        let mut inner = match context(*ctx) {
-            Some(Context::Behind(it)) => *it,
-            None => null_mut(),
-            Some(Context::Proved(_)) => return NO_CONTEXT,
-        };
-        let status = gss_init_sec_context(
-            minor,
-            behind(cred),
-            &mut inner,
-            target,
-            &special(mech),
-            flags,
-            time,
-            bindings,
-            input,
-            actual,
-            output,
-            ret_flags,
-            life,
-        );
-        trace!("init_sec_context flags={flags:#x} -> {status:#x}");
-        match context(*ctx) {
-            Some(it) => *it = Context::Behind(inner),
-            None if !inner.is_null() => *ctx = made(Context::Behind(inner)),
-            None => {}
-        }
-        status
-    })
 }
 
 #[unsafe(no_mangle)]
@@ -160,7 +121,7 @@ pub unsafe extern "C" fn gssi_context_time(
 ) -> u32 {
     guard(minor, || unsafe {
         on!(ctx, inner => gss_context_time(minor, *inner, life), it => {
-            let left = left(&it.session);
+            let left = left(&it);
             set(minor, 0);
             set(life, left);
             if left == 0 { CONTEXT_EXPIRED } else { COMPLETE }
@@ -186,10 +147,10 @@ unsafe fn inquire(
         if !target.is_null() {
             *target = names::of(&it.service).unwrap_or(null_mut());
         }
-        set(life, left(&it.session));
+        set(life, left(it));
         set(mech, &raw const KRB5);
         set(flags, it.flags);
-        set(local, 0);
+        set(local, c_int::from(it.is_local));
         set(open, 1);
     }
     COMPLETE

@@ -3,6 +3,7 @@
 use crate::abi::*;
 use crate::behind::*;
 use crate::buffers::set;
+use crate::cache::Source;
 use crate::guard::guard;
 use crate::oids::{self, KRB5, Specials};
 use crate::status::{INITIATOR, NOT_OFFERED, Refused, SETTINGS, words};
@@ -17,6 +18,8 @@ pub struct Credential {
     pub keytab: Option<String>,
     /// The service that it is for, as "host/server.example.com@"; none is any of the keytab.
     pub service: Option<String>,
+    /// Where an initiator's tickets are.
+    pub source: Source,
 }
 
 pub unsafe fn credential<'a>(cred: *mut c_void) -> Option<&'a mut Credential> {
@@ -29,19 +32,30 @@ pub unsafe fn behind(cred: *mut c_void) -> Cred {
     unsafe { credential(cred) }.map_or(null_mut(), |it| it.behind)
 }
 
-pub fn own(
-    behind: Cred,
-    accepts: bool,
-    keytab: Option<String>,
-    service: Option<String>,
-) -> *mut c_void {
-    Box::into_raw(Box::new(Credential {
+pub fn own(it: Credential) -> *mut c_void {
+    Box::into_raw(Box::new(it)).cast()
+}
+
+/// An initiator's credential that MIT's mechanism alone has.
+pub fn of_behind(behind: Cred) -> *mut c_void {
+    own(Credential {
         behind,
-        accepts,
-        keytab,
-        service,
-    }))
-    .cast()
+        accepts: false,
+        keytab: None,
+        service: None,
+        source: Source::Behind,
+    })
+}
+
+/// Where the tickets of a credential from this store are.
+unsafe fn source_of(store: CredStore) -> Source {
+    // SAFETY: of the caller.
+    unsafe {
+        if stored(store, b"client_keytab").is_some() {
+            return Source::Behind;
+        }
+        stored(store, b"ccache").map_or(Source::Default, Source::Cache)
+    }
 }
 
 /// The value of a word in a credential store, as `keytab`.
@@ -155,13 +169,17 @@ unsafe fn acquire(
         } else {
             acquire_behind(minor, name, time, mechs, store, actual, life)
         };
-        if status != COMPLETE {
-            return (status, null_mut());
+        let made = |behind| Credential {
+            behind,
+            accepts: usage != INITIATE,
+            keytab,
+            service: names::shown(name),
+            source: source_of(store),
+        };
+        match status {
+            COMPLETE => (status, own(made(behind))),
+            _ => (status, null_mut()),
         }
-        (
-            status,
-            own(behind, usage != INITIATE, keytab, names::shown(name)),
-        )
     }
 }
 
@@ -234,7 +252,7 @@ pub unsafe extern "C" fn gssi_acquire_cred_with_password(
             minor, name, password, time, &mut mechs, usage, &mut got, actual, life,
         );
         if status == COMPLETE {
-            set(cred, own(got, false, None, names::shown(name)));
+            set(cred, of_behind(got));
         }
         status
     })
@@ -268,7 +286,7 @@ pub unsafe extern "C" fn gssi_acquire_cred_impersonate_name(
             life,
         );
         if status == COMPLETE {
-            set(cred, own(got, false, None, None));
+            set(cred, of_behind(got));
         }
         status
     })

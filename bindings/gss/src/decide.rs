@@ -33,6 +33,8 @@ pub struct Admitted {
     pub service: String,
     /// The flags of the client's request.
     pub flags: Option<GssFlags>,
+    /// The name of the keytab.
+    pub keytab: String,
 }
 
 fn by_library(error: Error) -> Refused {
@@ -47,9 +49,8 @@ pub fn admit(
 ) -> Result<Admitted, Refused> {
     let name = keytab::name(asked.keytab, settings.keytab.as_deref());
     let keys = keys::of_file(keytab::path(&name), settings.skew)?;
-    let (acceptor, mut judged) = keys
-        .judge(asked.token, asked.bindings)
-        .map_err(by_library)?;
+    let judged = keys.judge(asked.token, asked.bindings);
+    let mut judged = judged.map_err(by_library)?;
     let client = judged.client().map_err(by_library)?;
     let service = judged.service().map_err(by_library)?;
     known.client = Some(client.clone());
@@ -68,13 +69,14 @@ pub fn admit(
             format!("wanted {wanted}"),
         ));
     }
-    let session = ask_store(settings, acceptor, judged, known)?;
+    let session = ask_store(settings, &keys.admits, judged, known)?;
     let flags = session.flags();
     Ok(Admitted {
         session,
         client,
         service,
         flags,
+        keytab: name,
     })
 }
 
@@ -94,6 +96,10 @@ fn ask_store(
         .map_err(by_library)?;
     if let Some(rules) = settings.rules {
         session.set_rules(rules).map_err(by_library)?;
+    }
+    let wants_order = |it: GssFlags| it.contains(GssFlags::GSS_C_SEQUENCE_FLAG);
+    if session.flags().is_some_and(wants_order) {
+        session.set_in_order(true).map_err(by_library)?;
     }
     Ok(session)
 }

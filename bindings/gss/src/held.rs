@@ -3,7 +3,8 @@
 use crate::abi::*;
 use crate::behind::*;
 use crate::buffers::set;
-use crate::credentials::{Credential, behind, credential, one, own, stored};
+use crate::cache::Source;
+use crate::credentials::{Credential, behind, credential, of_behind, one, stored};
 use crate::guard::guard;
 use crate::names;
 use crate::oids::{self, KRB5, special};
@@ -122,6 +123,7 @@ pub unsafe extern "C" fn gssi_set_cred_option(
         trace!("set_cred_option {}", oids::shown(what));
         match credential(if cred.is_null() { null_mut() } else { *cred }) {
             Some(it) if !it.behind.is_null() => {
+                it.source = Source::Behind; // (an option is one of MIT's mechanism)
                 gss_set_cred_option(minor, &mut it.behind, what, value)
             }
             _ => UNAVAILABLE,
@@ -212,7 +214,7 @@ pub unsafe extern "C" fn gssi_import_cred_by_mech(
         let mut got = null_mut();
         let status = gss_import_cred(minor, token, &mut got);
         if status == COMPLETE {
-            set(cred, own(got, false, None, None));
+            set(cred, of_behind(got));
         }
         status
     })

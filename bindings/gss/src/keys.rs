@@ -1,10 +1,8 @@
-//! The keys of a keytab file as acceptors of the library. A keytab is read again when it changes.
+//! The keys of a keytab file, in keyrings of the library. A keytab is read again when it changes.
 
 use crate::abi::NO_CRED;
-use crate::keytab;
-use crate::say;
 use crate::status::{NO_KEYS, Refused};
-use menolavuri::{Acceptor, Cause, Error, Judged};
+use menolavuri::{Acceptor, Error, Judged, Keyring};
 use std::fs::File;
 use std::io::Read;
 use std::os::unix::fs::MetadataExt;
@@ -14,8 +12,13 @@ use std::time::Duration;
 /// A file's state: whether it is another one, or was written to.
 type State = (u64, u64, i64, i64, u64);
 
-/// The acceptors of a keytab, the newest keys first.
-pub struct Keys(Vec<Acceptor>);
+/// The keys of a keytab. A ring judges one token at a time: each thread that judges has one of its own, and gives it back.
+pub struct Keys {
+    file: Vec<u8>,
+    idle: Mutex<Vec<Keyring>>,
+    /// It has no key and no book: it admits what a ring judged and a store answered.
+    pub admits: Acceptor,
+}
 
 /// The keys of each path, and the file's state when they were read.
 static KEPT: Mutex<Vec<(String, State, Arc<Keys>)>> = Mutex::new(Vec::new());
@@ -42,7 +45,8 @@ pub fn of_file(path: &str, skew: Duration) -> Result<Arc<Keys>, Refused> {
     }
     let mut octets = Vec::new();
     file.read_to_end(&mut octets).map_err(told)?;
-    let keys = Arc::new(Keys::of(path, &octets, skew)?);
+    let keys = Keys::of(octets, skew);
+    let keys = Arc::new(keys.map_err(|it| refused(format!("keytab {path}: {it}")))?);
     let entry = (path.to_owned(), state, keys.clone());
     match known {
         Some(at) => kept[at] = entry,
@@ -51,60 +55,41 @@ pub fn of_file(path: &str, skew: Duration) -> Result<Arc<Keys>, Refused> {
     Ok(keys)
 }
 
+fn ring(file: &[u8]) -> Result<Keyring, Error> {
+    let mut ring = Keyring::new()?;
+    ring.add_keytab(file)?;
+    Ok(ring)
+}
+
 impl Keys {
-    fn of(path: &str, file: &[u8], skew: Duration) -> Result<Keys, Refused> {
-        let mut all = Vec::new();
-        for (realm, part) in keytab::parts(file) {
-            match Acceptor::with_keytab(&part, &realm, skew) {
-                Ok(acceptor) => all.push(acceptor),
-                Err(error) if error.cause() == Some(Cause::NO_SERVICE_KEY) => {} // keys of other types
-                Err(error) => say!(
-                    "keytab {path}: keys of {} are left out: {error}",
-                    realm.escape_debug()
-                ),
-            }
+    fn of(file: Vec<u8>, skew: Duration) -> Result<Keys, String> {
+        let mut first = ring(&file).map_err(|it| it.to_string())?;
+        if first.count() == 0 {
+            return Err("it has no key".into());
         }
-        if all.is_empty() {
-            return Err(refused(format!(
-                "keytab {path} has no key of the types 17 and 18"
-            )));
-        }
-        Ok(Keys(all))
+        Ok(Keys {
+            file,
+            idle: Mutex::new(vec![first]),
+            admits: Acceptor::keyless(skew).map_err(|it| it.to_string())?,
+        })
     }
 
-    /// Makes the checks of a token before the store's. The newest keys are tried first. The refusal is that of the keys that decrypt the
-    /// ticket, otherwise that of the first that have the service.
-    pub fn judge(
-        &self,
-        token: &[u8],
-        bindings: Option<&[u8]>,
-    ) -> Result<(&Acceptor, Judged), Error> {
-        let mut first: Option<Error> = None;
-        for acceptor in &self.0 {
-            let judged = match bindings {
-                None => acceptor.judge(token),
-                Some(data) => acceptor.judge_bound(token, data),
-            };
-            match judged {
-                Ok(judged) => return Ok((acceptor, judged)),
-                Err(error) if is_of_key(&error) => {
-                    first = Some(first.filter(has_service).unwrap_or(error))
-                }
-                Err(error) => return Err(error),
-            }
-        }
-        Err(first.unwrap_or(Error::Argument))
+    fn idle(&self) -> std::sync::MutexGuard<'_, Vec<Keyring>> {
+        self.idle.lock().unwrap_or_else(PoisonError::into_inner)
     }
-}
 
-fn has_service(error: &Error) -> bool {
-    error.cause() != Some(Cause::NO_SERVICE_KEY)
-}
-
-/// Returns true if another key may decrypt the ticket, as menolavuri.h has it.
-fn is_of_key(error: &Error) -> bool {
-    matches!(
-        error.cause(),
-        Some(Cause::NO_SERVICE_KEY | Cause::KEY_LENGTH | Cause::ALTERED)
-    )
+    /// The checks of a token before the store's, by the key that its ticket names.
+    pub fn judge(&self, token: &[u8], bindings: Option<&[u8]>) -> Result<Judged, Error> {
+        let idle = self.idle().pop();
+        let mut ring = match idle {
+            Some(it) => it,
+            None => ring(&self.file)?,
+        };
+        let judged = match bindings {
+            None => ring.judge(token),
+            Some(data) => ring.judge_bound(token, data),
+        };
+        self.idle().push(ring);
+        judged
+    }
 }

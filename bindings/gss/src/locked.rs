@@ -5,7 +5,7 @@
 use crate::behind::{geteuid, getpid};
 use std::ffi::c_int;
 use std::fs::{DirBuilder, File, Metadata};
-use std::io::ErrorKind::AlreadyExists;
+use std::io::ErrorKind::{AlreadyExists, PermissionDenied, WouldBlock};
 use std::os::fd::{AsRawFd, IntoRawFd};
 use std::os::unix::fs::{DirBuilderExt, FileExt, MetadataExt, OpenOptionsExt};
 use std::sync::{Mutex, PoisonError};
@@ -24,6 +24,8 @@ struct Flock {
 }
 
 const SETLK: c_int = 6;
+const OFD_SETLK: c_int = 37;
+const READ: i16 = 0;
 const WRITE: i16 = 1;
 const UNLOCK: i16 = 2;
 const NOFOLLOW: c_int = 0o400_000;
@@ -114,17 +116,34 @@ impl Open {
     }
 }
 
+impl Flock {
+    fn of(kind: i16) -> Flock {
+        Flock {
+            kind,
+            whence: 0,
+            start: 0,
+            length: 0,
+            pid: 0,
+        }
+    }
+}
+
 /// Takes the lock or gives it back: true if that was done.
 fn lock(file: &File, kind: i16) -> bool {
-    let mut it = Flock {
-        kind,
-        whence: 0,
-        start: 0,
-        length: 0,
-        pid: 0,
-    };
     // SAFETY: the file is open, and the lock is ours.
-    unsafe { fcntl(file.as_raw_fd(), SETLK, &mut it) == 0 }
+    unsafe { fcntl(file.as_raw_fd(), SETLK, &mut Flock::of(kind)) == 0 }
+}
+
+/// Locks a file for reading, until it is closed, whatever else the process opens and closes. Returns false if somebody writes to it. A file
+/// system without locks has none.
+pub fn lock_to_read(file: &File) -> bool {
+    // SAFETY: as above.
+    let status = unsafe { fcntl(file.as_raw_fd(), OFD_SETLK, &mut Flock::of(READ)) };
+    status == 0
+        || !matches!(
+            std::io::Error::last_os_error().kind(),
+            WouldBlock | PermissionDenied
+        )
 }
 
 /// Does something under the lock. Nothing else in the process opens the file, so no close of another ends the lock.

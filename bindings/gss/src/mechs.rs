@@ -4,9 +4,8 @@ use crate::abi::*;
 use crate::behind::*;
 use crate::buffers::{octets, put, set, text};
 use crate::guard::guard;
-use crate::oids::{self, FAMILY, REGISTER_IDENTITY, special};
-use crate::status;
-use crate::{config, keytab, trace};
+use crate::oids::{self, CCACHE_NAME, FAMILY, REGISTER_IDENTITY, special};
+use crate::{cache, config, keytab, krb5, status, trace};
 use std::ptr::{null, null_mut};
 
 /// Returns the mechanisms that are interposed: the mechglue asks this first.
@@ -80,6 +79,9 @@ pub unsafe extern "C" fn gssi_mech_invoke(
                 .unwrap_or_default();
             keytab::register(&String::from_utf8_lossy(name));
         }
+        if asked == CCACHE_NAME {
+            cache::rename();
+        }
         gssspi_mech_invoke(minor, &special(mech), what, value)
     })
 }
@@ -136,7 +138,7 @@ pub unsafe extern "C" fn gssi_inquire_mech_for_saslname(
     })
 }
 
-/// A minor status of ours is given in words. Others are those of MIT's mechanism.
+/// A minor status of ours is given in words, and that of a KRB-ERROR in those of MIT krb5. Others are those of MIT's mechanism.
 #[unsafe(no_mangle)]
 pub unsafe extern "C" fn gssi_display_status(
     minor: *mut u32,
@@ -147,12 +149,15 @@ pub unsafe extern "C" fn gssi_display_status(
     out: Buffer,
 ) -> u32 {
     guard(minor, || unsafe {
-        if of != MECH_CODE || !status::is_ours(value) {
-            return gss_display_status(minor, value, of, null(), more, out);
-        }
+        let words = match of {
+            MECH_CODE if status::is_ours(value) => {
+                format!("refused by Menolavuri: {}", status::words(value))
+            }
+            MECH_CODE if krb5::code_of(value).is_some() => krb5::words(value),
+            _ => return gss_display_status(minor, value, of, null(), more, out),
+        };
         set(more, 0);
         set(minor, 0);
-        let words = format!("refused by Menolavuri: {}", status::words(value));
         if put(out, words.as_bytes()) {
             COMPLETE
         } else {

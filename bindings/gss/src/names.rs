@@ -41,6 +41,15 @@ pub unsafe fn of(principal: &str) -> Option<Name> {
     }
 }
 
+/// The name of this machine.
+pub fn machine() -> String {
+    let name = std::fs::read_to_string("/proc/sys/kernel/hostname").unwrap_or_default();
+    match name.trim() {
+        "" => "localhost".into(),
+        name => name.into(),
+    }
+}
+
 /// Gives a name back that nobody asked for.
 pub unsafe fn release(mut name: Name) {
     let mut minor = 0;

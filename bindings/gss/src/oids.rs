@@ -19,6 +19,8 @@ pub const TICKET_FLAGS: &[u8] = b"\x2a\x86\x48\x86\xf7\x12\x01\x02\x02\x05\x01";
 pub const SESSION_KEY: &[u8] = b"\x2a\x86\x48\x86\xf7\x12\x01\x02\x02\x05\x05";
 /// GSS_KRB5_REGISTER_ACCEPTOR_IDENTITY_X_OID
 pub const REGISTER_IDENTITY: &[u8] = b"\x2a\x86\x48\x86\xf7\x12\x01\x02\x02\x05\x09";
+/// GSS_KRB5_CCACHE_NAME_OID
+pub const CCACHE_NAME: &[u8] = b"\x2a\x86\x48\x86\xf7\x12\x01\x02\x02\x05\x03";
 /// GSS_C_SEC_CONTEXT_SASL_SSF
 pub const SASL_SSF: &[u8] = b"\x2a\x86\x48\x86\xf7\x12\x01\x02\x02\x05\x0f";
 /// GSS_KRB5_SESSION_KEY_ENCTYPE_OID without its last arc, the encryption type.

@@ -1,7 +1,8 @@
 //! Refusals: the status of RFC 2744, a minor status for the exact cause, and its words.
 
 use crate::abi::*;
-use menolavuri::{Cause, Error};
+use crate::krb5;
+use menolavuri::{Cause, Error, Refusal};
 
 /// The first bits of the minor statuses of this interposer; after them comes the number of a cause, or one of those below.
 pub const MINOR: u32 = 0x4d4b_0000;
@@ -26,7 +27,7 @@ pub const OWN_COUNT: usize = 12;
 /// The words of this interposer's own.
 const OWN_WORDS: [&str; OWN_COUNT] = [
     "the library did not do the call: its argument, memory or random octets failed",
-    "the keytab is not there or has no key of the types 17 and 18",
+    "the keytab cannot be read, or has no key",
     "the ticket is for another service than the credential",
     "the store of admitted clients does not answer: nobody is admitted",
     "a second token came where the first one ends the exchange",
@@ -40,7 +41,7 @@ const OWN_WORDS: [&str; OWN_COUNT] = [
 ];
 
 /// The words of the causes that clients and administrators meet (the numbers are mk_cause's in menolavuri.h).
-const CAUSE_WORDS: [(u32, &str); 32] = [
+const CAUSE_WORDS: [(u32, &str); 38] = [
     (1, "memory ran out"),
     (2, "the clock of this machine is out of range"),
     (6, "the token is not in the grammar of an AP-REQ"),
@@ -67,6 +68,12 @@ const CAUSE_WORDS: [(u32, &str); 32] = [
     (26, "a message lacks its sequence number"),
     (27, "the message is not the next one in order"),
     (28, "there is no subkey"),
+    (
+        31,
+        "there is no ticket for the service, and none to get one by",
+    ),
+    (34, "no KDC replied"),
+    (37, "a KRB-ERROR came"),
     (47, "the header of the message is not that of its form"),
     (48, "the message was sent by this side"),
     (49, "the extra count of the message does not fit"),
@@ -81,11 +88,20 @@ const CAUSE_WORDS: [(u32, &str); 32] = [
         "the channel bindings are not those of this channel, or the client gave none",
     ),
     (58, "the call is not served"),
+    (60, "the KDC's reply is to another request"),
+    (61, "the KDC's reply names another client or service"),
+    (
+        62,
+        "the ticket is not valid now, or the service answered another token",
+    ),
     (
         63,
         "the ticket came through further realms, and no KDC checked them",
     ),
 ];
+
+/// The cause of a token that is not in the grammar of an AP-REQ.
+const SHAPE: Cause = Cause(6);
 
 /// The refusal of a call.
 #[derive(Debug)]
@@ -94,8 +110,8 @@ pub struct Refused {
     pub minor: u32,
     /// Words in addition to the minor status's, as the path of a file. For the log alone.
     pub further: String,
-    /// A KRB-ERROR for the client, or no octets.
-    pub token: Vec<u8>,
+    /// The refusal by the library, if it is one.
+    pub refusal: Option<Refusal>,
 }
 
 impl Refused {
@@ -104,14 +120,31 @@ impl Refused {
             major,
             minor,
             further: further.into(),
-            token: Vec::new(),
+            refusal: None,
         }
     }
 
     /// The refusal of a client by the library.
     pub fn by(error: &Error) -> Refused {
         let minor = minor_of(error);
-        Refused::of(major_of(minor), minor, further(error))
+        let refusal = match error {
+            Error::Refused(it) => Some(*it),
+            _ => None,
+        };
+        Refused {
+            refusal,
+            ..Refused::of(major_of(minor), minor, further(error))
+        }
+    }
+
+    /// The KRB-ERROR that tells a client why it is refused, for the service of this name (RFC 4121, section 4.1). There is none for a token
+    /// that is not in the grammar of an AP-REQ, and for a refusal that is not the library's.
+    pub fn token(&self, service: &str) -> Vec<u8> {
+        let Some(refusal) = self.refusal.filter(|it| it.cause != SHAPE) else {
+            return Vec::new();
+        };
+        let (name, realm) = service.rsplit_once('@').unwrap_or((service, ""));
+        refusal.error_token(name, realm).unwrap_or_default()
     }
 }
 
@@ -154,7 +187,7 @@ pub fn is_ours(minor: u32) -> bool {
     minor & 0xffff_0000 == MINOR
 }
 
-/// The words of a minor status of this interposer's.
+/// The words of a minor status of this interposer's, or of a KRB-ERROR.
 pub fn words(minor: u32) -> String {
     let number = minor & 0xffff;
     if let Some(words) = number
@@ -162,6 +195,9 @@ pub fn words(minor: u32) -> String {
         .and_then(|it| OWN_WORDS.get(it as usize))
     {
         return (*words).to_owned();
+    }
+    if krb5::code_of(minor).is_some() {
+        return krb5::words(minor);
     }
     let known = CAUSE_WORDS.iter().find(|it| it.0 == number);
     let name = Cause(number);

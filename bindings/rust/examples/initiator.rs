@@ -3,9 +3,11 @@
 //!
 //!     cargo run --offline --example initiator 127.0.0.1:4444 host/server.example.com alice@EXAMPLE.COM - usual tcp://127.0.0.1:88 < password
 //!     cargo run --offline --example initiator 127.0.0.1:4444 host/server.example.com alice@EXAMPLE.COM keytab one-way udp://127.0.0.1:88
+//!     cargo run --offline --example initiator 127.0.0.1:4444 host/server.example.com alice@EXAMPLE.COM FILE:/tmp/krb5cc_0 usual udp://127.0.0.1:88
 //!
-//! After the user comes a file with its key, a keytab or the key in hex, or `-` where its password is to be read from the standard
-//! input. `usual` asks the server to show who it is, `one-way` does not, and with `dce-style` the client sends a third leg. The KDCs are
+//! After the user comes a file with its key, a keytab or the key in hex, or `FILE:` and the path of a credential cache, as KRB5CCNAME has
+//! it, or `-` if its password is to be read from the standard input. `usual` asks the server to show who it is, `one-way` does not, and
+//! with `dce-style` the client sends a third leg. The KDCs are
 //! asked in turn, with commas between them, until one answers. The client goes by the RFCs. Who needs other rules names them after the
 //! KDCs (docs/DIFFERENCES.md), or `NONE`: then a recorded log-in can be played back to it.
 
@@ -53,7 +55,7 @@ fn flags(word: &str) -> Answer<Flags> {
 
 fn run(arguments: &[String]) -> Answer<()> {
     let [address, service, user, keytab, asked, kdcs, words @ ..] = arguments else {
-        return Err("usage: initiator ADDRESS SERVICE USER KEYTAB|- usual|one-way|dce-style KDC[,KDC ..] [RULE ..]".into());
+        return Err("usage: initiator ADDRESS SERVICE USER KEYTAB|FILE:CACHE|- usual|one-way|dce-style KDC[,KDC ..] [RULE ..]".into());
     };
     let kdcs: Vec<&str> = kdcs.split(',').collect();
     let mut initiator = Initiator::new(service, "desk", flags(asked)?)

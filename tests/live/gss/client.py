@@ -1,6 +1,7 @@
 # A client over python3-gssapi of server.py:
-#   client.py PORT SERVICE [mech=spnego|iakerb|old|wrong] [nomutual] [dce] [twice] [altered] [bind=DATA] [fuzz=COUNT]
-# It logs in, and sends a sealed message, one in the clear and a MIC. Its last line is `done` where all was answered.
+#   client.py PORT SERVICE [mech=spnego|iakerb|old|wrong] [nomutual] [noorder] [dce] [deleg] [twice] [lost] [altered] [bind=DATA] [fuzz=COUNT]
+# It logs in, and sends an encrypted message, one in the clear and a MIC. Its last line is `done` if all was answered. It asks for messages
+# in order, unless there is `noorder`.
 import random, socket, sys
 
 import gssapi
@@ -19,7 +20,11 @@ def connection():
 
 
 def context():
-    flags = [Flag.integrity, Flag.confidentiality, Flag.replay_detection, Flag.out_of_sequence_detection]
+    flags = [Flag.integrity, Flag.confidentiality, Flag.replay_detection]
+    if "noorder" not in words:
+        flags.append(Flag.out_of_sequence_detection)
+    if "deleg" in words:
+        flags.append(Flag.delegate_to_peer)
     if "nomutual" not in words:
         flags.append(Flag.mutual_authentication)
     if "dce" in words:
@@ -58,6 +63,9 @@ def speak(server, stream):
     assert it.unwrap(ask(server, stream, message)).message == b"once more"
     if "twice" in words:
         assert ask(server, stream, message) == b""
+    if "lost" in words:
+        it.wrap(b"lost", True)
+        assert ask(server, stream, it.wrap(b"the next", True).message) == b""
     if "altered" in words:
         message = bytearray(it.wrap(b"altered", True).message)
         message[-1] ^= 1

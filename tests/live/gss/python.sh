@@ -9,6 +9,9 @@ python_tells() {
     tail -n 8 "$room/python.log" | grep -- "$1"
 }
 
+# Whether the message after a lost one is answered if no order is asked for: the client fails then, and the server has no error to print.
+lost_is_answered() { ! python_client "$python_port" host@localhost noorder lost && tail -n 1 "$room/python.log" | grep '^key of '; }
+
 # Starts the server, which holds its clients to such bindings, or to none: start_python NAME [DATA]
 start_python() {
     python_port=$(free_port)
@@ -23,9 +26,13 @@ try_gss_python() {
     start_python python && free=$python_port
     try_admissions Python host/localhost bash -c "python_client $free host@localhost"
     check "Python: SPNEGO" admits host/localhost bash -c "python_client $free host@localhost mech=spnego"
-    check "Python: the name, its flags, the ticket's time" python_tells 'alice@EXAMPLE.COM .* mutual replay conf integ ready, life [0-9]'
-    check "Python: a client that asks for no mutual authentication" python_tells ': replay conf integ ready, ' nomutual
-    check "Python: a message that comes twice is refused with its words" python_tells 'Repeated: the message was opened before' twice
+    check "Python: the name, its flags, the ticket's time" python_tells 'alice@EXAMPLE.COM .* mutual replay sequence conf integ ready, life [0-9]'
+    check "Python: a client that asks for no mutual authentication" python_tells ': replay sequence conf integ ready, ' nomutual
+    check "Python: a client that asks for no order of messages" python_tells ': mutual replay conf integ ready, ' noorder
+    check "Python: a message that comes twice is refused with its words" python_tells 'Repeated: the message was opened before' twice noorder
+    check "Python: a message after a lost one is refused, if order is asked for" python_tells 'Number: the message is not the next one in order' lost
+    check "Python: it is not refused otherwise" lost_is_answered
+    check "Python: a delegated ticket" python_tells 'delegated by alice@EXAMPLE.COM' deleg
     check "Python: a message that is altered is refused with its words" python_tells 'Altered: the key does not open it' altered
     check "Python: the session's key" python_tells 'key of 32 octets, type 18'
     for mech in iakerb old wrong; do

@@ -2,7 +2,7 @@
 
 # Whether gss-client says this many times that the signature of what it sent is good: sample_client PORT COUNT OPTION..
 sample_client() {
-    [ "$(timeout 20 gss-client -port "$1" "${@:3}" 127.0.0.1 host@localhost 'hello there' | grep -cx 'Signature verified.')" -eq "$2" ]
+    [ "$(timeout 20 gss-client -port "$1" "${@:3}" 127.0.0.1 "${sample_service:-host}@localhost" 'hello there' | grep -cx 'Signature verified.')" -eq "$2" ]
 }
 
 # Starts MIT's gss-server with the interposer: start_sample NAME WRAPPER.., and leaves its port in sample_port.
@@ -42,6 +42,27 @@ is_clean() {
     wait "$process" || { grep -v '^[^=]' "$room/valgrind.log"; return 1; }
 }
 
+# Whether the client says why it was refused: the acceptor's KRB-ERROR tells it.
+says_the_skew() {
+    KRB5CCNAME=FILE:$gss/skewed timeout 20 gss-client -port "$1" 127.0.0.1 host@localhost hello 2>&1 | tee /dev/stderr | grep -q 'Clock skew too great'
+}
+
+# Whether tickets under the older and the newer key of a service are admitted, once the keytab has both.
+rolls_over() {
+    local gss_conf=$gss/rolled.conf older=FILE:$gss/older.ccache sample_port
+    gss_settings "file:$gss/store" | sed "s#^keytab = .*#keytab = $gss/rolled.keytab#" > "$gss_conf"
+    kadmin.local addprinc -randkey roll/localhost && kadmin.local ktadd -k "$gss/rolled.keytab" roll/localhost
+    cp "${KRB5CCNAME#FILE:}" "${older#FILE:}" && KRB5CCNAME=$older kvno roll/localhost
+    sample_port=$(free_port)
+    serve gss-rolled gss-server -port "$sample_port" roll@localhost
+    await_port "$sample_port"
+    sample_service=roll KRB5CCNAME=$older admits roll/localhost bash -c "sample_client $sample_port 1" || return 1
+    kadmin.local ktadd -k "$gss/rolled.keytab" roll/localhost
+    sample_service=roll KRB5CCNAME=$older admits roll/localhost bash -c "sample_client $sample_port 1" || return 1
+    sample_service=roll admits roll/localhost bash -c "sample_client $sample_port 1" || return 1
+    klist -k "$gss/rolled.keytab" && klist -c "$older" | grep roll/localhost
+}
+
 # Whether nobody is admitted where the store cannot be written.
 is_closed_without_store() {
     local gss_conf=$gss/away.conf
@@ -67,6 +88,8 @@ try_gss_samples() {
     check "gss-server: a token comes again at another process" comes_to_another "$first" "$sample_port"
     check "gss-server: messages in the clear" admits host/localhost bash -c "sample_client $first 1 -nx"
     check "gss-server: SPNEGO" admits host/localhost bash -c "sample_client $first 1 -spnego"
+    check "gss-server: a client is told that its clock is wrong" says_the_skew "$first"
+    check "gss-server: the older and the newer key of a service" rolls_over
     check "gss-server: a client that delegates" admits host/localhost bash -c "sample_client $first 1 -d"
     check "gss-server: five log-ins, ten messages each" admits host/localhost bash -c "sample_client $first 50 -ccount 5 -mcount 10"
     check "gss-server: the store is away: nobody is admitted" is_closed_without_store

@@ -23,6 +23,8 @@ def accept(client, stream):
     key = inquire_sec_context_by_oid(context, SESSION_KEY)
     print(f"{context.initiator_name} to {context.target_name}: {names}, life {context.lifetime}", flush=True)
     print(f"key of {len(key[0])} octets, type {key[1][-1]}", flush=True)
+    if context.delegated_creds is not None:
+        print(f"delegated by {context.delegated_creds.name}", flush=True)
     return context
 
 

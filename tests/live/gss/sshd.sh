@@ -16,7 +16,13 @@ ssh_client() {
     local options=(-F /dev/null -p "$1" -o GSSAPIAuthentication=yes -o PreferredAuthentications="$2" -o StrictHostKeyChecking=no
         -o UserKnownHostsFile=/dev/null -o LogLevel=ERROR)
     [ "$2" = gssapi-keyex ] && options+=(-o GSSAPIKeyExchange=yes)
-    timeout 20 ssh "${options[@]}" "${@:3}" localhost 'echo in' | grep -x in
+    timeout 20 ssh "${options[@]}" "${@:3}" localhost "${ssh_command:-echo in}" | grep -x in
+}
+
+# Whether the ticket of a client that delegates is in a cache of its session.
+ssh_delegates() {
+    admits host/localhost env ssh_command='klist | grep -q "krbtgt/EXAMPLE.COM@EXAMPLE.COM" && echo in' \
+        bash -c "ssh_client $1 gssapi-with-mic -o GSSAPIDelegateCredentials=yes"
 }
 
 # Whether sshd lets nobody in where the interposer cannot be loaded: MIT's mechanism has no key.
@@ -35,6 +41,6 @@ try_gss_sshd() {
     export -f ssh_client
     try_admissions 'sshd, gssapi-with-mic' host/localhost bash -c "ssh_client $ssh_port gssapi-with-mic"
     try_admissions 'sshd, gssapi-keyex' host/localhost bash -c "ssh_client $ssh_port gssapi-keyex"
-    check "sshd: a client that delegates" admits host/localhost bash -c "ssh_client $ssh_port gssapi-with-mic -o GSSAPIDelegateCredentials=yes"
+    check "sshd: a client's delegated ticket is in its session" ssh_delegates "$ssh_port"
     check "sshd: without the interposer nobody is let in" is_closed_without
 }

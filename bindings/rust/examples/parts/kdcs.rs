@@ -11,7 +11,8 @@ pub fn about(what: String) -> impl FnOnce(Error) -> String {
     move |error| format!("{what}: {}", words(&error))
 }
 
-/// Tells the initiator who asks: by the key in a file, or by the password on the standard input where that is `-`.
+/// Gives the initiator its identity: the key in a file or the password on
+/// the standard input if that is `-`.
 pub fn identify(initiator: &mut Initiator, user: &str, file: &str) -> Answer<()> {
     let (name, realm) = user
         .rsplit_once('@')
