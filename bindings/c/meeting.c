@@ -35,10 +35,10 @@ static void ask_all(const exchange *x, const char *channel, mk_initiator *to) {
     const uint32_t flags = MK_MUTUAL_AUTH | MK_REPLAY_DETECT | MK_SEQUENCE_DETECT | MK_CONFIDENTIALITY | MK_INTEGRITY;
     const uint8_t number[4] = {1, 2, 3, 4};
     CHECK(mk_initiator_new(to, text(x->target), strlen(x->target), text(x->machine), strlen(x->machine), flags, number, 4).status == MK_OK);
-    CHECK(mk_initiator_kdc(to, text(x->url), strlen(x->url)).status == MK_OK);
-    CHECK(mk_initiator_key(to, text(USER), sizeof USER - 1, 18, x->user_key.at, x->user_key.length).status == MK_OK);
+    CHECK(mk_initiator_set_kdc(to, text(x->url), strlen(x->url)).status == MK_OK);
+    CHECK(mk_initiator_set_key(to, text(USER), sizeof USER - 1, 18, x->user_key.at, x->user_key.length).status == MK_OK);
     if (channel != NULL) {
-        CHECK(mk_initiator_bind(to, text(channel), strlen(channel)).status == MK_OK);
+        CHECK(mk_initiator_set_bindings(to, text(channel), strlen(channel)).status == MK_OK);
     }
     mk_reply reply = mk_initiator_start(to, &x->moment);
     for (size_t i = 0; i < 3; i++) {
@@ -52,7 +52,7 @@ octets token_for(const exchange *x, const char *channel) {
     mk_initiator initiator = MK_EMPTY;
     octets token = {{0}, 0};
     ask_all(x, channel, &initiator);
-    token.length = mk_initiator_token(&initiator, token.at, sizeof token.at).length;
+    token.length = mk_initiator_get_token(&initiator, token.at, sizeof token.at).length;
     mk_initiator_free(&initiator);
     return token;
 }
@@ -62,13 +62,13 @@ void meet(const exchange *x, mk_session *client, mk_session *server) {
     mk_acceptor acceptor = MK_EMPTY;
     octets token = {{0}, 0};
     ask_all(x, NULL, &initiator);
-    token.length = mk_initiator_token(&initiator, token.at, sizeof token.at).length;
+    token.length = mk_initiator_get_token(&initiator, token.at, sizeof token.at).length;
     CHECK(mk_acceptor_new(&acceptor, text(x->name), strlen(x->name), x->key.at, x->key.length, 300).status == MK_OK);
     CHECK(mk_accept(&acceptor, server, token.at, token.length, &x->moment).status == MK_OK);
-    token.length = mk_session_answer(server, token.at, sizeof token.at).length;
+    token.length = mk_session_get_answer(server, token.at, sizeof token.at).length;
     mk_reply reply = mk_initiator_hear(&initiator, token.at, token.length, &x->moment);
     CHECK(reply.status == MK_OK && reply.number == MK_ESTABLISHED);
-    CHECK(mk_initiator_session(&initiator, client).status == MK_OK && client->count == 1 && server->count == 1);
+    CHECK(mk_initiator_take_session(&initiator, client).status == MK_OK && client->count == 1 && server->count == 1);
     mk_initiator_free(&initiator);
     mk_acceptor_free(&acceptor);
 }

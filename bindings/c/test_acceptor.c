@@ -32,11 +32,11 @@ static void bind_clients(const exchange *x, const octets *bound, const octets *u
     CHECK(judged.count == 0);
     CHECK(judge_bound(x, &acceptor, &judged, bound, CHANNEL).status == MK_OK);
     CHECK(judge_bound(x, &acceptor, &judged, bound, CHANNEL).status == MK_HANDLE);
-    mk_reply reply = mk_judged_flags(&judged);
+    mk_reply reply = mk_judged_get_flags(&judged);
     CHECK(reply.status == MK_OK && reply.number == (MK_GSS_C_MUTUAL_FLAG | MK_GSS_C_REPLAY_FLAG | MK_GSS_C_SEQUENCE_FLAG | MK_GSS_C_CONF_FLAG |
                                                     MK_GSS_C_INTEG_FLAG));
     CHECK(mk_admit(&acceptor, &judged, &session).status == MK_OK);
-    reply = mk_session_client(&session, out, sizeof out);
+    reply = mk_session_get_client(&session, out, sizeof out);
     CHECK(reply.status == MK_OK && reply.length == 17 && memcmp(out, "alice@EXAMPLE.COM", 17) == 0);
     mk_session_free(&session);
     CHECK(mk_judge(&acceptor, &judged, unbound->at, unbound->length, &x->moment).status == MK_OK);
@@ -52,15 +52,15 @@ static void know_clients(const exchange *x) {
     uint8_t out[64];
     mk_times times;
     meet(x, &client, &server);
-    mk_reply reply = mk_session_client(&server, out, sizeof out);
+    mk_reply reply = mk_session_get_client(&server, out, sizeof out);
     CHECK(reply.status == MK_OK && reply.length == 17 && memcmp(out, "alice@EXAMPLE.COM", 17) == 0);
-    CHECK(mk_session_times(&server, &times).status == MK_OK && times.starttime < times.endtime);
-    reply = mk_session_flags(&server);
+    CHECK(mk_session_get_times(&server, &times).status == MK_OK && times.starttime < times.endtime);
+    reply = mk_session_get_flags(&server);
     CHECK(reply.status == MK_OK && reply.length == 0 && reply.number == 0x3e);
-    CHECK(mk_session_ticket_flags(&server).status == MK_OK);
-    CHECK(mk_session_client(&client, out, sizeof out).status == MK_HANDLE && mk_session_times(&client, &times).status == MK_HANDLE);
-    CHECK(mk_session_flags(&client).status == MK_HANDLE && mk_session_ticket_flags(&client).status == MK_HANDLE);
-    CHECK(mk_session_flags(&none).status == MK_HANDLE && mk_session_ticket_flags(&none).status == MK_HANDLE);
+    CHECK(mk_session_get_ticket_flags(&server).status == MK_OK);
+    CHECK(mk_session_get_client(&client, out, sizeof out).status == MK_HANDLE && mk_session_get_times(&client, &times).status == MK_HANDLE);
+    CHECK(mk_session_get_flags(&client).status == MK_HANDLE && mk_session_get_ticket_flags(&client).status == MK_HANDLE);
+    CHECK(mk_session_get_flags(&none).status == MK_HANDLE && mk_session_get_ticket_flags(&none).status == MK_HANDLE);
     mk_session_free(&client);
     mk_session_free(&server);
 }
@@ -100,13 +100,13 @@ static void go_in_order(const exchange *x) {
 static void limit(const exchange *x, const octets *token) {
     mk_acceptor acceptor = MK_EMPTY, copy = MK_EMPTY;
     mk_judged judged = MK_EMPTY;
-    CHECK(mk_acceptor_limit_tokens(&acceptor, 9).status == MK_HANDLE);
+    CHECK(mk_acceptor_set_token_limit(&acceptor, 9).status == MK_HANDLE);
     make(x, &acceptor);
-    CHECK(mk_acceptor_limit_tokens(&acceptor, token->length - 1).status == MK_OK);
+    CHECK(mk_acceptor_set_token_limit(&acceptor, token->length - 1).status == MK_OK);
     CHECK(mk_acceptor_copy(&acceptor, &copy).status == MK_OK);
     CHECK(is_refused(mk_judge(&acceptor, &judged, token->at, token->length, &x->moment), MK_CAUSE_SHAPE));
     CHECK(is_refused(mk_judge(&copy, &judged, token->at, token->length, &x->moment), MK_CAUSE_SHAPE));
-    CHECK(mk_acceptor_limit_tokens(&acceptor, token->length).status == MK_OK);
+    CHECK(mk_acceptor_set_token_limit(&acceptor, token->length).status == MK_OK);
     CHECK(mk_judge(&acceptor, &judged, token->at, token->length, &x->moment).status == MK_OK);
     mk_judged_free(&judged);
     mk_acceptor_free(&acceptor);

@@ -79,14 +79,14 @@ static mk_reply make(const login *l, mk_initiator *to) {
 }
 
 static void set_password(const login *l, mk_initiator *initiator) {
-    CHECK(mk_initiator_password(initiator, text(l->user), strlen(l->user), text(l->realm), strlen(l->realm), text(l->password),
+    CHECK(mk_initiator_set_password(initiator, text(l->user), strlen(l->user), text(l->realm), strlen(l->realm), text(l->password),
                                 strlen(l->password)).status == MK_OK);
 }
 
 /* An initiator of the recorded user at its KDC. */
 static void make_ready(const login *l, mk_initiator *to) {
     CHECK(make(l, to).status == MK_OK);
-    CHECK(mk_initiator_kdc(to, text(l->url), strlen(l->url)).status == MK_OK);
+    CHECK(mk_initiator_set_kdc(to, text(l->url), strlen(l->url)).status == MK_OK);
     set_password(l, to);
 }
 
@@ -99,15 +99,15 @@ static int gives(mk_reply reply, const uint8_t *out, const void *wanted, size_t 
 /* Whether it asks this KDC so. */
 static int asks(const login *l, mk_initiator *initiator, const octets *request) {
     uint8_t url[64], out[4096];
-    return gives(mk_initiator_url(initiator, url, sizeof url), url, l->url, strlen(l->url)) &&
-           gives(mk_initiator_request(initiator, out, sizeof out), out, request->at, request->length);
+    return gives(mk_initiator_get_url(initiator, url, sizeof url), url, l->url, strlen(l->url)) &&
+           gives(mk_initiator_get_request(initiator, out, sizeof out), out, request->at, request->length);
 }
 
 /* Begins with these flags and rules, and takes the three replies of the KDC. They were recorded with these draws, so all rules may hold. */
 static mk_reply ask_all(const login *l, mk_initiator *to, uint32_t flags, uint32_t rules) {
     CHECK(mk_initiator_new(to, text(l->target), strlen(l->target), text(l->machine), strlen(l->machine), flags, l->number, 4).status == MK_OK);
     CHECK(mk_initiator_set_rules(to, rules).status == MK_OK);
-    CHECK(mk_initiator_kdc(to, text(l->url), strlen(l->url)).status == MK_OK);
+    CHECK(mk_initiator_set_kdc(to, text(l->url), strlen(l->url)).status == MK_OK);
     set_password(l, to);
     mk_reply reply = mk_initiator_start(to, &l->steps[0]);
     for (size_t i = 0; i < 3; i++) {
@@ -121,7 +121,7 @@ static mk_reply ask_all(const login *l, mk_initiator *to, uint32_t flags, uint32
 static int seals_so(const login *l, mk_initiator *initiator, uint8_t flags, uint8_t number) {
     mk_session session = MK_EMPTY;
     uint8_t out[128] = {0};
-    CHECK(mk_initiator_session(initiator, &session).status == MK_OK);
+    CHECK(mk_initiator_take_session(initiator, &session).status == MK_OK);
     CHECK(mk_wrap(&session, l->text.at, l->text.length, l->confounder.at, l->confounder.length, out, sizeof out).status == MK_OK);
     mk_session_free(&session);
     return out[2] == flags && out[15] == number;
@@ -137,10 +137,10 @@ static void log_in_otherwise(const login *l) {
     CHECK(leads_to(mk_initiator_hear(&initiator, l->answer.at, l->answer.length, &l->steps[13]), MK_ESTABLISHED));
     CHECK(seals_so(l, &initiator, 6, l->sealed.at[15] + 1));
     CHECK(leads_to(ask_all(l, &initiator, one_way, MK_RULES_NONE), MK_SEND_TOKEN));
-    CHECK(is_refused(mk_initiator_session(&initiator, &session), MK_CAUSE_SEQUENCE));
+    CHECK(is_refused(mk_initiator_take_session(&initiator, &session), MK_CAUSE_SEQUENCE));
     mk_initiator_free(&initiator);
     CHECK(leads_to(ask_all(l, &initiator, one_way, MK_ONE_WAY_IS_SETTLED | MK_FRESH_REPLIES), MK_ESTABLISHED));
-    mk_reply reply = mk_initiator_token(&initiator, out, sizeof out);
+    mk_reply reply = mk_initiator_get_token(&initiator, out, sizeof out);
     CHECK(reply.status == MK_OK && reply.length > 0);
     CHECK(seals_so(l, &initiator, 6, l->sealed.at[15] + 1));
     CHECK(leads_to(ask_all(l, &initiator, one_way, MK_RULES_RFC), MK_ESTABLISHED));
@@ -180,12 +180,12 @@ static void refuse_recordings(const login *l) {
 static void use_session(const login *l, mk_session *session) {
     uint8_t out[4096];
     mk_times times;
-    mk_reply reply = mk_session_answer(session, out, sizeof out);
+    mk_reply reply = mk_session_get_answer(session, out, sizeof out);
     CHECK(reply.status == MK_OK && reply.length == 0);
-    CHECK(is_refused(mk_session_peer(session, out, sizeof out), MK_CAUSE_NO_IDENTITY));
-    CHECK(mk_session_client(session, out, sizeof out).status == MK_HANDLE);
-    CHECK(mk_session_times(session, &times).status == MK_HANDLE);
-    reply = mk_session_key(session, out, sizeof out);
+    CHECK(is_refused(mk_session_get_local_name(session, out, sizeof out), MK_CAUSE_NO_IDENTITY));
+    CHECK(mk_session_get_client(session, out, sizeof out).status == MK_HANDLE);
+    CHECK(mk_session_get_times(session, &times).status == MK_HANDLE);
+    reply = mk_session_get_key(session, out, sizeof out);
     CHECK(reply.status == MK_OK && reply.length == 32);
     reply = mk_wrap(session, l->text.at, l->text.length, l->confounder.at, l->confounder.length, out, sizeof out);
     CHECK(gives(reply, out, l->sealed.at, l->sealed.length));
@@ -206,28 +206,28 @@ static void log_in(const login *l) {
         CHECK(leads_to(reply, MK_ASK_KDC) && asks(l, &initiator, &l->asks[i]));
         CHECK(is_refused(mk_initiator_start(&initiator, &l->steps[0]), MK_CAUSE_SEQUENCE));
         CHECK(is_refused(mk_initiator_hear(&initiator, l->answer.at, l->answer.length, &l->steps[0]), MK_CAUSE_SEQUENCE));
-        CHECK(is_refused(mk_initiator_token(&initiator, out, sizeof out), MK_CAUSE_SEQUENCE));
+        CHECK(is_refused(mk_initiator_get_token(&initiator, out, sizeof out), MK_CAUSE_SEQUENCE));
         reply = mk_initiator_answer(&initiator, l->replies[i].at, l->replies[i].length, &l->steps[i + 1]);
     }
     CHECK(leads_to(reply, MK_SEND_TOKEN));
-    CHECK(is_refused(mk_initiator_request(&initiator, out, sizeof out), MK_CAUSE_SEQUENCE));
-    CHECK(is_refused(mk_initiator_url(&initiator, out, sizeof out), MK_CAUSE_SEQUENCE));
+    CHECK(is_refused(mk_initiator_get_request(&initiator, out, sizeof out), MK_CAUSE_SEQUENCE));
+    CHECK(is_refused(mk_initiator_get_url(&initiator, out, sizeof out), MK_CAUSE_SEQUENCE));
     CHECK(is_refused(mk_initiator_start(&initiator, &l->steps[0]), MK_CAUSE_SEQUENCE));
     CHECK(is_refused(mk_initiator_fault(&initiator, 1, &l->steps[0]), MK_CAUSE_SEQUENCE));
-    CHECK(is_refused(mk_initiator_session(&initiator, &session), MK_CAUSE_SEQUENCE) && initiator.count != 0 && session.count == 0);
-    CHECK(is_refused(mk_initiator_peer(&initiator, out, sizeof out), MK_CAUSE_SEQUENCE));
+    CHECK(is_refused(mk_initiator_take_session(&initiator, &session), MK_CAUSE_SEQUENCE) && initiator.count != 0 && session.count == 0);
+    CHECK(is_refused(mk_initiator_get_peer(&initiator, out, sizeof out), MK_CAUSE_SEQUENCE));
     CHECK(is_refused(mk_initiator_hear(&initiator, l->token.at, l->token.length, &l->steps[13]), MK_CAUSE_SHAPE));
-    reply = mk_initiator_token(&initiator, out, l->token.length - 1);
+    reply = mk_initiator_get_token(&initiator, out, l->token.length - 1);
     CHECK(reply.status == MK_ROOM && reply.length == l->token.length);
-    CHECK(gives(mk_initiator_token(&initiator, out, sizeof out), out, l->token.at, l->token.length));
+    CHECK(gives(mk_initiator_get_token(&initiator, out, sizeof out), out, l->token.at, l->token.length));
     CHECK(leads_to(mk_initiator_hear(&initiator, l->answer.at, l->answer.length, &l->steps[13]), MK_ESTABLISHED));
-    reply = mk_initiator_token(&initiator, out, sizeof out);
+    reply = mk_initiator_get_token(&initiator, out, sizeof out);
     CHECK(reply.status == MK_OK && reply.length == 0);
-    CHECK(gives(mk_initiator_peer(&initiator, out, sizeof out), out, l->target, strlen(l->target)));
+    CHECK(gives(mk_initiator_get_peer(&initiator, out, sizeof out), out, l->target, strlen(l->target)));
     CHECK(is_refused(mk_initiator_hear(&initiator, l->answer.at, l->answer.length, &l->steps[13]), MK_CAUSE_SEQUENCE));
-    CHECK(mk_initiator_session(&initiator, &session).status == MK_OK);
+    CHECK(mk_initiator_take_session(&initiator, &session).status == MK_OK);
     CHECK(initiator.count == 0 && session.count != 0);
-    CHECK(mk_initiator_session(&initiator, &taken).status == MK_HANDLE && taken.count == 0);
+    CHECK(mk_initiator_take_session(&initiator, &taken).status == MK_HANDLE && taken.count == 0);
     use_session(l, &session);
     mk_initiator_free(&initiator);
     mk_session_free(&session);
@@ -242,21 +242,21 @@ static void refuse_handles(const login *l, mk_initiator *full) {
     const uint8_t *a = text("a");
     CHECK(make(l, full).status == MK_HANDLE && full->count != 0);
     CHECK(mk_initiator_set_rules(&empty, MK_RULES_NONE).status == MK_HANDLE);
-    CHECK(mk_initiator_kdc(&empty, a, 1).status == MK_HANDLE);
-    CHECK(mk_initiator_password(&empty, a, 1, a, 1, a, 1).status == MK_HANDLE);
-    CHECK(mk_initiator_key(&empty, a, 1, 18, out, 32).status == MK_HANDLE);
-    CHECK(mk_initiator_variable(&empty, a, 1, a, 1).status == MK_HANDLE);
-    CHECK(mk_initiator_file(&empty, a, 1, a, 1).status == MK_HANDLE);
-    CHECK(mk_initiator_bind(&empty, a, 1).status == MK_HANDLE);
+    CHECK(mk_initiator_set_kdc(&empty, a, 1).status == MK_HANDLE);
+    CHECK(mk_initiator_set_password(&empty, a, 1, a, 1, a, 1).status == MK_HANDLE);
+    CHECK(mk_initiator_set_key(&empty, a, 1, 18, out, 32).status == MK_HANDLE);
+    CHECK(mk_initiator_set_variable(&empty, a, 1, a, 1).status == MK_HANDLE);
+    CHECK(mk_initiator_set_file(&empty, a, 1, a, 1).status == MK_HANDLE);
+    CHECK(mk_initiator_set_bindings(&empty, a, 1).status == MK_HANDLE);
     CHECK(mk_initiator_start(&empty, &l->steps[0]).status == MK_HANDLE);
     CHECK(mk_initiator_hear(&empty, a, 1, &l->steps[0]).status == MK_HANDLE);
     CHECK(mk_initiator_answer(&empty, a, 1, &l->steps[0]).status == MK_HANDLE);
     CHECK(mk_initiator_fault(&empty, 1, &l->steps[0]).status == MK_HANDLE);
-    CHECK(mk_initiator_url(&empty, out, sizeof out).status == MK_HANDLE);
-    CHECK(mk_initiator_request(&empty, out, sizeof out).status == MK_HANDLE);
-    CHECK(mk_initiator_token(&empty, out, sizeof out).status == MK_HANDLE);
-    CHECK(mk_initiator_peer(&empty, out, sizeof out).status == MK_HANDLE);
-    CHECK(mk_initiator_session(&empty, &session).status == MK_HANDLE);
+    CHECK(mk_initiator_get_url(&empty, out, sizeof out).status == MK_HANDLE);
+    CHECK(mk_initiator_get_request(&empty, out, sizeof out).status == MK_HANDLE);
+    CHECK(mk_initiator_get_token(&empty, out, sizeof out).status == MK_HANDLE);
+    CHECK(mk_initiator_get_peer(&empty, out, sizeof out).status == MK_HANDLE);
+    CHECK(mk_initiator_take_session(&empty, &session).status == MK_HANDLE);
     CHECK(mk_session_set_rules(&session, MK_RULES_NONE).status == MK_HANDLE);
     mk_initiator_free(&empty);
     CHECK(empty.count == 0 && empty.at == NULL && session.count == 0);
@@ -279,18 +279,18 @@ static void refuse_arguments(const login *l, mk_initiator *initiator) {
         CHECK(mk_initiator_set_rules(initiator, rule).status == ((MK_RULES_RFC & rule) != 0 ? MK_OK : MK_ARGUMENT));
     }
     CHECK(mk_initiator_set_rules(initiator, MK_RULES_RFC).status == MK_OK);
-    CHECK(mk_initiator_kdc(initiator, bad, 1).status == MK_ARGUMENT);
-    CHECK(mk_initiator_password(initiator, bad, 1, a, 1, a, 1).status == MK_ARGUMENT);
-    CHECK(mk_initiator_password(initiator, a, 1, bad, 1, a, 1).status == MK_ARGUMENT);
-    CHECK(mk_initiator_password(initiator, a, 1, a, 1, bad, 1).status == MK_ARGUMENT);
-    CHECK(mk_initiator_key(initiator, bad, 1, 18, key, 32).status == MK_ARGUMENT);
-    CHECK(mk_initiator_key(initiator, a, 1, 256 + 18, key, 32).status == MK_ARGUMENT);
-    CHECK(is_refused(mk_initiator_key(initiator, a, 1, 16, key, 32), MK_CAUSE_ETYPE));
-    CHECK(is_refused(mk_initiator_key(initiator, text("E\\a@b"), 5, 18, key, 32), MK_CAUSE_BAD_USER));
-    CHECK(mk_initiator_variable(initiator, bad, 1, a, 1).status == MK_ARGUMENT);
-    CHECK(mk_initiator_variable(initiator, a, 1, bad, 1).status == MK_ARGUMENT);
-    CHECK(mk_initiator_file(initiator, bad, 1, a, 1).status == MK_ARGUMENT);
-    CHECK(mk_initiator_file(initiator, a, 1, bad, 1).status == MK_ARGUMENT);
+    CHECK(mk_initiator_set_kdc(initiator, bad, 1).status == MK_ARGUMENT);
+    CHECK(mk_initiator_set_password(initiator, bad, 1, a, 1, a, 1).status == MK_ARGUMENT);
+    CHECK(mk_initiator_set_password(initiator, a, 1, bad, 1, a, 1).status == MK_ARGUMENT);
+    CHECK(mk_initiator_set_password(initiator, a, 1, a, 1, bad, 1).status == MK_ARGUMENT);
+    CHECK(mk_initiator_set_key(initiator, bad, 1, 18, key, 32).status == MK_ARGUMENT);
+    CHECK(mk_initiator_set_key(initiator, a, 1, 256 + 18, key, 32).status == MK_ARGUMENT);
+    CHECK(is_refused(mk_initiator_set_key(initiator, a, 1, 16, key, 32), MK_CAUSE_ETYPE));
+    CHECK(is_refused(mk_initiator_set_key(initiator, text("E\\a@b"), 5, 18, key, 32), MK_CAUSE_BAD_USER));
+    CHECK(mk_initiator_set_variable(initiator, bad, 1, a, 1).status == MK_ARGUMENT);
+    CHECK(mk_initiator_set_variable(initiator, a, 1, bad, 1).status == MK_ARGUMENT);
+    CHECK(mk_initiator_set_file(initiator, bad, 1, a, 1).status == MK_ARGUMENT);
+    CHECK(mk_initiator_set_file(initiator, a, 1, bad, 1).status == MK_ARGUMENT);
 }
 
 static int is_late(mk_reply reply) { return is_refused(reply, MK_CAUSE_MOMENT); }
@@ -308,10 +308,10 @@ static void refuse_steps(const login *l, mk_initiator *initiator) {
     CHECK(is_refused(mk_initiator_start(initiator, &l->steps[0]), MK_CAUSE_NO_IDENTITY));
     set_password(l, initiator);
     CHECK(is_refused(mk_initiator_start(initiator, &l->steps[0]), MK_CAUSE_NO_KDC));
-    CHECK(mk_initiator_kdc(initiator, text(l->url), strlen(l->url)).status == MK_OK);
+    CHECK(mk_initiator_set_kdc(initiator, text(l->url), strlen(l->url)).status == MK_OK);
     CHECK(leads_to(mk_initiator_start(initiator, &l->steps[0]), MK_ASK_KDC) && asks(l, initiator, ask));
-    CHECK(mk_initiator_url(initiator, out, 3).status == MK_ROOM);
-    mk_reply reply = mk_initiator_request(initiator, out, ask->length - 1);
+    CHECK(mk_initiator_get_url(initiator, out, 3).status == MK_ROOM);
+    mk_reply reply = mk_initiator_get_request(initiator, out, ask->length - 1);
     CHECK(reply.status == MK_ROOM && reply.length == ask->length);
     CHECK(is_late(mk_initiator_answer(initiator, needs->at, needs->length, &late)) && asks(l, initiator, ask));
     reply = mk_initiator_fault(initiator, 77, &l->steps[0]);
@@ -330,12 +330,12 @@ static void ask_by_file(const login *l) {
     mk_initiator initiator = MK_EMPTY;
     uint8_t out[64], key[32] = {7};
     CHECK(make(l, &initiator).status == MK_OK);
-    CHECK(mk_initiator_key(&initiator, text("EXAMPLE.COM\\alice"), 17, 18, key, 32).status == MK_OK);
-    CHECK(mk_initiator_variable(&initiator, text("KRB5_CONFIG"), 11, text(path), strlen(path)).status == MK_OK);
-    CHECK(mk_initiator_file(&initiator, text(path), strlen(path), text(file), strlen(file)).status == MK_OK);
-    CHECK(mk_initiator_bind(&initiator, text("tls-server-end-point:"), 21).status == MK_OK);
+    CHECK(mk_initiator_set_key(&initiator, text("EXAMPLE.COM\\alice"), 17, 18, key, 32).status == MK_OK);
+    CHECK(mk_initiator_set_variable(&initiator, text("KRB5_CONFIG"), 11, text(path), strlen(path)).status == MK_OK);
+    CHECK(mk_initiator_set_file(&initiator, text(path), strlen(path), text(file), strlen(file)).status == MK_OK);
+    CHECK(mk_initiator_set_bindings(&initiator, text("tls-server-end-point:"), 21).status == MK_OK);
     CHECK(leads_to(mk_initiator_start(&initiator, &l->steps[0]), MK_ASK_KDC));
-    CHECK(gives(mk_initiator_url(&initiator, out, sizeof out), out, "tcp://kdc.example.com:88", 24));
+    CHECK(gives(mk_initiator_get_url(&initiator, out, sizeof out), out, "tcp://kdc.example.com:88", 24));
     mk_initiator_free(&initiator);
     CHECK(initiator.count == 0);
 }

@@ -78,10 +78,10 @@ static octets framed(const uint8_t *message, size_t length) {
     return frame;
 }
 
-static mk_reply serve(mk_session *from, mk_sasl *to, uint32_t layers, uint32_t most) { return mk_sasl_server(from, to, layers, most); }
+static mk_reply serve(mk_session *from, mk_sasl *to, uint32_t layers, uint32_t most) { return mk_sasl_new_server(from, to, layers, most); }
 
 static mk_reply wish(mk_session *from, mk_sasl *to, uint32_t layer, uint32_t most, const char *user) {
-    return mk_sasl_client(from, to, layer, most, text(user), strlen(user));
+    return mk_sasl_new_client(from, to, layer, most, text(user), strlen(user));
 }
 
 static mk_reply accept(mk_sasl *server, const octets *token, uint8_t *out, size_t room) {
@@ -164,7 +164,7 @@ static void converse(const exchange *x, int i) {
     mk_sasl server = MK_EMPTY, client = MK_EMPTY;
     uint8_t out[1];
     begin(x, &server, &client, &all[i]);
-    CHECK(mk_sasl_layer(&server) == all[i].layer && mk_sasl_layer(&client) == all[i].layer);
+    CHECK(mk_sasl_get_layer(&server) == all[i].layer && mk_sasl_get_layer(&client) == all[i].layer);
     CHECK(is_short(seal(&server, "", 0, out, 0), 4 + added[i]) && is_short(seal(&client, "", 0, out, 0), 4 + added[i]));
     for (size_t j = 0; j < 4; j++) {
         carry(&client, &server, all[i].layer, lengths[j]);
@@ -205,7 +205,7 @@ static void refuse_ends(const exchange *x) {
     CHECK(serve(&none, &server, 4, 9).status == MK_HANDLE && wish(&none, &client, 4, 9, "").status == MK_HANDLE);
     CHECK(server.count == 0 && server.at == NULL && client.count == 0 && client.at == NULL);
     CHECK(initiator.count == 1 && mk_wrap_in_clear(&initiator, out, 0, out + 32, 32).status == MK_OK);
-    CHECK(acceptor.count == 1 && gives(mk_session_peer(&acceptor, out, sizeof out), out, "alice@example.com", 17));
+    CHECK(acceptor.count == 1 && gives(mk_session_get_local_name(&acceptor, out, sizeof out), out, "alice@example.com", 17));
     CHECK(is_done(serve(&acceptor, &server, 7, 0xffffff), 0) && is_done(wish(&initiator, &client, 2, 0, ""), 0));
     CHECK(serve(&acceptor, &server, 7, 9).status == MK_HANDLE && wish(&initiator, &client, 2, 9, "").status == MK_HANDLE);
     meet(x, &initiator, &acceptor);
@@ -239,7 +239,7 @@ static void refuse_steps(const exchange *x) {
     meet(x, &initiator, &acceptor);
     CHECK(is_done(serve(&acceptor, &server, 6, 1000), 0) && is_done(wish(&initiator, &client, 4, 1000, "bob"), 0));
     refuse_handles(&server, &client);
-    CHECK(mk_sasl_layer(&server) == 0 && mk_sasl_layer(&client) == 0);
+    CHECK(mk_sasl_get_layer(&server) == 0 && mk_sasl_get_layer(&client) == 0);
     CHECK(breaks(accept(&server, &token, out, sizeof out), MK_SASL_STATE));
     CHECK(breaks(seal(&server, "a", 1, out, sizeof out), MK_SASL_STATE) && breaks(unseal(&server, &token, out, sizeof out), MK_SASL_STATE));
     CHECK(breaks(seal(&client, "a", 1, out, sizeof out), MK_SASL_STATE) && breaks(unseal(&client, &token, out, sizeof out), MK_SASL_STATE));

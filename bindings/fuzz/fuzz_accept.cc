@@ -15,14 +15,14 @@ static void make(const Service &it, mk_acceptor *to) {
     mk_reply reply = mk_acceptor_new(to, name.at, name.length, key.at, key.length, 300);
     check_reply("mk_acceptor_new", reply, 0);
     PROMISE((reply.status == MK_OK) == (to->count == 1), "an acceptor that was refused");
-    if (reply.status == MK_OK) PROMISE(mk_acceptor_key(to, other.at, other.length, SERVICE_KEY.data(), 16).status == MK_OK, "another service");
+    if (reply.status == MK_OK) PROMISE(mk_acceptor_add_key(to, other.at, other.length, SERVICE_KEY.data(), 16).status == MK_OK, "another service");
 }
 
 /* The key of the session, with which its messages have the lengths that the header names. */
 static void send(mk_session *s) {
     const bytes text = of("hello");
     const uint8_t confounder[16] = {7};
-    Got key = get("mk_session_key", [&](uint8_t *out, size_t room) { return mk_session_key(s, out, room); });
+    Got key = get("mk_session_get_key", [&](uint8_t *out, size_t room) { return mk_session_get_key(s, out, room); });
     PROMISE(key.octets.size() == 16 || key.octets.size() == 32, "a key of %zu", key.octets.size());
     Got sealed = get("mk_wrap", [&](uint8_t *out, size_t room) { return mk_wrap(s, text.data(), text.size(), confounder, 16, out, room); });
     PROMISE(sealed.reply.status == MK_OK && (sealed.octets.size() == 65 || sealed.octets.size() == 81), "a message of %zu", sealed.octets.size());
@@ -39,15 +39,15 @@ static void send(mk_session *s) {
 /* The calls about a session that was admitted: its answer has the length that was returned. */
 static void ask(mk_session *s, size_t answer_length) {
     mk_times times;
-    Got answer = get("mk_session_answer", [&](uint8_t *out, size_t room) { return mk_session_answer(s, out, room); });
+    Got answer = get("mk_session_get_answer", [&](uint8_t *out, size_t room) { return mk_session_get_answer(s, out, room); });
     PROMISE(answer.reply.status == MK_OK && answer.octets.size() == answer_length, "an answer of %zu", answer.octets.size());
-    Got peer = get("mk_session_peer", [&](uint8_t *out, size_t room) { return mk_session_peer(s, out, room); });
+    Got peer = get("mk_session_get_local_name", [&](uint8_t *out, size_t room) { return mk_session_get_local_name(s, out, room); });
     PROMISE(peer.reply.status == MK_OK || is_refused(peer.reply, MK_CAUSE_NO_IDENTITY), "no peer: %u", peer.reply.status);
-    Got client = get("mk_session_client", [&](uint8_t *out, size_t room) { return mk_session_client(s, out, room); });
-    PROMISE(client.reply.status == MK_OK && mk_session_times(s, &times).status == MK_OK, "no client");
-    mk_reply flags = mk_session_flags(s);
+    Got client = get("mk_session_get_client", [&](uint8_t *out, size_t room) { return mk_session_get_client(s, out, room); });
+    PROMISE(client.reply.status == MK_OK && mk_session_get_times(s, &times).status == MK_OK, "no client");
+    mk_reply flags = mk_session_get_flags(s);
     PROMISE(flags.status == MK_OK || is_refused(flags, MK_CAUSE_CHECKSUM), "no flags: %u", flags.status);
-    PROMISE(mk_session_ticket_flags(s).status == MK_OK, "no flags of the ticket");
+    PROMISE(mk_session_get_ticket_flags(s).status == MK_OK, "no flags of the ticket");
     send(s);
 }
 
@@ -72,15 +72,15 @@ static mk_reply accept(const Service &service, mk_acceptor *acceptor, const Lent
 
 /* The candidate's name: the record of one token is the same each time. */
 static void ask_judged(mk_judged *judged) {
-    Got client = get("mk_judged_client", [&](uint8_t *out, size_t room) { return mk_judged_client(judged, out, room); });
-    Got service = get("mk_judged_service", [&](uint8_t *out, size_t room) { return mk_judged_service(judged, out, room); });
-    Got record = get("mk_judged_record", [&](uint8_t *out, size_t room) { return mk_judged_record(judged, out, room); });
-    Got again = get("mk_judged_record", [&](uint8_t *out, size_t room) { return mk_judged_record(judged, out, room); });
+    Got client = get("mk_judged_get_client", [&](uint8_t *out, size_t room) { return mk_judged_get_client(judged, out, room); });
+    Got service = get("mk_judged_get_service", [&](uint8_t *out, size_t room) { return mk_judged_get_service(judged, out, room); });
+    Got record = get("mk_judged_get_record", [&](uint8_t *out, size_t room) { return mk_judged_get_record(judged, out, room); });
+    Got again = get("mk_judged_get_record", [&](uint8_t *out, size_t room) { return mk_judged_get_record(judged, out, room); });
     PROMISE(client.reply.status == MK_OK && service.reply.status == MK_OK && record.reply.status == MK_OK, "no candidate");
     PROMISE(record.octets == again.octets && holds(record.octets, client.octets), "another record");
-    Got tag = get("mk_judged_tag", [&](uint8_t *out, size_t room) { return mk_judged_tag(judged, out, room); });
+    Got tag = get("mk_judged_get_tag", [&](uint8_t *out, size_t room) { return mk_judged_get_tag(judged, out, room); });
     PROMISE(tag.octets.size() == 12 && holds(record.octets, tag.octets), "a tag of %zu", tag.octets.size());
-    mk_reply flags = mk_judged_flags(judged);
+    mk_reply flags = mk_judged_get_flags(judged);
     PROMISE(flags.status == MK_OK || is_refused(flags, MK_CAUSE_CHECKSUM), "no flags: %u", flags.status);
 }
 
@@ -99,7 +99,7 @@ static void bind(const Service &service, mk_acceptor *keys, const Lent &token, c
     }
     if (reply.status == MK_OK) {
         bound++;
-        PROMISE(mk_judged_flags(&judged).status == MK_OK, "bindings without flags");
+        PROMISE(mk_judged_get_flags(&judged).status == MK_OK, "bindings without flags");
     }
     mk_judged_free(&judged);
 }

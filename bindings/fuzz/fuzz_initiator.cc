@@ -29,11 +29,11 @@ static uint32_t number_of(const bytes &b) {
 }
 
 static Got request_of(mk_initiator *it) {
-    return get("mk_initiator_request", [&](uint8_t *out, size_t room) { return mk_initiator_request(it, out, room); });
+    return get("mk_initiator_get_request", [&](uint8_t *out, size_t room) { return mk_initiator_get_request(it, out, room); });
 }
 
 static Got token_of(mk_initiator *it) {
-    return get("mk_initiator_token", [&](uint8_t *out, size_t room) { return mk_initiator_token(it, out, room); });
+    return get("mk_initiator_get_token", [&](uint8_t *out, size_t room) { return mk_initiator_get_token(it, out, room); });
 }
 
 static bool make(Run &run, bool has_password) {
@@ -43,9 +43,9 @@ static bool make(Run &run, bool has_password) {
     uint32_t wanted = run.rules & ~uint32_t(MK_RULES_RFC) ? MK_ARGUMENT : MK_OK;
     PROMISE(mk_initiator_set_rules(&run.it, run.rules).status == wanted, "rules %x", run.rules);
     if (wanted != MK_OK) run.rules = MK_RULES_RFC;
-    PROMISE(mk_initiator_kdc(&run.it, url.data(), url.size()).status == MK_OK, "no KDC");
-    mk_reply owner = has_password ? mk_initiator_password(&run.it, user.data() + 12, user.size() - 12, user.data(), 11, url.data(), 3)
-                                  : mk_initiator_key(&run.it, user.data(), user.size(), 18, USER_KEY.data(), 32);
+    PROMISE(mk_initiator_set_kdc(&run.it, url.data(), url.size()).status == MK_OK, "no KDC");
+    mk_reply owner = has_password ? mk_initiator_set_password(&run.it, user.data() + 12, user.size() - 12, user.data(), 11, url.data(), 3)
+                                  : mk_initiator_set_key(&run.it, user.data(), user.size(), 18, USER_KEY.data(), 32);
     PROMISE(owner.status == MK_OK, "nobody asks");
     return true;
 }
@@ -56,7 +56,7 @@ static void look(Run &run) {
     PROMISE(run.last.number <= MK_ESTABLISHED, "number %u", run.last.number);
     PROMISE((run.last.number == MK_ASK_KDC) == (request.reply.status == MK_OK), "number %u, and a request", run.last.number);
     if (run.last.number == MK_ASK_KDC) {
-        Got url = get("mk_initiator_url", [&](uint8_t *out, size_t room) { return mk_initiator_url(&run.it, out, room); });
+        Got url = get("mk_initiator_get_url", [&](uint8_t *out, size_t room) { return mk_initiator_get_url(&run.it, out, room); });
         PROMISE(url.reply.status == MK_OK && !url.octets.empty(), "no address");
         bytes nonce = nonce_of(request.octets);
         run.nonce = nonce.empty() ? run.nonce : nonce;
@@ -130,10 +130,10 @@ static void finish(Run &run, bool has_heard) {
     run.is_established = true;
     mk_session session = MK_EMPTY;
     const uint8_t confounder[16] = {3}, text[1] = {'x'};
-    Got peer = get("mk_initiator_peer", [&](uint8_t *out, size_t room) { return mk_initiator_peer(&run.it, out, room); });
+    Got peer = get("mk_initiator_get_peer", [&](uint8_t *out, size_t room) { return mk_initiator_get_peer(&run.it, out, room); });
     PROMISE(peer.reply.status == MK_OK && peer.octets == of(SERVICE), "another peer");
-    PROMISE(mk_initiator_session(&run.it, &session).status == MK_OK && run.it.count == 0 && session.count == 1, "no session");
-    Got key = get("mk_session_key", [&](uint8_t *out, size_t room) { return mk_session_key(&session, out, room); });
+    PROMISE(mk_initiator_take_session(&run.it, &session).status == MK_OK && run.it.count == 0 && session.count == 1, "no session");
+    Got key = get("mk_session_get_key", [&](uint8_t *out, size_t room) { return mk_session_get_key(&session, out, room); });
     PROMISE(key.octets.size() == 16 || key.octets.size() == 32, "a key of %zu", key.octets.size());
     Got sealed = get("mk_wrap", [&](uint8_t *out, size_t room) { return mk_wrap(&session, text, 1, confounder, 16, out, room); });
     bool has_filler = (run.flags & MK_USE_DCE_STYLE) && has_heard; /* established at once there is none */

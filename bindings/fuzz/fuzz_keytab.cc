@@ -1,10 +1,10 @@
-/* A keytab: mk_acceptor_keytab, and the acceptor that it makes. Records: 1 the file, 2 a realm, 3 a token. */
+/* A keytab: mk_acceptor_new_keytab, and the acceptor that it makes. Records: 1 the file, 2 a realm, 3 a token. */
 #include "common.h"
 
 static Count made("made"), refused("refused");
 
 static void check(const mk_acceptor &acceptor, mk_reply reply) {
-    check_reply("mk_acceptor_keytab", reply, SIZE_MAX - 1);
+    check_reply("mk_acceptor_new_keytab", reply, SIZE_MAX - 1);
     PROMISE(reply.status == MK_OK || reply.status == MK_REFUSED || reply.status == MK_ARGUMENT, "status %u", reply.status);
     PROMISE((reply.status == MK_OK) == (acceptor.count == 1), "an acceptor, and status %u", reply.status);
     if (reply.status == MK_OK) PROMISE(reply.length >= 1, "an acceptor of no service");
@@ -33,7 +33,7 @@ extern "C" int LLVMFuzzerTestOneInput(const uint8_t *at, size_t length) {
     Memory memory(length);
     mk_acceptor acceptor = MK_EMPTY, copy = MK_EMPTY;
     Lent octets(file), name(realm);
-    mk_reply reply = mk_acceptor_keytab(&acceptor, octets.at, octets.length, name.at, name.length, 300);
+    mk_reply reply = mk_acceptor_new_keytab(&acceptor, octets.at, octets.length, name.at, name.length, 300);
     check(acceptor, reply);
     if (reply.status == MK_OK) {
         made++;

@@ -53,7 +53,7 @@ static Got unseal(End &end, const bytes &octets, const bytes *wanted) {
         return got;
     }
     opened++;
-    uint32_t layer = mk_sasl_layer(&end.it);
+    uint32_t layer = mk_sasl_get_layer(&end.it);
     PROMISE(end.is_agreed && (layer == 0 || layer & 7), "a frame is opened in layer %u", layer);
     PROMISE(!wanted || layer == MK_LAYER_NONE || got.octets == *wanted, "another text than was sealed"); /* without a layer it is the frame's */
     if (layer != MK_LAYER_NONE) {
@@ -71,7 +71,7 @@ static void seal_one(End &end) {
     Got got = get("mk_sasl_seal", [&](uint8_t *out, size_t room) { return mk_sasl_seal(&end.it, data.data(), data.size(), confounder, 16, out, room); });
     PROMISE(got.reply.status == MK_OK || got.reply.status == MK_SASL, "status %u", got.reply.status);
     if (got.reply.status == MK_OK) {
-        uint32_t layer = mk_sasl_layer(&end.it);
+        uint32_t layer = mk_sasl_get_layer(&end.it);
         size_t more = layer == MK_LAYER_NONE ? 4 : layer == MK_LAYER_INTEGRITY ? 32 : 64;
         PROMISE(end.is_agreed && got.octets.size() == data.size() + more, "a frame of %zu in layer %u", got.octets.size(), layer);
     } else {
@@ -87,7 +87,7 @@ static void go_on(End &end) {
         Got got = negotiate(end, right_token(end, text));
         PROMISE(got.reply.status == MK_OK, "the right token: status %u, number %u, cause %u", got.reply.status, got.reply.number, got.reply.cause);
     }
-    uint32_t layer = end.is_agreed ? mk_sasl_layer(&end.it) : 0;
+    uint32_t layer = end.is_agreed ? mk_sasl_get_layer(&end.it) : 0;
     if (layer == MK_LAYER_NONE || layer == 0 || end.most < 128) return;
     const bytes data = of("behind all that");
     PROMISE(unseal(end, frame_of(end, data, layer == MK_LAYER_CONFIDENTIALITY), &data).reply.status == MK_OK, "a right frame in layer %u", layer);
@@ -104,8 +104,8 @@ static void take(End &end, const Record &it) {
 /* Makes the end: where the layers are none the session stays. */
 static bool begin(End &end, const bytes &user) {
     Lent name(user);
-    mk_reply reply = end.is_client ? mk_sasl_client(&end.session, &end.it, end.layers, end.most, name.at, name.length)
-                                   : mk_sasl_server(&end.session, &end.it, end.layers, end.most);
+    mk_reply reply = end.is_client ? mk_sasl_new_client(&end.session, &end.it, end.layers, end.most, name.at, name.length)
+                                   : mk_sasl_new_server(&end.session, &end.it, end.layers, end.most);
     check_reply("an end of SASL", reply, SIZE_MAX - 1);
     PROMISE((reply.status == MK_OK) == (end.it.count == 1) && (reply.status == MK_OK) == (end.session.count == 0), "status %u", reply.status);
     if (reply.status != MK_OK) return false;

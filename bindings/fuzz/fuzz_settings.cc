@@ -14,20 +14,20 @@ static void check(const char *call, mk_reply reply) {
 
 static void set_file(mk_initiator *it, const char *path, const bytes &text) {
     Lent name(of(path)), octets(text);
-    check("mk_initiator_file", mk_initiator_file(it, name.at, name.length, octets.at, octets.length));
+    check("mk_initiator_set_file", mk_initiator_set_file(it, name.at, name.length, octets.at, octets.length));
 }
 
 static void set_variable(mk_initiator *it, const char *variable, const bytes &value) {
     Lent name(of(variable)), octets(value);
-    if (!value.empty()) check("mk_initiator_variable", mk_initiator_variable(it, name.at, name.length, octets.at, octets.length));
+    if (!value.empty()) check("mk_initiator_set_variable", mk_initiator_set_variable(it, name.at, name.length, octets.at, octets.length));
 }
 
 static void set_owner(mk_initiator *it) {
     Lent user(settings[5]), realm(settings[6]), owner(settings[10]), secret(of("secret")), key(USER_KEY);
     if (settings[10].empty()) {
-        check("mk_initiator_password", mk_initiator_password(it, user.at, user.length, realm.at, realm.length, secret.at, secret.length));
+        check("mk_initiator_set_password", mk_initiator_set_password(it, user.at, user.length, realm.at, realm.length, secret.at, secret.length));
     } else {
-        check("mk_initiator_key", mk_initiator_key(it, owner.at, owner.length, 18, key.at, key.length));
+        check("mk_initiator_set_key", mk_initiator_set_key(it, owner.at, owner.length, 18, key.at, key.length));
     }
 }
 
@@ -37,8 +37,8 @@ static void set_all(mk_initiator *it) {
     set_file(it, "/b", settings[2]);
     set_variable(it, "KRB5_CONFIG", settings[3]);
     set_variable(it, "SSPI_KDC_URL", settings[8]);
-    if (!settings[4].empty()) check("mk_initiator_kdc", mk_initiator_kdc(it, address.at, address.length));
-    if (!settings[12].empty()) check("mk_initiator_bind", mk_initiator_bind(it, channel.at, channel.length));
+    if (!settings[4].empty()) check("mk_initiator_set_kdc", mk_initiator_set_kdc(it, address.at, address.length));
+    if (!settings[12].empty()) check("mk_initiator_set_bindings", mk_initiator_set_bindings(it, channel.at, channel.length));
     set_owner(it);
 }
 
@@ -47,8 +47,8 @@ static void start(mk_initiator *it) {
     mk_moment moment = moment_at();
     mk_reply reply = mk_initiator_start(it, &moment);
     check("mk_initiator_start", reply);
-    Got url = get("mk_initiator_url", [&](uint8_t *out, size_t room) { return mk_initiator_url(it, out, room); });
-    Got request = get("mk_initiator_request", [&](uint8_t *out, size_t room) { return mk_initiator_request(it, out, room); });
+    Got url = get("mk_initiator_get_url", [&](uint8_t *out, size_t room) { return mk_initiator_get_url(it, out, room); });
+    Got request = get("mk_initiator_get_request", [&](uint8_t *out, size_t room) { return mk_initiator_get_request(it, out, room); });
     bool asks = reply.status == MK_OK && reply.number == MK_ASK_KDC;
     PROMISE(asks == (url.reply.status == MK_OK) && asks == (request.reply.status == MK_OK), "status %u, and a request", reply.status);
     if (!asks) {
@@ -57,7 +57,7 @@ static void start(mk_initiator *it) {
     }
     asked++;
     PROMISE(is_refused(mk_initiator_start(it, &moment), MK_CAUSE_SEQUENCE), "a start out of its turn");
-    Got again = get("mk_initiator_request", [&](uint8_t *out, size_t room) { return mk_initiator_request(it, out, room); });
+    Got again = get("mk_initiator_get_request", [&](uint8_t *out, size_t room) { return mk_initiator_get_request(it, out, room); });
     PROMISE(again.octets == request.octets && !request.octets.empty(), "another request");
     reply = mk_initiator_fault(it, 7, &moment);
     PROMISE(is_refused(reply, MK_CAUSE_NETWORK) && reply.number == 7, "a fault: status %u, cause %u", reply.status, reply.cause);

@@ -30,7 +30,7 @@ bytes ticket_part(const bytes &key) {
 }
 
 static bytes ask(mk_initiator *initiator) {
-    return get("mk_initiator_request", [&](uint8_t *out, size_t room) { return mk_initiator_request(initiator, out, room); }).octets;
+    return get("mk_initiator_get_request", [&](uint8_t *out, size_t room) { return mk_initiator_get_request(initiator, out, room); }).octets;
 }
 
 static void answer(mk_initiator *initiator, const bytes &reply, uint32_t next) {
@@ -52,8 +52,8 @@ static void log_in(mk_initiator *to) {
     const bytes granting = names(2, {"krbtgt", "EXAMPLE.COM"}), service = names(2, {"host", "server.example.com"});
     mk_moment moment = moment_at();
     PROMISE(mk_initiator_new(to, target.data(), target.size(), url.data(), 3, flags, number, 4).status == MK_OK, "no initiator");
-    PROMISE(mk_initiator_kdc(to, url.data(), url.size()).status == MK_OK, "no KDC");
-    PROMISE(mk_initiator_key(to, user.data(), user.size(), 18, USER_KEY.data(), 32).status == MK_OK, "no key");
+    PROMISE(mk_initiator_set_kdc(to, url.data(), url.size()).status == MK_OK, "no KDC");
+    PROMISE(mk_initiator_set_key(to, user.data(), user.size(), 18, USER_KEY.data(), 32).status == MK_OK, "no key");
     PROMISE(mk_initiator_start(to, &moment).status == MK_OK, "no start");
     if (said.replies[0].empty()) {
         bytes part = reply_part(false, first, nonce_of(ask(to)), granting);
@@ -68,7 +68,7 @@ static void log_in(mk_initiator *to) {
 }
 
 static bytes key_of(mk_session *session) {
-    return get("mk_session_key", [&](uint8_t *out, size_t room) { return mk_session_key(session, out, room); }).octets;
+    return get("mk_session_get_key", [&](uint8_t *out, size_t room) { return mk_session_get_key(session, out, room); }).octets;
 }
 
 static void admit(mk_session *to) {
@@ -85,9 +85,9 @@ static void meet_first() {
     mk_initiator initiator = MK_EMPTY;
     mk_session server = MK_EMPTY;
     log_in(&initiator);
-    said.token = get("mk_initiator_token", [&](uint8_t *out, size_t room) { return mk_initiator_token(&initiator, out, room); }).octets;
+    said.token = get("mk_initiator_get_token", [&](uint8_t *out, size_t room) { return mk_initiator_get_token(&initiator, out, room); }).octets;
     admit(&server);
-    said.answer = get("mk_session_answer", [&](uint8_t *out, size_t room) { return mk_session_answer(&server, out, room); }).octets;
+    said.answer = get("mk_session_get_answer", [&](uint8_t *out, size_t room) { return mk_session_get_answer(&server, out, room); }).octets;
     said.key = key_of(&server);
     mk_session_free(&server);
     mk_initiator_free(&initiator);
@@ -103,7 +103,7 @@ bytes meet(mk_session *to, bool is_client) {
         log_in(&initiator);
         mk_reply told = mk_initiator_hear(&initiator, said.answer.data(), said.answer.size(), &moment);
         PROMISE(told.status == MK_OK && told.number == MK_ESTABLISHED, "an honest answer: status %u, cause %u", told.status, told.cause);
-        PROMISE(mk_initiator_session(&initiator, to).status == MK_OK && initiator.count == 0, "no session");
+        PROMISE(mk_initiator_take_session(&initiator, to).status == MK_OK && initiator.count == 0, "no session");
     }
     PROMISE(key_of(to) == said.key, "two keys");
     return said.key;

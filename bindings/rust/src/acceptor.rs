@@ -83,7 +83,7 @@ impl Acceptor {
         let mut handle = Handle::EMPTY;
         // SAFETY: the handle is empty, and each pointer and length are those of one slice.
         done(unsafe {
-            sys::mk_acceptor_keytab(
+            sys::mk_acceptor_new_keytab(
                 &mut handle,
                 file.as_ptr(),
                 file.len(),
@@ -153,7 +153,7 @@ impl Acceptor {
     pub fn add_key(&self, name: &str, key: &[u8]) -> Result<(), Error> {
         // SAFETY: the handle is the lock's, and each pointer and length are those of one slice.
         done(unsafe {
-            sys::mk_acceptor_key(
+            sys::mk_acceptor_add_key(
                 &mut *lock(&self.book),
                 name.as_ptr(),
                 name.len(),
@@ -177,7 +177,7 @@ impl Acceptor {
             older.limit_tokens(most)?;
         }
         // SAFETY: the handle is the lock's.
-        done(unsafe { sys::mk_acceptor_limit_tokens(&mut *lock(&self.book), most) })?;
+        done(unsafe { sys::mk_acceptor_set_token_limit(&mut *lock(&self.book), most) })?;
         self.drop_copies();
         Ok(())
     }
@@ -357,7 +357,7 @@ impl Judged {
         let handle = &mut self.0;
         // SAFETY: the handle is ours, and the pointer and the length are those of one vector.
         let text = filled(64, |out, room| unsafe {
-            sys::mk_judged_client(handle, out, room)
+            sys::mk_judged_get_client(handle, out, room)
         })?;
         Ok(String::from_utf8_lossy(&text).into_owned())
     }
@@ -367,7 +367,7 @@ impl Judged {
         let handle = &mut self.0;
         // SAFETY: as above.
         let text = filled(64, |out, room| unsafe {
-            sys::mk_judged_service(handle, out, room)
+            sys::mk_judged_get_service(handle, out, room)
         })?;
         Ok(String::from_utf8_lossy(&text).into_owned())
     }
@@ -375,7 +375,7 @@ impl Judged {
     /// Returns the flags of the client's request, or `None` if its checksum has no flags, as that of a client of another protocol.
     pub fn flags(&mut self) -> Result<Option<GssFlags>, Error> {
         // SAFETY: the handle is ours.
-        told_flags(unsafe { sys::mk_judged_flags(&mut self.0) })
+        told_flags(unsafe { sys::mk_judged_get_flags(&mut self.0) })
     }
 
     /// Returns the last 12 bytes of the encrypted authenticator. Two log-ins have equal ones by chance alone, once in 2^96; a replay has
@@ -383,7 +383,7 @@ impl Judged {
     pub fn tag(&mut self) -> Result<[u8; 12], Error> {
         let mut tag = [0; 12];
         // SAFETY: the handle is ours, and the pointer and the length are those of one array.
-        done(unsafe { sys::mk_judged_tag(&mut self.0, tag.as_mut_ptr(), tag.len()) })?;
+        done(unsafe { sys::mk_judged_get_tag(&mut self.0, tag.as_mut_ptr(), tag.len()) })?;
         Ok(tag)
     }
 
@@ -414,7 +414,7 @@ impl Judged {
         let handle = &mut self.0;
         // SAFETY: as above.
         filled(96, |out, room| unsafe {
-            sys::mk_judged_record(handle, out, room)
+            sys::mk_judged_get_record(handle, out, room)
         })
     }
 }

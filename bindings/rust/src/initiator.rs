@@ -136,7 +136,7 @@ impl Initiator {
     /// address that is not a URL, KDCs are looked for in the variables and files.
     pub fn kdc(&mut self, address: &str) -> Result<(), Error> {
         // SAFETY: the handle is ours, and the pointer and the length are those of one slice.
-        done(unsafe { sys::mk_initiator_kdc(&mut self.0, address.as_ptr(), address.len()) })?;
+        done(unsafe { sys::mk_initiator_set_kdc(&mut self.0, address.as_ptr(), address.len()) })?;
         Ok(())
     }
 
@@ -144,7 +144,7 @@ impl Initiator {
     pub fn password(&mut self, user: &str, realm: &str, password: &str) -> Result<(), Error> {
         // SAFETY: the handle is ours, and each pointer and length are those of one slice.
         done(unsafe {
-            sys::mk_initiator_password(
+            sys::mk_initiator_set_password(
                 &mut self.0,
                 user.as_ptr(),
                 user.len(),
@@ -162,7 +162,7 @@ impl Initiator {
         let principal = format!("{realm}\\{user}");
         // SAFETY: as above.
         done(unsafe {
-            sys::mk_initiator_key(
+            sys::mk_initiator_set_key(
                 &mut self.0,
                 principal.as_ptr(),
                 principal.len(),
@@ -178,7 +178,7 @@ impl Initiator {
     pub fn variable(&mut self, name: &str, value: &str) -> Result<(), Error> {
         // SAFETY: as above.
         done(unsafe {
-            sys::mk_initiator_variable(
+            sys::mk_initiator_set_variable(
                 &mut self.0,
                 name.as_ptr(),
                 name.len(),
@@ -193,7 +193,7 @@ impl Initiator {
     pub fn file(&mut self, path: &str, text: &str) -> Result<(), Error> {
         // SAFETY: as above.
         done(unsafe {
-            sys::mk_initiator_file(
+            sys::mk_initiator_set_file(
                 &mut self.0,
                 path.as_ptr(),
                 path.len(),
@@ -207,7 +207,7 @@ impl Initiator {
     /// Binds the exchange to the channel that carries it, by data of the application: for a TLS channel those of RFC 5929.
     pub fn bind(&mut self, data: &[u8]) -> Result<(), Error> {
         // SAFETY: as above.
-        done(unsafe { sys::mk_initiator_bind(&mut self.0, data.as_ptr(), data.len()) })?;
+        done(unsafe { sys::mk_initiator_set_bindings(&mut self.0, data.as_ptr(), data.len()) })?;
         Ok(())
     }
 
@@ -272,23 +272,23 @@ impl Initiator {
 
     /// Returns the address of the KDC to ask, as `tcp://kdc.example.com:88`.
     pub fn url(&mut self) -> Result<String, Error> {
-        self.text(sys::mk_initiator_url)
+        self.text(sys::mk_initiator_get_url)
     }
 
     /// Returns the bytes for that KDC: over TCP and UDP send them unchanged, over HTTP as the body of a POST.
     pub fn request(&mut self) -> Result<Vec<u8>, Error> {
-        self.octets(1024, sys::mk_initiator_request)
+        self.octets(1024, sys::mk_initiator_get_request)
     }
 
     /// Returns the token for the service. It stays until the next step that is not refused.
     pub fn token(&mut self) -> Result<Vec<u8>, Error> {
-        self.octets(1024, sys::mk_initiator_token)
+        self.octets(1024, sys::mk_initiator_get_token)
     }
 
     /// Returns the service's name, as [`new`](Initiator::new) got it, when the initiator is established: with [`Flags::MUTUAL_AUTH`] the
     /// service has shown who it is.
     pub fn peer(&mut self) -> Result<String, Error> {
-        self.text(sys::mk_initiator_peer)
+        self.text(sys::mk_initiator_get_peer)
     }
 
     /// Returns the session of an initiator that is established. Refused as [`Cause::SEQUENCE`](crate::Cause::SEQUENCE) if it is not; the
@@ -297,7 +297,7 @@ impl Initiator {
         let peer = self.peer()?;
         let mut session = Session::empty();
         // SAFETY: the handle is ours, and the session's is empty.
-        done(unsafe { sys::mk_initiator_session(&mut self.0, &mut session.handle) })?;
+        done(unsafe { sys::mk_initiator_take_session(&mut self.0, &mut session.handle) })?;
         session.reach(peer)?;
         Ok(session)
     }

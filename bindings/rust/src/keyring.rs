@@ -38,7 +38,7 @@ impl Keyring {
     /// Sets the greatest length of a token, in bytes: a longer one is refused unread. A ring begins with 65,536.
     pub fn limit_tokens(&mut self, most: usize) -> Result<(), Error> {
         // SAFETY: the handle is ours.
-        done(unsafe { sys::mk_keyring_limit_tokens(&mut self.0, most) })?;
+        done(unsafe { sys::mk_keyring_set_token_limit(&mut self.0, most) })?;
         Ok(())
     }
 

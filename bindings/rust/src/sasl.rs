@@ -181,7 +181,7 @@ impl SaslServer {
         let mut end = End::new(session);
         // SAFETY: the session's handle is ours, and the end's is empty.
         done(unsafe {
-            sys::mk_sasl_server(
+            sys::mk_sasl_new_server(
                 &mut end.session.handle,
                 &mut end.handle,
                 layers.into().0,
@@ -258,7 +258,7 @@ impl SaslClient {
         let mut end = End::new(session);
         // SAFETY: the session's handle is ours, the end's is empty, and the pointer and the length are those of one slice.
         done(unsafe {
-            sys::mk_sasl_client(
+            sys::mk_sasl_new_client(
                 &mut end.session.handle,
                 &mut end.handle,
                 layer as u32,

@@ -70,33 +70,33 @@ impl Session {
     /// Keeps the name of the service that an initiator reached, and its last token.
     pub(crate) fn reach(&mut self, peer: String) -> Result<(), Error> {
         self.peer = peer;
-        self.answer = self.octets(64, sys::mk_session_answer)?;
+        self.answer = self.octets(64, sys::mk_session_get_answer)?;
         Ok(())
     }
 
     /// Keeps the name, flags and times of an admitted client, and the answer, which has this length in bytes.
     pub(crate) fn learn(&mut self, answer: usize) -> Result<(), Error> {
-        self.answer = self.octets(answer, sys::mk_session_answer)?;
-        let client = self.text(sys::mk_session_client)?;
+        self.answer = self.octets(answer, sys::mk_session_get_answer)?;
+        let client = self.text(sys::mk_session_get_client)?;
         self.local_name = self.short_name()?;
         self.peer = self.local_name.clone().unwrap_or_else(|| client.clone());
         self.client = Some(client);
         // SAFETY: the handle is ours.
-        self.flags = told_flags(unsafe { sys::mk_session_flags(&mut self.handle) })?;
+        self.flags = told_flags(unsafe { sys::mk_session_get_flags(&mut self.handle) })?;
         // SAFETY: as above.
-        let reply = unsafe { sys::mk_session_ticket_flags(&mut self.handle) };
+        let reply = unsafe { sys::mk_session_get_ticket_flags(&mut self.handle) };
         done(reply)?;
         self.ticket_flags = Some(reply.number);
         let mut times = Times::default();
         // SAFETY: both are ours.
-        done(unsafe { sys::mk_session_times(&mut self.handle, &mut times) })?;
+        done(unsafe { sys::mk_session_get_times(&mut self.handle, &mut times) })?;
         let ends = u64::try_from(times.endtime).unwrap_or(0);
         self.ends = Some(UNIX_EPOCH + Duration::from_secs(ends));
         Ok(())
     }
 
     fn short_name(&mut self) -> Result<Option<String>, Error> {
-        match self.text(sys::mk_session_peer) {
+        match self.text(sys::mk_session_get_local_name) {
             Ok(name) => Ok(Some(name)),
             Err(error) if error.cause() == Some(Cause::NO_IDENTITY) => Ok(None),
             Err(error) => Err(error),
@@ -221,7 +221,7 @@ impl Session {
     /// Returns the key of its messages, for a program that encrypts by itself: 32 bytes for encryption type 18, and 16 for type 17
     /// (RFC 3962). **Whoever has it reads all messages of the session.**
     pub fn key(&mut self) -> Result<Vec<u8>, Error> {
-        self.octets(32, sys::mk_session_key)
+        self.octets(32, sys::mk_session_get_key)
     }
 
     /// Encrypts a text, for the other end's `gss_unwrap`.

@@ -68,14 +68,14 @@ unsafe extern "C" {
         key_length: usize,
         skew: u32,
     ) -> Reply;
-    pub fn mk_acceptor_key(
+    pub fn mk_acceptor_add_key(
         acceptor: *mut Handle,
         name: *const u8,
         name_length: usize,
         key: *const u8,
         key_length: usize,
     ) -> Reply;
-    pub fn mk_acceptor_keytab(
+    pub fn mk_acceptor_new_keytab(
         to: *mut Handle,
         file: *const u8,
         file_length: usize,
@@ -88,7 +88,7 @@ unsafe extern "C" {
     pub fn mk_acceptor_reserve(acceptor: *mut Handle, records: usize) -> Reply;
     pub fn mk_acceptor_kept(acceptor: *mut Handle) -> u64;
     pub fn mk_acceptor_new_book(acceptor: *mut Handle, skew: u32) -> Reply;
-    pub fn mk_acceptor_limit_tokens(acceptor: *mut Handle, most: usize) -> Reply;
+    pub fn mk_acceptor_set_token_limit(acceptor: *mut Handle, most: usize) -> Reply;
     pub fn mk_acceptor_free(acceptor: *mut Handle);
     pub fn mk_judge(
         keys: *mut Handle,
@@ -109,7 +109,7 @@ unsafe extern "C" {
     pub fn mk_admit(book: *mut Handle, judged: *mut Handle, to: *mut Handle) -> Reply;
     pub fn mk_keyring_new(to: *mut Handle) -> Reply;
     pub fn mk_keyring_add_keytab(ring: *mut Handle, file: *const u8, file_length: usize) -> Reply;
-    pub fn mk_keyring_limit_tokens(ring: *mut Handle, most: usize) -> Reply;
+    pub fn mk_keyring_set_token_limit(ring: *mut Handle, most: usize) -> Reply;
     pub fn mk_keyring_count(ring: *mut Handle) -> u64;
     pub fn mk_keyring_judge(
         ring: *mut Handle,
@@ -122,10 +122,10 @@ unsafe extern "C" {
         moment: *const Moment,
     ) -> Reply;
     pub fn mk_keyring_free(ring: *mut Handle);
-    pub fn mk_judged_client(judged: *mut Handle, out: *mut u8, room: usize) -> Reply;
-    pub fn mk_judged_service(judged: *mut Handle, out: *mut u8, room: usize) -> Reply;
-    pub fn mk_judged_flags(judged: *mut Handle) -> Reply;
-    pub fn mk_judged_tag(judged: *mut Handle, out: *mut u8, room: usize) -> Reply;
+    pub fn mk_judged_get_client(judged: *mut Handle, out: *mut u8, room: usize) -> Reply;
+    pub fn mk_judged_get_service(judged: *mut Handle, out: *mut u8, room: usize) -> Reply;
+    pub fn mk_judged_get_flags(judged: *mut Handle) -> Reply;
+    pub fn mk_judged_get_tag(judged: *mut Handle, out: *mut u8, room: usize) -> Reply;
     pub fn mk_judged_get_delegation(judged: *mut Handle, out: *mut u8, room: usize) -> Reply;
     pub fn mk_judged_get_authorization(
         judged: *mut Handle,
@@ -144,7 +144,7 @@ unsafe extern "C" {
         out: *mut u8,
         room: usize,
     ) -> Reply;
-    pub fn mk_judged_record(judged: *mut Handle, out: *mut u8, room: usize) -> Reply;
+    pub fn mk_judged_get_record(judged: *mut Handle, out: *mut u8, room: usize) -> Reply;
     pub fn mk_admit_told(
         judged: *mut Handle,
         to: *mut Handle,
@@ -153,12 +153,12 @@ unsafe extern "C" {
         seen: u32,
     ) -> Reply;
     pub fn mk_judged_free(judged: *mut Handle);
-    pub fn mk_session_answer(session: *mut Handle, out: *mut u8, room: usize) -> Reply;
-    pub fn mk_session_peer(session: *mut Handle, out: *mut u8, room: usize) -> Reply;
-    pub fn mk_session_client(session: *mut Handle, out: *mut u8, room: usize) -> Reply;
-    pub fn mk_session_times(session: *mut Handle, out: *mut Times) -> Reply;
-    pub fn mk_session_flags(session: *mut Handle) -> Reply;
-    pub fn mk_session_ticket_flags(session: *mut Handle) -> Reply;
+    pub fn mk_session_get_answer(session: *mut Handle, out: *mut u8, room: usize) -> Reply;
+    pub fn mk_session_get_local_name(session: *mut Handle, out: *mut u8, room: usize) -> Reply;
+    pub fn mk_session_get_client(session: *mut Handle, out: *mut u8, room: usize) -> Reply;
+    pub fn mk_session_get_times(session: *mut Handle, out: *mut Times) -> Reply;
+    pub fn mk_session_get_flags(session: *mut Handle) -> Reply;
+    pub fn mk_session_get_ticket_flags(session: *mut Handle) -> Reply;
     pub fn mk_session_get_delegation(session: *mut Handle, out: *mut u8, room: usize) -> Reply;
     pub fn mk_session_get_tag(session: *mut Handle, out: *mut u8, room: usize) -> Reply;
     pub fn mk_session_get_authorization(
@@ -168,7 +168,7 @@ unsafe extern "C" {
         out: *mut u8,
         room: usize,
     ) -> Reply;
-    pub fn mk_session_key(session: *mut Handle, out: *mut u8, room: usize) -> Reply;
+    pub fn mk_session_get_key(session: *mut Handle, out: *mut u8, room: usize) -> Reply;
     pub fn mk_session_set_rules(session: *mut Handle, rules: u32) -> Reply;
     pub fn mk_session_set_order(session: *mut Handle, in_order: u32) -> Reply;
     pub fn mk_session_free(session: *mut Handle);
@@ -220,12 +220,12 @@ unsafe extern "C" {
         number_length: usize,
     ) -> Reply;
     pub fn mk_initiator_set_rules(initiator: *mut Handle, rules: u32) -> Reply;
-    pub fn mk_initiator_kdc(
+    pub fn mk_initiator_set_kdc(
         initiator: *mut Handle,
         address: *const u8,
         address_length: usize,
     ) -> Reply;
-    pub fn mk_initiator_password(
+    pub fn mk_initiator_set_password(
         initiator: *mut Handle,
         user: *const u8,
         user_length: usize,
@@ -234,7 +234,7 @@ unsafe extern "C" {
         password: *const u8,
         password_length: usize,
     ) -> Reply;
-    pub fn mk_initiator_key(
+    pub fn mk_initiator_set_key(
         initiator: *mut Handle,
         principal: *const u8,
         principal_length: usize,
@@ -242,21 +242,21 @@ unsafe extern "C" {
         key: *const u8,
         key_length: usize,
     ) -> Reply;
-    pub fn mk_initiator_variable(
+    pub fn mk_initiator_set_variable(
         initiator: *mut Handle,
         name: *const u8,
         name_length: usize,
         value: *const u8,
         value_length: usize,
     ) -> Reply;
-    pub fn mk_initiator_file(
+    pub fn mk_initiator_set_file(
         initiator: *mut Handle,
         path: *const u8,
         path_length: usize,
         text: *const u8,
         text_length: usize,
     ) -> Reply;
-    pub fn mk_initiator_bind(initiator: *mut Handle, data: *const u8, data_length: usize) -> Reply;
+    pub fn mk_initiator_set_bindings(initiator: *mut Handle, data: *const u8, data_length: usize) -> Reply;
     pub fn mk_initiator_start(initiator: *mut Handle, moment: *const Moment) -> Reply;
     pub fn mk_initiator_hear(
         initiator: *mut Handle,
@@ -271,14 +271,14 @@ unsafe extern "C" {
         moment: *const Moment,
     ) -> Reply;
     pub fn mk_initiator_fault(initiator: *mut Handle, code: u32, moment: *const Moment) -> Reply;
-    pub fn mk_initiator_url(initiator: *mut Handle, out: *mut u8, room: usize) -> Reply;
-    pub fn mk_initiator_request(initiator: *mut Handle, out: *mut u8, room: usize) -> Reply;
-    pub fn mk_initiator_token(initiator: *mut Handle, out: *mut u8, room: usize) -> Reply;
-    pub fn mk_initiator_peer(initiator: *mut Handle, out: *mut u8, room: usize) -> Reply;
-    pub fn mk_initiator_session(initiator: *mut Handle, to: *mut Handle) -> Reply;
+    pub fn mk_initiator_get_url(initiator: *mut Handle, out: *mut u8, room: usize) -> Reply;
+    pub fn mk_initiator_get_request(initiator: *mut Handle, out: *mut u8, room: usize) -> Reply;
+    pub fn mk_initiator_get_token(initiator: *mut Handle, out: *mut u8, room: usize) -> Reply;
+    pub fn mk_initiator_get_peer(initiator: *mut Handle, out: *mut u8, room: usize) -> Reply;
+    pub fn mk_initiator_take_session(initiator: *mut Handle, to: *mut Handle) -> Reply;
     pub fn mk_initiator_free(initiator: *mut Handle);
-    pub fn mk_sasl_server(from: *mut Handle, to: *mut Handle, layers: u32, most: u32) -> Reply;
-    pub fn mk_sasl_client(
+    pub fn mk_sasl_new_server(from: *mut Handle, to: *mut Handle, layers: u32, most: u32) -> Reply;
+    pub fn mk_sasl_new_client(
         from: *mut Handle,
         to: *mut Handle,
         layer: u32,

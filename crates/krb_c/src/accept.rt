@@ -91,7 +91,7 @@ fn accept(
 }
 
 /// Admits the client that sent this token, and makes its session in the empty handle `to`: it has what the token said of the client,
-/// and no key of the acceptor's. The length is that of the reply to the client, which `mk_session_answer` returns: 0 if the client did
+/// and no key of the acceptor's. The length is that of the reply to the client, which `mk_session_get_answer` returns: 0 if the client did
 /// not ask for mutual authentication.
 ///
 /// Fails with REFUSED and the first check that failed, as `mk_judge` and then `mk_admit` have it; with ARGUMENT if the moment is past

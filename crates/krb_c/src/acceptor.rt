@@ -120,7 +120,7 @@ fn add(alloc: Global, acceptor: &mut Acceptor, name: &[u8], key: &[u8]) -> Resul
 /// A ticket is decrypted with the key of the name that it is for. Of two keys with one name the first is used. A call that
 /// fails leaves the acceptor unchanged.
 #[unsafe(no_mangle)]
-pub extern "C" fn mk_acceptor_key(
+pub extern "C" fn mk_acceptor_add_key(
     alloc: Global,
     acceptor: &mut Acceptor,
     name: &[u8],
@@ -227,7 +227,7 @@ fn limit_tokens(alloc: Global, acceptor: &mut Acceptor, most: usize) -> Result<u
 
 /// Sets how many bytes a token may have: a longer one is refused as `Shape`, and not read. An acceptor begins with 65,536.
 #[unsafe(no_mangle)]
-pub extern "C" fn mk_acceptor_limit_tokens(
+pub extern "C" fn mk_acceptor_set_token_limit(
     alloc: Global,
     acceptor: &mut Acceptor,
     most: usize,

@@ -41,7 +41,7 @@ fn judged_flags(alloc: Global, judged: &mut Judgement) -> Result<u32, Failure>
 ///
 /// Fails with REFUSED as `Checksum` if its checksum has none.
 #[unsafe(no_mangle)]
-pub extern "C" fn mk_judged_flags(alloc: Global, judged: &mut Judgement) -> Reply
+pub extern "C" fn mk_judged_get_flags(alloc: Global, judged: &mut Judgement) -> Reply
     ensures told { (answer : Result ℕ Failure) × (result ≡ number_reply answer)
         × IfOk answer (AsksFor candidate_flags judged.old.place.value)
         × IfErr answer (AsksNot candidate_flags judged.old.place.value) }
@@ -76,9 +76,9 @@ fn session_flags(alloc: Global, session: &mut Connection) -> Result<u32, Failure
     answer
 }
 
-/// Returns the GSS flags that the client asked for, as `mk_judged_flags` does. Fails with HANDLE for an initiator's session.
+/// Returns the GSS flags that the client asked for, as `mk_judged_get_flags` does. Fails with HANDLE for an initiator's session.
 #[unsafe(no_mangle)]
-pub extern "C" fn mk_session_flags(alloc: Global, session: &mut Connection) -> Reply
+pub extern "C" fn mk_session_get_flags(alloc: Global, session: &mut Connection) -> Reply
     ensures told { (answer : Result ℕ Failure) × (result ≡ number_reply answer)
         × IfOk answer (AsksFor client_flags (client_of session.old.place.value))
         × IfErr answer (AsksNot client_flags (client_of session.old.place.value)) }
@@ -126,7 +126,7 @@ fn session_ticket_flags(alloc: Global, session: &mut Connection) -> Result<u32, 
 /// Returns the flags of the client's ticket, in the reply's number: the first 32, bit 0 the highest (RFC 4120, section 5.3). Fails
 /// with HANDLE for an initiator's session.
 #[unsafe(no_mangle)]
-pub extern "C" fn mk_session_ticket_flags(alloc: Global, session: &mut Connection) -> Reply
+pub extern "C" fn mk_session_get_ticket_flags(alloc: Global, session: &mut Connection) -> Reply
     ensures told { (answer : Result ℕ Failure) × (result ≡ number_reply answer)
         × IfOk answer (TellsTicketFlags session.old.place.value)
         × IfErr answer (λ failure. (failure ≡ failures.Handle) × (client_of session.old.place.value ≡ None)) }
@@ -163,7 +163,7 @@ fn judged_tag(alloc: Global, judged: &mut Judgement, out: &mut [u8]) -> Result<u
 /// Writes the last twelve bytes of the encrypted authenticator: two log-ins share them only by chance, one in 2^96, and a replay has
 /// those of the first.
 #[unsafe(no_mangle)]
-pub extern "C" fn mk_judged_tag(alloc: Global, judged: &mut Judgement, out: &mut [u8]) -> Reply
+pub extern "C" fn mk_judged_get_tag(alloc: Global, judged: &mut Judgement, out: &mut [u8]) -> Reply
     ensures told { (answer : Result ℕ Failure) × (result ≡ reply_of answer)
         × IfOk answer (λ count. Shows IsTag judged.old.place.value out.old count out.new)
         × IfErr answer (LendsNot IsTag judged.old.place.value (length out.old))
@@ -201,7 +201,7 @@ fn session_tag(alloc: Global, session: &mut Connection, out: &mut [u8]) -> Resul
     answer
 }
 
-/// Writes the last twelve bytes of the encrypted authenticator by which the client was admitted, as `mk_judged_tag` does. Fails with
+/// Writes the last twelve bytes of the encrypted authenticator by which the client was admitted, as `mk_judged_get_tag` does. Fails with
 /// HANDLE for an initiator's session.
 #[unsafe(no_mangle)]
 pub extern "C" fn mk_session_get_tag(

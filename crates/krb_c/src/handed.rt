@@ -29,7 +29,7 @@ fn url(alloc: Global, initiator: &mut Initiator, out: &mut [u8]) -> Result<usize
 
 /// Writes the URL of the KDC that is asked, as `tcp://kdc.example.com:88`. Fails with OutOfSequence `Sequence` if none is asked.
 #[unsafe(no_mangle)]
-pub extern "C" fn mk_initiator_url(
+pub extern "C" fn mk_initiator_get_url(
     alloc: Global,
     initiator: &mut Initiator,
     out: &mut [u8],
@@ -62,7 +62,7 @@ fn request(alloc: Global, initiator: &mut Initiator, out: &mut [u8]) -> Result<u
 
 /// Writes the bytes that are sent there. Fails with OutOfSequence `Sequence` if no KDC is asked.
 #[unsafe(no_mangle)]
-pub extern "C" fn mk_initiator_request(
+pub extern "C" fn mk_initiator_get_request(
     alloc: Global,
     initiator: &mut Initiator,
     out: &mut [u8],
@@ -96,7 +96,7 @@ fn token(alloc: Global, initiator: &mut Initiator, out: &mut [u8]) -> Result<usi
 /// Writes the token for the service; no bytes if nothing more is sent. Fails with OutOfSequence `Sequence` if there is none. The token
 /// is kept until the next step.
 #[unsafe(no_mangle)]
-pub extern "C" fn mk_initiator_token(
+pub extern "C" fn mk_initiator_get_token(
     alloc: Global,
     initiator: &mut Initiator,
     out: &mut [u8],
@@ -130,7 +130,7 @@ fn peer(alloc: Global, initiator: &mut Initiator, out: &mut [u8]) -> Result<usiz
 /// Writes the service that has proved its identity, as `host/server.example.com`. Fails with OutOfSequence `Sequence` before the
 /// context is established.
 #[unsafe(no_mangle)]
-pub extern "C" fn mk_initiator_peer(
+pub extern "C" fn mk_initiator_get_peer(
     alloc: Global,
     initiator: &mut Initiator,
     out: &mut [u8],

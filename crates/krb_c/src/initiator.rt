@@ -124,7 +124,7 @@ fn hand_over(
 /// Fails with OutOfSequence `Sequence` if it is not established; with HANDLE if there is no initiator, or `to` is not empty. Then
 /// nothing is changed.
 #[unsafe(no_mangle)]
-pub extern "C" fn mk_initiator_session(
+pub extern "C" fn mk_initiator_take_session(
     alloc: Global,
     initiator: &mut Initiator,
     to: &mut Connection,

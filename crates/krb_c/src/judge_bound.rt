@@ -129,7 +129,7 @@ fn judge_bound(
     judge_at(alloc, acceptor, to, token, octets, &draw)
 }
 
-/// Does the first half as `mk_judge` does, of a client that is bound to its channel: the data are those that `mk_initiator_bind`
+/// Does the first half as `mk_judge` does, of a client that is bound to its channel: the data are those that `mk_initiator_set_bindings`
 /// takes.
 ///
 /// Fails with REFUSED and the first check that failed: after those of `mk_judge` with `Checksum`, if the client's checksum has no room

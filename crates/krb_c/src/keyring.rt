@@ -110,7 +110,7 @@ fn limit_tokens(alloc: Global, ring: &mut Ring, most: usize) -> Result<usize, Fa
 
 /// Sets how many bytes a token may have: a longer one is refused as `Shape`, and not read.
 #[unsafe(no_mangle)]
-pub extern "C" fn mk_keyring_limit_tokens(alloc: Global, ring: &mut Ring, most: usize) -> Reply
+pub extern "C" fn mk_keyring_set_token_limit(alloc: Global, ring: &mut Ring, most: usize) -> Reply
     ensures { (answer : Result ℕ Failure) × (result ≡ reply_of answer)
         × IfOk answer (λ count. LimitsRing most ring.old.place.value count ring.new.place.value)
         × IfErr answer (λ failure. (failure ≡ failures.Handle) × (ring.old.place.value ≡ None))

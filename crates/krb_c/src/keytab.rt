@@ -198,7 +198,7 @@ fn make(
 /// service of the realm has a key; with ARGUMENT if the realm is not ASCII; with HANDLE if the handle is not empty. It stays empty
 /// then.
 #[unsafe(no_mangle)]
-pub extern "C" fn mk_acceptor_keytab(
+pub extern "C" fn mk_acceptor_new_keytab(
     alloc: Global,
     to: &mut Acceptor,
     file: &[u8],

@@ -38,7 +38,7 @@ fn answer(alloc: Global, session: &mut Connection, out: &mut [u8]) -> Result<usi
 
 /// Writes the reply to the client: an AP-REP if it asked for mutual authentication, otherwise no bytes. The call can be repeated.
 #[unsafe(no_mangle)]
-pub extern "C" fn mk_session_answer(
+pub extern "C" fn mk_session_get_answer(
     alloc: Global,
     session: &mut Connection,
     out: &mut [u8],
@@ -74,10 +74,14 @@ fn peer(alloc: Global, session: &mut Connection, out: &mut [u8]) -> Result<usize
 }
 
 /// Writes a short name of the client, in UTF-8: `alice@example.com`, its one component and the realm in small letters. Fails with
-/// REFUSED as `NoIdentity` if it has none: only a name of type 1 and one component has one. **Rights are given by `mk_session_client`
+/// REFUSED as `NoIdentity` if it has none: only a name of type 1 and one component has one. **Rights are given by `mk_session_get_client`
 /// alone.**
 #[unsafe(no_mangle)]
-pub extern "C" fn mk_session_peer(alloc: Global, session: &mut Connection, out: &mut [u8]) -> Reply
+pub extern "C" fn mk_session_get_local_name(
+    alloc: Global,
+    session: &mut Connection,
+    out: &mut [u8],
+) -> Reply
     ensures { (answer : Result ℕ Failure) × (result ≡ reply_of answer)
         × IfOk answer (λ count. Serves (λ s. IsNamed s.connection) same
         session.old.place.value out.old count session.new.place.value out.new)

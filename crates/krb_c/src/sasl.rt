@@ -122,7 +122,7 @@ fn server(
 /// size; with MK_SASL and 2 if the session is not established; with HANDLE if there is no session, or `to` is not empty. Then nothing
 /// is changed.
 #[unsafe(no_mangle)]
-pub extern "C" fn mk_sasl_server(
+pub extern "C" fn mk_sasl_new_server(
     alloc: Global,
     from: &mut Connection,
     to: &mut Sasl,
@@ -187,7 +187,7 @@ fn client(
 /// and 2 if the session is not established; with ARGUMENT if the name is not UTF-8; with HANDLE if there is no session, or `to` is
 /// not empty. Then nothing is changed.
 #[unsafe(no_mangle)]
-pub extern "C" fn mk_sasl_client(
+pub extern "C" fn mk_sasl_new_client(
     alloc: Global,
     from: &mut Connection,
     to: &mut Sasl,

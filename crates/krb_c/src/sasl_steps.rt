@@ -74,7 +74,7 @@ fn accept(
 }
 
 /// Agrees on the layer that the client's answer chooses, and writes the name of the user for whom the client asks to act, in UTF-8:
-/// no bytes if it is the client itself. **The caller must decide whether the client may act for that user**, by `mk_session_peer`
+/// no bytes if it is the client itself. **The caller must decide whether the client may act for that user**, by `mk_session_get_local_name`
 /// of the session before.
 ///
 /// Fails with MK_SASL and 2 before the offer and after an answer was accepted, with MK_SASL and 3 if the text is under four bytes or

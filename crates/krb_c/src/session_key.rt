@@ -37,7 +37,11 @@ fn session_key(alloc: Global, session: &mut Connection, out: &mut [u8]) -> Resul
 /// ticket's session key. It has 32 bytes if its encryption type is 18 and 16 if it is 17 (RFC 3962). **Whoever has it reads all
 /// messages of the session.**
 #[unsafe(no_mangle)]
-pub extern "C" fn mk_session_key(alloc: Global, session: &mut Connection, out: &mut [u8]) -> Reply
+pub extern "C" fn mk_session_get_key(
+    alloc: Global,
+    session: &mut Connection,
+    out: &mut [u8],
+) -> Reply
     ensures { (answer : Result ℕ Failure) × (result ≡ reply_of answer)
         × IfOk answer (λ count. Serves (λ s. IsKey s.connection) same
         session.old.place.value out.old count session.new.place.value out.new)

@@ -47,7 +47,7 @@ fn set_kdc(alloc: Global, initiator: &mut Initiator, address: &[u8]) -> Result<u
 /// up in the variables and files. Fails with ARGUMENT if the address is not UTF-8. A call that fails leaves the initiator unchanged,
 /// for each of its settings.
 #[unsafe(no_mangle)]
-pub extern "C" fn mk_initiator_kdc(
+pub extern "C" fn mk_initiator_set_kdc(
     alloc: Global,
     initiator: &mut Initiator,
     address: &[u8],
@@ -89,7 +89,7 @@ fn set_password(
 
 /// Sets a user, its realm, which may be empty, and its password. Fails with ARGUMENT if one is not UTF-8.
 #[unsafe(no_mangle)]
-pub extern "C" fn mk_initiator_password(
+pub extern "C" fn mk_initiator_set_password(
     alloc: Global,
     initiator: &mut Initiator,
     user: &[u8],
@@ -136,7 +136,7 @@ fn set_key(
 ///
 /// The length of the key is not checked: the first step that uses a key of another length fails with `KeyLength`.
 #[unsafe(no_mangle)]
-pub extern "C" fn mk_initiator_key(
+pub extern "C" fn mk_initiator_set_key(
     alloc: Global,
     initiator: &mut Initiator,
     principal: &[u8],
@@ -178,7 +178,7 @@ fn add_variable(
 
 /// Adds a variable of the environment after the existing ones; the first of a name counts. ARGUMENT: a text is not UTF-8.
 #[unsafe(no_mangle)]
-pub extern "C" fn mk_initiator_variable(
+pub extern "C" fn mk_initiator_set_variable(
     alloc: Global,
     initiator: &mut Initiator,
     name: &[u8],
@@ -220,7 +220,7 @@ fn add_file(
 /// Adds the text of a file, as that of `/etc/krb5.conf`, after the existing ones; the first of a path counts. ARGUMENT: a text is
 /// not UTF-8.
 #[unsafe(no_mangle)]
-pub extern "C" fn mk_initiator_file(
+pub extern "C" fn mk_initiator_set_file(
     alloc: Global,
     initiator: &mut Initiator,
     path: &[u8],
@@ -254,7 +254,7 @@ fn bind_to(alloc: Global, initiator: &mut Initiator, octets: &[u8]) -> Result<us
 
 /// Binds the exchange to the channel below, by data of the application, as a TLS channel has them (RFC 5929).
 #[unsafe(no_mangle)]
-pub extern "C" fn mk_initiator_bind(
+pub extern "C" fn mk_initiator_set_bindings(
     alloc: Global,
     initiator: &mut Initiator,
     octets: &[u8],

@@ -43,7 +43,11 @@ fn client(alloc: Global, judged: &mut Judgement, out: &mut [u8]) -> Result<usize
 /// Writes the client's whole name: all components of its name and the realm, as `alice/admin@EXAMPLE.COM`, with a backslash before
 /// each of these marks that is in them (RFC 1964, section 2.1.1). **It is not admitted yet.**
 #[unsafe(no_mangle)]
-pub extern "C" fn mk_judged_client(alloc: Global, judged: &mut Judgement, out: &mut [u8]) -> Reply
+pub extern "C" fn mk_judged_get_client(
+    alloc: Global,
+    judged: &mut Judgement,
+    out: &mut [u8],
+) -> Reply
     ensures told { (answer : Result ℕ Failure) × (result ≡ reply_of answer)
         × IfOk answer (λ count. Shows IsClientText judged.old.place.value out.old count out.new)
         × IfErr answer (ShowsNot IsClientText judged.old.place.value (length out.old))
@@ -85,7 +89,11 @@ fn service(alloc: Global, judged: &mut Judgement, out: &mut [u8]) -> Result<usiz
 /// Writes the service that the ticket is for, as `host/server.example.com@EXAMPLE.COM`: its key decrypted the ticket. The realm is the
 /// one in the ticket's clear part, which nothing protects.
 #[unsafe(no_mangle)]
-pub extern "C" fn mk_judged_service(alloc: Global, judged: &mut Judgement, out: &mut [u8]) -> Reply
+pub extern "C" fn mk_judged_get_service(
+    alloc: Global,
+    judged: &mut Judgement,
+    out: &mut [u8],
+) -> Reply
     ensures told { (answer : Result ℕ Failure) × (result ≡ reply_of answer)
         × IfOk answer (λ count. Shows IsServiceText judged.old.place.value out.old count out.new)
         × IfErr answer (ShowsNot IsServiceText judged.old.place.value (length out.old))
@@ -124,7 +132,11 @@ fn record(alloc: Global, judged: &mut Judgement, out: &mut [u8]) -> Result<usize
 /// same bytes. The store inserts them and reports whether they were there in one step, and may drop them once its own time is later
 /// than the client's by more than the skew. A client's time may be ahead of the store's by the skew.
 #[unsafe(no_mangle)]
-pub extern "C" fn mk_judged_record(alloc: Global, judged: &mut Judgement, out: &mut [u8]) -> Reply
+pub extern "C" fn mk_judged_get_record(
+    alloc: Global,
+    judged: &mut Judgement,
+    out: &mut [u8],
+) -> Reply
     ensures told { (answer : Result ℕ Failure) × (result ≡ reply_of answer)
         × IfOk answer (λ count. Shows IsStored judged.old.place.value out.old count out.new)
         × IfErr answer (ShowsNot IsStored judged.old.place.value (length out.old))

@@ -65,7 +65,7 @@ fn client(alloc: Global, session: &mut Connection, out: &mut [u8]) -> Result<usi
 /// Writes the client's whole name: all components of its name and the realm, as `alice/admin@EXAMPLE.COM`, with a backslash before
 /// each of these marks that is in them (RFC 1964, section 2.1.1). Fails with HANDLE for an initiator's session.
 #[unsafe(no_mangle)]
-pub extern "C" fn mk_session_client(
+pub extern "C" fn mk_session_get_client(
     alloc: Global,
     session: &mut Connection,
     out: &mut [u8],
@@ -129,7 +129,7 @@ fn tell_times(alloc: Global, session: &mut Connection, out: &mut Times) -> Resul
 
 /// Writes the times of the client's ticket. Fails with HANDLE for an initiator's session.
 #[unsafe(no_mangle)]
-pub extern "C" fn mk_session_times(
+pub extern "C" fn mk_session_get_times(
     alloc: Global,
     session: &mut Connection,
     out: &mut Times,

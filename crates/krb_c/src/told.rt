@@ -57,7 +57,7 @@ fn admit_judged(
 }
 
 /// Does the second half for machines that share a store, instead of `mk_admit`: no book is asked. The store was asked about the
-/// bytes of `mk_judged_record`, and keeps them from then on, in one step. `seen` is 0 if it did not have them, and `moment` its
+/// bytes of `mk_judged_get_record`, and keeps them from then on, in one step. `seen` is 0 if it did not have them, and `moment` its
 /// own time when it answered, in microseconds since 1970-01-01T00:00:00Z. The skew is that of all who share it.
 ///
 /// The candidate is spent, whether it is admitted or refused. Fails with HANDLE if a handle has the wrong content for the call: then
