@@ -1,6 +1,7 @@
 //! The handle of a keyring, as C keeps it.
 
 ghost use Rattle.std.specs.Prelude.{◌≡◌, Some, None, Option, option_map, is_none};
+ghost use Rattle.std.specs.Coded.{coded_option};
 ghost use Rattle.std_heap.specs.contracts.GlobalAllocator.TheImpl.{ghosts};
 ghost use Rattle.krb_c.specs.Places.{place_owns, count_of};
 ghost use Rattle.krb_keyring.specs.declared.keyring.Keyring.{Keyring};
@@ -19,7 +20,7 @@ use std::ptr::null_mut;
 pub struct RingPlace {
     at: *mut u8,
     alloc: Global,
-    pub ghost value: { Option Keyring },
+    pub ghost value: { Option Keyring } by { coded_option the_row.coded },
 }
 
 impl Model for RingPlace {
