@@ -1,4 +1,4 @@
--- The principals of a credential cache as KDCs and services are of them (RFC 4120, section 5.2.2), and back.
+-- The principals of a credential cache as names of Kerberos (RFC 4120, section 5.2.2), and back.
 use Rattle.std.specs.Prelude.{ℕ, suc, ◌-◌, ◌^◌, ◌||◌, ◌&&◌, Bool, ℤ, pos, negsuc, List, length, drop, Option, Some, None, Result, nat_lt, nat_le, if◌then◌else◌}
 use Rattle.std.specs.Int.{w32, to_be_bytes}
 use Rattle.std.specs.List.{list_all}
