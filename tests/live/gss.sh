@@ -58,7 +58,7 @@ wrong_keytab() {
 decides() {
     local wanted=$1 pattern=$2 ended=0
     : > "$gss/log"
-    timeout 30 "${@:3}" || ended=1
+    timeout "${patience:-30}" "${@:3}" || ended=1
     for _ in $(seq 20); do grep -q -- "$pattern" "$gss/log" && break; sleep 0.1; done
     cut -d' ' -f2- "$gss/log" | tail -n 5
     [ "$ended" -eq "$wanted" ] && grep -q -- "$pattern" "$gss/log"

@@ -45,6 +45,7 @@ apache_is_clean() {
 
 python_is_clean() {
     local port
+    local -x patience=100 # (seconds)
     port=$(free_port)
     serve_checked checked-python env PYTHONMALLOC=malloc "$python" "$live/gss/server.py" "$port"
     await_slow_port "$port" || return 1

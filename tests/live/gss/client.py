@@ -87,6 +87,11 @@ def changed(token):
     return bytes(octets)
 
 
+def is_refusal(octets):
+    """Nothing, or a frame with a KRB-ERROR (RFC 4121, section 4.1)."""
+    return not octets or 8 <= octets.find(bytes.fromhex("2a864886f7120102020300")) <= 10
+
+
 def fuzz(count):
     """Altered tokens: each ends its connection, and the server stays. One that is the same in all that is protected was admitted before."""
     random.seed(1)
@@ -97,7 +102,7 @@ def fuzz(count):
     for _ in range(count):
         with connection() as server, server.makefile("rb") as stream:
             send(server, changed(token))
-            assert stream.read(1) == b"", "an altered token was answered"
+            assert is_refusal(stream.read()), "an altered token was answered"
 
 
 if "fuzz" in words:

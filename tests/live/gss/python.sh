@@ -1,7 +1,7 @@
 # A server over python3-gssapi (gss/server.py), and a client over it: what a context tells, messages of each kind, channel bindings.
 
 # Whether the client says so as its last line: python_client PORT SERVICE OPTION..
-python_client() { timeout 20 "$python" "$live/gss/client.py" "$@" | tail -n 1 | grep -x done; }
+python_client() { timeout "${patience:-20}" "$python" "$live/gss/client.py" "$@" | tail -n 1 | grep -x done; }
 
 # Whether the server's log has such a line for a client: python_tells PATTERN OPTION..
 python_tells() {
