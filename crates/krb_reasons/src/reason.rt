@@ -89,10 +89,7 @@ impl Reason {
             ),
             Reason::NoSkew => String::from_str(alloc, "no line skew <seconds> comes before it"),
             Reason::SecondSkew => String::from_str(alloc, "an earlier line sets the skew"),
-            Reason::AfterEvent => String::from_str(
-                alloc,
-                "after the first event come only events",
-            ),
+            Reason::AfterEvent => String::from_str(alloc, "after the first event come only events"),
             Reason::DeclaredTwice { id } => {
                 format!(in alloc; "an earlier line declares connection {id}")
             }
@@ -103,7 +100,9 @@ impl Reason {
                 format!(in alloc; "connection {id} is an initiator, and a key is an acceptor's")
             }
             Reason::SecondCredentials { id } => {
-                format!(in alloc; "an earlier line is the password or keytab line of connection {id}")
+                format!(in alloc;
+                    "an earlier line is the password or keytab line of connection {id}"
+                )
             }
             Reason::SecondKdc { id } => {
                 format!(in alloc; "an earlier line is the kdc line of connection {id}")
