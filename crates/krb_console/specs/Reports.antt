@@ -10,7 +10,7 @@ report_of Done read written cause = []
 report_of BadWords read written cause =
     codes "krb_run: these words are not a command: the commands are serve, threads, demo <n>, --help and --version\n"
 report_of BadLine read written cause =
-    codes "krb_run: a bad line: it is not of the table of lines that --help prints, or not where it may be\n"
+    codes "krb_run: a bad line: it is not in the table of lines that --help prints, or not where it may be\n"
 report_of ReadFault read written cause =
     codes "krb_run: a read of standard input failed after " ++ (decimal read ++ (codes " whole lines: " ++ (cause ++ codes "\n")))
 report_of WriteFault read written cause =

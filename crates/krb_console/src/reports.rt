@@ -37,7 +37,7 @@ pub fn report(
         ),
         Status::BadLine => String::from_str(
             alloc,
-            "krb_run: a bad line: it is not of the table of lines that --help prints, or not where it may be\n",
+            "krb_run: a bad line: it is not in the table of lines that --help prints, or not where it may be\n",
         ),
         Status::ReadFault => {
             format!(in alloc;

@@ -29,7 +29,7 @@ The reply to a request is a line, its octets also after their length in four oct
 The last line is one of these:
 
     end <n>                      the input is at its end: n requests were answered
-    bad line <n>                 line n is not of the table, or not where it may be
+    bad line <n>                 line n is not in the table, or not where it may be
     long line <n>                line n has more than 1048576 octets, or the input more than 1073741824
     stopped <n>                  memory ran out after the replies to n requests
 

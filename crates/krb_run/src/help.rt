@@ -45,7 +45,7 @@ Replies:
 The last line is one of these:
 
     end <admitted> <kept>        the input is at its end: how many events admitted their peer, and how many records are kept
-    bad line <n>                 line n is not of the table, or not where it may be
+    bad line <n>                 line n is not in the table, or not where it may be
     long line <n>                line n has more than 1048576 octets, or the input more than 1073741824
     stopped <n>                  memory ran out after the replies to n events
 

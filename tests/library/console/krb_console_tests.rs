@@ -124,7 +124,7 @@ static REPORTS: [(Status, &str); 7] = [
     ),
     (
         Status::BadLine,
-        "krb_run: a bad line: it is not of the table of lines that --help prints, or not where it may be\n",
+        "krb_run: a bad line: it is not in the table of lines that --help prints, or not where it may be\n",
     ),
     (
         Status::ReadFault,
