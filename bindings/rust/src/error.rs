@@ -75,6 +75,8 @@ pub struct Cause(pub u32);
 impl Cause {
     /// The call does not fit the state: a step of an initiator out of its turn.
     pub const SEQUENCE: Cause = Cause(5);
+    /// The bytes are not in the grammar of what is read: a token, a keytab, a credential cache, a ticket.
+    pub const SHAPE: Cause = Cause(6);
     /// There is no key for the service that the ticket names.
     pub const NO_SERVICE_KEY: Cause = Cause(7);
     /// A key does not have the length of its encryption type.
@@ -111,8 +113,10 @@ impl Cause {
     pub const BINDINGS: Cause = Cause(56);
     /// The ticket came through further realms, and no KDC checked them.
     pub const TRANSITED: Cause = Cause(63);
-    /// There is no identity: a client without a short name.
+    /// There is no identity: a client without a short name, or a credential cache without a ticket that is valid.
     pub const NO_IDENTITY: Cause = Cause(31);
+    /// The target name is not a service and a host with a slash between.
+    pub const TARGET: Cause = Cause(30);
 }
 
 impl Refusal {

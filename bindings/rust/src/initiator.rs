@@ -4,7 +4,7 @@ use crate::error::{Error, done};
 use crate::options::{Flags, Rules};
 use crate::session::Session;
 use crate::sys::{self, Handle, Reply};
-use crate::{filled, moment_of, random};
+use crate::{filled, microseconds, moment_of, random};
 use std::time::SystemTime;
 
 /// A client that logs in at a service. It has no network: each step returns the next one, and its caller carries the bytes.
@@ -65,6 +65,15 @@ pub enum Next {
     SendToken,
     /// Call [`into_session`](Initiator::into_session). Send its [`answer`](Session::answer) to the service, unless it is empty.
     Established,
+}
+
+/// Which ticket of a credential cache was found.
+#[derive(Clone, Copy, Debug, PartialEq, Eq, Hash)]
+pub enum CacheTicket {
+    /// The ticket for the service: [`start`](Initiator::start) leads to [`Next::SendToken`], and no KDC is asked.
+    Service,
+    /// The ticket for the ticket-granting service of the user's realm, which is asked for the service's.
+    Granting,
 }
 
 /// A step, for [`Initiator::step_at`].
@@ -169,6 +178,55 @@ impl Initiator {
                 etype.into(),
                 key.as_ptr(),
                 key.len(),
+            )
+        })?;
+        Ok(())
+    }
+
+    /// Sets the user by the bytes of a credential cache, a file of the format 0503 or 0504 as `kinit` writes it: the cache's own principal,
+    /// with its ticket for the service that is valid now, or otherwise with its ticket for the ticket-granting service of its realm. Returns
+    /// which one. A password or key that was set before is dropped, and one that is set later drops the ticket. No ticket is renewed.
+    ///
+    /// # Errors
+    /// Refused as [`Cause::SHAPE`](crate::Cause::SHAPE) if the bytes are not such a file, as [`Cause::NO_IDENTITY`](crate::Cause::NO_IDENTITY)
+    /// if it has neither ticket, and as [`Cause::TARGET`](crate::Cause::TARGET) if the service's name has not two parts. Nothing is changed
+    /// then.
+    pub fn set_ccache(&mut self, file: &[u8], now: SystemTime) -> Result<CacheTicket, Error> {
+        let now = microseconds(now)?;
+        // SAFETY: as above.
+        let which = done(unsafe {
+            sys::mk_initiator_set_ccache(&mut self.0, file.as_ptr(), file.len(), now)
+        })?;
+        match which {
+            1 => Ok(CacheTicket::Service),
+            2 => Ok(CacheTicket::Granting),
+            which => unreachable!("a cache has no ticket {which}"),
+        }
+    }
+
+    /// Sets the user by a ticket in DER (RFC 4120, section 5.3), of a cache that is not a file: the realm and the name of its client, as `alice`,
+    /// and its session key of this encryption type, 17 or 18. It is a ticket for the service, or for a ticket-granting service.
+    pub fn set_ticket(
+        &mut self,
+        realm: &str,
+        name: &str,
+        etype: u32,
+        key: &[u8],
+        ticket: &[u8],
+    ) -> Result<(), Error> {
+        // SAFETY: as above.
+        done(unsafe {
+            sys::mk_initiator_set_ticket(
+                &mut self.0,
+                realm.as_ptr(),
+                realm.len(),
+                name.as_ptr(),
+                name.len(),
+                etype,
+                key.as_ptr(),
+                key.len(),
+                ticket.as_ptr(),
+                ticket.len(),
             )
         })?;
         Ok(())

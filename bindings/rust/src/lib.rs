@@ -41,7 +41,7 @@ mod sys;
 
 pub use acceptor::{Acceptor, Judged};
 pub use error::{Cause, Error, Kind, LayerRefusal, Refusal};
-pub use initiator::{Initiator, Next, Step};
+pub use initiator::{CacheTicket, Initiator, Next, Step};
 pub use keyring::Keyring;
 pub use options::{Flags, GssFlags, Rules};
 pub use sasl::{Layer, Layers, SaslClient, SaslServer};

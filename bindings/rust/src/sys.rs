@@ -242,6 +242,24 @@ unsafe extern "C" {
         key: *const u8,
         key_length: usize,
     ) -> Reply;
+    pub fn mk_initiator_set_ccache(
+        initiator: *mut Handle,
+        file: *const u8,
+        file_length: usize,
+        moment: u64,
+    ) -> Reply;
+    pub fn mk_initiator_set_ticket(
+        initiator: *mut Handle,
+        realm: *const u8,
+        realm_length: usize,
+        name: *const u8,
+        name_length: usize,
+        etype: u32,
+        key: *const u8,
+        key_length: usize,
+        ticket: *const u8,
+        ticket_length: usize,
+    ) -> Reply;
     pub fn mk_initiator_set_variable(
         initiator: *mut Handle,
         name: *const u8,

@@ -1,6 +1,7 @@
 pub mod Asked
 pub mod Authorization
 pub mod Calls
+pub mod Ccaches
 pub mod Codes
 pub mod Copies
 pub mod Dialogues

@@ -8,6 +8,7 @@ mod accept;
 mod acceptor;
 mod asked;
 mod authorization;
+mod ccache;
 mod codes;
 mod copies;
 mod delegation;
@@ -37,6 +38,7 @@ mod shows;
 mod steps;
 mod tells;
 mod texts;
+mod ticket;
 mod told;
 
 pub use accept::Moment;

@@ -61,6 +61,7 @@ fn first_session(alloc: Global, machine: &str, number: [u8; 4]) -> Result<HeldSe
     ensures context { IfOk result (λ session. session.connection ≡ first_context machine.now (from_be_bytes w32 number)) }
     ensures token { IfOk result (λ session. session.answer ≡ []) }
     ensures order { IfOk result (λ session. session.order ≡ orders.Any) }
+    ensures nobody { IfOk result (λ session. session.client ≡ None) }
 {
     let config = KerberosConfig {
         kdc_url: None,
@@ -99,6 +100,7 @@ fn first_dialogue(
             options,
             session,
             turn: Turn::Rests,
+            held: None,
         },
     )
 }
@@ -183,8 +185,9 @@ impl Dialogue {
     /// sequence number of this end, four random bytes. Fails with `NotAscii` if the target is not ASCII. The dialogue has the rules
     /// of the RFCs: `Rules::rfc()`, all rules that there are.
     ///
-    /// `set_password` or `set_key` sets the client; `set_kdc`, or the variables and files that are added, set the KDCs. These calls
-    /// may be made at any time: an exchange that has begun goes on with what it began with.
+    /// `set_password`, `set_key`, `set_ticket` or `set_ccache` sets the client, and the last one of them counts; `set_kdc`, or the variables
+    /// and files that are added, set the KDCs. These calls may be made at any time: an exchange that has begun goes on with what it began
+    /// with.
     #[tactic(auto, using(crate::proofs::Led::refuses))]
     pub fn new(
         alloc: Global,
@@ -223,7 +226,7 @@ impl Dialogue {
         self.session.session.set_rules(rules);
     }
 
-    /// Sets a user, its realm, which may be empty, and its password.
+    /// Sets a user, its realm, which may be empty, and its password. Drops a ticket that was set.
     pub fn set_password(
         &mut self,
         alloc: Global,
@@ -242,11 +245,12 @@ impl Dialogue {
             domain,
             password,
         }));
+        self.held = None;
         Ok(())
     }
 
-    /// Sets a user, as `alice@EXAMPLE.COM`, with a key of a keytab: the bytes of its entry, and their type, 17 or 18 (RFC 3962). Fails
-    /// with `Etype` if the type is another, and with `BadUser` if the name has both signs of a name.
+    /// Sets a user, as `alice@EXAMPLE.COM`, with a key of a keytab: the bytes of its entry, and their type, 17 or 18 (RFC 3962). Drops a
+    /// ticket that was set. Fails with `Etype` if the type is another, and with `BadUser` if the name has both signs of a name.
     #[tactic(auto, using(crate::proofs::Led::refuses))]
     pub fn set_key(
         &mut self,
@@ -264,6 +268,7 @@ impl Dialogue {
                 let key = Octets::from_slice(alloc, key)?;
                 let identity = key_of(user, etype, key);
                 self.options.credentials = Some(CredentialsBuffers::Keytab(identity));
+                self.held = None;
                 Ok(())
             }
             Err(cause) => Err(Error::from(cause)),

@@ -6,11 +6,11 @@ ghost use Rattle.krb_dialogue.specs.Dialogues.{options_with};
 ghost use Rattle.krb_dialogue.specs.Steps.{in_time, in_turn, next_of};
 
 use crate::dialogue::{Dialogue, Next, Turn};
-use crate::exchange::{Exchange, Outcome, begin_exchange, continue_exchange};
+use crate::exchange::{Exchange, Outcome, begin, continue_exchange};
 use krb_as::InitDone;
 use krb_conf::Env;
 use krb_der::{Copier, Octets, OutOfMemory};
-use krb_initiator::{InitOptions, InitRun, initialize_security_context};
+use krb_initiator::{InitOptions, Initiation, begin_initiation};
 use sspi_core::{Cause, Draw, Error, MAX_MOMENT, SecurityStatus};
 use sspi_generator::{NetFault, NetworkRequest};
 use std::alloc::Global;
@@ -81,7 +81,8 @@ impl Dialogue {
     ghost use Rattle.sspi_generator.specs.Steps.{IsFailure};
     ghost use Rattle.sspi_generator.specs.declared.network.NetFault.TheVariants as net_faults;
     ghost use Rattle.krb_dialogue.specs.Outcomes.{IsNetwork};
-    ghost use Rattle.krb_initiator.specs.InitRuns.{IsNew, turns_left};
+    ghost use Rattle.krb_initiator.specs.InitRuns.{turns_left};
+    ghost use Rattle.krb_initiator.specs.Seekers.{CanBegin};
     ghost use Rattle.krb_dialogue.specs.Dialogues.{is_asking, can_start, can_hear, requests_left, options_with};
     ghost use Rattle.krb_dialogue.specs.declared.exchange.Outcome.TheVariants as outcomes;
     ghost use Rattle.krb_dialogue.specs.Steps.{LeadsTo, Opens, Continues, Undertakes, TakesReply, Allows, in_turn, Starts, Hears, Takes, Steps};
@@ -123,17 +124,17 @@ impl Dialogue {
         }
     }
 
-    /// Begins an exchange. If memory runs out the exchange does not begin.
+    /// Begins an exchange, with the ticket that is held if there is one. If memory runs out the exchange does not begin.
     #[tactic(auto, using(crate::proofs::Led::led_down, crate::proofs::Led::led_refused, crate::proofs::Led::led_back))]
-    fn open(&mut self, alloc: Global, run: InitRun, draw: &Draw) -> Result<Next, Error>
-        requires new { IsNew run }
+    fn open(&mut self, alloc: Global, initiation: Initiation, draw: &Draw) -> Result<Next, Error>
+        requires can { CanBegin initiation }
         requires moment { draw.now.moment ≤ last_moment }
-        ensures opens { Steps (Opens self.old run draw.now) result self.new }
+        ensures opens { Steps (Opens self.old initiation draw.now) result self.new }
         ensures want { result ≡ Err (error_of causes.Memory) → self.new ≡ self.old }
-        ensures turns { result ≡ Ok Next.AskKdc → requests_left self.new.turn < turns_left run.phase }
+        ensures turns { result ≡ Ok Next.AskKdc → requests_left self.new.turn < 12 }
         ensures fault { IfErr result (λ error. IsNetwork error → ⊥) }
     {
-        let outcome = begin_exchange(alloc, run, draw)?;
+        let outcome = begin(alloc, &self.held, initiation, draw)?;
         self.take_outcome(outcome)
     }
 
@@ -146,9 +147,9 @@ impl Dialogue {
         ensures turns { result ≡ Ok Next.AskKdc → requests_left self.new.turn < 12 }
         ensures fault { IfErr result (λ error. IsNetwork error → ⊥) }
     {
-        match initialize_security_context(alloc, &self.session.session.connection, options) {
-            Ok(run) => self.open(alloc, run, draw),
-            Err(error) => Err(error),
+        match begin_initiation(alloc, &self.session.session.connection, &options) {
+            Ok(initiation) => self.open(alloc, initiation, draw),
+            Err(cause) => Err(Error::from(cause)),
         }
     }
 
@@ -234,10 +235,12 @@ impl Dialogue {
         }
     }
 
-    /// Begins: a KDC is asked for the service's ticket, or with `USE_SESSION_KEY` the service is asked for its own.
+    /// Begins: a KDC is asked for the service's ticket, or with `USE_SESSION_KEY` the service is asked for its own. With a ticket that was
+    /// set there is no AS exchange: a ticket for the service is sent to the service at once, and one for a ticket-granting service to its KDC.
     ///
     /// Fails with `Moment` if the moment is past the end of 9999-12-28, with `Sequence` if a KDC's answer is awaited or the service
-    /// was sent a ticket, otherwise as `initialize_security_context` fails, or the first step of its run. An error changes nothing.
+    /// was sent a ticket, otherwise as `initialize_security_context` fails, or the first step of its run, or
+    /// [`start_held`](krb_tickets::start_held). An error changes nothing.
     pub fn start(&mut self, alloc: Global, draw: &Draw) -> Result<Next, Error>
         ensures step { Steps (Starts self.old draw.now) result self.new }
         // If memory runs out, the step can be repeated.

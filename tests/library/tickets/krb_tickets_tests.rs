@@ -8,7 +8,7 @@ use sspi_core::Cause;
 use std::alloc::Global;
 use std::test::Fail;
 
-fn read(alloc: Global, file: &str) -> Result<Ccache, Fail> {
+pub fn read(alloc: Global, file: &str) -> Result<Ccache, Fail> {
     let octets = hex::decode(alloc, file)?;
     match Ccache::read(alloc, &octets) {
         Ok(cache) => Ok(cache),
@@ -57,9 +57,19 @@ fn tickets_are_cached_as_they_were(rt: HostRuntime) -> Result<(), Fail> {
 }
 
 /// The ticket of MIT's cache for the service `host/server.example.com`.
-fn host_ticket(alloc: Global) -> Result<Credential, Fail> {
+pub fn host_ticket(alloc: Global) -> Result<Credential, Fail> {
     let mut credentials = read(alloc, MIT)?.credentials.into_inner();
     credentials.pop();
+    match credentials.pop() {
+        Some(credential) => Ok(credential),
+        None => Err(Fail::from("no credential")),
+    }
+}
+
+/// Its ticket for the ticket-granting service, which is third, after two options.
+pub fn tgt(alloc: Global) -> Result<Credential, Fail> {
+    let mut credentials = read(alloc, MIT)?.credentials.into_inner();
+    credentials.truncate(3);
     match credentials.pop() {
         Some(credential) => Ok(credential),
         None => Err(Fail::from("no credential")),
