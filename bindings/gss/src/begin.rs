@@ -10,6 +10,7 @@ use crate::say;
 use crate::status::Refused;
 use crate::{config, target};
 use menolavuri::{Cause, Error, Flags, Initiator, Next, carrier};
+use std::time::{Duration, SystemTime};
 
 /// The request of a program.
 pub struct Wanted<'a> {
@@ -32,6 +33,10 @@ pub struct Ready {
     pub next: Next,
     kdcs: Kdcs,
 }
+
+/// How often a cache is read if somebody writes to it meanwhile, and the pause before the next time.
+const READINGS: usize = 3;
+const PAUSE: Duration = Duration::from_millis(50);
 
 /// The code for the library if no KDC replied.
 const NO_REPLY: u32 = 1;
@@ -59,10 +64,24 @@ fn service_of(wanted: &Wanted<'_>) -> Result<String, String> {
     Err(format!("the target is of the realm {}", it.realm))
 }
 
-/// Gives an initiator the tickets of a cache: the library has no call for that yet.
-fn hold(_: &mut Initiator, path: &str) -> Result<(), String> {
-    cache::read(path)?;
-    Err(format!("{path}: the library takes no credential cache"))
+/// Gives an initiator the tickets of a client's cache. A cache that a program writes to meanwhile is read again.
+fn hold(initiator: &mut Initiator, path: &str, client: &str) -> Result<(), String> {
+    let mut failed = String::new();
+    for _ in 0..READINGS {
+        let file = cache::read(path)?;
+        if let Some(other) = cache::client(&file).filter(|it| it != client) {
+            return Err(format!("{path} is the cache of {other}"));
+        }
+        match initiator.set_ccache(&file, SystemTime::now()) {
+            Ok(_) => return Ok(()),
+            Err(error) if error.cause() == Some(Cause::NO_IDENTITY) => {
+                return Err(format!("{path} has no ticket that is valid"));
+            }
+            Err(error) => failed = format!("{path}: {error}"),
+        }
+        std::thread::sleep(PAUSE);
+    }
+    Err(failed)
 }
 
 /// Starts an initiator. Nothing is sent: an error says why MIT's mechanism is asked.
@@ -79,7 +98,7 @@ pub fn ready(wanted: &Wanted<'_>) -> Result<Ready, String> {
     if let Some(data) = wanted.bindings {
         initiator.bind(data).map_err(words)?;
     }
-    hold(&mut initiator, &path)?;
+    hold(&mut initiator, &path, wanted.client)?;
     let next = initiator.start().map_err(words)?;
     if next == Next::AskKdc && initiator.url().map_err(words)?.starts_with("https:") {
         return Err("the KDC is asked over https".into());

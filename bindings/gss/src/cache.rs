@@ -80,6 +80,52 @@ pub fn read(path: &str) -> Result<Vec<u8>, String> {
     Ok(octets)
 }
 
+/// The octets that a file of a cache has next, after a number of four that says how many they are.
+fn counted<'a>(rest: &mut &'a [u8]) -> Option<&'a [u8]> {
+    let (head, tail) = rest.split_first_chunk::<4>()?;
+    let count = usize::try_from(u32::from_be_bytes(*head)).ok()?;
+    let (octets, tail) = tail.split_at_checked(count)?;
+    *rest = tail;
+    Some(octets)
+}
+
+/// A part of a name, as MIT krb5 shows it (krb5_unparse_name).
+fn escaped(part: &[u8]) -> String {
+    let mut shown = String::new();
+    for it in String::from_utf8_lossy(part).chars() {
+        match it {
+            '/' | '@' | '\\' => shown.extend(['\\', it]),
+            '\n' => shown.push_str("\\n"),
+            '\t' => shown.push_str("\\t"),
+            '\u{8}' => shown.push_str("\\b"),
+            '\0' => shown.push_str("\\0"),
+            it => shown.push(it),
+        }
+    }
+    shown
+}
+
+/// The client of a cache, as MIT krb5 shows its name: none if the file is in neither of the formats 0503 and 0504.
+pub fn client(file: &[u8]) -> Option<String> {
+    let mut rest = match file {
+        [5, 4, high, low, rest @ ..] => {
+            let length = usize::from(u16::from_be_bytes([*high, *low]));
+            rest.get(length..)?
+        }
+        [5, 3, rest @ ..] => rest,
+        _ => return None,
+    };
+    let numbers = rest.split_at_checked(8)?;
+    rest = numbers.1;
+    let count = u32::from_be_bytes(numbers.0[4..].try_into().ok()?);
+    let realm = escaped(counted(&mut rest)?);
+    let mut names = Vec::new();
+    for _ in 0..count {
+        names.push(escaped(counted(&mut rest)?));
+    }
+    Some(format!("{}@{realm}", names.join("/")))
+}
+
 #[cfg(test)]
 mod tests {
     use super::*;
@@ -106,6 +152,28 @@ mod tests {
         assert!(path(&Source::Behind, &krb5).is_err());
         rename();
         assert!(path(&Source::Default, &krb5).is_err());
+    }
+
+    #[test]
+    fn the_client_of_a_cache_is_named() {
+        // (MIT krb5 1.20.1 wrote the fronts of the first two: the second with ccache_type = 3.)
+        let head = b"\x05\x04\0\x0c\0\x01\0\x08\0\0\0\0\0\0\0\0\0\0\0\x01\0\0\0\x01";
+        let name = b"\0\0\0\x0bEXAMPLE.COM\0\0\0\x05alice";
+        let file = [&head[..], name, b"\0\0\0\x01"].concat();
+        assert_eq!(client(&file).as_deref(), Some("alice@EXAMPLE.COM"));
+        for length in 0..head.len() + name.len() {
+            assert_eq!(client(&file[..length]), None, "{length}");
+        }
+        let head = b"\x05\x03\0\0\0\x01\0\0\0\x02";
+        let file = [&head[..], name, b"\0\0\0\x05admin"].concat();
+        assert_eq!(client(&file).as_deref(), Some("alice/admin@EXAMPLE.COM"));
+        let file = [&head[..], b"\0\0\0\x01X\0\0\0\x03a/b\0\0\0\x03\n@\\"].concat();
+        assert_eq!(client(&file).as_deref(), Some(r"a\/b/\n\@\\@X"));
+        assert_eq!(client(b"\x05\x02\x01\0\0\0\x02\0\0\0"), None);
+        assert_eq!(
+            client(&[b"\x05\x03\0\0\0\x01\xff\xff\xff\xff", &name[..]].concat()),
+            None
+        );
     }
 
     #[test]
