@@ -1,112 +1,11 @@
 /* test_initiator LOGIN ANSWERS CCACHE [ROUNDS]: the calls of an initiator, over a log-in at a KDC and a service that was recorded, and over
  * a credential cache of MIT's kinit and kvno in hex: what is done, bad input, and this many rounds. A whole log-in, whose password's key
  * takes its time, is in one round of a thousand, and so is the cache. */
-#include "checks.h"
+#include "login.h"
 
 #include <stdio.h>
 #include <stdlib.h>
 #include <string.h>
-
-/* The input of an initiator, as crates/example_initiator reads it, and its requests, tokens and messages. */
-typedef struct {
-    char user[64], realm[64], machine[64], url[64], password[64], target[64];
-    uint8_t number[4];
-    mk_moment steps[26]; /* those of the start and of replies, and from 13 on those of the service's answer */
-    size_t step_count;
-    octets replies[3];
-    size_t reply_count;
-    octets answer;
-    octets confounder;
-    octets text;
-    octets asks[3];
-    size_t ask_count;
-    octets token;
-    octets sealed;
-    octets ccache;
-} login;
-
-static const uint32_t ALL_FLAGS = MK_MUTUAL_AUTH | MK_REPLAY_DETECT | MK_SEQUENCE_DETECT | MK_CONFIDENTIALITY | MK_INTEGRITY;
-
-static void read_told(char *line, login *l) {
-    static char first[8192], second[8192], number[16];
-    if (sscanf(line, "user %63s %63s %63s %63s %63s %15s", l->user, l->realm, l->machine, l->url, l->password, number) == 6) {
-        memcpy(l->number, from_hex(number).at, 4);
-    } else if (l->step_count < 26 && sscanf(line, "step %8191s %8191s", first, second) == 2) {
-        mk_moment *moment = &l->steps[l->step_count++];
-        moment->moment = strtoull(first, NULL, 10);
-        memcpy(moment->random, from_hex(second).at, 64);
-    } else if (l->reply_count < 3 && sscanf(line, "reply %8191s", first) == 1) {
-        l->replies[l->reply_count++] = from_hex(first);
-    } else if (sscanf(line, "answer %63s %8191s", l->target, first) == 2) {
-        l->answer = from_hex(first);
-    } else if (sscanf(line, "seal %8191s %8191s", first, second) == 2) {
-        l->confounder = from_hex(first);
-        l->text = from_hex(second);
-    }
-}
-
-static void read_answered(char *line, login *l) {
-    static char first[8192], second[8192];
-    if (l->ask_count < 3 && sscanf(line, "ask %8191s %8191s", first, second) == 2) {
-        l->asks[l->ask_count++] = from_hex(second);
-    } else if (sscanf(line, "token %8191s", first) == 1) {
-        l->token = from_hex(first);
-    } else if (sscanf(line, "sealed %8191s", first) == 1) {
-        l->sealed = from_hex(first);
-    }
-}
-
-/* The lines of a file, up to the one that begins with a word. */
-static void read_lines(const char *path, const char *last, void (*take)(char *, login *), login *l) {
-    static char line[8192];
-    FILE *file = fopen(path, "r");
-    int goes_on = file != NULL;
-    while (goes_on && fgets(line, sizeof line, file) != NULL) {
-        take(line, l);
-        goes_on = strncmp(line, last, strlen(last)) != 0;
-    }
-    if (file != NULL) {
-        fclose(file);
-    }
-}
-
-static void read_ccache(char *line, login *l) { l->ccache = from_hex(line); }
-
-static int read_login(const char *told, const char *answered, const char *ccache, login *l) {
-    read_lines(told, "seal ", read_told, l);
-    read_lines(answered, "sealed ", read_answered, l);
-    read_lines(ccache, "", read_ccache, l);
-    return l->ccache.length == 2179 && l->step_count == 26 && l->reply_count == 3 && l->ask_count == 3 && l->answer.length > 0 && l->sealed.length > 0;
-}
-
-static mk_reply make(const login *l, mk_initiator *to) {
-    return mk_initiator_new(to, text(l->target), strlen(l->target), text(l->machine), strlen(l->machine), ALL_FLAGS, l->number, 4);
-}
-
-static void set_password(const login *l, mk_initiator *initiator) {
-    CHECK(mk_initiator_set_password(initiator, text(l->user), strlen(l->user), text(l->realm), strlen(l->realm), text(l->password),
-                                strlen(l->password)).status == MK_OK);
-}
-
-/* An initiator of the recorded user at its KDC. */
-static void make_ready(const login *l, mk_initiator *to) {
-    CHECK(make(l, to).status == MK_OK);
-    CHECK(mk_initiator_set_kdc(to, text(l->url), strlen(l->url)).status == MK_OK);
-    set_password(l, to);
-}
-
-static int leads_to(mk_reply reply, uint32_t next) { return reply.status == MK_OK && reply.number == next; }
-
-static int gives(mk_reply reply, const uint8_t *out, const void *wanted, size_t length) {
-    return reply.status == MK_OK && reply.length == length && memcmp(out, wanted, length) == 0;
-}
-
-/* Whether it asks this KDC so. */
-static int asks(const login *l, mk_initiator *initiator, const octets *request) {
-    uint8_t url[64], out[4096];
-    return gives(mk_initiator_get_url(initiator, url, sizeof url), url, l->url, strlen(l->url)) &&
-           gives(mk_initiator_get_request(initiator, out, sizeof out), out, request->at, request->length);
-}
 
 /* Begins with these flags and rules, and takes the three replies of the KDC. They were recorded with these draws, so all rules may hold. */
 static mk_reply ask_all(const login *l, mk_initiator *to, uint32_t flags, uint32_t rules) {
@@ -345,107 +244,6 @@ static void ask_by_file(const login *l) {
     CHECK(initiator.count == 0);
 }
 
-/* The cache of alice: options up to 393, then the tickets for krbtgt/EXAMPLE.COM, host/server.example.com and imap/server.example.com, as a
- * second reader of the format finds them: where each entry begins, its key of 32 bytes and its ticket. All are valid in the same seconds. */
-static const size_t TGT = 393, HOST = 957, IMAP = 1568;
-static const size_t TGT_TICKET = 544, TGT_LENGTH = 409, HOST_KEY = 1048, HOST_TICKET = 1113, HOST_LENGTH = 451;
-static const uint64_t VALID_FROM = UINT64_C(1796096853000000), VALID_TO = UINT64_C(1796183253000000);
-
-static mk_initiator initiator_for(const login *l, const char *target) {
-    mk_initiator initiator = MK_EMPTY;
-    CHECK(mk_initiator_new(&initiator, text(target), strlen(target), text(l->machine), strlen(l->machine), ALL_FLAGS, l->number, 4).status == MK_OK);
-    return initiator;
-}
-
-static mk_reply set_first(const login *l, mk_initiator *initiator, size_t length, uint64_t moment) {
-    return mk_initiator_set_ccache(initiator, l->ccache.at, length, moment);
-}
-
-static int is_found(mk_reply reply, size_t which) { return reply.status == MK_OK && reply.length == which; }
-
-static int contains(const uint8_t *out, size_t length, const uint8_t *part, size_t part_length) {
-    for (size_t i = 0; i + part_length <= length; i++) {
-        if (memcmp(out + i, part, part_length) == 0) {
-            return 1;
-        }
-    }
-    return 0;
-}
-
-/* The service's ticket is shown at once, whether it comes from the file or by itself, and the TGT is shown to the KDC. */
-static void show_tickets(const login *l) {
-    mk_moment moment = l->steps[0];
-    mk_initiator initiator = initiator_for(l, "host/server.example.com"), other = initiator_for(l, "host/server.example.com");
-    uint8_t out[4096], again[4096];
-    moment.moment = VALID_FROM;
-    CHECK(is_found(set_first(l, &initiator, l->ccache.length, VALID_FROM), 1));
-    CHECK(leads_to(mk_initiator_start(&initiator, &moment), MK_SEND_TOKEN));
-    mk_reply token = mk_initiator_get_token(&initiator, out, sizeof out);
-    CHECK(token.status == MK_OK && contains(out, token.length, l->ccache.at + HOST_TICKET, HOST_LENGTH));
-    CHECK(mk_initiator_set_ticket(&other, text("EXAMPLE.COM"), 11, text("alice"), 5, 18, l->ccache.at + HOST_KEY, 32,
-                                  l->ccache.at + HOST_TICKET, HOST_LENGTH).status == MK_OK);
-    CHECK(leads_to(mk_initiator_start(&other, &moment), MK_SEND_TOKEN));
-    CHECK(gives(mk_initiator_get_token(&other, again, sizeof again), again, out, token.length));
-    mk_initiator_free(&initiator);
-    mk_initiator_free(&other);
-    initiator = initiator_for(l, "ldap/server.example.com");
-    CHECK(is_found(set_first(l, &initiator, l->ccache.length, VALID_FROM), 2));
-    CHECK(is_refused(mk_initiator_start(&initiator, &moment), MK_CAUSE_NO_KDC));
-    CHECK(mk_initiator_set_kdc(&initiator, text(l->url), strlen(l->url)).status == MK_OK);
-    CHECK(leads_to(mk_initiator_start(&initiator, &moment), MK_ASK_KDC));
-    mk_reply request = mk_initiator_get_request(&initiator, out, sizeof out);
-    CHECK(request.status == MK_OK && contains(out, request.length, l->ccache.at + TGT_TICKET, TGT_LENGTH));
-    mk_initiator_free(&initiator);
-}
-
-/* A ticket is taken in the seconds that it is valid in, and what the cache has up to there; the password that is set last counts. */
-static void find_tickets(const login *l) {
-    mk_initiator initiator = initiator_for(l, "host/server.example.com"), alone = initiator_for(l, "alice");
-    mk_moment moment = l->steps[0];
-    CHECK(is_refused(set_first(l, &initiator, l->ccache.length, VALID_FROM - 1), MK_CAUSE_NO_IDENTITY));
-    CHECK(is_found(set_first(l, &initiator, l->ccache.length, VALID_TO - 1), 1));
-    CHECK(is_refused(set_first(l, &initiator, l->ccache.length, VALID_TO), MK_CAUSE_NO_IDENTITY));
-    CHECK(is_refused(set_first(l, &initiator, l->ccache.length, UINT64_MAX), MK_CAUSE_NO_IDENTITY));
-    CHECK(is_refused(set_first(l, &initiator, TGT, VALID_FROM), MK_CAUSE_NO_IDENTITY));
-    CHECK(is_found(set_first(l, &initiator, HOST, VALID_FROM), 2) && is_found(set_first(l, &initiator, IMAP, VALID_FROM), 1));
-    CHECK(is_refused(set_first(l, &alone, l->ccache.length, VALID_FROM), MK_CAUSE_TARGET));
-    for (size_t length = 0; length < HOST; length++) {
-        int is_whole = length == 48 || length == 223 || length == TGT; /* the ends of the head and of the options */
-        CHECK(is_refused(set_first(l, &initiator, length, VALID_FROM), is_whole ? MK_CAUSE_NO_IDENTITY : MK_CAUSE_SHAPE));
-    }
-    set_password(l, &initiator);
-    CHECK(mk_initiator_set_kdc(&initiator, text(l->url), strlen(l->url)).status == MK_OK);
-    CHECK(leads_to(mk_initiator_start(&initiator, &l->steps[0]), MK_ASK_KDC) && asks(l, &initiator, &l->asks[0]));
-    mk_initiator_free(&initiator);
-    initiator = initiator_for(l, "host/server.example.com");
-    CHECK(is_found(set_first(l, &initiator, l->ccache.length, VALID_FROM), 1));
-    CHECK(is_refused(set_first(l, &initiator, 100, VALID_FROM), MK_CAUSE_SHAPE)); /* the ticket that was set stays */
-    moment.moment = VALID_FROM;
-    CHECK(leads_to(mk_initiator_start(&initiator, &moment), MK_SEND_TOKEN));
-    mk_initiator_free(&initiator);
-    mk_initiator_free(&alone);
-}
-
-/* Tickets, keys and names that are none. */
-static void refuse_tickets(const login *l) {
-    mk_initiator initiator = initiator_for(l, "host/server.example.com"), empty = MK_EMPTY;
-    const uint8_t *realm = text("EXAMPLE.COM"), *name = text("alice"), *key = l->ccache.at + HOST_KEY, *ticket = l->ccache.at + HOST_TICKET;
-    CHECK(set_first(l, &empty, l->ccache.length, VALID_FROM).status == MK_HANDLE);
-    CHECK(mk_initiator_set_ticket(&empty, realm, 11, name, 5, 18, key, 32, ticket, HOST_LENGTH).status == MK_HANDLE);
-    CHECK(mk_initiator_set_ticket(&initiator, realm, 11, text("\xff"), 1, 18, key, 32, ticket, HOST_LENGTH).status == MK_ARGUMENT);
-    CHECK(is_refused(mk_initiator_set_ticket(&initiator, text("\xff"), 1, name, 5, 18, key, 32, ticket, HOST_LENGTH), MK_CAUSE_NOT_ASCII));
-    CHECK(is_refused(mk_initiator_set_ticket(&initiator, realm, 11, text("\xc3\xa4"), 2, 18, key, 32, ticket, HOST_LENGTH), MK_CAUSE_NOT_ASCII));
-    CHECK(is_refused(mk_initiator_set_ticket(&initiator, realm, 11, text("a\\b"), 3, 18, key, 32, ticket, HOST_LENGTH), MK_CAUSE_BAD_USER));
-    CHECK(is_refused(mk_initiator_set_ticket(&initiator, text("a@b"), 3, name, 5, 18, key, 32, ticket, HOST_LENGTH), MK_CAUSE_BAD_USER));
-    CHECK(is_refused(mk_initiator_set_ticket(&initiator, realm, 11, name, 5, 23, key, 32, ticket, HOST_LENGTH), MK_CAUSE_ETYPE));
-    CHECK(is_refused(mk_initiator_set_ticket(&initiator, realm, 11, name, 5, 65536 + 18, key, 32, ticket, HOST_LENGTH), MK_CAUSE_ETYPE));
-    CHECK(is_refused(mk_initiator_set_ticket(&initiator, realm, 11, name, 5, 18, key, 32, ticket, HOST_LENGTH - 1), MK_CAUSE_SHAPE));
-    CHECK(is_refused(mk_initiator_start(&initiator, &l->steps[0]), MK_CAUSE_NO_IDENTITY));
-    CHECK(mk_initiator_set_ticket(&initiator, realm, 11, name, 5, 18, key, 31, ticket, HOST_LENGTH).status == MK_OK);
-    CHECK(is_refused(mk_initiator_start(&initiator, &l->steps[0]), MK_CAUSE_KEY_LENGTH));
-    mk_initiator_free(&initiator);
-}
-
 /* Steps out of their turn, bad input and faults. */
 static void refuse_initiators(const login *l) {
     mk_initiator initiator = MK_EMPTY;
@@ -469,9 +267,7 @@ int main(int count, char **words) {
         log_in(&l);
         log_in_otherwise(&l);
         refuse_recordings(&l);
-        show_tickets(&l);
-        find_tickets(&l);
-        refuse_tickets(&l);
+        try_tickets(&l);
     }
     for (int i = 0; i < rounds; i++) {
         refuse_initiators(&l);

@@ -317,6 +317,35 @@ impl Initiator {
         })
     }
 
+    /// Returns the bytes of a credential cache with one more entry: the ticket that this reply of a KDC brings at this moment. It is called
+    /// before [`answer`](Initiator::answer), with the same reply, and changes nothing. There are no bytes if the reply brings no ticket.
+    ///
+    /// # Errors
+    /// Refused as [`answer`](Initiator::answer) refuses the reply, and as [`Cause::SHAPE`](crate::Cause::SHAPE) if `file` is not a cache of
+    /// the format 0503 or 0504.
+    pub fn get_ccache(
+        &mut self,
+        file: &[u8],
+        octets: &[u8],
+        now: SystemTime,
+    ) -> Result<Vec<u8>, Error> {
+        let moment = moment_of(now, random()?)?;
+        let handle = &mut self.0;
+        // SAFETY: the handle is ours, and each pointer and length are those of one slice or vector.
+        filled(file.len() + 1024, |out, room| unsafe {
+            sys::mk_initiator_get_ccache(
+                handle,
+                file.as_ptr(),
+                file.len(),
+                octets.as_ptr(),
+                octets.len(),
+                &moment,
+                out,
+                room,
+            )
+        })
+    }
+
     fn text(&mut self, call: sys::OutCall) -> Result<String, Error> {
         let octets = self.octets(64, call)?;
         Ok(String::from_utf8_lossy(&octets).into_owned())

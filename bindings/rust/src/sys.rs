@@ -288,6 +288,16 @@ unsafe extern "C" {
         octets_length: usize,
         moment: *const Moment,
     ) -> Reply;
+    pub fn mk_initiator_get_ccache(
+        initiator: *mut Handle,
+        file: *const u8,
+        file_length: usize,
+        octets: *const u8,
+        octets_length: usize,
+        moment: *const Moment,
+        out: *mut u8,
+        room: usize,
+    ) -> Reply;
     pub fn mk_initiator_fault(initiator: *mut Handle, code: u32, moment: *const Moment) -> Reply;
     pub fn mk_initiator_get_url(initiator: *mut Handle, out: *mut u8, room: usize) -> Reply;
     pub fn mk_initiator_get_request(initiator: *mut Handle, out: *mut u8, room: usize) -> Reply;

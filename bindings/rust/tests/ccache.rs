@@ -14,10 +14,7 @@ const HOST: std::ops::Range<usize> = 1113..1564;
 const TGT: std::ops::Range<usize> = 544..953;
 
 fn file() -> Vec<u8> {
-    let hex = FILE.trim_end();
-    (0..hex.len() / 2)
-        .map(|i| u8::from_str_radix(&hex[2 * i..2 * i + 2], 16).unwrap())
-        .collect()
+    octets(FILE.trim_end())
 }
 
 fn second(seconds: u64) -> SystemTime {
@@ -94,4 +91,70 @@ fn other_octets_are_refused() {
     );
     let error = initiator("alice").set_ccache(&file, now).unwrap_err();
     assert_eq!(error.cause(), Some(Cause::TARGET));
+}
+
+/// The input of the log-in that was recorded, and its last request and its token.
+const TOLD: &str = include_str!("../../../crates/example_initiator/stdin");
+const ANSWERED: &str = include_str!("../../../crates/example_initiator/stdout");
+
+fn octets(hex: &str) -> Vec<u8> {
+    (0..hex.len() / 2)
+        .map(|i| u8::from_str_radix(&hex[2 * i..2 * i + 2], 16).unwrap())
+        .collect()
+}
+
+/// The words of the line of this number that begins with a word.
+fn words(text: &'static str, word: &str, number: usize) -> Vec<&'static str> {
+    text.lines()
+        .map(|line| line.split(' ').collect())
+        .filter(|words: &Vec<&str>| words[0] == word)
+        .nth(number)
+        .unwrap()
+}
+
+/// The moment and the random bytes of a recorded step.
+fn drawn(number: usize) -> (SystemTime, [u8; 64]) {
+    let step = words(TOLD, "step", number);
+    let moment = UNIX_EPOCH + Duration::from_micros(step[1].parse().unwrap());
+    (moment, octets(step[2]).try_into().unwrap())
+}
+
+fn recorded() -> Initiator {
+    let user = words(TOLD, "user", 0);
+    let number = octets(user[6]).try_into().unwrap();
+    let mut initiator =
+        Initiator::with_number("host/server.example.com", user[3], Flags::USUAL, number).unwrap();
+    initiator.kdc(user[4]).unwrap();
+    initiator
+}
+
+#[test]
+fn the_tickets_of_a_log_in_are_kept() {
+    let user = words(TOLD, "user", 0);
+    let mut it = recorded();
+    it.password(user[1], user[2], user[5]).unwrap();
+    let (moment, random) = drawn(0);
+    it.step_at(Step::Start, moment, random).unwrap();
+    let mut kept = file()[..48].to_vec(); // alice's, without an entry
+    for i in 0..3 {
+        let reply = octets(words(TOLD, "reply", i)[1]);
+        let (moment, random) = drawn(i + 1);
+        let with_ticket = it.get_ccache(&kept, &reply, moment).unwrap();
+        assert_eq!(with_ticket.is_empty(), i == 0);
+        if i > 0 {
+            assert!(with_ticket.starts_with(&kept));
+            kept = with_ticket;
+        }
+        it.step_at(Step::Answer(&reply), moment, random).unwrap();
+    }
+    let (moment, random) = drawn(3);
+    let mut again = recorded();
+    let which = again.set_ccache(&kept, moment).unwrap();
+    assert_eq!(which, CacheTicket::Service);
+    let next = again.step_at(Step::Start, moment, random).unwrap();
+    assert_eq!(next, Next::SendToken);
+    assert_eq!(
+        again.token().unwrap(),
+        octets(words(ANSWERED, "token", 0)[1])
+    );
 }

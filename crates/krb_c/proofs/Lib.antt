@@ -1,4 +1,5 @@
 mod AcceptorBox
+mod BroughtLemmas
 mod CodeLemmas
 mod DialogueBox
 mod Given
@@ -10,3 +11,4 @@ mod SaslBox
 mod SaslLemmas
 mod Served
 mod SessionBox
+mod TicketLemmas

@@ -1,5 +1,5 @@
 -- An initiator of a user that has tickets: those of a credential cache, or a single one.
-use Rattle.std.specs.Prelude.{◌≡◌, ◌⊎◌, ℕ, ◌/◌, ◌-◌, ◌^◌, min, List, Option, Some, Result, Ok}
+use Rattle.std.specs.Prelude.{◌≡◌, ◌⊎◌, ℕ, ◌/◌, ◌-◌, ◌^◌, min, List, Option, Some, Result, Ok, Err}
 use Rattle.krb_as.specs.declared.key.Grant.{Grant}
 use Rattle.krb_ccache.specs.declared.ccache.Ccache.{Ccache}
 use Rattle.krb_ccache.specs.declared.credential.Times.{Times}
@@ -25,18 +25,21 @@ use Rattle.sspi_core.specs.Usernames.{UserName}
 
 -- ---- a credential cache
 
--- a fault of a cache, as a refusal
-abbrev pub fault_error : CcacheError → Error
-fault_error Version = error_of Shape
-fault_error Head = error_of Shape
-fault_error (Credential place) = error_of Shape
-fault_error OutOfMemory = error_of Memory
+-- a fault of a cache, as the cause of a refusal
+abbrev pub fault_cause : CcacheError → Cause
+fault_cause Version = Shape
+fault_cause Head = Shape
+fault_cause (Credential place) = Shape
+fault_cause OutOfMemory = Memory
+
+-- the cache that the file spells, or why it is none
+abbrev pub ReadsCcache : List ℕ → Result Ccache Cause → Type 0
+ReadsCcache file (Ok cache) = Spells cache file
+ReadsCcache file (Err cause) = (fault : CcacheError) × IsFault fault file × (cause ≡ fault_cause fault)
 
 -- the file is no credential cache
-pub record IsNoCcache (file : List ℕ) (error : Error) : Type 0 where
-  pub fault : CcacheError
-  pub is_fault : IsFault fault file
-  pub error_is : error ≡ fault_error fault
+abbrev pub IsNoCcache : List ℕ → Error → Type 0
+IsNoCcache file error = (cause : Cause) × ReadsCcache file (Err cause) × (error ≡ error_of cause)
 
 -- the second of a moment, in 32 bits; of a later moment the last one, in which no ticket of a cache is valid
 abbrev pub second_of : ℕ → ℕ

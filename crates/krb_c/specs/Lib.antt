@@ -1,5 +1,6 @@
 pub mod Asked
 pub mod Authorization
+pub mod Brought
 pub mod Calls
 pub mod Ccaches
 pub mod Codes

@@ -4,7 +4,7 @@ ghost use Rattle.std.specs.Prelude.{◌≡◌, ℕ, Result, IfOk, IfErr, OnErr};
 ghost use Rattle.krb_ccache.specs.Format.{Spells};
 ghost use Rattle.krb_c.specs.declared.reply.Failure.{Failure};
 ghost use Rattle.krb_c.specs.Replies.{reply_of};
-ghost use Rattle.krb_c.specs.Ccaches.{IsNoCcache, RefusesCcache, SetsCcache, fault_error, second_of, ticket_code};
+ghost use Rattle.krb_c.specs.Ccaches.{IsNoCcache, ReadsCcache, RefusesCcache, SetsCcache, fault_cause, second_of, ticket_code};
 ghost use Rattle.krb_c.specs.Failures.{SetsNot};
 
 use crate::handles::Initiator;
@@ -13,25 +13,34 @@ use krb_ccache::{Ccache, CcacheError};
 use krb_dialogue::{CacheTicket, Cause, Error};
 use std::alloc::Global;
 
-fn fault_error(fault: CcacheError) -> Error
-    ensures { result ≡ fault_error fault }
+fn fault_cause(fault: CcacheError) -> Cause
+    ensures { result ≡ fault_cause fault }
 {
     match fault {
-        CcacheError::Version => Error::from(Cause::Shape),
-        CcacheError::Head => Error::from(Cause::Shape),
-        CcacheError::Credential { .. } => Error::from(Cause::Shape),
-        CcacheError::OutOfMemory => Error::from(Cause::Memory),
+        CcacheError::Version => Cause::Shape,
+        CcacheError::Head => Cause::Shape,
+        CcacheError::Credential { .. } => Cause::Shape,
+        CcacheError::OutOfMemory => Cause::Memory,
     }
 }
 
 /// Reads the bytes of a credential cache.
+pub(crate) fn read_ccache(alloc: Global, file: &[u8]) -> Result<Ccache, Cause>
+    ensures { ReadsCcache file.now result }
+{
+    match Ccache::read(alloc, file) {
+        Ok(cache) => Ok(cache),
+        Err(fault) => Err(fault_cause(fault)),
+    }
+}
+
 fn ccache_of(alloc: Global, file: &[u8]) -> Result<Ccache, Error>
     ensures read { IfOk result (λ cache. Spells cache file.now) }
     ensures refused { IfErr result (IsNoCcache file.now) }
 {
-    match Ccache::read(alloc, file) {
+    match read_ccache(alloc, file) {
         Ok(cache) => Ok(cache),
-        Err(fault) => Err(fault_error(fault)),
+        Err(cause) => Err(Error::from(cause)),
     }
 }
 

@@ -11,6 +11,7 @@ mod authorization;
 mod ccache;
 mod codes;
 mod copies;
+mod credentials;
 mod delegation;
 mod error_token;
 mod handed;
