@@ -44,6 +44,7 @@ tickets_room() {
     touch "$gss/tickets.log" && chmod 666 "$gss/tickets.log"
     mkdir "$gss/folder"
     kdestroy -q && echo secret | kinit alice
+    cp "${KRB5CCNAME#FILE:}" "$gss/tgt.ccache"
 }
 
 # The ticket of a user in a cache that another implementation wrote: heimdal_cache FILE, java_cache FILE
@@ -67,8 +68,9 @@ starts_from() {
 
 # All that goes on from one cache: try_cache WORDS FILE
 try_cache() {
-    local KRB5CCNAME=FILE:$2
-    check "$1: the example initiator" starts_from "$2"
+    local -x KRB5CCNAME=FILE:$gss/going.ccache
+    cp "$2" "$gss/going.ccache"
+    check "$1: the example initiator" starts_from "$gss/going.ccache"
     check "$1: gss-client" reaches_it host/localhost bash -c "sample_client $sample_port 1"
     check "$1: ssh" reaches_it host/localhost bash -c "ssh_client $ssh_port gssapi-with-mic"
 }
@@ -122,18 +124,57 @@ try_ticket_clients() {
 
 # The service's ticket is in the cache, and no KDC is there.
 needs_no_kdc() {
-    local cache=FILE:$gss/service.ccache kdcs_conf
-    cp "${KRB5CCNAME#FILE:}" "$gss/service.ccache"
-    KRB5CCNAME=$cache kvno host/localhost || return 1
+    local -x KRB5CCNAME=FILE:$gss/service.ccache
+    local kdcs_conf
+    cp "$gss/tgt.ccache" "$gss/service.ccache"
+    kvno host/localhost || return 1
     with_kdcs nowhere "127.0.0.1:$(free_port)"
-    KRB5CCNAME=$cache KRB5_CONFIG=$kdcs_conf reaches_it host/localhost bash -c "sample_client $sample_port 1"
+    KRB5_CONFIG=$kdcs_conf reaches_it host/localhost bash -c "sample_client $sample_port 1"
+}
+
+# Whether a ticket that a KDC returned is in the cache after that: klist of MIT and Heimdal list it, MIT's kvno goes on from the file, and the
+# next log-in needs no KDC. keeps_it FILE, a cache that has the ticket-granting ticket
+keeps_it() {
+    local -x KRB5CCNAME=FILE:$gss/kept.ccache
+    local kdcs_conf
+    cp "$1" "$gss/kept.ccache" && chmod 600 "$gss/kept.ccache"
+    reaches_it host/localhost bash -c "sample_client $sample_port 1" || return 1
+    klist | tee /dev/stderr | grep -q ' host/localhost@EXAMPLE.COM$' || return 1
+    ! has_heimdal || env LD_LIBRARY_PATH="$(echo "$heimdal_folder"/usr/lib/*-linux-gnu)" "$heimdal_folder/usr/bin/heimtools" klist |
+        tee /dev/stderr | grep -q ' host/localhost@EXAMPLE.COM$' || return 1
+    kvno imap/localhost || return 1
+    with_kdcs nowhere "127.0.0.1:$(free_port)"
+    KRB5_CONFIG=$kdcs_conf reaches_it host/localhost bash -c "sample_client $sample_port 1"
+}
+
+# Ten clients at once, and MIT's kvno five times next to them, add tickets to one cache, from which a client goes on.
+share_a_cache() {
+    local -x KRB5CCNAME=FILE:$gss/shared.ccache
+    local clients=() client status=0 it
+    cp "$gss/tgt.ccache" "$gss/shared.ccache"
+    for it in {1..10}; do initiates bash -c "sample_client $sample_port 1" & clients+=($!); done
+    for it in HTTP imap ldap pop postgres; do kvno -q "$it/localhost" & clients+=($!); done
+    for client in "${clients[@]}"; do wait "$client" || status=1; done
+    klist
+    [ "$status" -eq 0 ] && [ "$(klist | grep -c '/localhost@EXAMPLE.COM$')" -ge 6 ] && starts_from "$gss/shared.ccache"
 }
 
 # Whether a client gets through with these KDCs in its krb5.conf: finds_kdc NAME HOST..
 finds_kdc() {
+    local -x KRB5CCNAME=FILE:$gss/asks.ccache
     local kdcs_conf
+    cp "$gss/tgt.ccache" "$gss/asks.ccache"
     with_kdcs "$@"
     KRB5_CONFIG=$kdcs_conf reaches_it host/localhost bash -c "sample_client $sample_port 1"
+}
+
+# Whether a client fails since no KDC replied.
+misses_all_kdcs() {
+    local -x KRB5CCNAME=FILE:$gss/asks.ccache
+    local kdcs_conf
+    cp "$gss/tgt.ccache" "$gss/asks.ccache"
+    with_kdcs none "$1"
+    KRB5_CONFIG=$kdcs_conf misses_it 'Network: no KDC replied' bash -c "sample_client $sample_port 1"
 }
 
 try_ticket_kdcs() {
@@ -143,12 +184,15 @@ try_ticket_kdcs() {
     await_port "$silent_port"
     start_small
     check "the service's ticket is there: no KDC is asked" needs_no_kdc
+    check "a ticket that a KDC returned is kept in the cache" keeps_it "$gss/tgt.ccache"
+    [ ! -s "$gss/heimdal.ccache" ] || check "the same in a cache of Heimdal" keeps_it "$gss/heimdal.ccache"
+    [ ! -s "$gss/java.ccache" ] || check "the same in a cache of Java" keeps_it "$gss/java.ccache"
+    check "fifteen clients at once add to one cache" share_a_cache
     check "a KDC whose replies are too long for UDP" finds_kdc small "127.0.0.1:$small_port"
     check "a KDC over TCP alone" finds_kdc tcp "tcp/127.0.0.1:$mit_port"
     check "a second KDC where the first is silent" finds_kdc silent "127.0.0.1:$silent_port" "127.0.0.1:$mit_port"
     check "a second KDC where the first is away" finds_kdc away "$nobody" "127.0.0.1:$mit_port"
-    with_kdcs none "$nobody"
-    KRB5_CONFIG=$kdcs_conf check "no KDC is there" misses_it 'Network: no KDC replied' bash -c "sample_client $sample_port 1"
+    check "no KDC is there" misses_all_kdcs "$nobody"
     "$python" -c 'import kdcproxy' 2> /dev/null || { echo "not tried: the proxy, which wants Debian's package python3-kdcproxy"; return; }
     start_proxy
     check "a proxy (MS-KKDCP)" finds_kdc proxy "http://127.0.0.1:$proxy_port/KdcProxy"
@@ -156,13 +200,17 @@ try_ticket_kdcs() {
 
 # Whether valgrind finds no error in gss-client and the interposer, and nothing lost but what the mechglue loses by itself.
 client_is_clean() {
+    local -x KRB5CCNAME=FILE:$gss/clean.ccache
+    cp "$gss/tgt.ccache" "$gss/clean.ccache"
     reaches_it host/localhost timeout 60 valgrind --quiet --leak-check=full --error-exitcode=9 --suppressions="$live/gss/mechglue.supp" \
         gss-client -port "$sample_port" -mcount 3 127.0.0.1 host@localhost hello
 }
 
 # Whether the address sanitizer finds nothing in the interposer of gss-client.
 client_is_sane() {
+    local -x KRB5CCNAME=FILE:$gss/clean.ccache
     local gss_mech=$gss/sanitized.conf
+    cp "$gss/tgt.ccache" "$gss/clean.ccache"
     echo "menolavuri 1.3.6.1.4.1.32473.4120.1 $sanitized <interposer>" > "$gss_mech"
     reaches_it host/localhost timeout 60 env LD_PRELOAD="$runtime" ASAN_OPTIONS="detect_leaks=0:log_path=$gss/asan:verify_asan_link_order=0" \
         gss-client -port "$sample_port" -mcount 3 127.0.0.1 host@localhost hello || return 1
@@ -205,7 +253,7 @@ start_ticket_servers() {
 }
 
 try_tickets() {
-    local gss gss_built gss_conf='' gss_mech='' tickets_conf='' runtime sanitized KRB5_CONFIG=$KRB5_CONFIG kdcs_conf
+    local gss gss_built gss_conf='' gss_mech='' tickets_conf='' runtime sanitized KRB5_CONFIG=$KRB5_CONFIG
     local sample_port ssh_port pg_bin pg_port='' web_port='' mail_port='' ldap_port='' python_port bound_port postgres imtest
     has_krb5 2> /dev/null || { echo "not tried: tickets over the interposer, which wants Debian's package libkrb5-dev"; return; }
     build_gss > "$room/built" 2>&1 || { cat "$room/built"; check "bindings/gss is built" false; return; }
