@@ -96,13 +96,12 @@ is_not_taken() {
 # Caches that no initiator starts from: one whose ticket has expired, one with the tickets of another client than the one that it is of, and
 # one that was cut.
 try_bad_caches() {
-    local good=${KRB5CCNAME#FILE:}
     KRB5CCNAME=FILE:$gss/expired.ccache kinit -l 1s alice <<< secret > /dev/null && sleep 2
     check "a ticket that has expired" is_not_taken NoIdentity 'the credential has expired' "$gss/expired.ccache"
-    "$python" -c 'import sys; sys.stdout.buffer.write(sys.stdin.buffer.read().replace(b"alice", b"bobby", 1))' < "$good" > "$gss/other.ccache"
+    "$python" -c 'import sys; sys.stdout.buffer.write(sys.stdin.buffer.read().replace(b"alice", b"bobby", 1))' < "$gss/tgt.ccache" > "$gss/other.ccache"
     check "the ticket of another client" is_not_taken NoIdentity "$gss/other.ccache has no ticket that is valid" "$gss/other.ccache"
-    head -c -1 "$good" > "$gss/cut.ccache"
-    check "a cache that was cut" is_not_taken Shape "$gss/cut.ccache: " "$gss/cut.ccache"
+    head -c -1 "$gss/tgt.ccache" > "$gss/cut.ccache"
+    check "a cache that was cut" is_not_taken Shape 'there is no credential' "$gss/cut.ccache"
 }
 
 # Clients of the part gss, as far as their servers are there.
