@@ -24,7 +24,7 @@ module _ (file octets : List ℕ) (ticket : Grant) (cache whole : Ccache) (crede
       let at : whole ≡ with_ticket ticket cache = pushed ∙ ap (λ (c : Credential). record cache { credentials = cache.credentials ++ c ∷ [] }) same in
       follows (ReadsCcache file) _ cache (Ok octets) spelled
       (follows (Holds Shape (can_be_written (with_ticket ticket cache))) _ x (Ok octets)
-        (subst (λ (b : Bool). Holds {E = Cause} Shape b (Ok x)) (tested ∙ ap can_be_written at) holds) (record { is = ap Ok (is ∙ ap written at) }))
+      (subst (λ (b : Bool). Holds {E = Cause} Shape b (Ok x)) (tested ∙ ap can_be_written at) holds) (record { is = ap Ok (is ∙ ap written at) }))
 
 -- the ticket that was brought is cached
 pub caches_brought : (file reply : List ℕ) (draw : Draw) (dialogue : Dialogue) (found : Option Grant) (ticket : Grant) (answer : Result (List ℕ) Cause) → found ≡ Some ticket

@@ -8,12 +8,12 @@ use Rattle.krb_text.specs.declared.status.Status.TheVariants.{Done, BadWords, Ba
 abbrev pub report_of : Status → ℕ → ℕ → List ℕ → List ℕ
 report_of Done read written cause = []
 report_of BadWords read written cause =
-    codes "krb_run: these words are no command: serve, threads, demo <n> are, and --help, which says more, and --version\n"
+    codes "krb_run: these words are not a command: the commands are serve, threads, demo <n>, --help and --version\n"
 report_of BadLine read written cause =
-    codes "krb_run: a bad line: it is not in the table of lines that --help prints, or not where it may stand\n"
+    codes "krb_run: a bad line: it is not in the table of lines that --help prints, or not where it may be\n"
 report_of ReadFault read written cause =
-    codes "krb_run: a read of standard input failed behind " ++ (decimal read ++ (codes " whole lines: " ++ (cause ++ codes "\n")))
+    codes "krb_run: a read of standard input failed after " ++ (decimal read ++ (codes " whole lines: " ++ (cause ++ codes "\n")))
 report_of WriteFault read written cause =
-    codes "krb_run: a write to standard output failed behind " ++ (decimal written ++ (codes " whole lines: " ++ (cause ++ codes "\n")))
+    codes "krb_run: a write to standard output failed after " ++ (decimal written ++ (codes " whole lines: " ++ (cause ++ codes "\n")))
 report_of OutOfMemory read written cause = codes "krb_run: memory ran out\n"
 report_of TooLong read written cause = codes "krb_run: a long line: a line may have 1048576 octets, and an input 1073741824\n"

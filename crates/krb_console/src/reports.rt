@@ -33,20 +33,20 @@ pub fn report(
         Status::Done => Ok(String::new(alloc)),
         Status::BadWords => String::from_str(
             alloc,
-            "krb_run: these words are no command: serve, threads, demo <n> are, and --help, which says more, and --version\n",
+            "krb_run: these words are not a command: the commands are serve, threads, demo <n>, --help and --version\n",
         ),
         Status::BadLine => String::from_str(
             alloc,
-            "krb_run: a bad line: it is not in the table of lines that --help prints, or not where it may stand\n",
+            "krb_run: a bad line: it is not in the table of lines that --help prints, or not where it may be\n",
         ),
         Status::ReadFault => {
             format!(in alloc;
-                "krb_run: a read of standard input failed behind {read} whole lines: {cause}\n"
+                "krb_run: a read of standard input failed after {read} whole lines: {cause}\n"
             )
         }
         Status::WriteFault => {
             format!(in alloc;
-                "krb_run: a write to standard output failed behind {written} whole lines: {cause}\n"
+                "krb_run: a write to standard output failed after {written} whole lines: {cause}\n"
             )
         }
         Status::OutOfMemory => String::from_str(alloc, NO_MEMORY),

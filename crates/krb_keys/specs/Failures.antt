@@ -14,9 +14,9 @@ use Rattle.krb_keys.specs.Names.{part_text}
 
 -- in fixed words
 abbrev pub reason : Failure → List ℕ
-reason failures.Words = codes "these words are no command: the commands are list, lines <realm> <acceptor>, --version (-V) and --help (-h)"
-reason failures.NoVersion = codes "no keytab: the octets 05 02 do not stand at octet 0"
-reason (failures.NoItem place) = codes "no keytab: neither an entry nor a hole nor the end stands at octet "
+reason failures.Words = codes "these words are not a command: the commands are list, lines <realm> <acceptor>, --version (-V) and --help (-h)"
+reason failures.NoVersion = codes "not a keytab: the octets 05 02 are not at octet 0"
+reason (failures.NoItem place) = codes "not a keytab: neither an entry nor a hole nor the end is at octet "
 reason (failures.NoEntry realm) = codes "nothing found: no entry of the keytab is of the realm "
 reason (failures.NoKey realm) = codes "nothing found: no key of type 18 with 32 octets or of type 17 with 16 octets is of the realm "
 reason failures.Read = codes "standard input could not be read"

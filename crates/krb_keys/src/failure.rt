@@ -85,11 +85,11 @@ fn reason(failure: Failure<'_>) -> &'static str
 {
     match failure {
         Failure::Words => {
-            "these words are no command: the commands are list, lines <realm> <acceptor>, --version (-V) and --help (-h)"
+            "these words are not a command: the commands are list, lines <realm> <acceptor>, --version (-V) and --help (-h)"
         }
-        Failure::NoVersion => "no keytab: the octets 05 02 do not stand at octet 0",
+        Failure::NoVersion => "not a keytab: the octets 05 02 are not at octet 0",
         Failure::NoItem { .. } => {
-            "no keytab: neither an entry nor a hole nor the end stands at octet "
+            "not a keytab: neither an entry nor a hole nor the end is at octet "
         }
         Failure::NoEntry { .. } => "nothing found: no entry of the keytab is of the realm ",
         Failure::NoKey { .. } => {

@@ -3,7 +3,8 @@ use Rattle.std.proofs.Common.{◌≡◌, ℕ, Bool, true, false, List, [], ◌�
 use Rattle.std.specs.Prelude.{◌==◌}
 use Rattle.std.specs.List.{concat, fold}
 use Rattle.std.proofs.lemmas.List.{append-nil}
-use Rattle.krb_text.specs.Lines.{Cut, cut, in_front, unended}
+use Rattle.std.proofs.lemmas.List.Sums.{fold-append}
+use Rattle.krb_text.specs.Lines.{Cut, cut, in_front, unended, lines}
 use Rattle.krb_reasons.specs.Kept.{Head, no_head, with_line, with_lines, Keeping, nothing_kept, kept_with, kept_of, KeepsLines}
 
 -- the lines of a text, and of the text that follows it
@@ -70,3 +71,34 @@ lines_of input kept s = record {
 pub kept_lines : (pieces : List (List ℕ)) → KeepsLines (concat pieces) (kept_of pieces)
 kept_lines pieces =
     lines_of (concat pieces) (kept_of pieces) (pieces_stand [] nothing_kept pieces (record { before = []; head_is = refl; cuts = λ more. refl }))
+
+-- ---- the last piece
+
+pub lines_onto_last : (text last : List ℕ) → lines (text ++ last) ≡ (cut text).whole ++ lines ((cut text).rest ++ last)
+lines_onto_last text last =
+    let again = cut ((cut text).rest ++ last) in
+    ap (λ (c : Cut). c.whole ++ unended c.rest) (cut_onto text last) ∙ append_assoc (cut text).whole again.whole (unended again.rest)
+
+pub kept_last : (pieces : List (List ℕ)) (last : List ℕ) → kept_of (pieces ++ last ∷ []) ≡ kept_with (kept_of pieces) last
+kept_last pieces last = fold-append kept_with nothing_kept pieces (last ∷ [])
+
+module _ (pieces : List (List ℕ)) where
+  abbrev kept : Keeping
+  kept = kept_of pieces
+
+  stands : StandsFor (concat pieces) kept
+  stands = pieces_stand [] nothing_kept pieces (record { before = []; head_is = refl; cuts = λ more. refl })
+
+  cuts : cut (concat pieces) ≡ record { whole = stands.before ++ (cut kept.tail).whole; rest = (cut kept.tail).rest }
+  cuts =
+      ap cut (sym (append-nil (concat pieces))) ∙ stands.cuts []
+      ∙ ap (λ (l : List ℕ). record { whole = stands.before ++ (cut l).whole; rest = (cut l).rest }) (append-nil kept.tail)
+
+  -- the head has or counts all lines that ended
+  pub head_before : with_lines kept.head (cut kept.tail).whole ≡ with_lines no_head (cut (concat pieces)).whole
+  head_before =
+      ap (λ (h : Head). with_lines h (cut kept.tail).whole) stands.head_is ∙ lines_onto no_head stands.before (cut kept.tail).whole
+      ∙ sym (ap (λ (c : Cut). with_lines no_head c.whole) cuts)
+
+  pub tail_before : (cut kept.tail).rest ≡ (cut (concat pieces)).rest
+  tail_before = sym (ap (λ (c : Cut). c.rest) cuts)

@@ -6,3 +6,5 @@ pub mod BufferLemmas
 pub mod ShapeLemmas
 pub mod Utf8Lemmas
 pub mod BadLineLemmas
+pub mod WholeLemmas
+pub mod StopLemmas

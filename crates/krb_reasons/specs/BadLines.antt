@@ -3,6 +3,7 @@ use Rattle.std.specs.Prelude.{◌≡◌, ℕ, if◌then◌else◌, List, [], ◌
 use Rattle.std.specs.List.{zip}
 use Rattle.std.specs.Option.{option_map_or}
 use Rattle.krb_text.specs.Lines.{lines}
+use Rattle.krb_der.specs.Reading.{◌>>=◌}
 use Rattle.krb_reasons.specs.Judged.{Judged, nothing_judged, after, why}
 use Rattle.krb_reasons.specs.Kept.{Keeping, number_after}
 use Rattle.krb_reasons.specs.declared.bad_line.BadLine.{BadLine}
@@ -37,6 +38,21 @@ first_bad judged (line ∷ more) end =
 
 abbrev pub first_bad_of : Keeping → Option BadLine
 first_bad_of kept = first_bad nothing_judged (kept_lines kept) (last_number kept)
+
+-- the state after lines, if each is allowed after those before it
+abbrev pub after_lines : Judged → List (List ℕ) → Option Judged
+after_lines judged [] = Some judged
+after_lines judged (line ∷ more) = do
+  later ← after judged line
+  after_lines later more
+
+-- the first bad line of a whole input, whose lines are numbered from 1
+abbrev pub first_bad_in : List ℕ → Option BadLine
+first_bad_in input = first_bad nothing_judged (numbered 1 (lines input)) (number_past 1 (lines input))
+
+-- the number of a bad line
+abbrev pub number_of : Option BadLine → Option ℕ
+number_of found = option_map (λ bad. bad.number) found
 
 -- For proofs: lines before others are taken, and the first bad line is among the others; or it is this line.
 abbrev pub Walks : Judged → List (List ℕ × ℕ) → Result (Unit {0}) Complaint → Judged → ℕ → Type 0

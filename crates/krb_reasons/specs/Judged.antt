@@ -65,7 +65,7 @@ conflict_in setup (Some id) reason = if is_declared id setup.endpoints then reas
 abbrev pub refusal : Judged → Item → Reason
 refusal judged (EventItem event) = reasons.NoSkew
 refusal judged (DeclarationItem declaration) =
-    if judged.has_events then reasons.BehindEvent
+    if judged.has_events then reasons.AfterEvent
     else if is_some judged.setup.skew then conflict_in judged.setup (needed declaration) (conflict declaration)
     else reasons.NoSkew
 

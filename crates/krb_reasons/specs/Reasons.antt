@@ -13,22 +13,22 @@ octet_name octet =
 
 abbrev pub reason_text : Reason → List ℕ
 reason_text (reasons.Gap place) =
-    codes "field " ++ (decimal place ++ codes " is empty: one space stands between two fields, and none at an end of the line")
+    codes "field " ++ (decimal place ++ codes " is empty: a line has one space between two fields, and none at either end")
 reason_text (reasons.Octet place octet) = codes "field " ++ (decimal place ++ (codes " has " ++ octet_name octet))
 reason_text (reasons.Field place wanted) =
-    codes "field " ++ (decimal place ++ (codes ", " ++ (field_name wanted ++ (codes ", wants " ++ wish wanted))))
+    codes "field " ++ (decimal place ++ (codes ", " ++ (field_name wanted ++ (codes ", needs " ++ wish wanted))))
 reason_text (reasons.Missing place wanted) =
     codes "field " ++ (decimal place ++ (codes ", " ++ (field_name wanted ++ (codes ", is missing: " ++ wish wanted))))
 reason_text (reasons.Surplus place) = codes "field " ++ (decimal place ++ codes " is one too many")
-reason_text reasons.Buffers = codes "a message has one buffer T, one D and one S at most"
-reason_text reasons.NoSkew = codes "no line skew <seconds> stands before it"
-reason_text reasons.SecondSkew = codes "a line before told the skew"
-reason_text reasons.BehindEvent = codes "behind the first event only events stand"
-reason_text (reasons.DeclaredTwice id) = codes "a line before declared connection " ++ decimal id
-reason_text (reasons.NotDeclared id) = codes "no line before declared connection " ++ decimal id
+reason_text reasons.Buffers = codes "a message has at most one buffer T, one D and one S"
+reason_text reasons.NoSkew = codes "no line skew <seconds> comes before it"
+reason_text reasons.SecondSkew = codes "an earlier line sets the skew"
+reason_text reasons.AfterEvent = codes "after the first event come only events"
+reason_text (reasons.DeclaredTwice id) = codes "an earlier line declares connection " ++ decimal id
+reason_text (reasons.NotDeclared id) = codes "no earlier line declares connection " ++ decimal id
 reason_text (reasons.KeyOfInitiator id) = codes "connection " ++ (decimal id ++ codes " is an initiator, and a key is an acceptor's")
-reason_text (reasons.SecondCredentials id) = codes "a line before is the password or keytab line of connection " ++ decimal id
-reason_text (reasons.SecondKdc id) = codes "a line before is the kdc line of connection " ++ decimal id
+reason_text (reasons.SecondCredentials id) = codes "an earlier line is the password or keytab line of connection " ++ decimal id
+reason_text (reasons.SecondKdc id) = codes "an earlier line is the kdc line of connection " ++ decimal id
 
 -- the line that the program writes on standard error
 abbrev pub bad_line_text : BadLine → List ℕ

@@ -50,13 +50,13 @@ wish fields.User = codes "octets from 21 to 7E"
 wish fields.Domain = codes "octets from 21 to 7E, or -"
 wish fields.Variable = codes "octets from 21 to 7E"
 wish fields.Path = codes "octets from 21 to 7E"
-wish fields.Principal = codes "a name with one \\ at most, and with none beside an @"
+wish fields.Principal = codes "a name with at most one \\, and with none if it has an @"
 wish fields.KeyType = codes "17 or 18"
-wish fields.Url = codes "a URL, or an address that is one behind tcp://"
+wish fields.Url = codes "a URL, or an address that is a URL after tcp://"
 wish fields.Hex = codes "an even number of hex digits, at least two"
 wish fields.HexOrNone = codes "an even number of hex digits, at least two, or -"
 wish fields.Utf8 = codes "the hex digits of a text in UTF-8, at least two, or -"
-wish fields.Buffer = codes "T, D, R or S, its octets in hex, and a limit from their number to 1048576, with a colon between two"
+wish fields.Buffer = codes "T, D, R or S, its octets in hex, and a limit from their number to 1048576, with a colon between each two"
 
 -- the words of lines
 abbrev pub is_word : List ℕ → Bool

@@ -133,7 +133,7 @@ impl Judge {
     {
         if self.has_events {
             drop(declaration);
-            return Err(Complaint::Bad(Reason::BehindEvent));
+            return Err(Complaint::Bad(Reason::AfterEvent));
         }
         let has_begun = self.script.has_begun();
         let (connection, reason) = (needed(&declaration), conflict(&declaration));

@@ -8,7 +8,7 @@
 //! ```
 //! let mut source = KeepingSource::new(alloc, SureSource::new(b"skew 300\nkey 1 host/server 00f\n"));
 //! let status = serve(alloc, &words, &mut source, &mut sink); // BadLine
-//! first_bad_line(alloc, source.kept())? // line 2: field 4, <hex>, wants an even number of hex digits, at least two
+//! first_bad_line(alloc, source.kept())? // line 2: field 4, <hex>, needs an even number of hex digits, at least two
 //! ```
 #![tactic(auto)]
 

@@ -28,7 +28,7 @@ pub enum Reason {
     /// A line before set the skew.
     SecondSkew,
     /// An event comes before this declaration.
-    BehindEvent,
+    AfterEvent,
     /// A connection with this number was declared before.
     DeclaredTwice { id: u32 },
     /// No connection with this number was declared before.
@@ -72,41 +72,40 @@ impl Reason {
     {
         match self {
             Reason::Gap { place } => format!(in alloc;
-                "field {place} is empty: one space stands between two fields, and none at an end of the line"
+                "field {place} is empty: a line has one space between two fields, and none at either end"
             ),
             Reason::Octet { place, octet } => {
                 let octet = octet_name(octet);
                 format!(in alloc; "field {place} has {octet}")
             }
-            Reason::Field { place, wanted } => field_text(alloc, place, wanted, ", wants "),
+            Reason::Field { place, wanted } => field_text(alloc, place, wanted, ", needs "),
             Reason::Missing { place, wanted } => {
                 field_text(alloc, place, wanted, ", is missing: ")
             }
             Reason::Surplus { place } => format!(in alloc; "field {place} is one too many"),
             Reason::Buffers => String::from_str(
                 alloc,
-                "a message has one buffer T, one D and one S at most",
+                "a message has at most one buffer T, one D and one S",
             ),
-            Reason::NoSkew => String::from_str(alloc, "no line skew <seconds> stands before it"),
-            Reason::SecondSkew => String::from_str(alloc, "a line before told the skew"),
-            Reason::BehindEvent => String::from_str(
-                alloc,
-                "behind the first event only events stand",
-            ),
+            Reason::NoSkew => String::from_str(alloc, "no line skew <seconds> comes before it"),
+            Reason::SecondSkew => String::from_str(alloc, "an earlier line sets the skew"),
+            Reason::AfterEvent => String::from_str(alloc, "after the first event come only events"),
             Reason::DeclaredTwice { id } => {
-                format!(in alloc; "a line before declared connection {id}")
+                format!(in alloc; "an earlier line declares connection {id}")
             }
             Reason::NotDeclared { id } => {
-                format!(in alloc; "no line before declared connection {id}")
+                format!(in alloc; "no earlier line declares connection {id}")
             }
             Reason::KeyOfInitiator { id } => {
                 format!(in alloc; "connection {id} is an initiator, and a key is an acceptor's")
             }
             Reason::SecondCredentials { id } => {
-                format!(in alloc; "a line before is the password or keytab line of connection {id}")
+                format!(in alloc;
+                    "an earlier line is the password or keytab line of connection {id}"
+                )
             }
             Reason::SecondKdc { id } => {
-                format!(in alloc; "a line before is the kdc line of connection {id}")
+                format!(in alloc; "an earlier line is the kdc line of connection {id}")
             }
         }
     }

@@ -85,14 +85,14 @@ impl Wanted {
             Wanted::Host | Wanted::Service | Wanted::User | Wanted::Variable | Wanted::Path =>
                 "octets from 21 to 7E",
             Wanted::Target | Wanted::Domain => "octets from 21 to 7E, or -",
-            Wanted::Principal => "a name with one \\ at most, and with none beside an @",
+            Wanted::Principal => "a name with at most one \\, and with none if it has an @",
             Wanted::KeyType => "17 or 18",
-            Wanted::Url => "a URL, or an address that is one behind tcp://",
+            Wanted::Url => "a URL, or an address that is a URL after tcp://",
             Wanted::Hex => "an even number of hex digits, at least two",
             Wanted::HexOrNone => "an even number of hex digits, at least two, or -",
             Wanted::Utf8 => "the hex digits of a text in UTF-8, at least two, or -",
             Wanted::Buffer =>
-                "T, D, R or S, its octets in hex, and a limit from their number to 1048576, with a colon between two",
+                "T, D, R or S, its octets in hex, and a limit from their number to 1048576, with a colon between each two",
         }
     }
 }

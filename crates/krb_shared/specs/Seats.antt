@@ -1,5 +1,5 @@
 -- The seats of a shared book, and how their receipts and a journal agree.
-use Rattle.std.specs.Prelude.{◌≡◌, ◌≢◌, ℕ, ◌+◌, ◌==◌, if◌then◌else◌, List, [], ◌∷◌, ◌++◌, length, take, Some, slice_get, All}
+use Rattle.std.specs.Prelude.{◌≡◌, ◌≢◌, ℕ, ◌+◌, ◌==◌, if◌then◌else◌, List, [], ◌∷◌, ◌++◌, map, length, take, Some, slice_get, All}
 use Rattle.std.specs.List.{sum_by}
 use Rattle.std.proofs.Common.{subst}
 use Rattle.krb_replay.specs.declared.ask.Ask.{Ask}
@@ -74,3 +74,7 @@ IsNew seat = (seat.receipts ≡ []) × (seat.moment ≡ 0)
 -- how many calls were answered at these seats
 abbrev pub calls_of : List Seat → ℕ
 calls_of seats = sum_by (λ (seat : Seat). length seat.receipts) seats
+
+-- the receipts of each seat
+abbrev pub receipts_of : List Seat → List (List Receipt)
+receipts_of seats = map (λ (seat : Seat). seat.receipts) seats

@@ -1,10 +1,10 @@
 //! The book that threads share.
 
-ghost use Rattle.std.specs.Prelude.{◌≡◌, ◌+◌, ◌<◌, ◌≤◌, length, All, IfOk, IfErr, OnOk, OnErr, IfSome, IfNone, MatchResult};
+ghost use Rattle.std.specs.Prelude.{◌≡◌, ◌+◌, ◌<◌, ◌≤◌, ◌++◌, None, Some, map, length, vec_len, vec_capacity, All, IfOk, IfErr, OnOk, OnErr, IfSome, IfNone, MatchResult};
 ghost use Rattle.std.specs.List.{sum_by};
 ghost use Rattle.krb_replay.specs.Gate.{IsJudged};
 ghost use Rattle.krb_shared.specs.Journal.{IsJournal};
-ghost use Rattle.krb_shared.specs.Seats.{AddsReceipt, Agrees, AreAll, AreNumbered, FirstDiffers, IsNew, calls_of};
+ghost use Rattle.krb_shared.specs.Seats.{AddsReceipt, Agrees, AreAll, AreNumbered, FirstDiffers, IsNew, calls_of, receipts_of};
 
 use crate::calls::Calls;
 use crate::desk::Desk;
@@ -145,40 +145,31 @@ impl<L: Calls> SharedBook<L> {
         ensures ok { IfOk result (λ journal. All (Agrees journal.entries) seats) }
         ensures differs { IfErr result (λ differs. FirstDiffers differs.journal.entries seats differs.seat differs.call) }
     {
-        let mut receipts = Vec::new(self.alloc);
-        self.close_into(seats, &mut receipts)
+        let Locked { desk, calls, rest } = self.locked.into_inner();
+        let difference = first_difference(desk.entries(), seats.as_slice());
+        let all = gathered(rest, seats.into_inner());
+        ended(desk, calls, all, difference)
     }
 
-    /// Works as `close`, and also appends the receipts of each seat to `receipts`, for a caller who drops them elsewhere. Receipts
-    /// for which there is no memory are dropped here.
+    /// Works as `close`, and also appends the receipts of each seat to `receipts`, for a caller who drops them elsewhere. The caller
+    /// has reserved room for those of all seats.
     pub fn close_into(
         self,
         seats: Items<Seat<L>>,
         receipts: &mut Vec<Vec<Receipt>>,
     ) -> Result<Journal, Differs>
-        requires { AreAll L.parts seats }
+        requires all { AreAll L.parts seats }
+        requires room { vec_len receipts.old + length seats ≤ vec_capacity receipts.old }
+        ensures receipts { map (λ own. own.items) receipts.new.items ≡ map (λ own. own.items) receipts.old.items ++ receipts_of seats }
         ensures journal { MatchResult result (IsJournal L.skew) (λ differs. IsJournal L.skew differs.journal) }
         ensures calls { MatchResult result (λ journal. length journal.entries ≡ calls_of seats) (λ differs. length differs.journal.entries ≡ calls_of seats) }
         ensures ok { IfOk result (λ journal. All (Agrees journal.entries) seats) }
         ensures differs { IfErr result (λ differs. FirstDiffers differs.journal.entries seats differs.seat differs.call) }
     {
-        let Locked {
-            desk,
-            mut calls,
-            rest,
-        } = self.locked.into_inner();
+        let Locked { desk, calls, rest } = self.locked.into_inner();
         let difference = first_difference(desk.entries(), seats.as_slice());
-        let mut all = gathered(rest, seats.into_inner(), receipts);
-        calls.audit(&mut all);
-        let journal = desk.into_journal();
-        match difference {
-            None => Ok(journal),
-            Some((seat, call)) => Err(Differs {
-                journal,
-                seat,
-                call,
-            }),
-        }
+        let all = gathered_into(rest, seats.into_inner(), receipts);
+        ended(desk, calls, all, difference)
     }
 }
 
@@ -204,24 +195,63 @@ fn seats_from<L: Calls>(
     Ok(made)
 }
 
-/// Returns `rest` merged with the shares of all seats. Appends the seats' receipts to `receipts`, if memory allows.
-fn gathered<L: Calls>(
-    rest: Share<L>,
-    seats: Vec<Seat<L>>,
-    receipts: &mut Vec<Vec<Receipt>>,
-) -> Share<L>
+/// Returns `rest` merged with the shares of all seats.
+fn gathered<L: Calls>(rest: Share<L>, seats: Vec<Seat<L>>) -> Share<L>
     ensures parts { result.parts ≡ rest.parts + sum_by (λ seat. seat.parts) seats.items }
     ensures amount { result.amount ≡ rest.amount + calls_of seats.items }
 {
     let mut all = rest;
     for seat in seats {
-        let (share, own) = seat.into_parts();
+        let (share, _receipts) = seat.into_parts();
         all.merge(share);
-        if receipts.reserve(1).is_ok() {
-            receipts.push_reserved(own);
-        }
     }
     all
+}
+
+/// Works as `gathered`, and appends the seats' receipts to `receipts`, which have room for them.
+fn gathered_into<L: Calls>(
+    rest: Share<L>,
+    seats: Vec<Seat<L>>,
+    receipts: &mut Vec<Vec<Receipt>>,
+) -> Share<L>
+    requires { vec_len receipts.old + vec_len seats ≤ vec_capacity receipts.old }
+    ensures parts { result.parts ≡ rest.parts + sum_by (λ seat. seat.parts) seats.items }
+    ensures amount { result.amount ≡ rest.amount + calls_of seats.items }
+    ensures receipts { map (λ own. own.items) receipts.new.items ≡ map (λ own. own.items) receipts.old.items ++ receipts_of seats.items }
+{
+    let mut all = rest;
+    for seat in seats {
+        let (share, own) = seat.into_parts();
+        all.merge(share);
+        receipts.push_reserved(own);
+    }
+    all
+}
+
+/// Ends the ledger of the calls with all its shares, and returns the journal with the first difference, if there is one.
+fn ended<L: Calls>(
+    desk: Desk,
+    calls: Book<L>,
+    all: Share<L>,
+    difference: Option<(u32, u64)>,
+) -> Result<Journal, Differs>
+    requires { all.parts ≡ L.parts }
+    ensures total { all.amount ≡ calls.total }
+    ensures journal { MatchResult result (IsJournal desk.skew) (λ differs. IsJournal desk.skew differs.journal) }
+    ensures ok { IfOk result (λ journal. (difference ≡ None) × (journal.entries ≡ desk.journal)) }
+    ensures differs { IfErr result (λ differs. (difference ≡ Some (differs.seat, differs.call)) × (differs.journal.entries ≡ desk.journal)) }
+{
+    let (mut calls, mut all) = (calls, all);
+    calls.audit(&mut all);
+    let journal = desk.into_journal();
+    match difference {
+        None => Ok(journal),
+        Some((seat, call)) => Err(Differs {
+            journal,
+            seat,
+            call,
+        }),
+    }
 }
 
 /// The least seat, and for it the first call, at which the receipts and the journal don't agree.

@@ -82,7 +82,10 @@ fn ask_twice<L: Calls, R: Wait>(
     let two = shared.admit(rt, &mut seats[1], &first_ask(alloc)?)?;
     let closed = match receipts {
         None => shared.close(Items::new(seats)),
-        Some(receipts) => shared.close_into(Items::new(seats), receipts),
+        Some(receipts) => {
+            receipts.reserve(2)?;
+            shared.close_into(Items::new(seats), receipts)
+        }
     };
     match closed {
         Ok(journal) => Ok((one, two, journal)),

@@ -76,7 +76,7 @@ fn answers_as<L: Calls + Send + Sync, R: Threads + Wait + Sync, P: Pause + Send,
         AreAnswers described.now.skew described.now.env (all_connections described.now)
         low.items high.items answers.one.value.replies.items answers.two.value.replies.items answers.journal) }
 {
-    let mut receipts = Vec::new(alloc);
+    let mut receipts = Vec::with_capacity(alloc, 2)?;
     let (book, all) = blank.open::<L>();
     let (shared, seats) = SharedBook::with_seats(alloc, book, all, skew, 2)?;
     let mut seats = seats.into_inner();

@@ -120,19 +120,19 @@ static REPORTS: [(Status, &str); 7] = [
     (Status::Done, ""),
     (
         Status::BadWords,
-        "krb_run: these words are no command: serve, threads, demo <n> are, and --help, which says more, and --version\n",
+        "krb_run: these words are not a command: the commands are serve, threads, demo <n>, --help and --version\n",
     ),
     (
         Status::BadLine,
-        "krb_run: a bad line: it is not in the table of lines that --help prints, or not where it may stand\n",
+        "krb_run: a bad line: it is not in the table of lines that --help prints, or not where it may be\n",
     ),
     (
         Status::ReadFault,
-        "krb_run: a read of standard input failed behind 5 whole lines: unexpected end of file\n",
+        "krb_run: a read of standard input failed after 5 whole lines: unexpected end of file\n",
     ),
     (
         Status::WriteFault,
-        "krb_run: a write to standard output failed behind 3 whole lines: unexpected end of file\n",
+        "krb_run: a write to standard output failed after 3 whole lines: unexpected end of file\n",
     ),
     (Status::OutOfMemory, "krb_run: memory ran out\n"),
     (

@@ -13,23 +13,23 @@ static BEFORE: &str =
 static LINES: [(&str, &str); 38] = [
     (
         "key 1 host/s 00f",
-        "field 4, <hex>, wants an even number of hex digits, at least two",
+        "field 4, <hex>, needs an even number of hex digits, at least two",
     ),
     (
         "key 1 host/s 0g",
-        "field 4, <hex>, wants an even number of hex digits, at least two",
+        "field 4, <hex>, needs an even number of hex digits, at least two",
     ),
     (
         "key 1 host/s ",
-        "field 4 is empty: one space stands between two fields, and none at an end of the line",
+        "field 4 is empty: a line has one space between two fields, and none at either end",
     ),
     (
         " key 1 host/s 00",
-        "field 1 is empty: one space stands between two fields, and none at an end of the line",
+        "field 1 is empty: a line has one space between two fields, and none at either end",
     ),
     (
         "key 1  host/s 00",
-        "field 3 is empty: one space stands between two fields, and none at an end of the line",
+        "field 3 is empty: a line has one space between two fields, and none at either end",
     ),
     ("key\t1 host/s 00", "field 1 has a tab"),
     ("key 1 host/s 00\r", "field 4 has a carriage return"),
@@ -39,91 +39,91 @@ static LINES: [(&str, &str); 38] = [
     ),
     (
         "keys 1 host/s 00",
-        "field 1, the word, wants skew, acceptor, initiator, key, password, keytab, kdc, env, file or event",
+        "field 1, the word, needs skew, acceptor, initiator, key, password, keytab, kdc, env, file or event",
     ),
     (
         "key 4294967296 host/s 00",
-        "field 2, <id>, wants a decimal number of at most 32 bits, without sign and leading zero",
+        "field 2, <id>, needs a decimal number of at most 32 bits, without sign and leading zero",
     ),
     (
         "acceptor 3 -1 server host/s",
-        "field 3, <number>, wants a decimal number of at most 32 bits, without sign and leading zero",
+        "field 3, <number>, needs a decimal number of at most 32 bits, without sign and leading zero",
     ),
     (
         "key 1 host/s",
         "field 4, <hex>, is missing: an even number of hex digits, at least two",
     ),
     ("key 1 host/s 00 11", "field 5 is one too many"),
-    ("key 3 host/s 00", "no line before declared connection 3"),
+    ("key 3 host/s 00", "no earlier line declares connection 3"),
     (
         "key 2 host/s 00",
         "connection 2 is an initiator, and a key is an acceptor's",
     ),
     (
         "initiator 1 0 client -",
-        "a line before declared connection 1",
+        "an earlier line declares connection 1",
     ),
     (
         "keytab 2 u 18 00",
-        "a line before is the password or keytab line of connection 2",
+        "an earlier line is the password or keytab line of connection 2",
     ),
     (
         "kdc 1 tcp://k",
-        "a line before is the kdc line of connection 1",
+        "an earlier line is the kdc line of connection 1",
     ),
     (
         "keytab 1 a\\b@c 18 00",
-        "field 3, <principal>, wants a name with one \\ at most, and with none beside an @",
+        "field 3, <principal>, needs a name with at most one \\, and with none if it has an @",
     ),
     (
         "keytab 1 a\\b\\c 18 00",
-        "field 3, <principal>, wants a name with one \\ at most, and with none beside an @",
+        "field 3, <principal>, needs a name with at most one \\, and with none if it has an @",
     ),
-    ("keytab 1 u 23 00", "field 4, <type>, wants 17 or 18"),
+    ("keytab 1 u 23 00", "field 4, <type>, needs 17 or 18"),
     (
         "kdc 2 http://",
-        "field 3, <url>, wants a URL, or an address that is one behind tcp://",
+        "field 3, <url>, needs a URL, or an address that is a URL after tcp://",
     ),
     (
         "env a ff",
-        "field 3, <hex>, wants the hex digits of a text in UTF-8, at least two, or -",
+        "field 3, <hex>, needs the hex digits of a text in UTF-8, at least two, or -",
     ),
-    ("skew 300", "a line before told the skew"),
+    ("skew 300", "an earlier line sets the skew"),
     (
         "skew 86401",
-        "field 2, <seconds>, wants a decimal number up to 86400, without sign and leading zero",
+        "field 2, <seconds>, needs a decimal number up to 86400, without sign and leading zero",
     ),
     (
         "event 1 0 00 - start",
-        "field 4, <random>, wants 128 hex digits",
+        "field 4, <random>, needs 128 hex digits",
     ),
     (
         "event 1 18446744073709551616 ~ - start",
-        "field 3, <moment>, wants a decimal number of at most 64 bits, without sign and leading zero",
+        "field 3, <moment>, needs a decimal number of at most 64 bits, without sign and leading zero",
     ),
     (
         "event 1 0 ~ MM start",
-        "field 5, <flags>, wants letters of DMRSCKEIN, each once, or -",
+        "field 5, <flags>, needs letters of DMRSCKEIN, each once, or -",
     ),
     (
         "event 1 0 ~ - begin",
-        "field 6, <input>, wants token, start, reply, fault, wrap, unwrap, mic or verify",
+        "field 6, <input>, needs token, start, reply, fault, wrap, unwrap, mic or verify",
     ),
     (
         "event 1 0 ~ - token 0",
-        "field 7, <hex>, wants an even number of hex digits, at least two, or -",
+        "field 7, <hex>, needs an even number of hex digits, at least two, or -",
     ),
     (
         "event 1 0 ~ - wrap",
-        "field 7, <buffers>, is missing: T, D, R or S, its octets in hex, and a limit from their number to 1048576, with a colon between two",
+        "field 7, <buffers>, is missing: T, D, R or S, its octets in hex, and a limit from their number to 1048576, with a colon between each two",
     ),
     (
         "event 1 0 ~ - unwrap T::0 D:00:0",
-        "field 8, <buffers>, wants T, D, R or S, its octets in hex, and a limit from their number to 1048576, with a colon between two",
+        "field 8, <buffers>, needs T, D, R or S, its octets in hex, and a limit from their number to 1048576, with a colon between each two",
     ),
     (
         "event 1 0 ~ - wrap D::0 D::0",
-        "a message has one buffer T, one D and one S at most",
+        "a message has at most one buffer T, one D and one S",
     ),
     (
         "event 1 0 ~ - wrap R::0 R::0 R::0 R::0 R::0 R::0 R::0 R::0 R::0 R::0 R::0 R::0 R::0 R::0 R::0 R::0 R::0",
@@ -136,44 +136,44 @@ static LINES: [(&str, &str); 38] = [
     ),
     (
         "event 1 0 ~ - fault 01",
-        "field 7, <number>, wants a decimal number of at most 32 bits, without sign and leading zero",
+        "field 7, <number>, needs a decimal number of at most 32 bits, without sign and leading zero",
     ),
     ("event 1 0", "field 4, <random>, is missing: 128 hex digits"),
 ];
 
 /// Inputs, the number of their bad line, and why it is bad.
 static INPUTS: [(&str, u64, &str); 9] = [
-    ("", 1, "no line skew <seconds> stands before it"),
+    ("", 1, "no line skew <seconds> comes before it"),
     (
         "# none\nacceptor 1 100 server host/s\nskew 300\n",
         2,
-        "no line skew <seconds> stands before it",
+        "no line skew <seconds> comes before it",
     ),
     (
         "event 1 0 ~ - start\n",
         1,
-        "no line skew <seconds> stands before it",
+        "no line skew <seconds> comes before it",
     ),
     (
         "skew 300\nevent 1 0 ~ - start\n#\nevent 1 0 ~ - start\n\nskew 300",
         6,
-        "behind the first event only events stand",
+        "after the first event come only events",
     ),
-    ("# none\n\n#", 4, "no line skew <seconds> stands before it"),
+    ("# none\n\n#", 4, "no line skew <seconds> comes before it"),
     (
         "#\n\n# a\nskew 300\n\n#\nacceptor 1 100 server host/s\n# key 2 host/s 00\nkey 2 host/s 00",
         9,
-        "no line before declared connection 2",
+        "no earlier line declares connection 2",
     ),
     (
         "\n#\nskew 300\n# event 1\nskew 300\n#\n",
         5,
-        "a line before told the skew",
+        "an earlier line sets the skew",
     ),
     (
         "#\nskew 300\n\nevent 1 0 ~ - start\n#\n\nevent 1 0 ~ MM start",
         7,
-        "field 5, <flags>, wants letters of DMRSCKEIN, each once, or -",
+        "field 5, <flags>, needs letters of DMRSCKEIN, each once, or -",
     ),
     ("# a\r\nskew 300\n\r\n", 3, "field 1 has a carriage return"),
 ];
@@ -245,7 +245,7 @@ fn a_source_keeps_what_it_read(rt: HostRuntime) -> Result<(), Fail> {
     let text = BadLine { number: 2, reason }.text(rt.alloc())?;
     assert_eq!(rt;
         text.as_str(),
-        "krb_run: bad line 2: no line before declared connection 1\n"
+        "krb_run: bad line 2: no earlier line declares connection 1\n"
     );
     Ok(())
 }
