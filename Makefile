@@ -100,7 +100,7 @@ live:
 try-live: library
 	@test -x tests/live/out/cyrus/usr/lib/cyrus/bin/imtest || tests/live/unpack > /dev/null 2>&1 || echo "live: Heimdal could not be fetched"
 	tests/live/run
-	$(if $(wildcard bindings/gss/Makefile),tests/live/run gss)
+	$(if $(wildcard bindings/gss/Makefile),tests/live/run gss tickets)
 
 bench: library
 	bench/run

@@ -3,7 +3,7 @@
 # process or connection is refused, and so are a clock that is wrong and a key that is another one, each with its words. The last of these
 # is undone, and a client is admitted again.
 # shellcheck disable=SC1090
-for server in samples sshd postgres apache sasl dovecot python java redis kadmin checked; do . "$live/gss/$server.sh"; done
+for server in samples sshd postgres apache sasl dovecot ldap python java redis kadmin checked; do . "$live/gss/$server.sh"; done
 
 # Runs a program with the interposer: served COMMAND.. Its settings are those of gss_conf, or of the folder's gss.conf, and the line that
 # loads it that of gss_mech, or of the folder's mech.conf.
@@ -31,7 +31,7 @@ gss_room() {
     gss_settings "file:$gss/store" > "$gss/gss.conf"
     sed -e "s/^    EXAMPLE.COM = {/&\n        auth_to_local_names = {\n            alice = $(id -un)\n        }/" \
         -e 's/^\[domain_realm\]/&\n    localhost = EXAMPLE.COM/' "$mit/krb5.conf" > "$gss/krb5.conf"
-    for service in {host,HTTP,postgres,imap,pop}/localhost "pop/$(hostname)"; do
+    for service in {host,HTTP,postgres,imap,ldap,pop}/localhost "pop/$(hostname)"; do
         kadmin.local addprinc -randkey "$service"
         kadmin.local ktadd -k "$gss/keytab" "$service"
     done
@@ -44,7 +44,7 @@ gss_room() {
 # A credential cache with tickets for all services, whose user's clock is 15 minutes ahead.
 skewed_cache() {
     cp "${KRB5CCNAME#FILE:}" "$gss/skewed"
-    kvno -c "FILE:$gss/skewed" {host,HTTP,postgres,imap,pop}/localhost {host,pop}/server.example.com
+    kvno -c "FILE:$gss/skewed" {host,HTTP,postgres,imap,ldap,pop}/localhost {host,pop}/server.example.com
     "$python" "$live/gss/skew.py" "$gss/skewed" 900
 }
 
@@ -149,6 +149,6 @@ try_gss() {
     check "settings that cannot be read are told" tells_bad_settings
     [ "$(id -u)" -ne 0 ] || check "a setuid program reads no environment" is_deaf_as_setuid
     local server
-    for server in ${GSS_SERVERS:-samples sshd postgres apache sasl dovecot python java redis kadmin checked}; do "try_gss_$server"; done
+    for server in ${GSS_SERVERS:-samples sshd postgres apache sasl dovecot ldap python java redis kadmin checked}; do "try_gss_$server"; done
     [ -n "${GSS_SERVERS:-}" ] || check "the counters" counts
 }

@@ -6,10 +6,10 @@ use crate::kdcs::Kdcs;
 use crate::krb5::{self, Krb5};
 use crate::names::machine;
 use crate::oids::{KRB5, octets};
-use crate::say;
 use crate::status::Refused;
-use crate::{config, target};
+use crate::{config, say, target, trace};
 use menolavuri::{Cause, Error, Flags, Initiator, Next, carrier};
+use std::time::{Duration, SystemTime};
 
 /// The request of a program.
 pub struct Wanted<'a> {
@@ -31,7 +31,20 @@ pub struct Ready {
     pub service: String,
     pub next: Next,
     kdcs: Kdcs,
+    held: Held,
 }
+
+/// A client's tickets.
+struct Held {
+    /// The client, as "alice@EXAMPLE.COM".
+    client: String,
+    /// The path of its cache.
+    path: String,
+}
+
+/// How often a cache is read if somebody writes to it meanwhile, and the pause before the next time.
+const READINGS: usize = 3;
+const PAUSE: Duration = Duration::from_millis(50);
 
 /// The code for the library if no KDC replied.
 const NO_REPLY: u32 = 1;
@@ -59,10 +72,49 @@ fn service_of(wanted: &Wanted<'_>) -> Result<String, String> {
     Err(format!("the target is of the realm {}", it.realm))
 }
 
-/// Gives an initiator the tickets of a cache: the library has no call for that yet.
-fn hold(_: &mut Initiator, path: &str) -> Result<(), String> {
-    cache::read(path)?;
-    Err(format!("{path}: the library takes no credential cache"))
+impl Held {
+    /// Checks that a cache still is the client's.
+    fn check(&self, file: &[u8]) -> Result<(), String> {
+        match cache::client(file).filter(|it| *it != self.client) {
+            Some(other) => Err(format!("{} is the cache of {other}", self.path)),
+            None => Ok(()),
+        }
+    }
+
+    /// Gives an initiator the tickets. A cache that a program writes to meanwhile is read again.
+    fn give(&self, initiator: &mut Initiator) -> Result<(), String> {
+        let path = &self.path;
+        let mut failed = String::new();
+        for _ in 0..READINGS {
+            let file = cache::read(path)?;
+            self.check(&file)?;
+            match initiator.set_ccache(&file, SystemTime::now()) {
+                Ok(_) => return Ok(()),
+                Err(error) if error.cause() == Some(Cause::NO_IDENTITY) => {
+                    return Err(format!("{path} has no ticket that is valid"));
+                }
+                Err(error) => failed = format!("{path}: {error}"),
+            }
+            std::thread::sleep(PAUSE);
+        }
+        Err(failed)
+    }
+
+    /// Adds the ticket that a KDC's reply brings to the cache, before the initiator takes the reply. If that fails the ticket is used all the
+    /// same.
+    fn keep(&self, initiator: &mut Initiator, reply: &[u8]) {
+        let kept = cache::extend(&self.path, |file| {
+            self.check(file)?;
+            match initiator.get_ccache(file, reply, SystemTime::now()) {
+                Ok(it) if it.is_empty() => Ok(file.to_vec()),
+                Ok(it) => Ok(it),
+                Err(error) => Err(error.to_string()),
+            }
+        });
+        if let Err(words) = kept {
+            trace!("the ticket is not kept: {}", words.escape_debug());
+        }
+    }
 }
 
 /// Starts an initiator. Nothing is sent: an error says why MIT's mechanism is asked.
@@ -70,7 +122,10 @@ pub fn ready(wanted: &Wanted<'_>) -> Result<Ready, String> {
     let words = |error: Error| error.to_string();
     let service = service_of(wanted)?;
     let krb5 = Krb5::new().ok_or("krb5.conf cannot be read")?;
-    let path = cache::path(wanted.source, &krb5)?;
+    let held = Held {
+        client: wanted.client.to_owned(),
+        path: cache::path(wanted.source, &krb5)?,
+    };
     let kdcs = Kdcs::of(&krb5);
     let mut initiator =
         Initiator::new(&service, &machine(), flags_of(wanted.flags)).map_err(words)?;
@@ -79,7 +134,7 @@ pub fn ready(wanted: &Wanted<'_>) -> Result<Ready, String> {
     if let Some(data) = wanted.bindings {
         initiator.bind(data).map_err(words)?;
     }
-    hold(&mut initiator, &path)?;
+    held.give(&mut initiator)?;
     let next = initiator.start().map_err(words)?;
     if next == Next::AskKdc && initiator.url().map_err(words)?.starts_with("https:") {
         return Err("the KDC is asked over https".into());
@@ -89,18 +144,22 @@ pub fn ready(wanted: &Wanted<'_>) -> Result<Ready, String> {
         service,
         next,
         kdcs,
+        held,
     })
 }
 
 /// Carries a request to the KDCs of its realm, and takes the reply.
-fn ask(initiator: &mut Initiator, kdcs: &Kdcs) -> Result<Next, Error> {
-    let (url, request) = (initiator.url()?, initiator.request()?);
-    let places = kdcs.places(&url);
+fn ask(it: &mut Ready) -> Result<Next, Error> {
+    let (url, request) = (it.initiator.url()?, it.initiator.request()?);
+    let places = it.kdcs.places(&url);
     match carrier::carry(&url, &request, places.iter().map(String::as_str)) {
-        Ok(reply) => initiator.answer(&reply),
+        Ok(reply) => {
+            it.held.keep(&mut it.initiator, &reply);
+            it.initiator.answer(&reply)
+        }
         Err(error) => {
             say!("no KDC replied: {}", error.to_string().escape_debug());
-            initiator.fault(NO_REPLY)
+            it.initiator.fault(NO_REPLY)
         }
     }
 }
@@ -108,7 +167,7 @@ fn ask(initiator: &mut Initiator, kdcs: &Kdcs) -> Result<Next, Error> {
 /// Asks KDCs, until there is a token.
 pub fn go(mut it: Ready) -> Result<Ready, Refused> {
     while it.next == Next::AskKdc {
-        it.next = ask(&mut it.initiator, &it.kdcs).map_err(|error| refused(&error, &[]))?;
+        it.next = ask(&mut it).map_err(|error| refused(&error, &[]))?;
     }
     Ok(it)
 }

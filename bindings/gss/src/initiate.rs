@@ -68,8 +68,10 @@ unsafe fn holder(it: &Call) -> Result<(String, Option<SystemTime>), String> {
             null_mut(),
             null_mut(),
         );
-        if status != COMPLETE {
-            return Err("there is no credential".into());
+        match status {
+            COMPLETE => {}
+            CREDENTIALS_EXPIRED => return Err("the credential has expired".into()),
+            _ => return Err("there is no credential".into()),
         }
         let client = names::shown(name);
         names::release(name);

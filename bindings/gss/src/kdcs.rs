@@ -40,25 +40,20 @@ impl Kdcs {
         Kdcs(krb5.kdcs())
     }
 
-    /// Gives the initiator the text of krb5.conf, in which the library finds the KDC of a realm. MIT krb5 takes more from krb5.conf: further
-    /// files, and addresses with a protocol. A KDC that is found so is given as a variable.
+    /// Gives the initiator the texts of krb5.conf, and of each realm the first KDC that MIT krb5 finds there: further files, groups within
+    /// groups, and addresses with a protocol are no part of what the library reads.
     pub fn tell(&self, initiator: &mut Initiator, config: Option<&str>) -> Result<(), Error> {
         if let Some(config) = config {
             initiator.variable("KRB5_CONFIG", config)?;
         }
-        let mut all = String::new();
         for path in config.unwrap_or(USUAL).split(':') {
-            let Ok(text) = read_to_string(path) else {
-                continue;
-            };
-            initiator.file(path, &text)?;
-            all.push_str(&text);
+            if let Ok(text) = read_to_string(path) {
+                initiator.file(path, &text)?;
+            }
         }
         for (realm, addresses) in &self.0 {
-            let first = &addresses[0];
-            if first.contains('/') || !all.contains(first) {
-                initiator.variable(&format!("SSPI_KDC_URL_{realm}"), &urls_of(first)[0])?;
-            }
+            let first = &urls_of(&addresses[0])[0];
+            initiator.variable(&format!("SSPI_KDC_URL_{realm}"), first)?;
         }
         Ok(())
     }
@@ -83,6 +78,35 @@ impl Kdcs {
 #[cfg(test)]
 mod tests {
     use super::*;
+
+    #[test]
+    fn the_first_kdc_is_that_of_mit() {
+        let text =
+            "[realms]\nEXAMPLE.COM = {\n auth_to_local_names = {\n  a = b\n }\n kdc = other\n}\n";
+        let path = format!("{}/krb5.conf", crate::store::tests::room("kdcs"));
+        std::fs::write(&path, text).unwrap();
+        for (address, url) in [
+            ("kdc.example.com", "udp://kdc.example.com"),
+            ("KDC.example.com:89", "udp://KDC.example.com:89"),
+            ("[2001:db8::1]:88", "udp://[2001:db8::1]:88"),
+            ("tcp/kdc.example.com", "tcp://kdc.example.com"),
+            ("http://proxy/KdcProxy", "http://proxy/KdcProxy"),
+        ] {
+            let kdcs = Kdcs(vec![(
+                "EXAMPLE.COM".into(),
+                vec![address.into(), "b".into()],
+            )]);
+            let mut it = Initiator::new("host/a", "desk", menolavuri::Flags::USUAL).unwrap();
+            it.password("alice", "EXAMPLE.COM", "secret").unwrap();
+            kdcs.tell(&mut it, Some(&path)).unwrap();
+            it.start().unwrap();
+            assert_eq!(it.url().unwrap(), url);
+            assert!(
+                kdcs.places(url).iter().any(|it| it.contains("://b")),
+                "{url}"
+            );
+        }
+    }
 
     #[test]
     fn all_kdcs_of_a_realm_are_asked() {

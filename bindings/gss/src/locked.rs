@@ -134,16 +134,26 @@ fn lock(file: &File, kind: i16) -> bool {
     unsafe { fcntl(file.as_raw_fd(), SETLK, &mut Flock::of(kind)) == 0 }
 }
 
-/// Locks a file for reading, until it is closed, whatever else the process opens and closes. Returns false if somebody writes to it. A file
-/// system without locks has none.
-pub fn lock_to_read(file: &File) -> bool {
+/// Locks a file until it is closed, whatever else the process opens and closes. Returns false if another one has it locked. A file system
+/// without locks has none.
+fn lock_open(file: &File, kind: i16) -> bool {
     // SAFETY: as above.
-    let status = unsafe { fcntl(file.as_raw_fd(), OFD_SETLK, &mut Flock::of(READ)) };
+    let status = unsafe { fcntl(file.as_raw_fd(), OFD_SETLK, &mut Flock::of(kind)) };
     status == 0
         || !matches!(
             std::io::Error::last_os_error().kind(),
             WouldBlock | PermissionDenied
         )
+}
+
+/// Locks a file for reading, until it is closed. Returns false if somebody writes to it.
+pub fn lock_to_read(file: &File) -> bool {
+    lock_open(file, READ)
+}
+
+/// Locks a file for writing, until it is closed. Returns false if somebody reads it or writes to it.
+pub fn lock_to_write(file: &File) -> bool {
+    lock_open(file, WRITE)
 }
 
 /// Does something under the lock. Nothing else in the process opens the file, so no close of another ends the lock.

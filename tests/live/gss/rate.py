@@ -1,13 +1,24 @@
-# How many clients a second a server in this process admits, over python3-gssapi:  rate.py COUNT KEYTAB [PROCESSES]
-# The tokens are made first, by another process, with MIT's library alone. Each of this many processes then takes COUNT tokens of its own.
-# Run it with the interposer (GSS_MECH_CONFIG, MENOLAVURI_GSS_CONF) and without, and without with KRB5RCACHENAME=none: too.
-import os, pickle, sys, tempfile, time
+# How many clients a second a server in this process admits, over python3-gssapi:  rate.py COUNT KEYTAB ROUNDS [PROCESSES]
+# It is run with the interposer (GSS_MECH_CONFIG, MENOLAVURI_GSS_CONF). In each round COUNT tokens, which another process made with MIT's
+# library alone, are taken by each of three acceptors in turn: the interposer's with its store, MIT's mechanism with its replay cache, and
+# MIT's without one. MIT's is called by the OID by which the mechglue lets an interposer call it. With PROCESSES, each of them takes
+# COUNT tokens of its own at the same time.
+import os, pickle, statistics, sys, tempfile, time
 
 import gssapi
 
-count, keytab = int(sys.argv[1]), sys.argv[2]
-processes = int(sys.argv[3]) if len(sys.argv) > 3 else 1
+count, keytab, rounds = int(sys.argv[1]), sys.argv[2], int(sys.argv[3])
+processes = int(sys.argv[4]) if len(sys.argv) > 4 else 1
 NAME = gssapi.Name("host@localhost", gssapi.NameType.hostbased_service)
+KRB5 = "1.2.840.113554.1.2.2"
+# (an OID after another one: its first octet, 1.2, is the arc 42)
+BEHIND = "1.3.6.1.4.1.32473.4120.1." + KRB5.replace("1.2", "42", 1)
+CACHE = f"file2:{os.path.dirname(keytab)}/rate.replays"
+ACCEPTORS = {
+    "the interposer, with its store": (KRB5, None),
+    "MIT's mechanism, with its replay cache": (BEHIND, CACHE),
+    "MIT's mechanism, without one": (BEHIND, "none:"),
+}
 
 
 def make(path):
@@ -24,6 +35,11 @@ def make(path):
         return pickle.load(file)
 
 
+def credential(mech, cache):
+    store = {"keytab": keytab, **({"rcache": cache} if cache else {})}
+    return gssapi.Credentials(usage="accept", mechs=[gssapi.OID.from_int_seq(mech)], store=store)
+
+
 def admitted(credential, token):
     context = gssapi.SecurityContext(creds=credential, usage="accept")
     try:
@@ -34,20 +50,34 @@ def admitted(credential, token):
     return context.complete
 
 
-def serve(tokens):
-    credential = gssapi.Credentials(usage="accept", store={"keytab": keytab})
+def serve(credential, tokens):
     begin = time.perf_counter()
     let_in = sum(admitted(credential, token) for token in tokens)
     return let_in, time.perf_counter() - begin
 
 
-with tempfile.NamedTemporaryFile() as file:
-    tokens = make(file.name)
-begin = time.perf_counter()
-for number in range(1, processes):
-    if os.fork() == 0:
-        os._exit(serve(tokens[number * count :][:count])[0] != count)
-let_in, took = serve(tokens[:count])
-failed = sum(os.waitstatus_to_exitcode(os.wait()[1]) for _ in range(1, processes))
-took = max(took, time.perf_counter() - begin)
-print(f"{count * processes} clients by {processes} processes: {count * processes / took:.0f} a second, {count - let_in + failed} refused")
+def measure(mech, cache, tokens):
+    """Clients a second, and how many were refused."""
+    begin = time.perf_counter()
+    for number in range(1, processes):
+        if os.fork() == 0:
+            os._exit(serve(credential(mech, cache), tokens[number * count :][:count])[0] != count)
+    let_in, took = serve(credential(mech, cache), tokens[:count])
+    failed = sum(os.waitstatus_to_exitcode(os.wait()[1]) for _ in range(1, processes))
+    if processes > 1:
+        took = time.perf_counter() - begin
+    return count * processes / took, count - let_in + failed
+
+
+rates = {words: [] for words in ACCEPTORS}
+refused = dict.fromkeys(ACCEPTORS, 0)
+for _ in range(rounds):
+    with tempfile.NamedTemporaryFile() as file:
+        tokens = make(file.name)
+    for words, (mech, cache) in ACCEPTORS.items():
+        rate, missed = measure(mech, cache, tokens)
+        rates[words].append(rate)
+        refused[words] += missed
+for words, all in rates.items():
+    least, middle, most = min(all), statistics.median(all), max(all)
+    print(f"{words}: {least:.0f} to {most:.0f} clients a second, in the middle {middle:.0f}; {refused[words]} refused")

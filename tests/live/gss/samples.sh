@@ -2,7 +2,7 @@
 
 # Whether gss-client says this many times that the signature of what it sent is good: sample_client PORT COUNT OPTION..
 sample_client() {
-    [ "$(timeout 20 gss-client -port "$1" "${@:3}" 127.0.0.1 "${sample_service:-host}@localhost" 'hello there' | grep -cx 'Signature verified.')" -eq "$2" ]
+    [ "$(timeout "${patience:-20}" gss-client -port "$1" "${@:3}" 127.0.0.1 "${sample_service:-host}@localhost" 'hello there' | grep -cx 'Signature verified.')" -eq "$2" ]
 }
 
 # Starts MIT's gss-server with the interposer: start_sample NAME WRAPPER.., and leaves its port in sample_port.
@@ -32,6 +32,7 @@ has_a_crowd() {
 # that is judged so: is_clean admits SERVICE, is_clean has_wrong_clock
 is_clean() {
     local sample_port process
+    local -x patience=100 # (seconds)
     sample_port=$(free_port)
     serve valgrind valgrind --quiet --leak-check=full --error-exitcode=9 --suppressions="$live/gss/mechglue.supp" \
         gss-server -port "$sample_port" -once host@localhost

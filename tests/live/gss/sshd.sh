@@ -16,13 +16,18 @@ ssh_client() {
     local options=(-F /dev/null -p "$1" -o GSSAPIAuthentication=yes -o PreferredAuthentications="$2" -o StrictHostKeyChecking=no
         -o UserKnownHostsFile=/dev/null -o LogLevel=ERROR)
     [ "$2" = gssapi-keyex ] && options+=(-o GSSAPIKeyExchange=yes)
-    timeout 20 ssh "${options[@]}" "${@:3}" localhost "${ssh_command:-echo in}" | grep -x in
+    timeout "${patience:-20}" ssh "${options[@]}" "${@:3}" localhost "${ssh_command:-echo in}" | grep -x in
 }
 
-# Whether the ticket of a client that delegates is in a cache of its session.
+# Whether the ticket of a client that delegates is in a cache of its session, of which the output says all. If the client got no ticket to
+# hand on from the KDC, MIT's library hands on none, and says so to nobody: the trace of MIT's library does.
 ssh_delegates() {
-    admits host/localhost env ssh_command='klist | grep -q "krbtgt/EXAMPLE.COM@EXAMPLE.COM" && echo in' \
-        bash -c "ssh_client $1 gssapi-with-mic -o GSSAPIDelegateCredentials=yes"
+    local status=0
+    local -x patience=60 # (seconds)
+    ssh_command='klist 2>&1 | tee /dev/stderr | grep -q "krbtgt/EXAMPLE.COM@EXAMPLE.COM" && echo in' KRB5_TRACE=$gss/delegates.trace \
+        admits host/localhost bash -c "ssh_client $1 gssapi-with-mic -o GSSAPIDelegateCredentials=yes" || status=1
+    [ $status -eq 0 ] || tail -n 15 "$gss/delegates.trace" "$room/sshd.log"
+    return $status
 }
 
 # Whether sshd lets nobody in where the interposer cannot be loaded: MIT's mechanism has no key.

@@ -5,15 +5,27 @@ use crate::keys::keys;
 use crate::telling::{complain, words};
 use menolavuri::{Error, Initiator, Next, carrier};
 use std::io;
+use std::time::SystemTime;
 
 /// Names what an argument is about where the library does not take it.
 pub fn about(what: String) -> impl FnOnce(Error) -> String {
     move |error| format!("{what}: {}", words(&error))
 }
 
-/// Gives the initiator its identity: the key in a file or the password on
+/// Gives the initiator the tickets of a credential cache.
+fn hold(initiator: &mut Initiator, file: &str) -> Answer<()> {
+    let cache = std::fs::read(file).map_err(|error| format!("{file}: {error}"))?;
+    let held = initiator.set_ccache(&cache, SystemTime::now());
+    held.map_err(about(format!("the tickets in {file} are not taken")))?;
+    Ok(())
+}
+
+/// Gives the initiator its identity: the key in a file, the tickets of a credential cache if that is `FILE:` and a path, or the password on
 /// the standard input if that is `-`.
 pub fn identify(initiator: &mut Initiator, user: &str, file: &str) -> Answer<()> {
+    if let Some(cache) = file.strip_prefix("FILE:") {
+        return hold(initiator, cache);
+    }
     let (name, realm) = user
         .rsplit_once('@')
         .ok_or_else(|| format!("the user {user} has no realm: alice@EXAMPLE.COM has one"))?;
