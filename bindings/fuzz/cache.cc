@@ -6,7 +6,7 @@ const bytes CACHE_HEAD = hex("0504000c0001000800000000000000000000000100000001"
 
 namespace {
 
-/* What is left of a file. After the first part that does not fit nothing is left. */
+/* The rest of a file. After the first part that does not fit nothing is left. */
 struct Rest {
     const bytes &in;
     size_t at;
