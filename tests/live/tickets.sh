@@ -1,6 +1,8 @@
 # A user's tickets: kinit's of MIT and Heimdal, and a cache that Java wrote. The example initiator and Debian's clients, unchanged, go on from
 # there: MIT's mechglue loads bindings/gss, whose settings say initiate = yes, and the proved initiator reaches servers of the part gss. The
 # log says so, with the word `reached`.
+# shellcheck disable=SC1091
+. "$live/gss/referral.sh"
 
 # Runs a client with the interposer, whose settings are those of tickets_conf, or of the folder's tickets.conf: initiates COMMAND..
 initiates() { env GSS_MECH_CONFIG="$gss/mech.conf" MENOLAVURI_GSS_CONF="${tickets_conf:-$gss/tickets.conf}" "$@"; }
@@ -192,6 +194,7 @@ try_ticket_kdcs() {
     check "a second KDC where the first is silent" finds_kdc silent "127.0.0.1:$silent_port" "127.0.0.1:$mit_port"
     check "a second KDC where the first is away" finds_kdc away "$nobody" "127.0.0.1:$mit_port"
     check "no KDC is there" misses_all_kdcs "$nobody"
+    check "a service of another realm, to which the KDC refers" is_referred
     "$python" -c 'import kdcproxy' 2> /dev/null || { echo "not tried: the proxy, which wants Debian's package python3-kdcproxy"; return; }
     start_proxy
     check "a proxy (MS-KKDCP)" finds_kdc proxy "http://127.0.0.1:$proxy_port/KdcProxy"

@@ -2,7 +2,8 @@
 # It is run with the interposer (GSS_MECH_CONFIG, MENOLAVURI_GSS_CONF). In each round COUNT tokens, which another process made with MIT's
 # library alone, are taken by each of three acceptors in turn: the interposer's with its store, MIT's mechanism with its replay cache, and
 # MIT's without one. MIT's is called by the OID by which the mechglue lets an interposer call it. With PROCESSES, each of them takes
-# COUNT tokens of its own at the same time.
+# COUNT tokens of its own at the same time. The processor's time is that of one process for a client, kernel and Python with it: other work
+# on the machine changes it less than the clients a second.
 import os, pickle, statistics, sys, tempfile, time
 
 import gssapi
@@ -51,33 +52,36 @@ def admitted(credential, token):
 
 
 def serve(credential, tokens):
-    begin = time.perf_counter()
+    begin, busy = time.perf_counter(), time.process_time()
     let_in = sum(admitted(credential, token) for token in tokens)
-    return let_in, time.perf_counter() - begin
+    return let_in, time.perf_counter() - begin, time.process_time() - busy
 
 
 def measure(mech, cache, tokens):
-    """Clients a second, and how many were refused."""
+    """Clients a second, microseconds of the processor for a client, and how many were refused."""
     begin = time.perf_counter()
     for number in range(1, processes):
         if os.fork() == 0:
             os._exit(serve(credential(mech, cache), tokens[number * count :][:count])[0] != count)
-    let_in, took = serve(credential(mech, cache), tokens[:count])
+    let_in, took, busy = serve(credential(mech, cache), tokens[:count])
     failed = sum(os.waitstatus_to_exitcode(os.wait()[1]) for _ in range(1, processes))
     if processes > 1:
         took = time.perf_counter() - begin
-    return count * processes / took, count - let_in + failed
+    return count * processes / took, busy / count * 1e6, count - let_in + failed
 
 
 rates = {words: [] for words in ACCEPTORS}
+times = {words: [] for words in ACCEPTORS}
 refused = dict.fromkeys(ACCEPTORS, 0)
 for _ in range(rounds):
     with tempfile.NamedTemporaryFile() as file:
         tokens = make(file.name)
     for words, (mech, cache) in ACCEPTORS.items():
-        rate, missed = measure(mech, cache, tokens)
+        rate, busy, missed = measure(mech, cache, tokens)
         rates[words].append(rate)
+        times[words].append(busy)
         refused[words] += missed
 for words, all in rates.items():
     least, middle, most = min(all), statistics.median(all), max(all)
-    print(f"{words}: {least:.0f} to {most:.0f} clients a second, in the middle {middle:.0f}; {refused[words]} refused")
+    busy = f"{min(times[words]):.0f} to {max(times[words]):.0f} µs of the processor, in the middle {statistics.median(times[words]):.0f}"
+    print(f"{words}: {least:.0f} to {most:.0f} clients a second, in the middle {middle:.0f}; {busy}; {refused[words]} refused")
