@@ -219,6 +219,7 @@ def ccache():
         yield f"{name}-imap", moment + record(10, b"imap/server.example.com") + record(1, file)
         yield f"{name}-cut", moment + record(1, file[:-1])
         yield f"{name}-late", record(9, b"\xff" * 8) + record(1, file)
+        yield f"{name}-types", moment + record(1, file.replace(b"\0\x12\0\x12", b"\0\x12\0\x11"))
     largest = b"\xff" * 4
     for version, front in (("three", b"\5\3"), ("four", b"\5\4\0\0")):
         head = record(1, front + ALICE)
