@@ -8,6 +8,7 @@
 #include <cstdio>
 #include <cstdlib>
 #include <cstring>
+#include <functional>
 #include <initializer_list>
 #include <vector>
 
@@ -130,6 +131,32 @@ bytes ap_rep(const bytes &key, const bytes &part, bool bare);
 bytes nonce_of(const bytes &request);
 bytes reply_part(bool for_ticket, const bytes &key, const bytes &nonce, const bytes &service_name);
 bytes ticket_part(const bytes &key);
+
+/* Credential caches, by a second reader: whether octets are one, and the entry for a service in this second that is valid for longest. The
+ * head is that of a cache of alice without an entry. */
+struct Principal {
+    bytes realm;
+    std::vector<bytes> components;
+};
+bool operator==(const Principal &, const Principal &);
+struct Entry {
+    Principal client, service;
+    uint32_t key_type, times[4], is_skey, flags;
+    bytes key, ticket;
+};
+struct Cache {
+    Principal owner;
+    std::vector<Entry> entries;
+};
+extern const bytes CACHE_HEAD;
+bool read_cache(const bytes &file, Cache &);
+const Entry *find_entry(const Cache &, const std::vector<bytes> &service, uint32_t second);
+
+/* How many entries of a cache MIT krb5's library reads, and the ticket of the last one; -1 if it does not read to the end. */
+int read_by_mit(const bytes &file, bytes &last);
+
+/* Makes an initiator of the user in an empty handle, whose honest KDC gives both tickets. Each reply is passed to `before`, then taken. */
+void log_in(mk_initiator *to, const std::function<void(const bytes &reply)> &before = {});
 
 /* A session of the library, in an empty handle, whose two ends met over such messages: the client's or the server's. The key is that of its
  * messages; the numbers of the client's begin at 9. */

@@ -1,8 +1,10 @@
-/* DER, and messages of Kerberos that are sealed by MIT krb5's library. */
+/* DER, and messages of Kerberos that are sealed by MIT krb5's library, and caches that it reads. */
 #include "common.h"
 
 #include <algorithm>
 #include <krb5/krb5.h>
+#include <sys/mman.h>
+#include <unistd.h>
 
 static bytes counting(uint8_t step) {
     bytes b;
@@ -174,4 +176,33 @@ bytes in_clear(int usage, const bytes &key, bytes header, const bytes &text) {
 
 bytes mic(int usage, const bytes &key, const bytes &header, const bytes &payload) {
     return join({header, checksum(usage, key, join({payload, header}))});
+}
+
+/* A cache that is in memory, and has the name of a file. */
+static krb5_ccache cache_of(const bytes &file) {
+    static int number = memfd_create("cache", 0);
+    char name[40];
+    krb5_ccache cache;
+    PROMISE(ftruncate(number, 0) == 0 && pwrite(number, file.data(), file.size(), 0) == ssize_t(file.size()), "no file in memory");
+    snprintf(name, sizeof name, "FILE:/proc/self/fd/%d", number);
+    PROMISE(krb5_cc_resolve(mit(), name, &cache) == 0, "MIT krb5's library has no such cache");
+    return cache;
+}
+
+int read_by_mit(const bytes &file, bytes &last) {
+    krb5_ccache cache = cache_of(file);
+    krb5_cc_cursor cursor;
+    krb5_creds entry;
+    int count = 0;
+    krb5_error_code told = krb5_cc_start_seq_get(mit(), cache, &cursor);
+    if (told == 0) {
+        while ((told = krb5_cc_next_cred(mit(), cache, &cursor, &entry)) == 0) {
+            last.assign(entry.ticket.data, entry.ticket.data + entry.ticket.length);
+            krb5_free_cred_contents(mit(), &entry);
+            count++;
+        }
+        krb5_cc_end_seq_get(mit(), cache, &cursor);
+    }
+    krb5_cc_close(mit(), cache);
+    return told == KRB5_CC_END ? count : -1;
 }

@@ -8,7 +8,8 @@
 
 #include <algorithm>
 
-static Count steps("answers"), refusals("refused"), tokens("tokens"), established("established by default"), loose("established without rules");
+static Count steps("answers"), refusals("refused"), tokens("tokens"), established("established by default"), loose("established without rules"),
+    brought("tickets for a cache");
 
 static const uint32_t NEW_CHECKS = MK_FRESH_REPLIES | MK_ANSWERS_ITS_AUTHENTICATOR;
 
@@ -141,15 +142,40 @@ static void finish(Run &run, bool has_heard) {
     mk_session_free(&session);
 }
 
+static Got cache_of(Run &run, const Lent &reply) {
+    return get("mk_initiator_get_ccache", [&](uint8_t *out, size_t room) {
+        Lent file(CACHE_HEAD);
+        return mk_initiator_get_ccache(&run.it, file.at, file.length, reply.at, reply.length, &run.moment, out, room);
+    });
+}
+
+/* Before a reply is taken, mk_initiator_get_ccache says the same of it: a refusal, no ticket, or a cache with its ticket and its key. */
+static void check_cache(const Run &run, const Record &it, const bytes &part, const Got &told) {
+    if (told.reply.status != MK_OK) {
+        PROMISE(run.last.status == told.reply.status && run.last.kind == told.reply.kind && run.last.cause == told.reply.cause &&
+                    run.last.number == told.reply.number,
+                "a reply is refused with %u, and taken with %u", told.reply.cause, run.last.cause);
+    } else if (told.octets.empty()) {
+        PROMISE(run.last.status != MK_OK || run.last.number == MK_ASK_KDC, "a reply without a ticket leads to %u", run.last.number);
+    } else {
+        Cache cache;
+        PROMISE(read_cache(told.octets, cache) && cache.entries.size() == 1, "a cache of %zu entries", cache.entries.size());
+        bytes key = it.tag == 2 || it.tag == 3 ? key_in(part, 0xa0) : bytes{};
+        PROMISE(key.empty() || cache.entries[0].key == key, "another key in the cache");
+        brought++;
+    }
+}
+
 static void step(Run &run, const Record &it, const bytes &given, const bytes &part) {
     bool is_token = it.tag == 4 || it.tag == 5;
     Lent octets(given);
     try_other(run, is_token, octets);
-    Got token = token_of(&run.it);
+    Got token = token_of(&run.it), told = is_token ? Got{} : cache_of(run, octets);
     bytes nonce = run.nonce;
     run.last = is_token ? mk_initiator_hear(&run.it, octets.at, octets.length, &run.moment)
                         : mk_initiator_answer(&run.it, octets.at, octets.length, &run.moment);
     check_reply("a step", run.last, SIZE_MAX - 1);
+    if (!is_token) check_cache(run, it, part, told);
     PROMISE(run.last.status == MK_OK || run.last.status == MK_REFUSED || run.last.status == MK_ARGUMENT, "a step: status %u", run.last.status);
     steps++;
     if (run.last.status != MK_OK) {

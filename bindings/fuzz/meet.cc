@@ -44,8 +44,7 @@ static struct {
     bytes replies[2], token, answer, key;
 } said;
 
-/* The KDC gives both tickets at once. */
-static void log_in(mk_initiator *to) {
+void log_in(mk_initiator *to, const std::function<void(const bytes &reply)> &before) {
     const uint32_t flags = MK_MUTUAL_AUTH | MK_REPLAY_DETECT | MK_SEQUENCE_DETECT | MK_CONFIDENTIALITY | MK_INTEGRITY;
     const uint8_t number[4] = {0, 0, 0, 9};
     const bytes first(32, 0x11), second(32, 0x55), target = of(SERVICE), user = of(USER), url = of("tcp://k");
@@ -59,11 +58,13 @@ static void log_in(mk_initiator *to) {
         bytes part = reply_part(false, first, nonce_of(ask(to)), granting);
         said.replies[0] = kdc_reply(false, ticket(granting, SERVICE_KEY, part), USER_KEY, part);
     }
+    if (before) before(said.replies[0]);
     answer(to, said.replies[0], MK_ASK_KDC);
     if (said.replies[1].empty()) {
         bytes part = reply_part(true, second, nonce_of(ask(to)), service);
         said.replies[1] = kdc_reply(true, ticket(service, SERVICE_KEY, ticket_part(second)), first, part);
     }
+    if (before) before(said.replies[1]);
     answer(to, said.replies[1], MK_SEND_TOKEN);
 }
 

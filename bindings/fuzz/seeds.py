@@ -5,6 +5,7 @@ them, and of corpus. FOLDER/NAME has those of the harness NAME."""
 import hashlib
 import os
 import pathlib
+import re
 import sys
 
 TOP = pathlib.Path(__file__).resolve().parent.parent.parent
@@ -163,6 +164,75 @@ def settings():
     yield "flags", record(4, b"http://k:1/KdcProxy") + record(9, bytes([0, 1, 2, 0x3F])) + record(7, b"HTTP/www") + record(11, b"pc")
 
 
+def caches():
+    """Caches that MIT krb5, Heimdal and Java wrote, and a second within which their tickets are valid."""
+    told = (TOP / "tests/library/ccache/krb_ccache_tests/files.rs").read_text()
+    moment = record(9, (1796097000 * 10**6).to_bytes(8, "big"))
+    yield "kinit", moment, bytes.fromhex((TOP / "bindings/c/ccache.hex").read_text())
+    for name, digits in re.findall(r'const (\w+): &str =\s*"([0-9a-f]+)"', told):
+        yield name.lower(), moment, bytes.fromhex(digits)
+
+
+def counted(words):
+    return len(words).to_bytes(4, "big") + words
+
+
+def principal(realm, *parts):
+    return b"\0\0\0\1" + len(parts).to_bytes(4, "big") + counted(realm) + b"".join(counted(it) for it in parts)
+
+
+ALICE, HOST, GRANTING = principal(b"EXAMPLE.COM", b"alice"), (b"host", b"server.example.com"), principal(b"EXAMPLE.COM", b"krbtgt", b"EXAMPLE.COM")
+
+
+def ticket(octet):
+    sealed = fields((0, integer(18)), (2, tlv(4, bytes([octet]) * 60)))
+    return record(2, tlv(0x61, fields((0, integer(5)), (1, text("EXAMPLE.COM")), (2, names(2, "host", "server.example.com")), (3, sealed))))
+
+
+def facts(start=1700000000, end=1700036000, is_skey=0, flags=0x40A10000):
+    times = b"".join(it.to_bytes(4, "big") for it in (1700000000, start, end, 0))
+    return record(6, times + bytes([is_skey]) + flags.to_bytes(4, "big"))
+
+
+def chosen():
+    """Records before the second of two tickets for the service: they decide which of both is found."""
+    yield "equal", b""
+    yield "no-start", facts(start=0)
+    yield "not-yet", facts(start=1700000001, end=1800000000)
+    yield "over", facts(end=1700000000)
+    yield "longer", facts(end=1800000000)
+    yield "invalid", facts(flags=0x41A10000)
+    yield "skey", facts(is_skey=8)
+    yield "option", record(4, principal(b"X-CACHECONF:", *HOST))
+    yield "other-realm", record(4, principal(b"OTHER.COM", *HOST))
+    yield "other-client", record(3, principal(b"EXAMPLE.COM", b"bob"))
+    yield "other-type", record(5, b"\0\x17" + bytes(16))
+    yield "other-length", record(5, b"\0\x12" + bytes(31))
+
+
+def ccache():
+    for name, more in chosen():
+        yield name, record(1, b"\5\4\0\0" + ALICE) + ticket(1) + more + ticket(2)
+        yield f"{name}-alone", record(1, b"\5\3" + ALICE) + more + ticket(2)
+    for name, moment, file in caches():
+        yield name, moment + record(1, file)
+        yield f"{name}-imap", moment + record(10, b"imap/server.example.com") + record(1, file)
+        yield f"{name}-cut", moment + record(1, file[:-1])
+        yield f"{name}-late", record(9, b"\xff" * 8) + record(1, file)
+    largest = b"\xff" * 4
+    for version, front in (("three", b"\5\3"), ("four", b"\5\4\0\0")):
+        head = record(1, front + ALICE)
+        yield f"head-{version}", head
+        yield f"both-{version}", head + ticket(1) + record(4, GRANTING) + ticket(2) + record(8, b"\2\0")
+        yield f"granting-{version}", head + record(4, GRANTING) + ticket(2)
+        yield f"aes128-{version}", head + record(5, b"\0\x11" + bytes(16)) + ticket(1) + record(13, b"\x11")
+        yield f"components-{version}", record(1, front + ALICE[:4] + largest + ALICE[8:])
+        yield f"lists-{version}", head + record(7, largest + bytes(6 * 100)) + ticket(1)
+        yield f"empty-{version}", head + record(3, bytes(12)) + record(4, bytes(12)) + record(2, b"") + record(8, b"\x10\0")
+    yield "header", record(1, b"\5\4\xff\xff" + bytes(8000))
+    yield "marks", ticket(1) + record(11, b"A@B") + record(12, b"a\\b\xff")
+
+
 def keytab():
     file = (TOP / "examples/keytab/service.keytab").read_bytes()
     entry = file[2:2 + 4 + int.from_bytes(file[2:6], "big")]
@@ -195,7 +265,7 @@ def kept(name):
 
 
 def main(folder):
-    for it in (accept, initiator, messages, settings, keytab, sasl):
+    for it in (accept, initiator, messages, settings, ccache, keytab, sasl):
         os.makedirs(f"{folder}/{it.__name__}", exist_ok=True)
         for name, seed in (*it(), *kept(it.__name__)):
             if 0 < len(seed) < 20000:

@@ -128,12 +128,14 @@ add_heimdal_user() {
     { cat "$heimdal/krb5.conf" && printf '[kadmin]\n    default_keys = aes128-cts-hmac-sha1-96:pw-salt\n'; } > "$heimdal/small.conf"
     heimdal "${admin[@]}" add --use-defaults -p secret small
     heimdal "${admin[@]}" modify -a +requires-pre-auth small
+    heimdal "${admin[@]}" ext_keytab -k "$heimdal/alice.keytab" alice
 }
 
 try_heimdal_service() {
     local kdc=tcp://127.0.0.1:$heimdal_port port service=host/server.example.com keytab=KRB5_KTNAME=FILE:$heimdal/keytab
     start_service heimdal-service env "${heimdal_settings[@]}" "$keytab" "$python" "$live/gss.py" serve libgssapi.so.3 PORT whole mic
     check "Heimdal's KDC and service" visits_plainly alice usual
+    check "the same with the key of a keytab, at Heimdal's KDC" visits alice "$heimdal/alice.keytab" usual
     check "a user with one key of AES-128 at Heimdal's KDC" visits_plainly small usual
     check "without SUITE_OF_EACH_KEY Heimdal's KDC refuses it" wants SUITE_OF_EACH_KEY 'refused: .* Kdc' small usual
     check "Heimdal's service without FIRST_NUMBER_AS_SHOWN: it tells a gap" its_service_wants FIRST_NUMBER_AS_SHOWN heimdal-service \

@@ -13,7 +13,8 @@ pub enum Error {
     Refused(Refusal),
     /// The rules of the security layers refuse it.
     Layer(LayerRefusal),
-    /// Memory ran out. Nothing is changed, so the call can be repeated.
+    /// Memory ran out. A value that the call borrows is unchanged, and one that it takes is gone. A token that was to be admitted may count
+    /// as admitted: its client then needs a new one.
     Memory,
     /// An argument has a value that is not allowed: a key of a service of another length than 16 and 32 bytes, or a moment that
     /// is past the year 9999 or before 1970.

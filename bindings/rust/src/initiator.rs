@@ -149,7 +149,8 @@ impl Initiator {
         Ok(())
     }
 
-    /// Sets the user, as `alice`, its realm, and its password.
+    /// Sets the user, as `alice`, its realm, and its password. The realm is taken in capitals; if a line of `[domain_realm]` in a
+    /// [file](Initiator::file) fits it, the realm is that of the line.
     pub fn password(&mut self, user: &str, realm: &str, password: &str) -> Result<(), Error> {
         // SAFETY: the handle is ours, and each pointer and length are those of one slice.
         done(unsafe {
@@ -166,7 +167,8 @@ impl Initiator {
         Ok(())
     }
 
-    /// Sets the user, as `alice`, its realm, and its key of this encryption type, 17 or 18, from a keytab.
+    /// Sets the user, as `alice`, its realm, as [`password`](Initiator::password) takes it, and its key of this encryption type, 17 or 18, from
+    /// a keytab.
     pub fn key(&mut self, user: &str, realm: &str, etype: u8, key: &[u8]) -> Result<(), Error> {
         let principal = format!("{realm}\\{user}");
         // SAFETY: as above.
