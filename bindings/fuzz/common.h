@@ -159,7 +159,7 @@ int read_by_mit(const bytes &file, bytes &last);
 void log_in(mk_initiator *to, const std::function<void(const bytes &reply)> &before = {});
 
 /* A session of the library, in an empty handle, whose two ends met over such messages: the client's or the server's. The key is that of its
- * messages; the numbers of the client's begin at 9. */
+ * messages; the numbers of the client's begin at 10. */
 bytes meet(mk_session *to, bool is_client);
 
 /* A message of RFC 4121, section 4.2.6: header, and text after it that is sealed, or in the clear with a checksum; a MIC. */

@@ -11,7 +11,7 @@ struct End {
     bytes key;
     mk_session session = MK_EMPTY;
     mk_sasl it = MK_EMPTY;
-    uint64_t number = 0;       /* of the peer's next message */
+    uint64_t number = 0;       /* of the peer's next message: a layer takes messages in order */
     bool is_agreed = false;
     uint8_t layers = 6;
     uint32_t most = 65536;
@@ -20,15 +20,18 @@ struct End {
 };
 
 static bytes right_token(End &end, const bytes &text) {
-    return in_clear(end.usage(), end.key, header(false, end.flags(), 12, 0, end.number++), text);
+    return in_clear(end.usage(), end.key, header(false, end.flags(), 12, 0, end.number), text);
 }
 
-static Got negotiate(End &end, const bytes &octets) {
+/* A token that has the next number uses it up if it is accepted, or if its text alone is refused. */
+static Got negotiate(End &end, const bytes &octets, bool is_right) {
     Lent token(octets);
     Got got = get("mk_sasl_accept", [&](uint8_t *out, size_t room) {
         return end.is_client ? mk_sasl_answer(&end.it, token.at, token.length, out, room) : mk_sasl_accept(&end.it, token.at, token.length, out, room);
     });
     PROMISE(got.reply.status == MK_OK || got.reply.status == MK_REFUSED || got.reply.status == MK_SASL, "status %u", got.reply.status);
+    bool is_read = got.reply.status == MK_SASL && (got.reply.number == MK_SASL_OFFER || got.reply.number == MK_SASL_LAYER);
+    if (is_right && (got.reply.status == MK_OK || is_read)) end.number++;
     if (got.reply.status != MK_OK) refused++;
     if (got.reply.status == MK_OK) {
         agreed++;
@@ -40,7 +43,7 @@ static Got negotiate(End &end, const bytes &octets) {
 }
 
 static bytes frame_of(End &end, const bytes &text, bool is_sealed) {
-    bytes head = header(false, uint8_t(end.flags() | (is_sealed ? 2 : 0)), is_sealed ? 0 : 12, 0, end.number++);
+    bytes head = header(false, uint8_t(end.flags() | (is_sealed ? 2 : 0)), is_sealed ? 0 : 12, 0, end.number);
     return framed(is_sealed ? sealed(end.usage(), end.key, head, text) : in_clear(end.usage(), end.key, head, text));
 }
 
@@ -54,6 +57,7 @@ static Got unseal(End &end, const bytes &octets, const bytes *wanted) {
     }
     opened++;
     uint32_t layer = mk_sasl_get_layer(&end.it);
+    if (wanted && layer != MK_LAYER_NONE) end.number++;
     PROMISE(end.is_agreed && (layer == 0 || layer & 7), "a frame is opened in layer %u", layer);
     PROMISE(!wanted || layer == MK_LAYER_NONE || got.octets == *wanted, "another text than was sealed"); /* without a layer it is the frame's */
     if (layer != MK_LAYER_NONE) {
@@ -84,7 +88,7 @@ static void go_on(End &end) {
     bytes text = end.is_client ? bytes{7, 1, 0, 0} : bytes{uint8_t(end.layers & 4 ? 4 : end.layers & 2 ? 2 : 1), 0, 0, 0};
     if (text[0] & 6 && !end.is_client) text[1] = 1;
     if (!end.is_agreed) {
-        Got got = negotiate(end, right_token(end, text));
+        Got got = negotiate(end, right_token(end, text), true);
         PROMISE(got.reply.status == MK_OK, "the right token: status %u, number %u, cause %u", got.reply.status, got.reply.number, got.reply.cause);
     }
     uint32_t layer = end.is_agreed ? mk_sasl_get_layer(&end.it) : 0;
@@ -94,8 +98,8 @@ static void go_on(End &end) {
 }
 
 static void take(End &end, const Record &it) {
-    if (it.tag == 1) negotiate(end, it.octets);
-    if (it.tag == 2) negotiate(end, right_token(end, it.octets));
+    if (it.tag == 1) negotiate(end, it.octets, false);
+    if (it.tag == 2) negotiate(end, right_token(end, it.octets), true);
     if (it.tag == 3) unseal(end, it.octets, nullptr);
     if (it.tag == 4 || it.tag == 5) unseal(end, frame_of(end, it.octets, it.tag == 4), &it.octets);
     if (it.tag >= 3 && it.tag <= 5) seal_one(end);
@@ -134,7 +138,7 @@ extern "C" int LLVMFuzzerTestOneInput(const uint8_t *at, size_t length) {
     }
     Memory memory(length);
     end.key = meet(&end.session, end.is_client);
-    end.number = 9;
+    end.number = 10;
     if (begin(end, user)) {
         for (const Record &it : all) take(end, it);
         go_on(end);
