@@ -100,10 +100,11 @@ pub fn judge(
     })
 }
 
-/// The checks before the gate, by keys that are lent. None of them is kept.
+/// The checks before the gate, by keys that are lent. What opens a ticket is kept by the caller.
 fn begin_with(
     alloc: Global,
     keys: &ServerProperties,
+    kept: &mut KeptKey,
     server: &Kerberos,
     dce: bool,
     token: &[u8],
@@ -111,20 +112,21 @@ fn begin_with(
     ensures { Answers (BeginsAdmission (with_keys keys.now server.now) dce token.now) (result_map_both (λ request. request.value) (λ e. e) result) }
 {
     check_state(server)?;
-    let mut kept = KeptKey::new();
     let request = boxed(
         alloc,
-        read_request(alloc, server.rules, keys, &mut kept, dce, token)?,
+        read_request(alloc, server.rules, keys, kept, dce, token)?,
     )?;
     allow(server.rules, channel_held(server), &request)?;
     Ok(request)
 }
 
 /// Judges an AP-REQ as [`judge`] does, by the names and keys of services that are lent, in the place of the context's own: so that
-/// many contexts go by one table of keys, and none has a copy. [`admit`] needs no key: the context may have none.
+/// many contexts go by one table of keys, and none has a copy. [`admit`] needs no key: the context may have none. The keys that open
+/// the ticket are derived from the service's key, and kept in `kept` for the next ticket under the same key.
 pub fn judge_with(
     alloc: Global,
     keys: &ServerProperties,
+    kept: &mut KeptKey,
     server: &Kerberos,
     dce: bool,
     token: &[u8],
@@ -132,7 +134,7 @@ pub fn judge_with(
 ) -> Result<Judged, Cause>
     ensures { Answers (JudgesApReq (with_keys keys.now server.now) dce token.now draw.now) result }
 {
-    let request = begin_with(alloc, keys, server, dce, token)?;
+    let request = begin_with(alloc, keys, kept, server, dce, token)?;
     let outcome = finish(alloc, server, dce, draw, &request)?;
     Ok(Judged {
         request,

@@ -7,6 +7,7 @@ ghost use Rattle.krb_c.specs.Copies.{IsTwin, Copies, CopiesNot};
 
 use crate::handles::Acceptor;
 use crate::reply::{Failure, Reply, reply_of};
+use krb_context::KeptKey;
 use krb_der::{TryCopy, boxed};
 use krb_entrance::{Error, OutOfMemory, Service};
 use krb_replay::ReplayBook;
@@ -17,7 +18,14 @@ fn twin_of(alloc: Global, service: &Service) -> Result<Box<Service>, OutOfMemory
 {
     let keys = service.keys.copy(alloc)?;
     let book = ReplayBook::new(alloc, keys.properties.max_time_skew)?;
-    boxed(alloc, Service { keys, book })
+    boxed(
+        alloc,
+        Service {
+            keys,
+            book,
+            kept: KeptKey::new(),
+        },
+    )
 }
 
 fn copy(alloc: Global, acceptor: &mut Acceptor, to: &mut Acceptor) -> Result<usize, Failure>

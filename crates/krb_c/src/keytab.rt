@@ -17,7 +17,7 @@ ghost use Rattle.krb_c.specs.Keytabs.{IsOfKeytab, MakesOfKeytab, IsNoKeytab, Ref
 
 use crate::handles::Acceptor;
 use crate::reply::{Failure, Reply, reply_of};
-use krb_context::ServerProperties;
+use krb_context::{KeptKey, ServerProperties};
 use krb_der::{Name, boxed};
 use krb_entrance::{Cause, Error, Keys, OutOfMemory, Service};
 use krb_keytab::{Keytab, KeytabError};
@@ -120,7 +120,14 @@ fn boxed_service(
         properties,
         token_limit: TOKEN_LIMIT,
     };
-    boxed(alloc, Service { keys, book })
+    boxed(
+        alloc,
+        Service {
+            keys,
+            book,
+            kept: KeptKey::new(),
+        },
+    )
 }
 
 /// Returns the services of the realm that have a key in the keytab, and their number.

@@ -15,6 +15,7 @@ ghost use Rattle.krb_entrance.specs.Candidates.{Checks, Passes, Stops, IsLetIn, 
 use crate::connection::{keyless, waiting};
 use crate::keys::Keys;
 use krb_admission::judge_with;
+use krb_context::KeptKey;
 use krb_der::{Copier, boxed};
 use krb_server::{
     Answer, AuthorizationData, Cause, Draw, Error, Judged, Kerberos, Octets, OutOfMemory,
@@ -79,6 +80,7 @@ fn client_told(alloc: Global, judged: &Judged) -> Result<Client, OutOfMemory>
 fn check(
     alloc: Global,
     keys: &Keys,
+    kept: &mut KeptKey,
     connection: &Kerberos,
     token: &[u8],
     draw: &Draw,
@@ -86,12 +88,21 @@ fn check(
     ensures { Answers (Checks keys.now connection.now token.now draw.now) result }
 {
     hold(token.len() <= keys.token_limit, Cause::Shape)?;
-    judge_with(alloc, &keys.properties, connection, false, token, draw)
+    judge_with(
+        alloc,
+        &keys.properties,
+        kept,
+        connection,
+        false,
+        token,
+        draw,
+    )
 }
 
 fn checked(
     alloc: Global,
     keys: &Keys,
+    kept: &mut KeptKey,
     connection: &Kerberos,
     token: &[u8],
     draw: &Draw,
@@ -99,7 +110,7 @@ fn checked(
     ensures passes { IfOk result (λ judged. Checks keys.now connection.now token.now draw.now (Ok judged)) }
     ensures refused { IfErr result (Refuses places.Elsewhere (Checks keys.now connection.now token.now draw.now)) }
 {
-    match check(alloc, keys, connection, token, draw) {
+    match check(alloc, keys, kept, connection, token, draw) {
         Ok(judged) => Ok(judged),
         Err(cause) => Err(Error::from(cause)),
     }
@@ -110,6 +121,7 @@ fn checked(
 fn judge_at(
     alloc: Global,
     keys: &Keys,
+    kept: &mut KeptKey,
     connection: &mut Kerberos,
     token: &[u8],
     draw: &Draw,
@@ -119,16 +131,17 @@ fn judge_at(
     ensures named { OnOk result (connection.new ≡ record connection.old { server = Some (keyless keys.now.properties) }) }
     ensures refused { IfErr result (Refuses places.Elsewhere (Checks keys.now connection.old token.now draw.now)) }
 {
-    let judged = boxed(alloc, checked(alloc, keys, connection, token, draw)?)?;
+    let judged = boxed(alloc, checked(alloc, keys, kept, connection, token, draw)?)?;
     let client = boxed(alloc, client_told(alloc, &judged)?)?;
     connection.server = Some(keyless(alloc, &keys.properties)?);
     Ok((Box::into_inner(judged), client))
 }
 
-/// Judges a token without the book, at a new connection for it.
+/// Judges a token without the book, at a new connection for it. What opens a ticket is kept in `kept`.
 pub(crate) fn judge(
     alloc: Global,
     keys: &Keys,
+    kept: &mut KeptKey,
     channel: Option<[u8; 16]>,
     token: &[u8],
     draw: &Draw,
@@ -138,7 +151,7 @@ pub(crate) fn judge(
     ensures refused { IfErr result (Refuses places.Elsewhere (Stops keys.now channel token.now draw.now)) }
 {
     let mut connection = waiting(alloc, channel, draw)?;
-    match judge_at(alloc, keys, &mut connection, token, draw) {
+    match judge_at(alloc, keys, kept, &mut connection, token, draw) {
         Ok((judged, client)) => Ok(Candidate {
             judged,
             connection,

@@ -8,6 +8,7 @@ ghost use Rattle.krb_entrance.specs.Candidates.{Passes, Stops, client_told};
 ghost use Rattle.krb_entrance.specs.Services.{components, token_limit};
 
 use crate::candidate::{self, Candidate};
+use krb_context::KeptKey;
 use krb_server::{Draw, Error, Octets, OutOfMemory, Secret, ServerProperties, TryCopy};
 use std::alloc::{AllocError, Global};
 
@@ -78,7 +79,8 @@ impl Keys {
         ensures client { IfOk result (λ candidate. candidate.client.value ≡ client_told candidate.judged.request) }
         ensures refused { IfErr result (Refuses places.Elsewhere (Stops self.now channel token.now draw.now)) }
     {
-        candidate::judge(alloc, self, channel, token, draw)
+        let mut kept = KeptKey::new();
+        candidate::judge(alloc, self, &mut kept, channel, token, draw)
     }
 }
 

@@ -9,8 +9,9 @@ ghost use Rattle.krb_context.specs.Refusals.{Refuses};
 ghost use Rattle.krb_entrance.specs.Admits.{Admits, Rejects};
 ghost use Rattle.krb_entrance.specs.Connections.{IsKeyless};
 
-use crate::candidate::admit;
+use crate::candidate::{admit, judge};
 use crate::keys::Keys;
+use krb_context::KeptKey;
 use krb_server::{Draw, Error, ReplayBook};
 use krb_sessions::Session;
 use std::alloc::Global;
@@ -19,6 +20,7 @@ use std::alloc::Global;
 pub(crate) fn accept(
     alloc: Global,
     keys: &Keys,
+    kept: &mut KeptKey,
     book: &mut ReplayBook,
     channel: Option<[u8; 16]>,
     token: &[u8],
@@ -29,6 +31,6 @@ pub(crate) fn accept(
     ensures refused { IfErr result (Refuses places.Elsewhere (Rejects keys.now channel token.now draw.now book.old book.new)) }
     ensures memory { IfErr result (λ error. error ≡ error_of causes.Memory → IsUnchanged book.old book.new) }
 {
-    let candidate = keys.judge(alloc, channel, token, draw)?;
+    let candidate = judge(alloc, keys, kept, channel, token, draw)?;
     admit(alloc, candidate, book)
 }

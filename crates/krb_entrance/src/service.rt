@@ -16,6 +16,7 @@ ghost use Rattle.krb_entrance.specs.Services.{components, token_limit};
 use crate::candidate::{self, Candidate};
 use crate::keys::Keys;
 use crate::one_call::accept;
+use krb_context::KeptKey;
 use krb_server::{Draw, Error, Octets, OutOfMemory, ReplayBook};
 use krb_sessions::Session;
 use std::alloc::Global;
@@ -25,6 +26,8 @@ use std::alloc::Global;
 pub struct Service {
     pub keys: Keys,
     pub book: ReplayBook,
+    /// The derived keys that opened the last ticket, for the next one under the same key.
+    pub kept: KeptKey,
 }
 
 impl Service {
@@ -39,7 +42,11 @@ impl Service {
     {
         let keys = Keys::new(alloc, name, key, skew)?;
         let book = ReplayBook::new(alloc, skew)?;
-        Ok(Service { keys, book })
+        Ok(Service {
+            keys,
+            book,
+            kept: KeptKey::new(),
+        })
     }
 
     /// Adds a further name with its key, after the existing ones. Fails with `NotAscii` if the name is not ASCII.
@@ -103,7 +110,15 @@ impl Service {
         ensures memory { IfErr result (λ error. error ≡ error_of causes.Memory → IsUnchanged self.old.book self.new.book) }
         ensures keys { self.new.keys ≡ self.old.keys }
     {
-        accept(alloc, &self.keys, &mut self.book, None, token, draw)
+        accept(
+            alloc,
+            &self.keys,
+            &mut self.kept,
+            &mut self.book,
+            None,
+            token,
+            draw,
+        )
     }
 
     /// Admits as [`accept`](Service::accept) does a client that is bound to its channel, as at [`judge_bound`](Service::judge_bound).
@@ -123,6 +138,7 @@ impl Service {
         accept(
             alloc,
             &self.keys,
+            &mut self.kept,
             &mut self.book,
             Some(channel),
             token,
