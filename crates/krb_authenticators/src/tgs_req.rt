@@ -54,7 +54,7 @@ const TGS_REQ: [u8; 1] = [0x01];
 /// The type of options for a PAC, 167 (MS-KILE, section 2.2.10).
 const PAC_OPTIONS: [u8; 2] = [0x00, 0xa7];
 
-/// The KDC may send the request on to one that has the whole account (MS-KILE, section 2.2.10).
+/// Branch Aware, bit 1 of the flags (MS-KILE, section 2.2.10).
 const BRANCH_AWARE: [u8; 4] = [0x40, 0x00, 0x00, 0x00];
 
 /// Returns the option if the flag is set, otherwise 0.

@@ -3,6 +3,8 @@ pub mod ChainLemmas
 pub mod ClearLemmas
 pub mod CompleteLemmas
 pub mod DrawnLemmas
+pub mod InPlaceLemmas
+pub mod IntoLemmas
 pub mod KdcLemmas
 pub mod MicChecks
 pub mod MicLemmas

@@ -20,10 +20,13 @@ pub mod Queries
 pub mod Refusals
 pub mod Runs
 pub mod ServiceKeys
+pub mod Sources
 pub mod Spelled
 pub mod Spelt
 pub mod States
 pub mod Unwraps
+pub mod Whole
 pub mod Window
 pub mod Wrapped
 pub mod Wraps
+pub mod WrapsInto

@@ -12,14 +12,16 @@ ghost use Rattle.krb_context.specs.Spelled.{spelled};
 ghost use Rattle.krb_context.specs.Spelt.{Spelt, SpeltClear, sealed_turn};
 ghost use Rattle.krb_context.specs.Unwraps.{extra_of, is_long, has_room, SpeltBy, OpensBody};
 
+use crate::buffers::Buffers;
 use crate::header::{ec_of, is_sealed, rrc_of};
 use crate::kept::KeptKey;
 use crate::open::{open_clear, open_sealed};
+use crate::opened::OpenedText;
 use crate::params::EncryptionParams;
 use crate::parties::seal_usage;
-use crate::text::{TokenText, has_part};
+use crate::text::TokenText;
 use krb_der::Octets;
-use sspi_core::{Cause, Message, Part, SecurityBufferRef, hold, take};
+use sspi_core::{Cause, SecurityBufferRef, hold, take};
 use std::alloc::Global;
 
 /// Returns the count of octets of a body in addition to its text.
@@ -55,7 +57,7 @@ pub(crate) struct Headed<'a> {
     pub(crate) key: &'a Octets,
     /// True if the message came from an acceptor.
     pub(crate) peer: bool,
-    pub(crate) message: &'a Message,
+    pub(crate) message: &'a Buffers<'a>,
     pub(crate) text: &'a TokenText<'a>,
     pub(crate) header: &'a [u8; 16],
     ghost of_message: { text.now ≡ spelled message.now },
@@ -82,13 +84,13 @@ impl Headed<'_> {
     {
         let text_len = self.body_len().saturating_sub(extra_of(self.header));
         hold(
-            has_part(self.message, Part::Stream) || text_len <= plain.limit(),
+            self.message.has_stream() || text_len <= plain.limit(),
             Cause::Room,
         )
     }
 
     /// Finds the text of a sealed message.
-    fn find_sealed(&self, kept_to_open: &mut KeptKey, alloc: Global) -> Result<Octets, Cause>
+    fn find_sealed(&self, kept_to_open: &mut KeptKey, alloc: Global) -> Result<OpenedText, Cause>
         requires long { is_long self.now.header.now (length self.now.text.now - 16) ≡ true }
         requires sealed { is_sealed self.now.header.now ≡ true }
         ensures { Answers (Finds causes.Altered (λ p. Spelt (keys_of self.now.params.now self.now.key.now self.now.peer) self.now.peer
@@ -111,7 +113,7 @@ impl Headed<'_> {
     }
 
     /// Finds the text of a message in the clear.
-    fn find_clear(&self, alloc: Global) -> Result<Octets, Cause>
+    fn find_clear(&self, alloc: Global) -> Result<OpenedText, Cause>
         requires long { is_long self.now.header.now (length self.now.text.now - 16) ≡ true }
         requires clear { is_sealed self.now.header.now ≡ false }
         ensures { Answers (Finds causes.Altered (λ p. SpeltClear (kc (suite_of self.now.params.now) self.now.key.now (seal_usage self.now.peer))
@@ -130,7 +132,7 @@ impl Headed<'_> {
     }
 
     /// The text.
-    fn find(&self, kept_to_open: &mut KeptKey, alloc: Global) -> Result<Octets, Cause>
+    fn find(&self, kept_to_open: &mut KeptKey, alloc: Global) -> Result<OpenedText, Cause>
         requires { is_long self.now.header.now (length self.now.text.now - 16) ≡ true }
         ensures { Answers (Finds causes.Altered (λ p. SpeltBy (is_sealed self.now.header.now) (record self.now.params.now { ec = self.now.ec }) self.now.key.now self.now.peer
             self.now.message.now p)) result }
@@ -148,7 +150,7 @@ impl Headed<'_> {
         kept_to_open: &mut KeptKey,
         alloc: Global,
         plain: &SecurityBufferRef,
-    ) -> Result<Octets, Cause>
+    ) -> Result<OpenedText, Cause>
         ensures { Answers (OpensBody (record self.now.params.now { ec = self.now.ec }) self.now.key.now self.now.peer self.now.message.now plain.now self.now.text.now
             self.now.header.now) result }
     {

@@ -1,6 +1,7 @@
 //! Contexts, and the messages that they seal.
 #![tactic(auto)]
 
+mod buffers;
 mod clear;
 mod config;
 mod constants;
@@ -9,10 +10,12 @@ mod drawn;
 mod handles;
 mod headed;
 mod header;
+mod in_place;
 mod kept;
 pub mod laws;
 mod mic;
 mod open;
+mod opened;
 mod options;
 mod params;
 mod parties;
@@ -36,6 +39,8 @@ pub use context::{ContextChange, Kerberos};
 pub use drawn::{drawn_key, drawn_secret};
 pub use kept::KeptKey;
 pub use krb_messages::constants::KERBEROS_VERSION;
+pub use mic::MIC_LEN;
+pub use opened::OpenedText;
 pub use options::{ApOptions, GssFlags, KdcOptions};
 pub use params::EncryptionParams;
 pub use queries::package_info;

@@ -23,7 +23,10 @@ use crate::parties::{check_key_size, sign_usage};
 use krb_crypto::is_equal;
 use krb_der::Octets;
 use sspi_core::{Cause, Error, Place, hold};
-use std::alloc::{AllocError, Global};
+use std::alloc::Global;
+
+/// The length of a MIC token in octets.
+pub const MIC_LEN: usize = 28;
 
 #[tactic(auto, unfolding(crate::specs::Mics::mic_header))]
 fn mic_header(flags: u8, number: u32) -> [u8; 16]
@@ -136,13 +139,13 @@ impl EncryptionParams {
 }
 
 /// A header and a checksum.
-fn joined(alloc: Global, header: &[u8; 16], code: &[u8; 12]) -> Result<Octets, AllocError>
-    ensures { IfOk result (λ token. token ≡ header.now ++ code.now) }
+fn joined(header: &[u8; 16], code: &[u8; 12]) -> [u8; MIC_LEN]
+    ensures { result ≡ header.now ++ code.now }
 {
-    let mut token = Vec::with_capacity(alloc, 28)?;
-    token.extend_from_slice(header)?;
-    token.extend_from_slice(code)?;
-    Ok(Octets::new(token))
+    let mut token = [0; MIC_LEN];
+    token[..16].copy_from_slice(header);
+    token[16..].copy_from_slice(code);
+    token
 }
 
 impl Kerberos {
@@ -156,6 +159,24 @@ impl Kerberos {
         ensures refused { IfErr result (λ error. Refuses places.MakeMic (MakesMic self.old payload.now) error) }
         ensures stays { OnErr result (self.new ≡ self.old) }
     {
+        let number = self.seq_number;
+        let token = self.make_mic(alloc, payload)?;
+        match Octets::from_slice(alloc, &token) {
+            Ok(octets) => Ok(octets),
+            Err(error) => {
+                self.seq_number = number;
+                Err(Error::from(error))
+            }
+        }
+    }
+
+    /// Makes a MIC token as `generate_mic_token` does. It takes no memory once the keys are kept.
+    pub fn make_mic(&mut self, alloc: Global, payload: &[u8]) -> Result<[u8; MIC_LEN], Error>
+        ensures made { IfOk result (λ token. MakesMic self.old payload.now (Ok token)
+            × (self.new ≡ record self.old { seq_number = next_number self.old.seq_number })) }
+        ensures refused { IfErr result (λ error. Refuses places.MakeMic (MakesMic self.old payload.now) error) }
+        ensures stays { OnErr result (self.new ≡ self.old) }
+    {
         keep_codes(
             alloc,
             &self.encryption_params,
@@ -163,7 +184,7 @@ impl Kerberos {
             &mut self.kept_to_seal,
             &mut self.kept_to_open,
         );
-        let token = match self.mic_token(alloc, payload) {
+        let token = match self.mic_token(payload) {
             Ok(token) => token,
             Err(cause) => return Err(Error::at(Place::MakeMic, cause)),
         };
@@ -172,7 +193,7 @@ impl Kerberos {
     }
 
     /// The token that the context is to make.
-    fn mic_token(&self, alloc: Global, payload: &[u8]) -> Result<Octets, Cause>
+    fn mic_token(&self, payload: &[u8]) -> Result<[u8; MIC_LEN], Cause>
         ensures { Answers (MakesMic self.now payload.now) result }
     {
         let params = &self.encryption_params;
@@ -181,7 +202,7 @@ impl Kerberos {
         let acceptor = self.server.is_some();
         let header = mic_header(self.own_sign_flags(), self.seq_number.wrapping_add(1));
         let code = params.mic_code(&self.kept_to_seal, key, acceptor, payload, &header);
-        Ok(joined(alloc, &header, &code)?)
+        Ok(joined(&header, &code))
     }
 
     /// Ok exactly where the token is a MIC token of the peer over this payload. Its number is not looked at.

@@ -9,10 +9,11 @@ ghost use Rattle.krb_context.specs.Spelled.{covered, covered_of};
 ghost use Rattle.krb_context.specs.Decrypted.{IsDecrypted, HasCode};
 ghost use Rattle.krb_context.specs.Spelt.{IsSealedAs, IsClearAs, covered_code};
 
+use crate::buffers::Buffers;
 use crate::header::{ec_of, is_copy_of, without_counts};
+use crate::opened::OpenedText;
 use krb_crypto::{CipherSuite, HmacState, SealingKey, is_equal, start_checksum};
-use krb_der::Octets;
-use sspi_core::{BufferType, Message, Part, SecurityBufferRef};
+use sspi_core::{BufferType, Part, SecurityBufferRef};
 
 /// One buffer's share of what the checksum covers.
 fn covered_of<'a>(buffer: &'a SecurityBufferRef, plain: &'a [u8]) -> &'a [u8]
@@ -28,7 +29,7 @@ fn covered_of<'a>(buffer: &'a SecurityBufferRef, plain: &'a [u8]) -> &'a [u8]
 }
 
 /// All data go into the code, the plain text in the place of the plain data.
-fn update_covered(state: &mut HmacState, buffers: &[SecurityBufferRef], plain: &[u8])
+pub(crate) fn update_covered(state: &mut HmacState, buffers: &[SecurityBufferRef], plain: &[u8])
     ensures { (key message : List ℕ) → IsHmacOf key message state.old → IsHmacOf key (message ++ covered plain.now buffers.now) state.new }
 {
     for buffer in buffers {
@@ -40,7 +41,7 @@ fn update_covered(state: &mut HmacState, buffers: &[SecurityBufferRef], plain: &
 #[tactic(auto, unfolding(crate::specs::Spelt::covered_code))]
 pub(crate) fn covered_code(
     sealing: &SealingKey,
-    message: &Message,
+    message: &Buffers<'_>,
     text: &[u8],
     end: usize,
 ) -> [u8; 12]
@@ -50,22 +51,9 @@ pub(crate) fn covered_code(
 {
     let mut state = sealing.start_code();
     state.update(&text[..16]);
-    update_covered(&mut state, message.buffers(), &text[16..end]);
+    message.update_covered(&mut state, &text[16..end]);
     state.update(&text[end..]);
     state.finalize_short()
-}
-
-/// The octets from 16 to `end`.
-pub(crate) fn plain_part(text: Vec<u8>, end: usize) -> Vec<u8>
-    requires start { 16 ≤ end }
-    requires within { end ≤ vec_len text }
-    ensures items { result.items ≡ take (end - 16) (drop 16 text.items) }
-    ensures size { vec_len result + 16 ≡ end }
-{
-    let mut plain = text;
-    plain.as_mut_slice().copy_within(16..end, 0);
-    plain.truncate(end - 16);
-    plain
 }
 
 /// The last 12 octets.
@@ -79,7 +67,7 @@ fn last_twelve(text: &[u8]) -> [u8; 12]
 }
 
 /// Decrypts all but the last 12 octets, which go, and says whether they are the checksum.
-fn decrypt(sealing: &SealingKey, message: &Message, ec: usize, text: &mut Vec<u8>) -> bool
+fn decrypt(sealing: &SealingKey, message: &Buffers<'_>, ec: usize, text: &mut Vec<u8>) -> bool
     requires { 44 + ec ≤ vec_len text.old }
     ensures decrypted { IsDecrypted sealing.now ec text.old.items text.new.items }
     ensures agrees { IsTrue result ↔ HasCode sealing.now ec message.now text.old.items text.new.items }
@@ -95,11 +83,11 @@ fn decrypt(sealing: &SealingKey, message: &Message, ec: usize, text: &mut Vec<u8
 /// The text whose sealed form this is, if there is one.
 pub(crate) fn open_sealed(
     sealing: &SealingKey,
-    message: &Message,
+    message: &Buffers<'_>,
     header: &[u8; 16],
     ec: usize,
     whole: Vec<u8>,
-) -> Option<Octets>
+) -> Option<OpenedText>
     requires { 44 + ec ≤ vec_len whole }
     ensures { MatchOption result
         ((p : List ℕ) → ¬ (IsSealedAs sealing.now ec header.now message.now whole.items p))
@@ -113,8 +101,7 @@ pub(crate) fn open_sealed(
     if !is_copy_of(header, &text.as_slice()[copy_at..]) {
         return None;
     }
-    let plain = plain_part(text, copy_at - ec);
-    Some(Octets::new(plain))
+    Some(OpenedText::new(text, 16, copy_at - ec))
 }
 
 /// The code of a text in the clear, and of its header.
@@ -141,7 +128,7 @@ pub(crate) fn open_clear(
     usage: u32,
     header: &[u8; 16],
     whole: Vec<u8>,
-) -> Option<Octets>
+) -> Option<OpenedText>
     requires size { length key.now ≡ key_size suite }
     requires long { ec_of header.now ≤ vec_len whole }
     ensures { MatchOption result
@@ -152,11 +139,10 @@ pub(crate) fn open_clear(
         return None;
     }
     let code = last_twelve(whole.as_slice());
-    let mut text = whole;
-    text.truncate(text.len() - 12);
-    let found = clear_code(suite, key, usage, text.as_slice(), header);
+    let end = whole.len() - 12;
+    let found = clear_code(suite, key, usage, &whole.as_slice()[..end], header);
     if is_equal(&found, &code) {
-        Some(Octets::new(text))
+        Some(OpenedText::new(whole, 0, end))
     } else {
         None
     }

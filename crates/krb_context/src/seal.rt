@@ -9,8 +9,10 @@ ghost use Rattle.krb_context.specs.Spelled.{part_octets, has_part};
 ghost use Rattle.krb_context.specs.Spelt.{inner_text, sealed_body};
 ghost use Rattle.krb_context.specs.Wrapped.{wrapped_by, limit_of};
 
+use crate::buffers::Buffers;
 use crate::header::wrap_header;
-use crate::open::{covered_code, plain_part};
+use crate::open::covered_code;
+use crate::opened::middle_of;
 use crate::text::part_octets;
 use krb_crypto::SealingKey;
 use krb_der::Octets;
@@ -60,7 +62,12 @@ fn sealed_body(
 {
     let plain = part_octets(message, Part::Plain);
     let mut text = inner_text(alloc, confounder, plain, ec, copy)?;
-    let code = covered_code(sealing, message, text.as_slice(), 16 + plain.len());
+    let code = covered_code(
+        sealing,
+        &Buffers::of(message),
+        text.as_slice(),
+        16 + plain.len(),
+    );
     encrypt_whole(sealing, &mut text);
     text.extend_from_slice(&code)?;
     Ok(text)
@@ -115,7 +122,7 @@ pub(crate) fn seal_message(
     put_sealed(
         message,
         Octets::new(token),
-        Octets::new(plain_part(whole, end)),
+        Octets::new(middle_of(whole, 16, end)),
     );
     Ok(())
 }

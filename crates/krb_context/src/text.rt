@@ -82,6 +82,16 @@ fn append_range(
 }
 
 impl<'a> TokenText<'a> {
+    /// The octets of a token that came whole.
+    pub(crate) fn whole(token: &'a [u8]) -> TokenText<'a>
+        ensures { result ≡ token.now }
+    {
+        TokenText {
+            token: &[],
+            rest: token,
+        }
+    }
+
     pub(crate) fn len(&self) -> usize
         ensures { result ≡ length self.now }
     {

@@ -1,6 +1,6 @@
 //! Opening a message.
 
-ghost use Rattle.std.specs.Prelude.{◌≡◌, ◌-◌, ◌≤◌, ℕ, List, length, ℤ, IfSome, IfErr, OnErr, OnOk, Ok, false};
+ghost use Rattle.std.specs.Prelude.{◌≡◌, ◌-◌, ◌≤◌, ℕ, List, length, ℤ, IfSome, IfOk, IfErr, OnErr, OnOk, Ok, false};
 ghost use Rattle.std.specs.Result.{result_map_both};
 ghost use Rattle.sspi_core.specs.Checks.{Answers, Holds, Passes, Takes};
 ghost use Rattle.sspi_core.specs.Messages.{find_part};
@@ -12,16 +12,19 @@ ghost use Rattle.krb_context.specs.Places.{verdict_of, opened};
 ghost use Rattle.krb_context.specs.Refusals.{Refuses};
 ghost use Rattle.krb_context.specs.Spelled.{spelled, has_part};
 ghost use Rattle.krb_context.specs.Unwraps.{header_of, count_for, has_count, Heads, aged, ReceivesMessage, Unwraps, message_number, unwrapped};
+ghost use Rattle.krb_context.specs.Whole.{whole_message};
 ghost use Rattle.krb_context.specs.Window.{StandsFor, number_verdict, noted};
 
+use crate::buffers::Buffers;
 use crate::context::Kerberos;
 use crate::headed::Headed;
 use crate::header::{check_direction, ec_of, is_sealed, is_wrap_header, number_of};
 use crate::kept::keep_codes;
+use crate::opened::OpenedText;
 use crate::params::EncryptionParams;
 use crate::parties::{check_key_size, ready_key};
 use crate::rules::Rules;
-use crate::text::{TokenText, has_part, token_text};
+use crate::text::{TokenText, has_part};
 use crate::window::{NumberVerdict, NumberWindow};
 use krb_der::Octets;
 use sspi_core::{Cause, Error, Message, Part, SecurityBufferRef, hold};
@@ -48,10 +51,10 @@ fn check_count(ec: u16, header: &[u8; 16]) -> Result<(), Cause>
     hold(!is_sealed(header) || ec_of(header) == ec, Cause::ExtraCount)
 }
 
-fn plain_data(message: &Message) -> Result<&SecurityBufferRef, Cause>
+fn plain_data<'a>(message: &'a Buffers<'_>) -> Result<&'a SecurityBufferRef, Cause>
     ensures { Takes causes.Buffers (find_part parts.Plain message.now) (result_map_both (λ plain. plain.now) (λ e. e) result) }
 {
-    match message.find(Part::Plain) {
+    match message.plain() {
         Some(plain) => Ok(plain),
         None => Err(Cause::Buffers),
     }
@@ -102,10 +105,10 @@ impl Kerberos {
     fn receive(
         &mut self,
         alloc: Global,
-        message: &Message,
+        message: &Buffers<'_>,
         text: &TokenText<'_>,
         peer: bool,
-    ) -> Result<Octets, Cause>
+    ) -> Result<OpenedText, Cause>
         requires { text.now ≡ spelled message.now }
         ensures stays { self.new ≡ self.old }
         ensures receives { Answers (ReceivesMessage self.old peer message.now text.now) result }
@@ -130,22 +133,22 @@ impl Kerberos {
     }
 
     /// The text of a message.
-    fn open(&mut self, alloc: Global, message: &Message) -> Result<Octets, Cause>
+    fn open(&mut self, alloc: Global, message: &Buffers<'_>) -> Result<OpenedText, Cause>
         ensures stays { self.new ≡ self.old }
         ensures opens { Answers (Unwraps self.old message.now) result }
     {
         let peer = self.is_client();
-        let text = token_text(message);
+        let text = message.text();
         self.receive(alloc, message, &text, peer)
     }
 }
 
 /// The number of a message that was opened.
-fn message_number(message: &Message) -> u32
+fn message_number(message: &Buffers<'_>) -> u32
     requires { 16 ≤ length (spelled message.now) }
     ensures { result ≡ message_number message.now }
 {
-    number_of(&token_text(message).header())
+    number_of(&message.text().header())
 }
 
 /// The buffers once a text was taken out of them.
@@ -162,6 +165,28 @@ fn put_opened(alloc: Global, message: &mut Message, opened: Octets)
 }
 
 impl Kerberos {
+    /// The text of a message, whose number is recorded as opened.
+    fn open_once(&mut self, alloc: Global, message: &Buffers<'_>) -> Result<OpenedText, Cause>
+        ensures opens { Answers (Unwraps self.old message.now) result }
+        ensures long { OnOk result (16 ≤ length (spelled message.now)) }
+        ensures after { OnOk result (self.new ≡ record self.old { window = noted self.old.window (message_number message.now) }) }
+        ensures numbers { OnOk result ((numbers : List ℤ) → StandsFor self.old.window numbers
+            → (verdict_of numbers (message_number message.now) ≡ NumberVerdict.Fresh)
+            × StandsFor self.new.window (opened numbers (message_number message.now))) }
+        ensures stays { OnErr result (self.new ≡ self.old) }
+    {
+        let opened = self.open(alloc, message)?;
+        self.window.note(message_number(message));
+        keep_codes(
+            alloc,
+            &self.encryption_params,
+            self.server.is_some(),
+            &mut self.kept_to_seal,
+            &mut self.kept_to_open,
+        );
+        Ok(opened)
+    }
+
     /// Opens a message: the plain data become its text, and its sequence number is recorded as opened. The octets of the stream
     /// follow the token, or the plain data if there is no stream; with a stream the plain data hold the whole text whatever their
     /// limit was, and the stream is empty afterwards.
@@ -178,16 +203,26 @@ impl Kerberos {
         ensures refused { IfErr result (λ error. Refuses places.Elsewhere (Unwraps self.old message.old) error) }
         ensures stays { OnErr result ((message.new ≡ message.old) × (self.new ≡ self.old)) }
     {
-        let opened = self.open(alloc, message)?;
-        self.window.note(message_number(message));
-        put_opened(alloc, message, opened);
-        keep_codes(
-            alloc,
-            &self.encryption_params,
-            self.server.is_some(),
-            &mut self.kept_to_seal,
-            &mut self.kept_to_open,
-        );
+        let opened = self.open_once(alloc, &Buffers::of(message))?;
+        put_opened(alloc, message, opened.into_octets());
         Ok(())
+    }
+    /// Decrypts a token that came whole, or checks one in the clear, and returns its text. Its sequence number is recorded as opened.
+    ///
+    /// Fails, in this order, with `Sequence` before the exchange is over or if there is no key; `Header`, `Direction`, `ExtraCount`,
+    /// `KeyLength`, `Short`, `Altered`, `Old`, `Repeated`. After an error the context is unchanged.
+    pub fn unwrap_token(&mut self, alloc: Global, token: &[u8]) -> Result<OpenedText, Error>
+        ensures opened { IfOk result (λ text. Unwraps self.old (whole_message token.now) (Ok text)) }
+        ensures long { OnOk result (16 ≤ length token.now) }
+        ensures after { OnOk result (self.new
+            ≡ record self.old { window = noted self.old.window (message_number (whole_message token.now)) }) }
+        ensures numbers { OnOk result ((numbers : List ℤ) → StandsFor self.old.window numbers
+            → (verdict_of numbers (message_number (whole_message token.now)) ≡ NumberVerdict.Fresh)
+            × StandsFor self.new.window (opened numbers (message_number (whole_message token.now)))) }
+        ensures refused { IfErr result (λ error. Refuses places.Elsewhere (Unwraps self.old (whole_message token.now)) error) }
+        ensures stays { OnErr result (self.new ≡ self.old) }
+    {
+        let opened = self.open_once(alloc, &Buffers::whole(alloc, token))?;
+        Ok(opened)
     }
 }

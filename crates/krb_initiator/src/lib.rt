@@ -21,5 +21,5 @@ pub use begin::{Identity, begin_initiation};
 pub use init_run::{GeneratorInitSecurityContext, InitRun, initialize_security_context};
 pub use options::InitOptions;
 pub use seeker::{InitPhase, Initiation, Seeker, TgsLeg};
-pub use tgs_steps::{first_tickets, sent_first_tgs};
+pub use tgs_steps::{first_tickets, question_of};
 pub use tgt::ServiceTgt;

@@ -69,7 +69,7 @@ fn begin_tgs(alloc: Global, seeker: &Seeker, shown: &Grant, draw: &Draw) -> Resu
 }
 
 /// Returns the question of a request that shows the ticket of this reply.
-fn question_of(rep: KdcRep, draw: &Draw) -> TgsQuestion
+pub fn question_of(rep: KdcRep, draw: &Draw) -> TgsQuestion
     ensures { result ≡ question_of rep draw.now }
 {
     TgsQuestion {
@@ -80,7 +80,7 @@ fn question_of(rep: KdcRep, draw: &Draw) -> TgsQuestion
 }
 
 /// Returns the request, and the phase that awaits its reply, of an initiator that shows its first ticket to a ticket-granting service.
-pub fn sent_first_tgs(
+fn sent_first_tgs(
     alloc: Global,
     begun: Begun,
     shown: Grant,

@@ -2,6 +2,7 @@
 use Rattle.std.proofs.Common.{◌≡◌, ℕ, ◌+◌, ◌<◌, ◌^◌, Bool, true, List, ◌++◌, length, sym, ap, ◌∙◌, arith, length-append, Result, Ok, Err}
 use Rattle.std.specs.Prelude.{Option, Some}
 use Rattle.std.proofs.lemmas.Bool.{leb-true, ltb-true}
+use Rattle.std.proofs.lemmas.List.{append-nil, drop_all}
 use Rattle.krb_aes.specs.Octets.{IsOctets}
 use Rattle.sspi_core.specs.declared.cause.Cause.{Cause}
 use Rattle.sspi_core.specs.declared.buffer.Part.TheVariants.{Token, Plain}
@@ -9,7 +10,8 @@ use Rattle.sspi_core.specs.Buffer.{Buffer}
 use Rattle.krb_context.specs.declared.context.Kerberos.{Kerberos}
 use Rattle.krb_context.specs.Spelled.{part_octets}
 use Rattle.krb_context.specs.Wraps.{Wraps}
-use Rattle.sspi_core.proofs.Chain.{passed, took, gave, held}
+use Rattle.krb_context.specs.WrapsInto.{WrapsInto, Writes, IsWrappedIn}
+use Rattle.sspi_core.proofs.Chain.{passed, took, gave, held, follows}
 use Rattle.krb_context.proofs.ClearLemmas.{length-clear}
 use Rattle.krb_context.proofs.ReadyLemmas.{is_wrapped}
 use Rattle.krb_context.proofs.SizeLemmas.{wrapped_sizes}
@@ -25,6 +27,7 @@ use Rattle.krb_sasl.specs.Frames.{unframed}
 use Rattle.krb_sasl.specs.InContext.{InContext, told}
 use Rattle.krb_sasl.specs.Layers.{message_size, takes_message}
 use Rattle.krb_sasl.specs.Streams.{as_data, WrapsSealed}
+use Rattle.krb_sessions.proofs.TokenLemmas.{delivers, is_token, made_once}
 
 -- what the context found
 told_value : {A : Type 0} (checks : Result A Cause → Type 0) (x : A) (outcome : Result A Cause) → checks outcome
@@ -65,6 +68,20 @@ length-sealed context confounder p message small size octets_c octets_p h =
       z.token,
       z.plain,
     )
+
+-- a room of the token's length is filled by the message
+pub fills : (context : Kerberos) (confounder p old new : List ℕ) (room count : ℕ) → IsWrappedIn context confounder p room → length old ≡ room
+    → Writes (WrapsInto context confounder p (length old)) old count new → WrapsSealed context confounder p (Ok new)
+unfolding WrapsSealed
+fills context confounder p old new room count w size h =
+    let d = delivers context confounder p old new (length old) count h in
+    let sent : List Buffer = as_data context.encryption_params.ec p in
+    let joined = λ (made : List Buffer). part_octets Token made ++ part_octets Plain made in
+    let whole = is_token context confounder p w.buffers w.wraps in
+    let same : d.given.made ≡ whole.made = made_once context confounder sent d.given.made whole.made d.given.wraps whole.wraps in
+    let long : length d.octets ≡ room = ap length (d.given.joined ∙ ap joined same ∙ sym whole.joined) ∙ w.sized in
+    let is : new ≡ d.octets = d.put ∙ ap (λ (s : List ℕ). d.octets ++ s) (drop_all (length d.octets) old (omega (arith, long, size))) ∙ append-nil d.octets in
+    follows _ _ d.given.made _ d.given.wraps (record { is = ap Ok (is ∙ d.given.joined) })
 
 -- how long the message of a layer is
 pub length-made : (layer : Layer) (context : Kerberos) (confounder p message : List ℕ) → context.encryption_params.ec < 2 ^ 16 → length confounder ≡ 16

@@ -38,8 +38,8 @@ use Rattle.krb_sasl.specs.Ends.{AreEnds, IsTakenFrame}
 use Rattle.krb_sasl.specs.Frames.{length_in, unframed}
 use Rattle.krb_sasl.specs.Layers.{message_size, takes_message}
 use Rattle.krb_sasl.specs.Streams.{as_data, WrapsSealed}
-use Rattle.krb_sessions.specs.Gives.{whole_message}
-use Rattle.krb_sessions.specs.Orders.{awaits, token_number, UnwrapsInOrder}
+use Rattle.krb_context.specs.Whole.{whole_message}
+use Rattle.krb_sessions.specs.Orders.{awaits, token_number}
 use Rattle.krb_sessions.specs.declared.order.Order.{Order}
 use Rattle.krb_sessions.proofs.OrderLemmas.{unwraps_next}
 use Rattle.krb_sasl.proofs.AgreedLemmas.{spelled-stream}

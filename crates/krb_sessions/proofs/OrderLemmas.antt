@@ -10,20 +10,13 @@ use Rattle.sspi_core.proofs.Chain.{passed, gave, halts, follows, gives, holds_tr
 use Rattle.krb_context.specs.declared.context.Kerberos.{Kerberos}
 use Rattle.krb_context.specs.Mics.{ReadsMic, ChecksMic}
 use Rattle.krb_context.specs.Refusals.{Refuses}
-use Rattle.krb_context.specs.Spelled.{spelled}
 use Rattle.krb_context.specs.Unwraps.{Unwraps}
+use Rattle.krb_context.specs.Whole.{whole_message}
 use Rattle.krb_context.proofs.MicChecks.{mic_headed}
-use Rattle.krb_context.proofs.UnwrapLemmas.{is_opened}
-use Rattle.krb_sessions.specs.Gives.{whole_message}
 use Rattle.krb_sessions.specs.Orders.{awaits, token_number, UnwrapsInOrder, VerifiesInOrder, RefusesMic}
 use Rattle.krb_sessions.specs.declared.order.Order.{Order}
 
--- a message that opens has a header
-pub sealed_long : (context : Kerberos) (sealed text : List ℕ) → Unwraps context (whole_message sealed) (Ok text) → 16 ≤ length sealed
-unfolding spelled
-sealed_long context sealed text h = (is_opened _ _ _ _ _ h).headed.long
-
--- a MIC token that fits has one
+-- a MIC token that fits has a header
 pub mic_long : (context : Kerberos) (mic payload : List ℕ) → ChecksMic context mic payload (Ok tt) → 16 ≤ length mic
 unfolding ReadsMic
 mic_long context mic payload h = let one = passed _ _ _ h in (mic_headed _ _ _ one.first_held).0

@@ -1,5 +1,5 @@
 -- The octets that a session returns, and how they are put into a caller's buffer.
-use Rattle.std.specs.Prelude.{◌≡◌, ℕ, ◌+◌, ◌<◌, List, [], ◌∷◌, ◌++◌, length, drop, Some, None, Result, Ok}
+use Rattle.std.specs.Prelude.{◌≡◌, ℕ, ◌<◌, List, ◌∷◌, ◌++◌, length, drop, Some, None, Result, Ok}
 use Rattle.krb_context.specs.declared.context.Kerberos.{Kerberos}
 use Rattle.krb_context.specs.Contexts.{next_number}
 use Rattle.krb_context.specs.Params.{key_of}
@@ -7,15 +7,15 @@ use Rattle.krb_context.specs.Queries.{name_of}
 use Rattle.krb_context.specs.Refusals.{Refuses}
 use Rattle.krb_context.specs.Spelled.{part_octets}
 use Rattle.krb_context.specs.Unwraps.{message_number}
+use Rattle.krb_context.specs.Whole.{whole_message, text_message}
 use Rattle.krb_context.specs.Window.{noted}
 use Rattle.krb_context.specs.Wraps.{Wraps}
 use Rattle.krb_sessions.specs.declared.fault.Fault.{Fault}
 use Rattle.krb_sessions.specs.declared.fault.Fault.TheVariants.{Refused, Room}
-use Rattle.sspi_core.specs.declared.buffer.BufferType.TheVariants.{Token as TokenType, Data, Stream}
 use Rattle.sspi_core.specs.declared.buffer.Part.TheVariants.{Token, Plain}
 use Rattle.sspi_core.specs.declared.cause.Cause.{Cause}
 use Rattle.sspi_core.specs.declared.error.Place.{Place}
-use Rattle.sspi_core.specs.Buffer.{Buffer, no_flags}
+use Rattle.sspi_core.specs.Buffer.{Buffer}
 use Rattle.sspi_core.specs.Usernames.{UserName, UserPrincipal, DownLevel, backslash, upn_text}
 
 -- octets of this kind are at the front of the buffer, and this is their number
@@ -52,18 +52,6 @@ pub record IsNamed (context : Kerberos) (text : List ℕ) : Type 0 where
 -- the key of the context's messages
 abbrev pub IsKey : Kerberos → List ℕ → Type 0
 IsKey context octets = key_of context.encryption_params ≡ Some octets
-
--- a message that came whole, and an empty buffer for its text
-abbrev pub whole_message : List ℕ → List Buffer
-whole_message sealed =
-    record { kind = Stream; flags = no_flags; octets = sealed; limit = length sealed } ∷
-    record { kind = Data; flags = no_flags; octets = []; limit = 0 } ∷ []
-
--- a buffer for a token, with room for all that is encrypted besides the text, and the text
-abbrev pub text_message : ℕ → List ℕ → List Buffer
-text_message filler text =
-    record { kind = TokenType; flags = no_flags; octets = []; limit = 60 + filler } ∷
-    record { kind = Data; flags = no_flags; octets = text; limit = length text } ∷ []
 
 -- a message that the context encrypts, as it is sent
 pub record IsWrapped (context : Kerberos) (confounder text octets : List ℕ) : Type 0 where

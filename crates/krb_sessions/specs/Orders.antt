@@ -5,10 +5,11 @@ use Rattle.krb_context.specs.Contexts.{next_number}
 use Rattle.krb_context.specs.Header.{number_of}
 use Rattle.krb_context.specs.Mics.{ChecksMic}
 use Rattle.krb_context.specs.Unwraps.{Unwraps}
+use Rattle.krb_context.specs.Whole.{whole_message}
 use Rattle.krb_sessions.specs.declared.order.Order.{Order}
 use Rattle.krb_sessions.specs.declared.order.Order.TheVariants.{Any, FromFirst, Next}
 use Rattle.krb_sessions.specs.declared.session.Session.{Session}
-use Rattle.krb_sessions.specs.Gives.{whole_message, after_opening}
+use Rattle.krb_sessions.specs.Gives.{after_opening}
 use Rattle.sspi_core.specs.declared.cause.Cause.{Cause}
 use Rattle.sspi_core.specs.declared.cause.Cause.TheVariants.{Number}
 use Rattle.sspi_core.specs.declared.error.Error.{Error}

@@ -20,21 +20,3 @@ pub fn put(out: &mut [u8], octets: &[u8]) -> Result<usize, Fault>
     out[..count].copy_from_slice(octets);
     Ok(count)
 }
-
-/// Puts both, one after the other, at the front of the buffer.
-pub(crate) fn put_both(out: &mut [u8], head: &[u8], tail: &[u8]) -> Result<usize, Fault>
-    ensures count { IfOk result (λ count. count ≡ length (head.now ++ tail.now)) }
-    ensures put { OnOk result (out.new ≡ (head.now ++ tail.now) ++ drop (length (head.now ++ tail.now)) out.old) }
-    ensures room { IfErr result (λ fault. fault ≡ faults.Room (length (head.now ++ tail.now))) }
-    ensures short { OnErr result (length out.old < length (head.now ++ tail.now)) }
-    ensures stays { OnErr result (out.new ≡ out.old) }
-{
-    let front = head.len();
-    let count = front + tail.len();
-    if out.len() < count {
-        return Err(Fault::Room(count));
-    }
-    out[..front].copy_from_slice(head);
-    out[front..count].copy_from_slice(tail);
-    Ok(count)
-}

@@ -9,20 +9,21 @@ ghost use Rattle.krb_context.specs.ClearWraps.{WrapsClear};
 ghost use Rattle.krb_context.specs.Mics.{MakesMic};
 ghost use Rattle.krb_context.specs.Params.{key_of, suite_of};
 ghost use Rattle.krb_context.specs.Queries.{name_of};
+ghost use Rattle.krb_context.specs.Whole.{text_message};
 ghost use Rattle.krb_context.specs.Wraps.{Wraps};
-ghost use Rattle.krb_sessions.specs.Gives.{Delivers, Faults, IsKey, IsNamed, IsWrapped, text_message, after_making};
+ghost use Rattle.krb_sessions.specs.Gives.{Delivers, Faults, IsKey, IsNamed, IsWrapped, after_making};
 ghost use Rattle.krb_sessions.specs.Orders.{UnwrapsInOrder, VerifiesInOrder, RefusesMic, order_asked, order_from, taken, verified};
 ghost use Rattle.krb_sessions.specs.declared.order.Order.TheVariants as orders;
 
 use crate::client::Client;
 use crate::fault::Fault;
-use crate::message::{check_mic, opened_in_order, part_octets, sealed_message};
+use crate::message::{check_mic, opened_in_order, wrap_into};
 use crate::name::name_text;
 use crate::order::{Order, token_number};
-use crate::room::{put, put_both};
+use crate::room::put;
 use krb_context::{Kerberos, Rules};
 use krb_der::Octets;
-use sspi_core::{Cause, Error, Part};
+use sspi_core::{Cause, Error};
 use std::alloc::Global;
 
 /// A client's connection, from its first token on.
@@ -115,19 +116,7 @@ impl Session {
         ensures stays { OnErr result (self.new ≡ self.old) }
         ensures room { OnErr result (out.new ≡ out.old) }
     {
-        let number = self.connection.seq_number;
-        let message = sealed_message(alloc, &mut self.connection, text, confounder)?;
-        match put_both(
-            out,
-            part_octets(&message, Part::Token),
-            part_octets(&message, Part::Plain),
-        ) {
-            Ok(count) => Ok(count),
-            Err(fault) => {
-                self.connection.seq_number = number;
-                Err(fault)
-            }
-        }
+        wrap_into(alloc, &mut self.connection, text, &confounder, out)
     }
 
     /// Puts a message for the peer with a text in the clear and its checksum into `out`.
@@ -195,8 +184,8 @@ impl Session {
     {
         let window = self.connection.window;
         let order = self.order;
-        let message = opened_in_order(alloc, &mut self.connection, &mut self.order, sealed)?;
-        match put(out, part_octets(&message, Part::Plain)) {
+        let text = opened_in_order(alloc, &mut self.connection, &mut self.order, sealed)?;
+        match put(out, text.as_slice()) {
             Ok(count) => Ok(count),
             Err(fault) => {
                 self.connection.window = window;
@@ -216,8 +205,8 @@ impl Session {
         ensures room { OnErr result (out.new ≡ out.old) }
     {
         let number = self.connection.seq_number;
-        let token = self.connection.generate_mic_token(alloc, payload)?;
-        match put(out, token.as_slice()) {
+        let token = self.connection.make_mic(alloc, payload)?;
+        match put(out, &token) {
             Ok(count) => Ok(count),
             Err(fault) => {
                 self.connection.seq_number = number;

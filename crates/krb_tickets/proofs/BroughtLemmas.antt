@@ -1,5 +1,5 @@
 -- The ticket that a reply brings is the one that the run goes on with.
-use Rattle.std.proofs.Common.{◌≡◌, ℕ, List, Option, Some, None, Result, Ok, refl, ap, ◌∙◌}
+use Rattle.std.proofs.Common.{◌≡◌, ℕ, List, Option, Some, None, Result, Ok, refl, ap}
 use Rattle.sspi_core.specs.declared.draw.Draw.{Draw}
 use Rattle.sspi_core.proofs.Chain.{passed, gave, follows}
 use Rattle.sspi_generator.specs.declared.network.NetworkRequest.{NetworkRequest}
@@ -11,7 +11,6 @@ use Rattle.krb_as.specs.declared.done.InitDone.{InitDone}
 use Rattle.krb_as.specs.declared.key.Grant.{Grant}
 use Rattle.krb_as.specs.declared.turn.Turn.{Turn}
 use Rattle.krb_as.specs.declared.turn.Turn.TheVariants.{Asks, Ends}
-use Rattle.krb_tgs.specs.Fresh.{referral_of}
 use Rattle.krb_initiator.proofs.Chains.{asked}
 use Rattle.krb_initiator.proofs.FreshLemmas.{same_end}
 use Rattle.krb_initiator.specs.InitSteps.{AsksFirstTgs, Refers, Arrives, GoesTo, TakesNext}
@@ -22,7 +21,7 @@ use Rattle.krb_initiator.specs.declared.seeker.Initiation.TheVariants.{Seeks}
 use Rattle.krb_initiator.specs.declared.seeker.InitPhase.{InitPhase}
 use Rattle.krb_initiator.specs.declared.seeker.InitPhase.TheVariants.{New, InAsExchange, AwaitsTgsRep, Over}
 use Rattle.krb_tickets.proofs.Chains.{showed}
-use Rattle.krb_tickets.specs.Brought.{BringsFirst, BringsNext, BringsTicket, ShowsNext, EndsWith}
+use Rattle.krb_tickets.specs.Brought.{BringsFirst, BringsNext, ShowsNext, EndsWith}
 use Rattle.krb_tickets.specs.Came.{held_key, HasSessionKey}
 
 same_leg : (x y : TgsLeg) → ◌≡◌ {A = InitPhase} (AwaitsTgsRep x) (AwaitsTgsRep y) → x ≡ y

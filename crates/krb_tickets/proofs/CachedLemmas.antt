@@ -1,5 +1,5 @@
 -- A ticket that a KDC granted is held again from its credential.
-use Rattle.std.proofs.Common.{◌≡◌, ℕ, ◌<◌, ◌≤◌, ◌^◌, Bool, true, false, List, length, Option, Some, None, Result, Ok, Err, refl, sym, ap, ◌∙◌, subst, arith}
+use Rattle.std.proofs.Common.{◌≡◌, ℕ, ◌≤◌, Bool, true, false, List, length, Option, Some, None, Result, Ok, Err, refl, sym, ap, ◌∙◌, arith}
 use Rattle.std.specs.Prelude.{nat_le, if◌then◌else◌}
 use Rattle.std.proofs.lemmas.Bool.Decides.{nat_tests}
 use Rattle.krb_crypto.specs.Suite.{suite_number}
@@ -7,7 +7,7 @@ use Rattle.krb_crypto.specs.declared.suite.CipherSuite.{CipherSuite}
 use Rattle.krb_crypto.specs.declared.suite.CipherSuite.TheVariants.{Aes128CtsHmacSha196, Aes256CtsHmacSha196}
 use Rattle.krb_der.proofs.Lengths.{contents_shorter}
 use Rattle.krb_der.specs.Layout.{spelling}
-use Rattle.krb_der.specs.Schema.{Spells, contents, tag_of, is_ascii}
+use Rattle.krb_der.specs.Schema.{contents, tag_of, is_ascii}
 use Rattle.krb_exchange.proofs.Spelled.{same_record}
 use Rattle.krb_messages.specs.Layouts.{ticket_layout}
 use Rattle.krb_messages.specs.declared.principal_name.PrincipalName.{PrincipalName}

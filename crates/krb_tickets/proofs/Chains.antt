@@ -1,7 +1,6 @@
 -- The keys of the replies to a run that began with a ticket are a chain that begins with the ticket's key.
-use Rattle.std.proofs.Common.{◌≡◌, ℕ, ◌+◌, Bool, true, false, List, [], ◌∷◌, ◌++◌, length, Option, Some, None, Result, Ok, refl, sym, ap, ◌∙◌, subst, length-append}
+use Rattle.std.proofs.Common.{◌≡◌, ℕ, ◌+◌, true, List, [], ◌∷◌, ◌++◌, Option, Some, None, Result, Ok, refl, sym, ap, ◌∙◌, subst, length-append}
 use Rattle.std.specs.Prelude.{◌&&◌, is_some}
-use Rattle.std.specs.List.{list_all}
 use Rattle.krb_exchange.specs.declared.kdc_rep.KdcRep.{KdcRep}
 use Rattle.sspi_core.specs.declared.draw.Draw.{Draw}
 use Rattle.sspi_core.proofs.Chain.{passed, gave}
@@ -9,8 +8,6 @@ use Rattle.sspi_generator.specs.declared.network.NetworkRequest.{NetworkRequest}
 use Rattle.sspi_generator.specs.declared.network.NetFault.{NetFault}
 use Rattle.krb_context.specs.Rules.{has_rule, fresh_replies}
 use Rattle.krb_replies.specs.Realms.{referral_realm}
-use Rattle.krb_replies.specs.declared.facts.ReplyFacts.{ReplyFacts}
-use Rattle.krb_as.specs.declared.turn.Turn.{Turn}
 use Rattle.krb_as.specs.declared.turn.Turn.TheVariants.{Asks, Ends}
 use Rattle.krb_as.specs.declared.done.InitDone.{InitDone}
 use Rattle.krb_as.specs.declared.key.Grant.{Grant}

@@ -1,5 +1,5 @@
 -- Each reply of a run that began with a ticket answers the request that the run made.
-use Rattle.std.proofs.Common.{◌≡◌, ℕ, Bool, true, false, List, [], ◌∷◌, ◌++◌, Option, Some, None, Result, Ok, refl, sym, ap, ◌∙◌, subst}
+use Rattle.std.proofs.Common.{◌≡◌, ℕ, true, List, [], ◌∷◌, ◌++◌, Option, Some, None, Ok, refl, sym, ap, ◌∙◌, subst}
 use Rattle.std.specs.Prelude.{◌&&◌, unwrap_or}
 use Rattle.krb_context.specs.Rules.{has_rule, fresh_replies}
 use Rattle.sspi_core.specs.declared.draw.Draw.{Draw}

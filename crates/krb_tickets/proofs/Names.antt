@@ -1,13 +1,12 @@
 -- The names and tickets that are read from few octets can be sent.
-use Rattle.std.proofs.Common.{◌≡◌, ℕ, ◌+◌, ◌*◌, ◌<◌, ◌≤◌, ◌^◌, Bool, true, false, List, [], ◌∷◌, ◌++◌, length, drop, Result, Ok, Err, Option, Some, None, sym, subst, arith, lit≤, lit<, if◌then◌else◌}
-use Rattle.std.specs.Prelude.{◌&&◌, nat_le, IfOk}
+use Rattle.std.proofs.Common.{◌≡◌, ℕ, ◌*◌, ◌<◌, ◌≤◌, ◌^◌, Bool, true, false, List, [], ◌∷◌, length, drop, Result, Ok, Err, Some, None, sym, subst, arith, lit≤, lit<, if◌then◌else◌}
+use Rattle.std.specs.Prelude.{nat_le, IfOk}
 use Rattle.std.specs.Int.{w32, to_be_bytes}
 use Rattle.std.specs.List.{list_all, AllByRecursion}
 use Rattle.std.proofs.lemmas.Bool.{and_parts}
 use Rattle.std.proofs.lemmas.Bool.Decides.{nat_tests}
 use Rattle.krb_der.specs.Der.{tlv}
-use Rattle.krb_der.specs.Layout.{Layout, spelling}
-use Rattle.krb_der.specs.Schema.{IsComplete}
+use Rattle.krb_der.specs.Layout.{Layout}
 use Rattle.krb_der.proofs.Lengths.{tlv_le, field_le, append_le}
 use Rattle.krb_messages.specs.Table.{principal_name}
 use Rattle.krb_messages.specs.Layouts.{principal_name_row, principal_name_layout}
@@ -17,11 +16,11 @@ use Rattle.krb_replies.specs.Unseals.{IsRead}
 use Rattle.krb_requests.specs.Bodies.{component_octets}
 use Rattle.krb_requests.specs.Pieces.{Fits, name_of}
 use Rattle.krb_requests.proofs.Lengths.{name_is}
-use Rattle.krb_tickets.specs.Principals.{unused_octets, type_octets, are_short, names_of, named}
+use Rattle.krb_tickets.specs.Principals.{are_short, names_of, named}
 use Rattle.sspi_core.proofs.Chain.{gave}
 use Rattle.sspi_core.specs.Checks.{Answers, Finds, Takes, Gives}
 use Rattle.sspi_core.specs.declared.cause.Cause.{Cause}
-use Rattle.sspi_core.specs.declared.cause.Cause.TheVariants.{Shape, Memory, NotAscii}
+use Rattle.sspi_core.specs.declared.cause.Cause.TheVariants.{Shape, NotAscii}
 
 le_trans : (a b c : ℕ) → a ≤ b → b ≤ c → a ≤ c
 le_trans a b c h k = omega arith

@@ -11,7 +11,6 @@ use Rattle.krb_as.specs.declared.key.Grant.{Grant}
 use Rattle.krb_as.specs.declared.turn.Turn.{Turn}
 use Rattle.krb_as.specs.declared.turn.Turn.TheVariants.{Asks, Ends}
 use Rattle.krb_tgs.specs.Taken.{TakesTgsRep}
-use Rattle.krb_initiator.specs.declared.init_run.InitRun.{InitRun}
 use Rattle.krb_initiator.specs.declared.seeker.Seeker.{Seeker}
 use Rattle.krb_initiator.specs.declared.seeker.TgsLeg.{TgsLeg}
 use Rattle.krb_initiator.specs.declared.seeker.Initiation.{Initiation}

@@ -1,5 +1,5 @@
 -- That each reply to an initiator that began with a ticket answers the request that this very run made (RFC 4120, section 3.3.4).
-use Rattle.std.specs.Prelude.{◌≡◌, ℕ, true, List, [], Some, None}
+use Rattle.std.specs.Prelude.{◌≡◌, ℕ, true, List, Some, None}
 use Rattle.sspi_core.specs.declared.draw.Draw.{Draw}
 use Rattle.krb_replies.specs.Fresh.{same_components}
 use Rattle.krb_as.specs.declared.done.InitDone.{InitDone}

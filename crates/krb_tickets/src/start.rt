@@ -5,7 +5,7 @@ ghost use Rattle.sspi_core.specs.Moments.{last_moment};
 ghost use Rattle.sspi_core.specs.Checks.{Answers, Gives};
 ghost use Rattle.krb_as.specs.Granted.{IsSendable};
 ghost use Rattle.krb_ap.specs.Shown.{ShowsTicket};
-ghost use Rattle.krb_tgs.specs.Fresh.{question_of, referral_of};
+ghost use Rattle.krb_tgs.specs.Fresh.{referral_of};
 ghost use Rattle.krb_tgs.specs.TgsAsked.{AsksTgs};
 ghost use Rattle.krb_initiator.specs.declared.seeker.Initiation.TheVariants as initiations;
 ghost use Rattle.krb_initiator.specs.Tgts.{first_tickets};
@@ -18,9 +18,8 @@ use crate::held::{HeldTicket, copied};
 use krb_ap::show_ticket;
 use krb_as::{Grant, InitDone, Turn, short_name};
 use krb_der::{Name, OutOfMemory, TryCopy};
-use krb_exchange::KdcRep;
-use krb_initiator::{InitRun, Seeker, TgsLeg, first_tickets};
-use krb_tgs::{Begun, TgsQuestion, ask_tgs, referral_of};
+use krb_initiator::{InitRun, Seeker, TgsLeg, first_tickets, question_of};
+use krb_tgs::{Begun, ask_tgs, referral_of};
 use sspi_core::{Cause, Draw};
 use sspi_generator::NetworkRequest;
 use std::alloc::Global;
@@ -64,17 +63,6 @@ fn begin_with(
         tickets,
         draw,
     )
-}
-
-/// Returns what a request asked that shows the ticket of this reply.
-fn question_of(rep: KdcRep, draw: &Draw) -> TgsQuestion
-    ensures { result ≡ question_of rep draw.now }
-{
-    TgsQuestion {
-        nonce: u32::from_be_bytes(draw.octets::<4>(4)),
-        crealm: rep.crealm,
-        cname: rep.cname,
-    }
 }
 
 /// Returns the request, and what awaits its reply.

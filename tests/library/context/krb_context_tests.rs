@@ -8,6 +8,7 @@ mod queries;
 mod rows;
 mod services;
 mod unwraps;
+mod whole;
 mod windows;
 mod wraps;
 

@@ -13,7 +13,7 @@ returns-else-is_equal c = λ p s.
     let count : ec_of c.args.header.now ≡ 12 = search rules in
     let long : 12 ≤ length whole = omega (arith, c.requires.long, size, count) in
     let agree = clear_agrees (kc c.args.suite c.args.key.now c.args.usage) c.args.header.now whole p long s in
-    let text : c.as_slice-2.result.now ≡ take (length whole - 12) whole = search rules in
+    let text : take (c.len-end.result - 12) c.as_slice-2.result.now ≡ take (length whole - 12) whole = search rules in
     let code : c.last_twelve-code.result ≡ drop (length whole - 12) whole = search rules in
     both_ways c.is_equal.result c.if-is_equal.false
     (c.is_equal.ensures.1

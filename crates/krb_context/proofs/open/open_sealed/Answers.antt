@@ -25,7 +25,7 @@ returns c =
     let n_is : c.len-copy_at.result ≡ length o = search rules in
     let copy = copy_is o c.as_slice.result.now c.len-copy_at.result c.as_slice.ensures.value n_is in
     let p_is : c.new.result ≡ take (length o - 16 - c.args.ec - 16) (drop 16 o) =
-    c.new.ensures ∙ c.plain_part-plain.ensures.items ∙ ap (λ (k : ℕ). take (k - 16 - c.args.ec - 16) (drop 16 o)) n_is in
+    c.new.ensures ∙ ap (λ (k : ℕ). take (k - 16 - c.args.ec - 16) (drop 16 o)) n_is in
     subst (IsSealedAs c.args.sealing.now c.args.ec c.args.header.now c.args.message.now c.args.whole.items) (sym p_is)
     (agrees_sealed c.args.sealing.now c.args.ec c.args.header.now c.args.message.now c.args.whole.items o c.decrypt.ensures.decrypted (c.if-not-decrypt.ensures.agrees.0 refl)
     (subst (IsCopyOf c.args.header.now) copy (c.if-not-is_copy_of.ensures.0 refl)))

@@ -14,4 +14,4 @@ returns c =
     c.wrap_header-header.ensures c.wrap_header.ensures
     c.in_ok-whole.ensures.whole
     (c.new.ensures ∙ c.in_ok-token.ensures.token ∙ ap (λ (s : List ℕ). c.wrap_header-header.result ++ (drop end s ++ take 16 s)) c.as_slice.ensures.value)
-    (c.new-2.ensures ∙ c.plain_part.ensures.items) c.put_sealed.ensures
+    (c.new-2.ensures ∙ c.middle_of.ensures.items) c.put_sealed.ensures

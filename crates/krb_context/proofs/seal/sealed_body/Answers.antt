@@ -1,6 +1,7 @@
-use Rattle.std.proofs.Common.{◌≡◌, ◌+◌, ℕ, List, length, replicate, ap, ◌∙◌}
+use Rattle.std.proofs.Common.{◌≡◌, ◌+◌, ℕ, List, length, replicate, ap, ap₂, ◌∙◌}
 use Rattle.std.proofs.lemmas.List.{length-replicate}
 use Rattle.sspi_core.specs.declared.buffer.Part.TheVariants.{Plain}
+use Rattle.sspi_core.specs.Buffer.{Buffer}
 use Rattle.krb_context.specs.Spelled.{part_octets}
 use Rattle.krb_context.specs.Spelt.{inner_text, covered_code}
 use Rattle.krb_context.proofs.WrapLemmas.{sealed_from}
@@ -15,5 +16,6 @@ returns-clause-whole c =
     c.told-confounder (length-replicate c.args.ec 0) c.told-copy
     (c.in_ok-text.ensures ∙ ap (λ (s : List ℕ). inner_text c.args.confounder.now s (replicate c.args.ec 0) c.args.copy.now) ep)
     c.as_slice.ensures.value
-    (c.covered_code-code.ensures ∙ ap (λ (s : List ℕ). covered_code c.args.sealing.now.integrity c.args.message.now c.as_slice.result.now (16 + length s)) ep)
+    (c.covered_code-code.ensures
+    ∙ ap₂ (λ (buffers : List Buffer) (s : List ℕ). covered_code c.args.sealing.now.integrity buffers c.as_slice.result.now (16 + length s)) c.of.ensures ep)
     c.encrypt_whole.ensures.encrypted c.in_ok-extend_from_slice.ensures.items

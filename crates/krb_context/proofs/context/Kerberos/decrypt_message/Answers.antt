@@ -1,36 +1,22 @@
-use Rattle.std.proofs.Common.{◌≡◌, ◌<◌, ◌^◌, ℕ, sym, ap, ◌∙◌, arith}
-use Rattle.krb_context.specs.Unwraps.{message_number}
-use Rattle.krb_context.specs.Window.{Window, number_verdict, noted}
-use Rattle.krb_context.specs.declared.window.NumberVerdict.TheVariants.{Fresh}
-use Rattle.krb_context.proofs.UnwrapLemmas.{is_opened, fits, number_fresh}
-use Rattle.krb_context.proofs.WindowLemmas.{judged_is, notes_from}
+use Rattle.std.proofs.Common.{◌≡◌, ◌≤◌, List, ℕ, length, false, sym, subst}
+use Rattle.std.specs.Prelude.{IfSome}
+use Rattle.sspi_core.specs.declared.buffer.Part.TheVariants.{Stream, Plain}
+use Rattle.sspi_core.specs.Buffer.{Buffer}
+use Rattle.sspi_core.specs.Messages.{find_part}
+use Rattle.sspi_core.specs.declared.error.Place.TheVariants.{Elsewhere}
+use Rattle.krb_context.specs.Spelled.{has_part}
+use Rattle.krb_context.specs.Unwraps.{Unwraps}
+use Rattle.krb_context.proofs.ChainLemmas.{handed_on}
+use Rattle.krb_context.proofs.UnwrapLemmas.{is_opened, fits}
 use Rattle.krb_context.proofs.context.Kerberos.decrypt_message.Goals as goal
 
-pub message_number-requires : goal.message_number-requires
-message_number-requires c =
-    let o = is_opened _ _ _ _ _ (c.in_ok-opened.ensures.opens.so (λ z. absurd cc)) in
-    o.headed.long
-
-pub note-requires : goal.note-requires
-note-requires c =
-    let o = is_opened _ _ _ _ _ (c.in_ok-opened.ensures.opens.so (λ z. absurd cc)) in
-    let fresh : number_verdict c.args.self.now.window (message_number c.args.message.now) ≡ Fresh = number_fresh _ _ _ _ o in
-    ap (λ (w : Window). number_verdict w c.message_number.result) (ap (λ k. k.window) c.open.ensures.stays) ∙ ap (number_verdict c.args.self.now.window) c.message_number.ensures ∙ fresh
+pub returns-in_err-opened-clause-refused : goal.returns-in_err-opened-clause-refused
+returns-in_err-opened-clause-refused c =
+    handed_on Elsewhere (Unwraps c.args.self.now c.args.message.now) _ c.from_residual.result (rw c.of.ensures at c.in_err-opened.ensures.opens) c.from_residual.ensures.1
 
 pub put_opened-requires : goal.put_opened-requires
 put_opened-requires c =
     let o = is_opened _ _ _ _ _ (c.in_ok-opened.ensures.opens.so (λ z. absurd cc)) in
-    fits _ _ _ _ o
-
-pub returns-clause-numbers : goal.returns-clause-numbers
-returns-clause-numbers c = λ numbers stands.
-    let o = is_opened _ _ _ _ _ (c.in_ok-opened.ensures.opens.so (λ z. absurd cc)) in
-    let number : ℕ = message_number c.args.message.now in
-    let fresh : number_verdict c.args.self.now.window number ≡ Fresh = number_fresh _ _ _ _ o in
-    let small : number < 2 ^ 32 = omega (arith, c.message_number.ensures) in
-    let same : c.note.new.self ≡ noted c.args.self.now.window number =
-    c.note.ensures.exact ∙ ap (λ (w : Window). noted w c.message_number.result) (ap (λ k. k.window) c.open.ensures.stays)
-    ∙ ap (noted c.args.self.now.window) c.message_number.ensures in (
-      sym (judged_is c.args.self.now.window numbers number stands) ∙ fresh,
-      notes_from c.args.self.now.window c.note.new.self numbers number same small fresh stands,
-    )
+    let P : List Buffer → List ℕ → Type 0 = λ buffers text. has_part Stream buffers ≡ false → IfSome (find_part Plain buffers) (λ b. length text ≤ b.limit) in
+    subst (λ (s : List ℕ). P c.args.message.now s) (sym c.into_octets.ensures)
+    (subst (λ (b : List Buffer). P b c.in_ok-opened.opened) c.of.ensures (fits _ _ _ _ o))

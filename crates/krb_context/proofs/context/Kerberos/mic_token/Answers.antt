@@ -18,5 +18,5 @@ pub returns : goal.returns
 unfolding MakesMic
 returns c =
     let token = made_as c.args.self.now.encryption_params c.in_ok-key.key.now c.is_some-acceptor.result _ _ c.own_sign_flags.result _ c.args.payload.now c.mic_header-header.result
-    c.mic_code-code.result c.in_ok-joined.field-0 c.is_some-acceptor.ensures c.own_sign_flags.ensures c.mic_header-header.ensures c.mic_code-code.ensures c.in_ok-joined.ensures in
+    c.mic_code-code.result c.joined.result c.is_some-acceptor.ensures c.own_sign_flags.ensures c.mic_header-header.ensures c.mic_code-code.ensures c.joined.ensures in
     goes _ _ _ _ (answers _ _ c.in_ok-key.ensures) (goes _ _ _ _ (answers _ _ c.in_ok-check_key_size.ensures) (answers _ _ (record { is = ap Ok token })))
