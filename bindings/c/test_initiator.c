@@ -201,10 +201,13 @@ static int is_late(mk_reply reply) { return is_refused(reply, MK_CAUSE_MOMENT); 
 
 /* A step that fails changes nothing, and a fault or a refused answer ends the exchange: it can begin again. */
 static void refuse_steps(const login *l, mk_initiator *initiator) {
-    mk_moment late = l->steps[0];
+    mk_moment late = l->steps[0], unfilled = l->steps[0];
     uint8_t out[4096] = {0};
     const octets *ask = &l->asks[0], *needs = &l->replies[0];
     late.moment = UINT64_MAX;
+    memset(unfilled.random, 0, sizeof unfilled.random);
+    CHECK(mk_initiator_start(initiator, &unfilled).status == MK_ARGUMENT);
+    CHECK(mk_initiator_hear(initiator, out, 0, &unfilled).status == MK_ARGUMENT);
     CHECK(is_late(mk_initiator_start(initiator, &late)) && is_late(mk_initiator_hear(initiator, out, 0, &late)));
     CHECK(is_late(mk_initiator_answer(initiator, out, 0, &late)) && is_late(mk_initiator_fault(initiator, 1, &late)));
     CHECK(is_refused(mk_initiator_answer(initiator, needs->at, needs->length, &l->steps[0]), MK_CAUSE_SEQUENCE));
@@ -218,6 +221,8 @@ static void refuse_steps(const login *l, mk_initiator *initiator) {
     mk_reply reply = mk_initiator_get_request(initiator, out, ask->length - 1);
     CHECK(reply.status == MK_ROOM && reply.length == ask->length);
     CHECK(is_late(mk_initiator_answer(initiator, needs->at, needs->length, &late)) && asks(l, initiator, ask));
+    CHECK(mk_initiator_answer(initiator, needs->at, needs->length, &unfilled).status == MK_ARGUMENT && asks(l, initiator, ask));
+    CHECK(mk_initiator_fault(initiator, 77, &unfilled).status == MK_ARGUMENT && asks(l, initiator, ask));
     reply = mk_initiator_fault(initiator, 77, &l->steps[0]);
     CHECK(is_refused(reply, MK_CAUSE_NETWORK) && reply.number == 77);
     CHECK(is_refused(mk_initiator_fault(initiator, 77, &l->steps[0]), MK_CAUSE_SEQUENCE));

@@ -102,6 +102,10 @@ static void keep_tickets(const login *l) {
         if (i > 0) {
             mk_reply bad = mk_initiator_get_ccache(&initiator, file, length - 1, answer->at, answer->length, &l->steps[i + 1], out, sizeof out);
             CHECK(is_refused(bad, MK_CAUSE_SHAPE));
+            mk_moment unfilled = l->steps[i + 1];
+            memset(unfilled.random, 0, sizeof unfilled.random);
+            bad = mk_initiator_get_ccache(&initiator, file, length, answer->at, answer->length, &unfilled, out, sizeof out);
+            CHECK(bad.status == MK_ARGUMENT);
             memcpy(file, out, length = reply.length);
             CHECK(is_found(mk_initiator_set_ccache(&other, file, length, l->steps[i + 1].moment), i == 1 ? 2 : 1));
             CHECK(mk_initiator_set_kdc(&other, text(l->url), strlen(l->url)).status == MK_OK);
