@@ -3,7 +3,7 @@
 use crate::error::{Error, done};
 use crate::options::{Flags, Rules};
 use crate::session::Session;
-use crate::sys::{self, Handle, Reply};
+use crate::sys::{self, Handle};
 use crate::{filled, microseconds, moment_of, random};
 use std::time::SystemTime;
 
@@ -90,9 +90,9 @@ pub enum Step<'a> {
 }
 
 /// Returns the next step, if this one was done.
-fn next(reply: Reply) -> Result<Next, Error> {
-    done(reply)?;
-    match reply.number {
+fn next(step: sys::Step) -> Result<Next, Error> {
+    done(step.reply)?;
+    match step.next {
         sys::ASK_KDC => Ok(Next::AskKdc),
         sys::SEND_TOKEN => Ok(Next::SendToken),
         sys::ESTABLISHED => Ok(Next::Established),

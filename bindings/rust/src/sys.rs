@@ -42,6 +42,13 @@ pub struct Reply {
 }
 
 #[repr(C)]
+#[derive(Clone, Copy, Debug)]
+pub struct Step {
+    pub reply: Reply,
+    pub next: u32,
+}
+
+#[repr(C)]
 pub struct Moment {
     pub moment: u64,
     pub random: [u8; 64],
@@ -275,19 +282,19 @@ unsafe extern "C" {
         text_length: usize,
     ) -> Reply;
     pub fn mk_initiator_set_bindings(initiator: *mut Handle, data: *const u8, data_length: usize) -> Reply;
-    pub fn mk_initiator_start(initiator: *mut Handle, moment: *const Moment) -> Reply;
+    pub fn mk_initiator_start(initiator: *mut Handle, moment: *const Moment) -> Step;
     pub fn mk_initiator_hear(
         initiator: *mut Handle,
         token: *const u8,
         token_length: usize,
         moment: *const Moment,
-    ) -> Reply;
+    ) -> Step;
     pub fn mk_initiator_answer(
         initiator: *mut Handle,
         octets: *const u8,
         octets_length: usize,
         moment: *const Moment,
-    ) -> Reply;
+    ) -> Step;
     pub fn mk_initiator_get_ccache(
         initiator: *mut Handle,
         file: *const u8,
@@ -298,7 +305,7 @@ unsafe extern "C" {
         out: *mut u8,
         room: usize,
     ) -> Reply;
-    pub fn mk_initiator_fault(initiator: *mut Handle, code: u32, moment: *const Moment) -> Reply;
+    pub fn mk_initiator_fault(initiator: *mut Handle, code: u32, moment: *const Moment) -> Step;
     pub fn mk_initiator_get_url(initiator: *mut Handle, out: *mut u8, room: usize) -> Reply;
     pub fn mk_initiator_get_request(initiator: *mut Handle, out: *mut u8, room: usize) -> Reply;
     pub fn mk_initiator_get_token(initiator: *mut Handle, out: *mut u8, room: usize) -> Reply;

@@ -12,7 +12,7 @@ ghost use Rattle.krb_c.specs.Steps.{IsNoNetwork, StepsTo, StepsNot, twelve, thos
 
 use crate::accept::Moment;
 use crate::handles::Initiator;
-use crate::reply::{Failure, Reply, step_reply};
+use crate::reply::{Failure, Step, step_reply};
 use crate::texts::filled_draw;
 use krb_dialogue::Next;
 use std::alloc::Global;
@@ -37,8 +37,8 @@ fn start(alloc: Global, initiator: &mut Initiator, moment: &Moment) -> Result<Ne
     }
 }
 
-/// Begins: a KDC is asked for the service's ticket, or with `USE_SESSION_KEY` the service is asked for its own. The number of a reply
-/// that is OK is the next turn: 0, a KDC is to be asked; 1, a token is to be sent to the service; 2, the context is established.
+/// Begins: a KDC is asked for the service's ticket, or with `USE_SESSION_KEY` the service is asked for its own. Next comes 0, a
+/// KDC is to be asked; 1, a token is to be sent to the service; 2, the context is established; 3, nothing, since the step failed.
 ///
 /// A step out of its turn fails with OutOfSequence `Sequence`, one past the end of 9999-12-28 with InvalidParameter `Moment`, and one
 /// whose random bytes are all 0 with ARGUMENT. A start that fails changes nothing. If memory runs out the same step may be repeated.
@@ -47,7 +47,7 @@ pub extern "C" fn mk_initiator_start(
     alloc: Global,
     initiator: &mut Initiator,
     moment: &Moment,
-) -> Reply
+) -> Step
     ensures { (answer : Result Next Failure) × (result ≡ step_reply answer)
         × IfOk answer (StepsTo (λ dialogue. Starts dialogue (draw_of moment.now)) twelve
         initiator.old.place.value initiator.new.place.value)
@@ -91,7 +91,7 @@ pub extern "C" fn mk_initiator_hear(
     initiator: &mut Initiator,
     token: &[u8],
     moment: &Moment,
-) -> Reply
+) -> Step
     ensures { (answer : Result Next Failure) × (result ≡ step_reply answer)
         × IfOk answer (StepsTo (λ dialogue. Hears dialogue token.now (draw_of moment.now)) twelve
         initiator.old.place.value initiator.new.place.value)
@@ -136,7 +136,7 @@ pub extern "C" fn mk_initiator_answer(
     initiator: &mut Initiator,
     octets: &[u8],
     moment: &Moment,
-) -> Reply
+) -> Step
     ensures { (answer : Result Next Failure) × (result ≡ step_reply answer)
         × IfOk answer (StepsTo (λ dialogue. Takes dialogue (Ok octets.now) (draw_of moment.now)) those_left
         initiator.old.place.value initiator.new.place.value)
@@ -179,7 +179,7 @@ pub extern "C" fn mk_initiator_fault(
     initiator: &mut Initiator,
     code: u32,
     moment: &Moment,
-) -> Reply
+) -> Step
     ensures { (answer : Result Next Failure) × (result ≡ step_reply answer)
         × IfOk answer (StepsTo (λ dialogue. Takes dialogue (Err (net_faults.Failed code)) (draw_of moment.now)) those_left
         initiator.old.place.value initiator.new.place.value)
