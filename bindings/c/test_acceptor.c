@@ -1,10 +1,13 @@
 /* test_acceptor EXCHANGE [ROUNDS]: what an acceptor of the library holds its clients to, and what it learns of them: channel bindings, names,
  * flags, the length of tokens, and a new book. Its clients are initiators of the library. Prints 'N passed, M failed'. */
+#define _POSIX_C_SOURCE 200809L
 #include "meeting.h"
 
 #include <stdio.h>
 #include <stdlib.h>
 #include <string.h>
+#include <sys/wait.h>
+#include <unistd.h>
 
 static const char CHANNEL[] = "tls-server-end-point:0123456789abcdef0123456789abcdef";
 
@@ -133,6 +136,26 @@ static void begin_again(const exchange *x, const octets *token, const octets *ot
     mk_acceptor_free(&acceptor);
 }
 
+/* After a fork each process has its own replay book: both admit a token that was not admitted before, and neither admits one that was. */
+static void fork_books(const exchange *x, const octets *before, const octets *after) {
+    mk_acceptor acceptor = MK_EMPTY;
+    mk_session session = MK_EMPTY;
+    int status = -1;
+    make(x, &acceptor);
+    CHECK(mk_accept(&acceptor, &session, before->at, before->length, &x->moment).status == MK_OK);
+    mk_session_free(&session);
+    fflush(NULL);
+    pid_t child = fork();
+    CHECK(child >= 0);
+    const int refused = is_refused(mk_accept(&acceptor, &session, before->at, before->length, &x->moment), MK_CAUSE_REPLAYED);
+    const int admitted = mk_accept(&acceptor, &session, after->at, after->length, &x->moment).status == MK_OK;
+    mk_session_free(&session);
+    mk_acceptor_free(&acceptor);
+    if (child == 0) _exit(refused && admitted ? 0 : 1);
+    CHECK(refused && admitted);
+    CHECK(waitpid(child, &status, 0) == child && WIFEXITED(status) && WEXITSTATUS(status) == 0);
+}
+
 /* Data of a channel that are too long: more than 16 MiB. */
 static void bind_too_much(const exchange *x, const octets *token) {
     mk_acceptor acceptor = MK_EMPTY;
@@ -186,6 +209,7 @@ int main(int count, char **words) {
         octets bound = token_for(&x, CHANNEL), unbound = token_for(&x, NULL);
         if (i == 0) {
             bind_too_much(&x, &unbound);
+            fork_books(&x, &bound, &unbound);
         }
         bind_clients(&x, &bound, &unbound);
         know_clients(&x);

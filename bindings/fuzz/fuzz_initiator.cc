@@ -137,6 +137,7 @@ static void finish(Run &run, bool has_heard) {
     Got key = get("mk_session_get_key", [&](uint8_t *out, size_t room) { return mk_session_get_key(&session, out, room); });
     PROMISE(key.octets.size() == 16 || key.octets.size() == 32, "a key of %zu", key.octets.size());
     Got sealed = get("mk_wrap", [&](uint8_t *out, size_t room) { return mk_wrap(&session, text, 1, confounder, 16, out, room); });
+    PROMISE(sealed.reply.status == MK_OK, "an established session does not encrypt: cause %u", sealed.reply.cause);
     bool has_filler = (run.flags & MK_USE_DCE_STYLE) && has_heard; /* established at once there is none */
     PROMISE(sealed.octets.size() == (has_filler ? 77 : 61), "a message of %zu, flags %x", sealed.octets.size(), run.flags);
     mk_session_free(&session);

@@ -138,6 +138,8 @@ def initiator():
             yield f"honest-{flags:x}-{rules:x}", told + record(2, granting) + record(3, service) + record(5, answer)
         yield f"asked-{flags:x}", told + ask + record(2, granting) + record(3, service) + record(5, answer)
     yield "referral", record(2, granting) + record(8, names(2, "krbtgt", "B.COM")) + record(3, referral) + record(3, service) + record(5, answer)
+    short = tlv(0x7B, fields((0, time(NOW)), (1, integer(0)), (2, fields((0, integer(18)), (1, tlv(4, b"\x33" * 16)))), (3, integer(77))))
+    yield "short-subkey", record(2, granting) + record(3, service) + record(5, short) + record(5, answer)
     yield "password", record(12, b"") + ask + record(2, granting) + record(10, b"")
     yield "refused", record(9, krb_error(6)) + record(11, bytes.fromhex("65540000")) + record(2, granting)
     yield "refused-by-service", record(2, granting) + record(3, service) + record(4, tlv(0x60, bytes.fromhex("06092a864886f7120102020300") + krb_error(37)))

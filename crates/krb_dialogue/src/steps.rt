@@ -1,14 +1,16 @@
 //! The steps of a dialogue.
 
 ghost use Rattle.std.specs.Prelude.{◌≡◌, ◌≤◌, IfOk, OnOk};
+ghost use Rattle.krb_context.specs.Params.{key_of};
 ghost use Rattle.sspi_core.specs.Moments.{last_moment};
 ghost use Rattle.krb_dialogue.specs.Dialogues.{options_with};
-ghost use Rattle.krb_dialogue.specs.Steps.{in_time, in_turn, next_of};
+ghost use Rattle.krb_dialogue.specs.Steps.{in_time, in_turn, next_of, is_sized, can_end};
 
 use crate::dialogue::{Dialogue, Next, Turn};
 use crate::exchange::{Exchange, Outcome, begin, continue_exchange};
 use krb_as::InitDone;
 use krb_conf::Env;
+use krb_context::{ContextChange, EncryptionParams};
 use krb_der::{Copier, Octets, OutOfMemory};
 use krb_initiator::{InitOptions, Initiation, begin_initiation};
 use sspi_core::{Cause, Draw, Error, MAX_MOMENT, SecurityStatus};
@@ -49,6 +51,23 @@ fn next_of(status: SecurityStatus) -> Next
     }
 }
 
+/// Returns whether the key is there, and as long as the keys of the suite.
+fn is_sized(params: &EncryptionParams) -> bool
+    ensures { result ≡ is_sized params.now (key_of params.now) }
+{
+    match params.key() {
+        Some(key) => key.as_slice().len() == params.suite().key_size(),
+        None => false,
+    }
+}
+
+/// Returns whether a context that is established by this change has a key of its suite's length.
+fn can_end(change: &ContextChange) -> bool
+    ensures { result ≡ can_end change.now }
+{
+    !change.state.is_final() || is_sized(&change.encryption_params)
+}
+
 /// Returns the options with the service's token: all is copied, since the run keeps it.
 fn options_with(
     alloc: Global,
@@ -84,8 +103,7 @@ impl Dialogue {
     ghost use Rattle.krb_initiator.specs.InitRuns.{turns_left};
     ghost use Rattle.krb_initiator.specs.Seekers.{CanBegin};
     ghost use Rattle.krb_dialogue.specs.Dialogues.{is_asking, can_start, can_hear, requests_left, options_with};
-    ghost use Rattle.krb_dialogue.specs.declared.exchange.Outcome.TheVariants as outcomes;
-    ghost use Rattle.krb_dialogue.specs.Steps.{LeadsTo, Opens, Continues, Undertakes, TakesReply, Allows, in_turn, Starts, Hears, Takes, Steps};
+    ghost use Rattle.krb_dialogue.specs.Steps.{EndsIn, LeadsTo, Opens, Continues, Undertakes, TakesReply, Allows, in_turn, Starts, Hears, Takes, Steps};
 
     /// Returns whether the dialogue may begin.
     fn can_start(&self) -> bool
@@ -96,7 +114,7 @@ impl Dialogue {
 
     /// Ends an exchange: the context takes its change, and the token is kept.
     fn end(&mut self, done: InitDone) -> Next
-        ensures { LeadsTo self.old (outcomes.Ends done) (Ok result) self.new }
+        ensures { EndsIn true self.old done (Ok result) self.new }
     {
         let InitDone {
             status,
@@ -119,13 +137,14 @@ impl Dialogue {
                 self.turn = Turn::Asks(request, exchange);
                 Ok(Next::AskKdc)
             }
-            Outcome::Ends(done) => Ok(self.end(done)),
+            Outcome::Ends(done) if can_end(&done.change) => Ok(self.end(done)),
+            Outcome::Ends(_) => Err(Error::from(Cause::KeyLength)),
             Outcome::Refused(error) => Err(error),
         }
     }
 
     /// Begins an exchange, with the ticket that is held if there is one. If memory runs out the exchange does not begin.
-    #[tactic(auto, using(crate::proofs::Led::led_down, crate::proofs::Led::led_refused, crate::proofs::Led::led_back))]
+    #[tactic(auto, using(crate::proofs::Led::led_down, crate::proofs::Led::led_fault, crate::proofs::Led::led_back))]
     fn open(&mut self, alloc: Global, initiation: Initiation, draw: &Draw) -> Result<Next, Error>
         requires can { CanBegin initiation }
         requires moment { draw.now.moment ≤ last_moment }
@@ -166,7 +185,7 @@ impl Dialogue {
     }
 
     /// Continues the dialogue's exchange, which was taken out of it. If memory runs out the answer is awaited as before.
-    #[tactic(auto, using(crate::proofs::Led::led_down, crate::proofs::Led::led_refused, crate::proofs::Led::never_wants))]
+    #[tactic(auto, using(crate::proofs::Led::led_down, crate::proofs::Led::led_fault, crate::proofs::Led::never_wants))]
     fn go_on(
         &mut self,
         request: NetworkRequest,
@@ -259,7 +278,8 @@ impl Dialogue {
     /// Takes the service's token: its answer to a ticket, or its own ticket.
     ///
     /// Fails with `Moment` if the moment is past the end of 9999-12-28, with `Sequence` if a KDC's answer is awaited or the context is
-    /// established, otherwise as `initialize_security_context` fails, or the first step of its run. An error changes nothing.
+    /// established, otherwise as `initialize_security_context` fails, or the first step of its run; then with `KeyLength` if the context
+    /// would be established with a key that does not have the length of its suite's keys. An error changes nothing.
     pub fn hear(&mut self, alloc: Global, token: &[u8], draw: &Draw) -> Result<Next, Error>
         ensures step { Steps (Hears self.old token.now draw.now) result self.new }
         ensures want { result ≡ Err (error_of causes.Memory) → self.new ≡ self.old }

@@ -73,6 +73,15 @@ const BY_RFC: &str = "\
      shows FRAMED_AP_REQ\n\
      hear FRAMED_AP_REP established";
 
+/// A service's subkey of type 18 has 16 octets: the answer is refused, and changes nothing.
+const SHORT_SUBKEY: &str = "\
+     start - ask\n\
+     answer AS_REP_WITH_SALT ask\n\
+     answer TGS_REP send\n\
+     hear AP_REP_WITH_A_SHORT_SUBKEY InvalidParameter KeyLength\n\
+     shows FRAMED_AP_REQ\n\
+     hear FRAMED_AP_REP established";
+
 /// Rules that are set while an answer is awaited count from the next start on.
 const RULES_SET_LATE: &str = "\
      answer AS_REP_WITH_SALT InvalidToken EarlyAsRep\n\
@@ -142,6 +151,14 @@ fn a_dialogue_goes_by_the_rfcs(rt: HostRuntime) -> Result<(), Fail> {
     let alloc = rt.alloc();
     let mut dialogue = of_alice(alloc)?;
     assert_eq!(rt; first_wrong(alloc, &mut dialogue, BY_RFC)?, "");
+    Ok(())
+}
+
+#[test]
+fn a_short_subkey_is_refused(rt: HostRuntime) -> Result<(), Fail> {
+    let alloc = rt.alloc();
+    let mut dialogue = of_alice(alloc)?;
+    assert_eq!(rt; first_wrong(alloc, &mut dialogue, SHORT_SUBKEY)?, "");
     Ok(())
 }
 
