@@ -277,6 +277,10 @@ impl Initiator {
     }
 
     /// Takes the service's reply to a token.
+    ///
+    /// # Errors
+    /// Refused as [`Cause::KEY_LENGTH`](crate::Cause::KEY_LENGTH) if the subkey in it does not have the length of a key of the session's
+    /// encryption type.
     pub fn hear(&mut self, token: &[u8]) -> Result<Next, Error> {
         self.step(Step::Hear(token))
     }

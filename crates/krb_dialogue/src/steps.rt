@@ -103,7 +103,7 @@ impl Dialogue {
     ghost use Rattle.krb_initiator.specs.InitRuns.{turns_left};
     ghost use Rattle.krb_initiator.specs.Seekers.{CanBegin};
     ghost use Rattle.krb_dialogue.specs.Dialogues.{is_asking, can_start, can_hear, requests_left, options_with};
-    ghost use Rattle.krb_dialogue.specs.Steps.{EndsIn, LeadsTo, Opens, Continues, Undertakes, TakesReply, Allows, in_turn, Starts, Hears, Takes, Steps};
+    ghost use Rattle.krb_dialogue.specs.Steps.{next_of, ended, EndsIn, LeadsTo, Opens, Continues, Undertakes, TakesReply, Allows, in_turn, Starts, Hears, Takes, Steps};
 
     /// Returns whether the dialogue may begin.
     fn can_start(&self) -> bool
@@ -114,7 +114,8 @@ impl Dialogue {
 
     /// Ends an exchange: the context takes its change, and the token is kept.
     fn end(&mut self, done: InitDone) -> Next
-        ensures { EndsIn true self.old done (Ok result) self.new }
+        ensures next { result ≡ next_of done.status }
+        ensures context { self.new ≡ ended self.old done }
     {
         let InitDone {
             status,
@@ -128,6 +129,17 @@ impl Dialogue {
         next_of(status)
     }
 
+    /// Ends an exchange, or fails with `KeyLength` if its context cannot be established so.
+    fn end_if(&mut self, fits: bool, done: InitDone) -> Result<Next, Error>
+        ensures { EndsIn fits self.old done result self.new }
+    {
+        if fits {
+            Ok(self.end(done))
+        } else {
+            Err(Error::from(Cause::KeyLength))
+        }
+    }
+
     /// Takes the outcome of a step of the dialogue's exchange.
     fn take_outcome(&mut self, outcome: Outcome) -> Result<Next, Error>
         ensures leads { LeadsTo self.old outcome result self.new }
@@ -137,8 +149,10 @@ impl Dialogue {
                 self.turn = Turn::Asks(request, exchange);
                 Ok(Next::AskKdc)
             }
-            Outcome::Ends(done) if can_end(&done.change) => Ok(self.end(done)),
-            Outcome::Ends(_) => Err(Error::from(Cause::KeyLength)),
+            Outcome::Ends(done) => {
+                let fits = can_end(&done.change);
+                self.end_if(fits, done)
+            }
             Outcome::Refused(error) => Err(error),
         }
     }
