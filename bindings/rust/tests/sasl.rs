@@ -110,7 +110,7 @@ fn data_go_both_ways_in_each_layer() {
             assert_eq!(frame.len(), 4 + length + longer);
             assert_eq!(server.unseal(&frame).unwrap(), data);
             let again = server.unseal(&frame);
-            assert!(layer == Layer::None || is_caused(again, Cause::REPEATED));
+            assert!(layer == Layer::None || is_caused(again, Cause::Repeated));
             let frame = server.seal(&data).unwrap();
             assert_eq!(client.unseal(&frame).unwrap(), data);
         }
@@ -165,12 +165,12 @@ fn what_was_not_offered_is_not_accepted() {
     server.offer().unwrap();
     let token = peer.wrap_in_clear(&[2, 0, 1, 0]).unwrap();
     assert!(is_refused(server.accept(&token), LayerRefusal::Layer));
-    assert!(is_caused(server.accept(&token), Cause::REPEATED));
+    assert!(is_caused(server.accept(&token), Cause::Repeated));
     let token = peer.wrap_in_clear(&[4, 0, 1, 0, 0xff]).unwrap();
     assert!(is_refused(server.accept(&token), LayerRefusal::Offer));
     let mut token = peer.wrap_in_clear(b"\x04\x00\x01\x00bj\xc3\xb6rn").unwrap();
     token[20] ^= 1;
-    assert!(is_caused(server.accept(&token), Cause::ALTERED));
+    assert!(is_caused(server.accept(&token), Cause::Altered));
     token[20] ^= 1;
     assert_eq!(server.accept(&token).unwrap(), "bj\u{f6}rn");
 }
@@ -228,7 +228,7 @@ fn frames_are_taken_in_order() {
     let first = frame(peer.wrap(b"a").unwrap());
     let second = frame(peer.wrap(b"b").unwrap());
     let early = server.unseal(&second).unwrap_err();
-    assert_eq!(early.cause(), Some(Cause::NUMBER));
+    assert_eq!(early.cause(), Some(Cause::Number));
     assert_eq!(server.unseal(&first).unwrap(), b"a");
     assert_eq!(server.unseal(&second).unwrap(), b"b");
     assert!(server.unseal(&first).is_err());
