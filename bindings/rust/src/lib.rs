@@ -42,6 +42,7 @@ mod options;
 mod sasl;
 mod session;
 mod store;
+mod words;
 
 pub use acceptor::Acceptor;
 pub use causes::{Cause, Kind};

@@ -85,6 +85,19 @@ fn clients_of_any_name_are_admitted_and_known_whole() {
     }
 }
 
+/// Other letters in the place of such bytes could be those of another client.
+#[test]
+fn a_name_that_is_not_utf_8_is_refused() {
+    let name: &[&str] = &["al\u{ff}ice"];
+    let token = Client::of(&KEY, &Ticket { name, ..USER }).ask(&Asked { name, ..asked() });
+    let acceptor = acceptor();
+    let mut judged = acceptor.judge_at(&token, now(), [1; 64]).unwrap();
+    assert!(matches!(judged.client(), Err(Error::NotUtf8)));
+    assert!(matches!(acceptor.admit(judged), Err(Error::NotUtf8)));
+    let error = accept(&acceptor, &token);
+    assert_eq!(cause_of(error), Some(Cause::Replayed));
+}
+
 #[test]
 fn the_type_of_a_name_is_a_hint() {
     let token = Client::of(&KEY, &USER).ask(&Asked {

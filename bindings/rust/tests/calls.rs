@@ -1,6 +1,6 @@
 //! Calls through the whole library, over a conversation with a client of MIT's that was recorded.
 
-use menolavuri::{Acceptor, Cause, Error, GssFlags, Judged, Session, version};
+use menolavuri::{Acceptor, Cause, Error, GssFlags, Judged, Session, Told, version};
 use std::time::{Duration, SystemTime, UNIX_EPOCH};
 
 /// The conversation of `crates/example_acceptor/stdin`.
@@ -53,10 +53,9 @@ fn a_client_is_admitted_once() {
     assert!(session.answer().is_empty());
     assert_eq!(acceptor.kept(), 1);
     let error = accept(&acceptor).err().unwrap();
-    assert!(
-        error
-            .to_string()
-            .starts_with("refused: InvalidToken Replayed: ")
+    assert_eq!(
+        error.to_string(),
+        "refused: InvalidToken Replayed: this token was admitted before: the client makes another one"
     );
     assert_eq!(error.cause(), Some(Cause::Replayed));
 }
@@ -95,6 +94,42 @@ fn a_store_is_asked_in_the_place_of_a_book() {
     let error = acceptor.admit_told(again, now(), true).err().unwrap();
     assert_eq!(error.cause(), Some(Cause::Replayed));
     assert_eq!(acceptor.kept(), 0);
+}
+
+#[test]
+fn a_store_is_asked_in_one_call() {
+    let acceptor = acceptor();
+    assert_eq!(acceptor.skew(), Duration::from_secs(300));
+    let record = judge(&acceptor).record().unwrap();
+    let mut kept: Vec<Vec<u8>> = Vec::new();
+    let mut admit = |now| {
+        acceptor.admit_by_store(judge(&acceptor), |asked, keep| {
+            assert_eq!(asked, record);
+            assert!(keep > 2 * Duration::from_secs(300));
+            let seen = kept.iter().any(|it| it == asked);
+            kept.push(asked.to_vec());
+            Ok::<_, Error>(Told { now, seen })
+        })
+    };
+    let session = admit(now()).unwrap();
+    assert_eq!(session.client(), Some("alice@EXAMPLE.COM"));
+    let error = admit(now()).err().unwrap();
+    assert_eq!(error.cause(), Some(Cause::Replayed));
+    let late = Told {
+        now: now() + Duration::from_secs(3600),
+        seen: false,
+    };
+    let error = acceptor.admit_by_store(judge(&acceptor), |_, _| Ok::<_, Error>(late));
+    assert_eq!(error.err().unwrap().cause(), Some(Cause::Skew));
+    assert_eq!(acceptor.kept(), 0);
+}
+
+#[test]
+fn a_store_that_does_not_reply_admits_nobody() {
+    let acceptor = acceptor();
+    let away = || Err::<Told, Box<dyn std::error::Error>>("the store is away".into());
+    let error = acceptor.admit_by_store(judge(&acceptor), |_, _| away());
+    assert_eq!(error.err().unwrap().to_string(), "the store is away");
 }
 
 /// RFC 4121, section 4.1: the mechanism's name and 03 00 before the message. RFC 4120, section 5.9.1: `error-code [6]`, `stime [4]`.
@@ -219,7 +254,7 @@ fn tokens_have_their_lengths() {
     let mic = session.mic(b"text").unwrap();
     assert_eq!(
         session.verify(&mic, b"text").unwrap_err().to_string(),
-        "refused: InvalidToken Direction"
+        "refused: InvalidToken Direction: this end sent the message itself: it was reflected, or changed"
     );
 }
 
