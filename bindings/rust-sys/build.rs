@@ -25,7 +25,7 @@ pub fn in_folder(folder: &Path) -> Option<Found> {
 /// writes to, and the folders of an installation, which are looked for last.
 ///
 /// # Errors
-/// What to do, in words.
+/// There is no library: the words say how to get one.
 pub fn find(
     named: Option<OsString>,
     built: &Path,

@@ -1,4 +1,4 @@
-//! What errors and values print: words that a person can act on, and no key.
+//! The words of errors, which a person can act on, and values that show no key.
 
 mod client;
 
