@@ -4,7 +4,7 @@
 #[allow(dead_code)]
 mod build;
 
-use build::{find, in_folder, Found};
+use build::{Found, find, in_folder};
 use std::path::{Path, PathBuf};
 use std::{env, fs, process};
 

@@ -35,24 +35,22 @@ pub fn filled(
     mut call: impl FnMut(*mut u8, usize) -> mk_reply,
 ) -> Result<Vec<u8>, Error> {
     let mut out = Vec::new();
-    grow(&mut out, room.max(1))?;
+    reserve(&mut out, room.max(1))?;
     loop {
-        let reply = call(out.as_mut_ptr(), out.len());
-        if reply.status == sys::MK_ROOM && out.len() < reply.length {
-            grow(&mut out, reply.length)?;
+        let reply = call(out.as_mut_ptr(), out.capacity());
+        if reply.status == sys::MK_ROOM && out.capacity() < reply.length {
+            reserve(&mut out, reply.length)?;
             continue;
         }
         let length = done(reply)?;
-        out.truncate(length);
+        // SAFETY: a call that is done has written the bytes of its length into the buffer.
+        unsafe { out.set_len(length.min(out.capacity())) };
         return Ok(out);
     }
 }
 
-fn grow(out: &mut Vec<u8>, length: usize) -> Result<(), Error> {
-    out.try_reserve_exact(length - out.len())
-        .map_err(|_| Error::Memory)?;
-    out.resize(length, 0);
-    Ok(())
+fn reserve(out: &mut Vec<u8>, length: usize) -> Result<(), Error> {
+    out.try_reserve_exact(length).map_err(|_| Error::Memory)
 }
 
 /// Returns the name that a call writes into a buffer.
@@ -90,7 +88,7 @@ mod tests {
             let text = vec![b'a'; length];
             assert_eq!(filled(64, writes(&text)).unwrap(), text);
         }
-        let error = filled(1, |_, _| reply(sys::MK_ROOM, 1)).unwrap_err();
+        let error = filled(8, |_, _| reply(sys::MK_ROOM, 1)).unwrap_err();
         assert!(matches!(error, Error::Unknown(sys::MK_ROOM)));
     }
 
