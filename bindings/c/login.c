@@ -72,7 +72,7 @@ void make_ready(const login *l, mk_initiator *to) {
     set_password(l, to);
 }
 
-int leads_to(mk_reply reply, uint32_t next) { return reply.status == MK_OK && reply.number == next; }
+int leads_to(mk_step step, uint32_t next) { return step.reply.status == MK_OK && step.reply.number == 0 && step.next == next; }
 
 int gives(mk_reply reply, const uint8_t *out, const void *wanted, size_t length) {
     return reply.status == MK_OK && reply.length == length && memcmp(out, wanted, length) == 0;

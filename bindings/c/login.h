@@ -34,7 +34,8 @@ void set_password(const login *l, mk_initiator *initiator);
 /* An initiator of the recorded user at its KDC. */
 void make_ready(const login *l, mk_initiator *to);
 
-int leads_to(mk_reply reply, uint32_t next);
+/* Whether the step was done, and this comes next. */
+int leads_to(mk_step step, uint32_t next);
 
 int gives(mk_reply reply, const uint8_t *out, const void *wanted, size_t length);
 

@@ -40,12 +40,12 @@ static void ask_all(const exchange *x, const char *channel, mk_initiator *to) {
     if (channel != NULL) {
         CHECK(mk_initiator_set_bindings(to, text(channel), strlen(channel)).status == MK_OK);
     }
-    mk_reply reply = mk_initiator_start(to, &x->moment);
+    mk_step step = mk_initiator_start(to, &x->moment);
     for (size_t i = 0; i < 3; i++) {
-        CHECK(reply.status == MK_OK && reply.number == MK_ASK_KDC);
-        reply = mk_initiator_answer(to, x->replies[i].at, x->replies[i].length, &x->moment);
+        CHECK(step.reply.status == MK_OK && step.next == MK_ASK_KDC);
+        step = mk_initiator_answer(to, x->replies[i].at, x->replies[i].length, &x->moment);
     }
-    CHECK(reply.status == MK_OK && reply.number == MK_SEND_TOKEN);
+    CHECK(step.reply.status == MK_OK && step.next == MK_SEND_TOKEN);
 }
 
 octets token_for(const exchange *x, const char *channel) {
@@ -66,8 +66,8 @@ void meet(const exchange *x, mk_session *client, mk_session *server) {
     CHECK(mk_acceptor_new(&acceptor, text(x->name), strlen(x->name), x->key.at, x->key.length, 300).status == MK_OK);
     CHECK(mk_accept(&acceptor, server, token.at, token.length, &x->moment).status == MK_OK);
     token.length = mk_session_get_answer(server, token.at, sizeof token.at).length;
-    mk_reply reply = mk_initiator_hear(&initiator, token.at, token.length, &x->moment);
-    CHECK(reply.status == MK_OK && reply.number == MK_ESTABLISHED);
+    mk_step step = mk_initiator_hear(&initiator, token.at, token.length, &x->moment);
+    CHECK(step.reply.status == MK_OK && step.next == MK_ESTABLISHED);
     CHECK(mk_initiator_take_session(&initiator, client).status == MK_OK && client->count == 1 && server->count == 1);
     mk_initiator_free(&initiator);
     mk_acceptor_free(&acceptor);

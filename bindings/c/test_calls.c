@@ -39,6 +39,13 @@ static int read_conversation(const char *path, conversation *c) {
     return clients == 1 && c->count >= 3;
 }
 
+/* A moment whose random octets nobody filled. */
+static mk_moment unfilled_of(const conversation *c) {
+    mk_moment moment = c->moment;
+    memset(moment.random, 0, sizeof moment.random);
+    return moment;
+}
+
 static mk_reply make(const conversation *c, mk_acceptor *to) {
     return mk_acceptor_new(to, (const uint8_t *)c->name, strlen(c->name), c->key.at, c->key.length, 300);
 }
@@ -123,6 +130,9 @@ static void halves(const conversation *c) {
     CHECK(mk_acceptor_copy(&book, &keys).status == MK_HANDLE);
     CHECK(mk_admit(&book, &judged, &session).status == MK_HANDLE);
     CHECK(is_refused(mk_judge(&keys, &judged, c->key.at, c->key.length, &c->moment), MK_CAUSE_SHAPE));
+    mk_moment unfilled = unfilled_of(c);
+    CHECK(mk_judge(&keys, &judged, c->token.at, c->token.length, &unfilled).status == MK_ARGUMENT);
+    CHECK(mk_judge_bound(&keys, &judged, c->token.at, c->token.length, c->token.at, 1, &unfilled).status == MK_ARGUMENT);
     CHECK(mk_judge(&keys, &judged, c->token.at, c->token.length, &c->moment).status == MK_OK);
     CHECK(mk_judge(&keys, &judged, c->token.at, c->token.length, &c->moment).status == MK_HANDLE);
     CHECK(mk_judge(&keys, &again, c->token.at, c->token.length, &c->moment).status == MK_OK);
@@ -311,9 +321,10 @@ static void keyrings(const conversation *c) {
     CHECK(is_refused(mk_admit(&book, &judged, &session), MK_CAUSE_REPLAYED) && judged.count == 0);
     CHECK(mk_keyring_set_token_limit(&ring, c->token.length - 1).status == MK_OK);
     CHECK(is_refused(mk_keyring_judge(&ring, &judged, c->token.at, c->token.length, 0, none, 0, &c->moment), MK_CAUSE_SHAPE));
-    mk_moment late = c->moment;
+    mk_moment late = c->moment, unfilled = unfilled_of(c);
     late.moment = UINT64_MAX;
     CHECK(mk_keyring_judge(&ring, &judged, c->token.at, c->token.length, 0, none, 0, &late).status == MK_ARGUMENT);
+    CHECK(mk_keyring_judge(&ring, &judged, c->token.at, c->token.length, 0, none, 0, &unfilled).status == MK_ARGUMENT);
     CHECK(mk_judged_get_authorization(&judged, 0, &type, again, 0).status == MK_HANDLE);
     CHECK(mk_session_get_tag(&session, again, sizeof again).status == MK_HANDLE);
     CHECK(mk_session_get_authorization(&session, 0, &type, again, 0).status == MK_HANDLE && type == 7);
@@ -347,7 +358,7 @@ static void bad(const conversation *c) {
     mk_acceptor acceptor = MK_EMPTY, none = MK_EMPTY;
     mk_session session = MK_EMPTY, empty = MK_EMPTY;
     uint8_t out[4096], spoilt[4096];
-    mk_moment late = c->moment;
+    mk_moment late = c->moment, unfilled = unfilled_of(c);
     CHECK(mk_acceptor_new(&acceptor, (const uint8_t *)c->name, strlen(c->name), c->key.at, 24, 300).status == MK_ARGUMENT);
     CHECK(mk_acceptor_new(&acceptor, (const uint8_t *)"\xff", 1, c->key.at, 32, 300).status == MK_ARGUMENT);
     CHECK(is_refused(mk_acceptor_new(&acceptor, (const uint8_t *)"\xc3\xa4", 2, c->key.at, 32, 300), MK_CAUSE_NOT_ASCII));
@@ -371,6 +382,10 @@ static void bad(const conversation *c) {
     CHECK(is_refused(mk_accept(&acceptor, &session, spoilt, c->token.length, &c->moment), MK_CAUSE_ALTERED));
     late.moment = UINT64_MAX;
     CHECK(mk_accept(&acceptor, &session, c->token.at, c->token.length, &late).status == MK_ARGUMENT);
+    CHECK(mk_accept(&acceptor, &session, c->token.at, c->token.length, &unfilled).status == MK_ARGUMENT);
+    CHECK(mk_accept(&none, &session, c->token.at, c->token.length, &unfilled).status == MK_ARGUMENT);
+    unfilled.random[63] = 1; /* one bit is enough */
+    CHECK(is_refused(mk_accept(&acceptor, &session, spoilt, c->token.length, &unfilled), MK_CAUSE_ALTERED));
     late.moment = c->moment.moment + 301000000;
     CHECK(mk_acceptor_kept(&acceptor) == 0);
     CHECK(mk_accept(&acceptor, &session, c->token.at, c->token.length, &c->moment).status == MK_OK);

@@ -8,17 +8,17 @@
 #include <string.h>
 
 /* Begins with these flags and rules, and takes the three replies of the KDC. They were recorded with these draws, so all rules may hold. */
-static mk_reply ask_all(const login *l, mk_initiator *to, uint32_t flags, uint32_t rules) {
+static mk_step ask_all(const login *l, mk_initiator *to, uint32_t flags, uint32_t rules) {
     CHECK(mk_initiator_new(to, text(l->target), strlen(l->target), text(l->machine), strlen(l->machine), flags, l->number, 4).status == MK_OK);
     CHECK(mk_initiator_set_rules(to, rules).status == MK_OK);
     CHECK(mk_initiator_set_kdc(to, text(l->url), strlen(l->url)).status == MK_OK);
     set_password(l, to);
-    mk_reply reply = mk_initiator_start(to, &l->steps[0]);
+    mk_step step = mk_initiator_start(to, &l->steps[0]);
     for (size_t i = 0; i < 3; i++) {
-        CHECK(leads_to(reply, MK_ASK_KDC));
-        reply = mk_initiator_answer(to, l->replies[i].at, l->replies[i].length, &l->steps[i + 1]);
+        CHECK(leads_to(step, MK_ASK_KDC));
+        step = mk_initiator_answer(to, l->replies[i].at, l->replies[i].length, &l->steps[i + 1]);
     }
-    return reply;
+    return step;
 }
 
 /* Whether its session seals with these flags of RFC 4121, section 4.2.2, and its first message has this as the end of its number. */
@@ -52,29 +52,29 @@ static void log_in_otherwise(const login *l) {
 }
 
 /* The recorded log-in is played back, an hour later, to an initiator that draws other octets: up to the step that is refused, or the end. */
-static mk_reply play_back(const login *l, mk_initiator *to, const uint32_t *rules) {
+static mk_step play_back(const login *l, mk_initiator *to, const uint32_t *rules) {
     mk_moment later = l->steps[0];
     later.moment += UINT64_C(3600000000);
     memset(later.random, 7, sizeof later.random);
     make_ready(l, to);
     CHECK(rules == NULL || mk_initiator_set_rules(to, *rules).status == MK_OK);
-    mk_reply reply = mk_initiator_start(to, &later);
-    for (size_t i = 0; i < 3 && reply.status == MK_OK; i++) {
-        reply = mk_initiator_answer(to, l->replies[i].at, l->replies[i].length, &later);
+    mk_step step = mk_initiator_start(to, &later);
+    for (size_t i = 0; i < 3 && step.reply.status == MK_OK; i++) {
+        step = mk_initiator_answer(to, l->replies[i].at, l->replies[i].length, &later);
     }
-    if (leads_to(reply, MK_SEND_TOKEN)) {
-        reply = mk_initiator_hear(to, l->answer.at, l->answer.length, &later);
+    if (leads_to(step, MK_SEND_TOKEN)) {
+        step = mk_initiator_hear(to, l->answer.at, l->answer.length, &later);
     }
-    return reply;
+    return step;
 }
 
 /* By default a recorded log-in is refused: the KDC's replies are to another request, and the AP-REP is to another authenticator. */
 static void refuse_recordings(const login *l) {
     static const uint32_t none = MK_RULES_NONE, answer_alone = MK_ANSWERS_ITS_AUTHENTICATOR;
     mk_initiator initiator = MK_EMPTY;
-    CHECK(is_refused(play_back(l, &initiator, NULL), MK_CAUSE_NONCE));
+    CHECK(is_refused(play_back(l, &initiator, NULL).reply, MK_CAUSE_NONCE));
     mk_initiator_free(&initiator);
-    CHECK(is_refused(play_back(l, &initiator, &answer_alone), MK_CAUSE_REPLY_TIME));
+    CHECK(is_refused(play_back(l, &initiator, &answer_alone).reply, MK_CAUSE_REPLY_TIME));
     mk_initiator_free(&initiator);
     CHECK(leads_to(play_back(l, &initiator, &none), MK_ESTABLISHED)); /* what the two rules are for */
     mk_initiator_free(&initiator);
@@ -105,30 +105,30 @@ static void log_in(const login *l) {
     mk_session session = MK_EMPTY, taken = MK_EMPTY;
     uint8_t out[4096];
     make_ready(l, &initiator);
-    mk_reply reply = mk_initiator_start(&initiator, &l->steps[0]);
+    mk_step step = mk_initiator_start(&initiator, &l->steps[0]);
     for (size_t i = 0; i < 3; i++) {
-        CHECK(leads_to(reply, MK_ASK_KDC) && asks(l, &initiator, &l->asks[i]));
-        CHECK(is_refused(mk_initiator_start(&initiator, &l->steps[0]), MK_CAUSE_SEQUENCE));
-        CHECK(is_refused(mk_initiator_hear(&initiator, l->answer.at, l->answer.length, &l->steps[0]), MK_CAUSE_SEQUENCE));
+        CHECK(leads_to(step, MK_ASK_KDC) && asks(l, &initiator, &l->asks[i]));
+        CHECK(is_refused(mk_initiator_start(&initiator, &l->steps[0]).reply, MK_CAUSE_SEQUENCE));
+        CHECK(is_refused(mk_initiator_hear(&initiator, l->answer.at, l->answer.length, &l->steps[0]).reply, MK_CAUSE_SEQUENCE));
         CHECK(is_refused(mk_initiator_get_token(&initiator, out, sizeof out), MK_CAUSE_SEQUENCE));
-        reply = mk_initiator_answer(&initiator, l->replies[i].at, l->replies[i].length, &l->steps[i + 1]);
+        step = mk_initiator_answer(&initiator, l->replies[i].at, l->replies[i].length, &l->steps[i + 1]);
     }
-    CHECK(leads_to(reply, MK_SEND_TOKEN));
+    CHECK(leads_to(step, MK_SEND_TOKEN));
     CHECK(is_refused(mk_initiator_get_request(&initiator, out, sizeof out), MK_CAUSE_SEQUENCE));
     CHECK(is_refused(mk_initiator_get_url(&initiator, out, sizeof out), MK_CAUSE_SEQUENCE));
-    CHECK(is_refused(mk_initiator_start(&initiator, &l->steps[0]), MK_CAUSE_SEQUENCE));
-    CHECK(is_refused(mk_initiator_fault(&initiator, 1, &l->steps[0]), MK_CAUSE_SEQUENCE));
+    CHECK(is_refused(mk_initiator_start(&initiator, &l->steps[0]).reply, MK_CAUSE_SEQUENCE));
+    CHECK(is_refused(mk_initiator_fault(&initiator, 1, &l->steps[0]).reply, MK_CAUSE_SEQUENCE));
     CHECK(is_refused(mk_initiator_take_session(&initiator, &session), MK_CAUSE_SEQUENCE) && initiator.count != 0 && session.count == 0);
     CHECK(is_refused(mk_initiator_get_peer(&initiator, out, sizeof out), MK_CAUSE_SEQUENCE));
-    CHECK(is_refused(mk_initiator_hear(&initiator, l->token.at, l->token.length, &l->steps[13]), MK_CAUSE_SHAPE));
-    reply = mk_initiator_get_token(&initiator, out, l->token.length - 1);
+    CHECK(is_refused(mk_initiator_hear(&initiator, l->token.at, l->token.length, &l->steps[13]).reply, MK_CAUSE_SHAPE));
+    mk_reply reply = mk_initiator_get_token(&initiator, out, l->token.length - 1);
     CHECK(reply.status == MK_ROOM && reply.length == l->token.length);
     CHECK(gives(mk_initiator_get_token(&initiator, out, sizeof out), out, l->token.at, l->token.length));
     CHECK(leads_to(mk_initiator_hear(&initiator, l->answer.at, l->answer.length, &l->steps[13]), MK_ESTABLISHED));
     reply = mk_initiator_get_token(&initiator, out, sizeof out);
     CHECK(reply.status == MK_OK && reply.length == 0);
     CHECK(gives(mk_initiator_get_peer(&initiator, out, sizeof out), out, l->target, strlen(l->target)));
-    CHECK(is_refused(mk_initiator_hear(&initiator, l->answer.at, l->answer.length, &l->steps[13]), MK_CAUSE_SEQUENCE));
+    CHECK(is_refused(mk_initiator_hear(&initiator, l->answer.at, l->answer.length, &l->steps[13]).reply, MK_CAUSE_SEQUENCE));
     CHECK(mk_initiator_take_session(&initiator, &session).status == MK_OK);
     CHECK(initiator.count == 0 && session.count != 0);
     CHECK(mk_initiator_take_session(&initiator, &taken).status == MK_HANDLE && taken.count == 0);
@@ -152,10 +152,10 @@ static void refuse_handles(const login *l, mk_initiator *full) {
     CHECK(mk_initiator_set_variable(&empty, a, 1, a, 1).status == MK_HANDLE);
     CHECK(mk_initiator_set_file(&empty, a, 1, a, 1).status == MK_HANDLE);
     CHECK(mk_initiator_set_bindings(&empty, a, 1).status == MK_HANDLE);
-    CHECK(mk_initiator_start(&empty, &l->steps[0]).status == MK_HANDLE);
-    CHECK(mk_initiator_hear(&empty, a, 1, &l->steps[0]).status == MK_HANDLE);
-    CHECK(mk_initiator_answer(&empty, a, 1, &l->steps[0]).status == MK_HANDLE);
-    CHECK(mk_initiator_fault(&empty, 1, &l->steps[0]).status == MK_HANDLE);
+    CHECK(mk_initiator_start(&empty, &l->steps[0]).reply.status == MK_HANDLE);
+    CHECK(mk_initiator_hear(&empty, a, 1, &l->steps[0]).reply.status == MK_HANDLE);
+    CHECK(mk_initiator_answer(&empty, a, 1, &l->steps[0]).reply.status == MK_HANDLE);
+    CHECK(mk_initiator_fault(&empty, 1, &l->steps[0]).reply.status == MK_HANDLE);
     CHECK(mk_initiator_get_url(&empty, out, sizeof out).status == MK_HANDLE);
     CHECK(mk_initiator_get_request(&empty, out, sizeof out).status == MK_HANDLE);
     CHECK(mk_initiator_get_token(&empty, out, sizeof out).status == MK_HANDLE);
@@ -201,31 +201,36 @@ static int is_late(mk_reply reply) { return is_refused(reply, MK_CAUSE_MOMENT); 
 
 /* A step that fails changes nothing, and a fault or a refused answer ends the exchange: it can begin again. */
 static void refuse_steps(const login *l, mk_initiator *initiator) {
-    mk_moment late = l->steps[0];
+    mk_moment late = l->steps[0], unfilled = l->steps[0];
     uint8_t out[4096] = {0};
     const octets *ask = &l->asks[0], *needs = &l->replies[0];
     late.moment = UINT64_MAX;
-    CHECK(is_late(mk_initiator_start(initiator, &late)) && is_late(mk_initiator_hear(initiator, out, 0, &late)));
-    CHECK(is_late(mk_initiator_answer(initiator, out, 0, &late)) && is_late(mk_initiator_fault(initiator, 1, &late)));
-    CHECK(is_refused(mk_initiator_answer(initiator, needs->at, needs->length, &l->steps[0]), MK_CAUSE_SEQUENCE));
-    CHECK(is_refused(mk_initiator_fault(initiator, 1, &l->steps[0]), MK_CAUSE_SEQUENCE));
-    CHECK(is_refused(mk_initiator_start(initiator, &l->steps[0]), MK_CAUSE_NO_IDENTITY));
+    memset(unfilled.random, 0, sizeof unfilled.random);
+    CHECK(mk_initiator_start(initiator, &unfilled).reply.status == MK_ARGUMENT);
+    CHECK(mk_initiator_hear(initiator, out, 0, &unfilled).reply.status == MK_ARGUMENT);
+    CHECK(is_late(mk_initiator_start(initiator, &late).reply) && is_late(mk_initiator_hear(initiator, out, 0, &late).reply));
+    CHECK(is_late(mk_initiator_answer(initiator, out, 0, &late).reply) && is_late(mk_initiator_fault(initiator, 1, &late).reply));
+    CHECK(is_refused(mk_initiator_answer(initiator, needs->at, needs->length, &l->steps[0]).reply, MK_CAUSE_SEQUENCE));
+    CHECK(is_refused(mk_initiator_fault(initiator, 1, &l->steps[0]).reply, MK_CAUSE_SEQUENCE));
+    CHECK(is_refused(mk_initiator_start(initiator, &l->steps[0]).reply, MK_CAUSE_NO_IDENTITY));
     set_password(l, initiator);
-    CHECK(is_refused(mk_initiator_start(initiator, &l->steps[0]), MK_CAUSE_NO_KDC));
+    CHECK(is_refused(mk_initiator_start(initiator, &l->steps[0]).reply, MK_CAUSE_NO_KDC));
     CHECK(mk_initiator_set_kdc(initiator, text(l->url), strlen(l->url)).status == MK_OK);
     CHECK(leads_to(mk_initiator_start(initiator, &l->steps[0]), MK_ASK_KDC) && asks(l, initiator, ask));
     CHECK(mk_initiator_get_url(initiator, out, 3).status == MK_ROOM);
     mk_reply reply = mk_initiator_get_request(initiator, out, ask->length - 1);
     CHECK(reply.status == MK_ROOM && reply.length == ask->length);
-    CHECK(is_late(mk_initiator_answer(initiator, needs->at, needs->length, &late)) && asks(l, initiator, ask));
-    reply = mk_initiator_fault(initiator, 77, &l->steps[0]);
-    CHECK(is_refused(reply, MK_CAUSE_NETWORK) && reply.number == 77);
-    CHECK(is_refused(mk_initiator_fault(initiator, 77, &l->steps[0]), MK_CAUSE_SEQUENCE));
+    CHECK(is_late(mk_initiator_answer(initiator, needs->at, needs->length, &late).reply) && asks(l, initiator, ask));
+    CHECK(mk_initiator_answer(initiator, needs->at, needs->length, &unfilled).reply.status == MK_ARGUMENT && asks(l, initiator, ask));
+    CHECK(mk_initiator_fault(initiator, 77, &unfilled).reply.status == MK_ARGUMENT && asks(l, initiator, ask));
+    mk_step step = mk_initiator_fault(initiator, 77, &l->steps[0]);
+    CHECK(is_refused(step.reply, MK_CAUSE_NETWORK) && step.reply.number == 77 && step.next == MK_FAILED);
+    CHECK(is_refused(mk_initiator_fault(initiator, 77, &l->steps[0]).reply, MK_CAUSE_SEQUENCE));
     CHECK(leads_to(mk_initiator_start(initiator, &l->steps[0]), MK_ASK_KDC) && asks(l, initiator, ask));
-    CHECK(is_refused(mk_initiator_answer(initiator, out, 3, &l->steps[1]), MK_CAUSE_REPLY_SHORT));
+    CHECK(is_refused(mk_initiator_answer(initiator, out, 3, &l->steps[1]).reply, MK_CAUSE_REPLY_SHORT));
     CHECK(mk_initiator_set_rules(initiator, MK_RULES_NONE).status == MK_OK); /* without MK_NO_PREAUTHENTICATION */
     CHECK(leads_to(mk_initiator_start(initiator, &l->steps[0]), MK_ASK_KDC) && asks(l, initiator, ask));
-    CHECK(is_refused(mk_initiator_answer(initiator, l->replies[1].at, l->replies[1].length, &l->steps[1]), MK_CAUSE_EARLY_AS_REP));
+    CHECK(is_refused(mk_initiator_answer(initiator, l->replies[1].at, l->replies[1].length, &l->steps[1]).reply, MK_CAUSE_EARLY_AS_REP));
 }
 
 /* A KDC that a file names, and a key in the place of a password. */

@@ -48,7 +48,7 @@ static void show_tickets(const login *l) {
     mk_initiator_free(&other);
     initiator = initiator_for(l, "ldap/server.example.com");
     CHECK(is_found(set_first(l, &initiator, l->ccache.length, VALID_FROM), 2));
-    CHECK(is_refused(mk_initiator_start(&initiator, &moment), MK_CAUSE_NO_KDC));
+    CHECK(is_refused(mk_initiator_start(&initiator, &moment).reply, MK_CAUSE_NO_KDC));
     CHECK(mk_initiator_set_kdc(&initiator, text(l->url), strlen(l->url)).status == MK_OK);
     CHECK(leads_to(mk_initiator_start(&initiator, &moment), MK_ASK_KDC));
     mk_reply request = mk_initiator_get_request(&initiator, out, sizeof out);
@@ -102,6 +102,10 @@ static void keep_tickets(const login *l) {
         if (i > 0) {
             mk_reply bad = mk_initiator_get_ccache(&initiator, file, length - 1, answer->at, answer->length, &l->steps[i + 1], out, sizeof out);
             CHECK(is_refused(bad, MK_CAUSE_SHAPE));
+            mk_moment unfilled = l->steps[i + 1];
+            memset(unfilled.random, 0, sizeof unfilled.random);
+            bad = mk_initiator_get_ccache(&initiator, file, length, answer->at, answer->length, &unfilled, out, sizeof out);
+            CHECK(bad.status == MK_ARGUMENT);
             memcpy(file, out, length = reply.length);
             CHECK(is_found(mk_initiator_set_ccache(&other, file, length, l->steps[i + 1].moment), i == 1 ? 2 : 1));
             CHECK(mk_initiator_set_kdc(&other, text(l->url), strlen(l->url)).status == MK_OK);
@@ -109,7 +113,7 @@ static void keep_tickets(const login *l) {
             CHECK(i == 2 || asks(l, &other, &l->asks[2]));
             CHECK(i == 1 || gives(mk_initiator_get_token(&other, out, sizeof out), out, l->token.at, l->token.length));
         }
-        CHECK(mk_initiator_answer(&initiator, answer->at, answer->length, &l->steps[i + 1]).status == MK_OK);
+        CHECK(mk_initiator_answer(&initiator, answer->at, answer->length, &l->steps[i + 1]).reply.status == MK_OK);
         mk_initiator_free(&other);
     }
     mk_initiator_free(&initiator);
@@ -129,9 +133,9 @@ static void refuse_tickets(const login *l) {
     CHECK(is_refused(mk_initiator_set_ticket(&initiator, realm, 11, name, 5, 23, key, 32, ticket, HOST_LENGTH), MK_CAUSE_ETYPE));
     CHECK(is_refused(mk_initiator_set_ticket(&initiator, realm, 11, name, 5, 65536 + 18, key, 32, ticket, HOST_LENGTH), MK_CAUSE_ETYPE));
     CHECK(is_refused(mk_initiator_set_ticket(&initiator, realm, 11, name, 5, 18, key, 32, ticket, HOST_LENGTH - 1), MK_CAUSE_SHAPE));
-    CHECK(is_refused(mk_initiator_start(&initiator, &l->steps[0]), MK_CAUSE_NO_IDENTITY));
+    CHECK(is_refused(mk_initiator_start(&initiator, &l->steps[0]).reply, MK_CAUSE_NO_IDENTITY));
     CHECK(mk_initiator_set_ticket(&initiator, realm, 11, name, 5, 18, key, 31, ticket, HOST_LENGTH).status == MK_OK);
-    CHECK(is_refused(mk_initiator_start(&initiator, &l->steps[0]), MK_CAUSE_KEY_LENGTH));
+    CHECK(is_refused(mk_initiator_start(&initiator, &l->steps[0]).reply, MK_CAUSE_KEY_LENGTH));
     mk_initiator_free(&initiator);
 }
 

@@ -115,13 +115,14 @@ static bytes set_cache(mk_initiator *it, const bytes &file, const bytes &target,
 /* The ticket that was set is shown, to the service or to a KDC. A key of another length is refused first. */
 static void show(mk_initiator *it, const bytes &ticket, bool has_key) {
     mk_moment moment = moment_at();
-    mk_reply reply = mk_initiator_start(it, &moment);
+    mk_step step = mk_initiator_start(it, &moment);
+    mk_reply reply = step.reply;
     check_reply("mk_initiator_start", reply, SIZE_MAX - 1);
     PROMISE(has_key || is_refused(reply, MK_CAUSE_KEY_LENGTH), "a key of another length: status %u, cause %u", reply.status, reply.cause);
     PROMISE(!is_refused(reply, MK_CAUSE_NO_IDENTITY), "a ticket was set, and nobody asks");
     if (reply.status != MK_OK) return;
-    bool asks = reply.number == MK_ASK_KDC;
-    PROMISE(asks || reply.number == MK_SEND_TOKEN, "number %u", reply.number);
+    bool asks = step.next == MK_ASK_KDC;
+    PROMISE(asks || step.next == MK_SEND_TOKEN, "next %u", step.next);
     Got out = get("what shows a ticket", [&](uint8_t *to, size_t room) {
         return asks ? mk_initiator_get_request(it, to, room) : mk_initiator_get_token(it, to, room);
     });
@@ -148,7 +149,7 @@ static void try_file(const Input &in) {
         bytes ticket = set_cache(&fresh, in.file, in.target, in.moment);
         mk_moment moment = moment_at();
         if (!ticket.empty()) show(&fresh, ticket, true);
-        else PROMISE(mk_initiator_start(&fresh, &moment).status == MK_REFUSED, "nothing was set, and it begins");
+        else PROMISE(mk_initiator_start(&fresh, &moment).reply.status == MK_REFUSED, "nothing was set, and it begins");
         PROMISE(make(&other, of(SERVICE)), "no initiator");
         PROMISE(set_ticket(&other, of("EXAMPLE.COM"), of("alice"), 18, USER_KEY, honest_ticket()).status == MK_OK, "no ticket");
         ticket = set_cache(&other, in.file, of(SERVICE), in.moment);

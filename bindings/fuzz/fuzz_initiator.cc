@@ -18,7 +18,7 @@ struct Run {
     mk_initiator it = MK_EMPTY;
     uint32_t flags, rules;
     mk_moment moment = moment_at();
-    mk_reply last = {};
+    mk_step last = {};
     bytes key = USER_KEY, service, nonce;
     bool is_established = false;
 };
@@ -54,9 +54,9 @@ static bool make(Run &run, bool has_password) {
 /* After a reply that is MK_OK there is a request for a KDC, or a token for the service. */
 static void look(Run &run) {
     Got request = request_of(&run.it), token = token_of(&run.it);
-    PROMISE(run.last.number <= MK_ESTABLISHED, "number %u", run.last.number);
-    PROMISE((run.last.number == MK_ASK_KDC) == (request.reply.status == MK_OK), "number %u, and a request", run.last.number);
-    if (run.last.number == MK_ASK_KDC) {
+    PROMISE(run.last.reply.number == 0 && run.last.next <= MK_ESTABLISHED, "next %u", run.last.next);
+    PROMISE((run.last.next == MK_ASK_KDC) == (request.reply.status == MK_OK), "next %u, and a request", run.last.next);
+    if (run.last.next == MK_ASK_KDC) {
         Got url = get("mk_initiator_get_url", [&](uint8_t *out, size_t room) { return mk_initiator_get_url(&run.it, out, room); });
         PROMISE(url.reply.status == MK_OK && !url.octets.empty(), "no address");
         bytes nonce = nonce_of(request.octets);
@@ -69,9 +69,9 @@ static void look(Run &run) {
 
 static void start(Run &run) {
     run.last = mk_initiator_start(&run.it, &run.moment);
-    check_reply("mk_initiator_start", run.last, SIZE_MAX - 1);
+    check_reply("mk_initiator_start", run.last.reply, SIZE_MAX - 1);
     run.key = USER_KEY;
-    if (run.last.status == MK_OK) look(run);
+    if (run.last.reply.status == MK_OK) look(run);
 }
 
 static bytes with_nonce(bytes part, const bytes &nonce) {
@@ -105,9 +105,9 @@ static void try_other(Run &run, bool is_token, const Lent &octets) {
     Got request = request_of(&run.it), token = token_of(&run.it);
     bool asks = request.reply.status == MK_OK;
     if (asks != is_token) return;
-    mk_reply reply = is_token ? mk_initiator_hear(&run.it, octets.at, octets.length, &run.moment)
-                              : mk_initiator_answer(&run.it, octets.at, octets.length, &run.moment);
-    PROMISE(reply.status == MK_REFUSED, "a step out of its turn: status %u", reply.status);
+    mk_step step = is_token ? mk_initiator_hear(&run.it, octets.at, octets.length, &run.moment)
+                            : mk_initiator_answer(&run.it, octets.at, octets.length, &run.moment);
+    PROMISE(step.reply.status == MK_REFUSED, "a step out of its turn: status %u", step.reply.status);
     Got later = request_of(&run.it), now = token_of(&run.it);
     PROMISE(later.octets == request.octets && now.octets == token.octets, "a step out of its turn changes something");
 }
@@ -118,9 +118,9 @@ static void check_refused(Run &run, bool is_token, const Got &token) {
     Got request = request_of(&run.it), now = token_of(&run.it);
     if (is_token) {
         PROMISE(now.reply.status == token.reply.status && now.octets == token.octets, "a token that was refused changes something");
-    } else if (run.last.cause != MK_CAUSE_SEQUENCE && run.last.cause != MK_CAUSE_MOMENT) {
+    } else if (run.last.reply.cause != MK_CAUSE_SEQUENCE && run.last.reply.cause != MK_CAUSE_MOMENT) {
         PROMISE(is_refused(request.reply, MK_CAUSE_SEQUENCE), "a request stays after an answer that was refused");
-        PROMISE(run.moment.moment != UINT64_C(1700000000000000) || mk_initiator_start(&run.it, &run.moment).status == MK_OK, "no start");
+        PROMISE(run.moment.moment != UINT64_C(1700000000000000) || mk_initiator_start(&run.it, &run.moment).reply.status == MK_OK, "no start");
         run.last = {};
         run.key = USER_KEY;
         if (request_of(&run.it).reply.status == MK_OK) run.nonce = nonce_of(request_of(&run.it).octets);
@@ -152,11 +152,11 @@ static Got cache_of(Run &run, const Lent &reply) {
 /* Before a reply is taken, mk_initiator_get_ccache says the same of it: a refusal, no ticket, or a cache with its ticket and its key. */
 static void check_cache(const Run &run, const Record &it, const bytes &part, const Got &told) {
     if (told.reply.status != MK_OK) {
-        PROMISE(run.last.status == told.reply.status && run.last.kind == told.reply.kind && run.last.cause == told.reply.cause &&
-                    run.last.number == told.reply.number,
-                "a reply is refused with %u, and taken with %u", told.reply.cause, run.last.cause);
+        PROMISE(run.last.reply.status == told.reply.status && run.last.reply.kind == told.reply.kind && run.last.reply.cause == told.reply.cause &&
+                    run.last.reply.number == told.reply.number,
+                "a reply is refused with %u, and taken with %u", told.reply.cause, run.last.reply.cause);
     } else if (told.octets.empty()) {
-        PROMISE(run.last.status != MK_OK || run.last.number == MK_ASK_KDC, "a reply without a ticket leads to %u", run.last.number);
+        PROMISE(run.last.reply.status != MK_OK || run.last.next == MK_ASK_KDC, "a reply without a ticket leads to %u", run.last.next);
     } else {
         Cache cache;
         PROMISE(read_cache(told.octets, cache) && cache.entries.size() == 1, "a cache of %zu entries", cache.entries.size());
@@ -174,18 +174,18 @@ static void step(Run &run, const Record &it, const bytes &given, const bytes &pa
     bytes nonce = run.nonce;
     run.last = is_token ? mk_initiator_hear(&run.it, octets.at, octets.length, &run.moment)
                         : mk_initiator_answer(&run.it, octets.at, octets.length, &run.moment);
-    check_reply("a step", run.last, SIZE_MAX - 1);
+    check_reply("a step", run.last.reply, SIZE_MAX - 1);
     if (!is_token) check_cache(run, it, part, told);
-    PROMISE(run.last.status == MK_OK || run.last.status == MK_REFUSED || run.last.status == MK_ARGUMENT, "a step: status %u", run.last.status);
+    PROMISE(run.last.reply.status == MK_OK || run.last.reply.status == MK_REFUSED || run.last.reply.status == MK_ARGUMENT, "a step: status %u", run.last.reply.status);
     steps++;
-    if (run.last.status != MK_OK) {
+    if (run.last.reply.status != MK_OK) {
         check_refused(run, is_token, token);
         return;
     }
     check_taken(run, it, part, nonce);
     if (it.tag == 2 || it.tag == 3) run.key = key_in(part, 0xa0).empty() ? run.key : key_in(part, 0xa0);
     look(run);
-    if (run.last.number == MK_ESTABLISHED) finish(run, is_token);
+    if (run.last.next == MK_ESTABLISHED) finish(run, is_token);
 }
 
 static void take(Run &run, const Record &it) {
@@ -196,14 +196,14 @@ static void take(Run &run, const Record &it) {
     if (it.tag == 9) step(run, it, framed(it.octets), part);
     if (it.tag == 2 || it.tag == 3) step(run, it, reply_of(run, it, part), part);
     if (it.tag == 5) step(run, it, ap_rep(run.key, part, run.flags & MK_USE_DCE_STYLE), part);
-    if (it.tag == 10) check_reply("mk_initiator_fault", mk_initiator_fault(&run.it, 5, &run.moment), SIZE_MAX - 1);
+    if (it.tag == 10) check_reply("mk_initiator_fault", mk_initiator_fault(&run.it, 5, &run.moment).reply, SIZE_MAX - 1);
 }
 
 static bool go(const std::vector<Record> &all, uint32_t flags, uint32_t rules, bool has_password) {
     Run run(flags, rules);
     if (make(run, has_password)) {
         start(run);
-        if (run.last.status == MK_OK && run.last.number == MK_ESTABLISHED) finish(run, false);
+        if (run.last.reply.status == MK_OK && run.last.next == MK_ESTABLISHED) finish(run, false);
         for (const Record &it : all) {
             if (!run.is_established) take(run, it);
         }

@@ -45,23 +45,24 @@ static void set_all(mk_initiator *it) {
 /* The first step, the same step again, which is out of its turn, and a fault of the network. */
 static void start(mk_initiator *it) {
     mk_moment moment = moment_at();
-    mk_reply reply = mk_initiator_start(it, &moment);
+    mk_step step = mk_initiator_start(it, &moment);
+    mk_reply reply = step.reply;
     check("mk_initiator_start", reply);
     Got url = get("mk_initiator_get_url", [&](uint8_t *out, size_t room) { return mk_initiator_get_url(it, out, room); });
     Got request = get("mk_initiator_get_request", [&](uint8_t *out, size_t room) { return mk_initiator_get_request(it, out, room); });
-    bool asks = reply.status == MK_OK && reply.number == MK_ASK_KDC;
+    bool asks = reply.status == MK_OK && step.next == MK_ASK_KDC;
     PROMISE(asks == (url.reply.status == MK_OK) && asks == (request.reply.status == MK_OK), "status %u, and a request", reply.status);
     if (!asks) {
         refused++;
         return;
     }
     asked++;
-    PROMISE(is_refused(mk_initiator_start(it, &moment), MK_CAUSE_SEQUENCE), "a start out of its turn");
+    PROMISE(is_refused(mk_initiator_start(it, &moment).reply, MK_CAUSE_SEQUENCE), "a start out of its turn");
     Got again = get("mk_initiator_get_request", [&](uint8_t *out, size_t room) { return mk_initiator_get_request(it, out, room); });
     PROMISE(again.octets == request.octets && !request.octets.empty(), "another request");
-    reply = mk_initiator_fault(it, 7, &moment);
+    reply = mk_initiator_fault(it, 7, &moment).reply;
     PROMISE(is_refused(reply, MK_CAUSE_NETWORK) && reply.number == 7, "a fault: status %u, cause %u", reply.status, reply.cause);
-    PROMISE(mk_initiator_start(it, &moment).status == MK_OK, "no start after a fault");
+    PROMISE(mk_initiator_start(it, &moment).reply.status == MK_OK, "no start after a fault");
 }
 
 extern "C" int LLVMFuzzerTestOneInput(const uint8_t *at, size_t length) {

@@ -35,8 +35,8 @@ static bytes ask(mk_initiator *initiator) {
 
 static void answer(mk_initiator *initiator, const bytes &reply, uint32_t next) {
     mk_moment moment = moment_at();
-    mk_reply told = mk_initiator_answer(initiator, reply.data(), reply.size(), &moment);
-    PROMISE(told.status == MK_OK && told.number == next, "an honest reply: status %u, cause %u, number %u", told.status, told.cause, told.number);
+    mk_step told = mk_initiator_answer(initiator, reply.data(), reply.size(), &moment);
+    PROMISE(told.reply.status == MK_OK && told.next == next, "an honest reply: status %u, cause %u, next %u", told.reply.status, told.reply.cause, told.next);
 }
 
 /* The tokens of the first meeting. All draws are the same each time, so each later meeting uses them, and MIT's library seals nothing anew. */
@@ -53,7 +53,7 @@ void log_in(mk_initiator *to, const std::function<void(const bytes &reply)> &bef
     PROMISE(mk_initiator_new(to, target.data(), target.size(), url.data(), 3, flags, number, 4).status == MK_OK, "no initiator");
     PROMISE(mk_initiator_set_kdc(to, url.data(), url.size()).status == MK_OK, "no KDC");
     PROMISE(mk_initiator_set_key(to, user.data(), user.size(), 18, USER_KEY.data(), 32).status == MK_OK, "no key");
-    PROMISE(mk_initiator_start(to, &moment).status == MK_OK, "no start");
+    PROMISE(mk_initiator_start(to, &moment).reply.status == MK_OK, "no start");
     if (said.replies[0].empty()) {
         bytes part = reply_part(false, first, nonce_of(ask(to)), granting);
         said.replies[0] = kdc_reply(false, ticket(granting, SERVICE_KEY, part), USER_KEY, part);
@@ -102,8 +102,8 @@ bytes meet(mk_session *to, bool is_client) {
         mk_initiator initiator = MK_EMPTY;
         mk_moment moment = moment_at();
         log_in(&initiator);
-        mk_reply told = mk_initiator_hear(&initiator, said.answer.data(), said.answer.size(), &moment);
-        PROMISE(told.status == MK_OK && told.number == MK_ESTABLISHED, "an honest answer: status %u, cause %u", told.status, told.cause);
+        mk_step told = mk_initiator_hear(&initiator, said.answer.data(), said.answer.size(), &moment);
+        PROMISE(told.reply.status == MK_OK && told.next == MK_ESTABLISHED, "an honest answer: status %u, cause %u", told.reply.status, told.reply.cause);
         PROMISE(mk_initiator_take_session(&initiator, to).status == MK_OK && initiator.count == 0, "no session");
     }
     PROMISE(key_of(to) == said.key, "two keys");

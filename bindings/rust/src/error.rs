@@ -19,7 +19,7 @@ pub enum Error {
     /// as admitted: its client then needs a new one.
     Memory,
     /// An argument has a value that is not allowed: a key of a service of another length than 16 and 32 bytes, or a moment that
-    /// is past the year 9999 or before 1970.
+    /// is past the year 9999 or before 1970, or random bytes that are all 0.
     Argument,
     /// The system returned no random bytes.
     Random(io::Error),

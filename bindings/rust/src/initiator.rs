@@ -4,7 +4,7 @@ use crate::error::{Error, done};
 use crate::options::{Flags, Rules};
 use crate::session::Session;
 use crate::{filled, microseconds, moment_of, named, random};
-use menolavuri_sys::{self as sys, mk_initiator, mk_reply};
+use menolavuri_sys::{self as sys, mk_initiator, mk_reply, mk_step};
 use std::time::SystemTime;
 
 /// A client that logs in at a service. It has no network: each step returns the next one, and its caller carries the bytes.
@@ -94,9 +94,9 @@ pub enum Step<'a> {
 type OutCall = unsafe extern "C" fn(*mut mk_initiator, *mut u8, usize) -> mk_reply;
 
 /// Returns the next step, if this one was done.
-fn next(reply: mk_reply) -> Result<Next, Error> {
-    done(reply)?;
-    match reply.number {
+fn next(step: mk_step) -> Result<Next, Error> {
+    done(step.reply)?;
+    match step.next {
         sys::MK_ASK_KDC => Ok(Next::AskKdc),
         sys::MK_SEND_TOKEN => Ok(Next::SendToken),
         sys::MK_ESTABLISHED => Ok(Next::Established),

@@ -207,7 +207,10 @@ fn bad_settings_are_told() {
     );
     assert!(initiator.key("a@b", "E", 18, &[7; 32]).is_err());
     let past = SystemTime::UNIX_EPOCH - Duration::from_secs(1);
-    let refused = initiator.step_at(Step::Start, past, [0; 64]);
+    let refused = initiator.step_at(Step::Start, past, [7; 64]);
+    assert!(matches!(refused, Err(Error::Argument)));
+    // Nobody filled these.
+    let refused = initiator.step_at(Step::Start, SystemTime::now(), [0; 64]);
     assert!(matches!(refused, Err(Error::Argument)));
     let error = Initiator::new("host/\u{e4}", "desk", Flags::USUAL);
     assert!(matches!(error, Err(Error::Refused(_))));

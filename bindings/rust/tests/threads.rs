@@ -16,7 +16,7 @@ fn bring(acceptor: &Acceptor, tokens: &[Vec<u8>], thread: usize) -> (usize, usiz
     let (mut admitted, mut replayed) = (0, 0);
     for i in 0..tokens.len() {
         let token = &tokens[(7 * i + 31 * thread) % tokens.len()];
-        match acceptor.accept_at(token, moment, [thread as u8; 64]) {
+        match acceptor.accept_at(token, moment, [thread as u8 + 1; 64]) {
             Ok(session) => {
                 assert_eq!(session.peer(), "alice@example.com");
                 assert_eq!(session.client(), Some("alice@EXAMPLE.COM"));

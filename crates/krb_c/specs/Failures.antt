@@ -1,9 +1,10 @@
 -- Why a call is not done: the forms that several calls have.
-use Rattle.std.specs.Prelude.{◌≡◌, ◌⊎◌, ◌<◌, ℕ, ◌==◌, Bool, false, ◌||◌, List, length, Option, Some, None}
+use Rattle.std.specs.Prelude.{◌≡◌, ◌⊎◌, ◌<◌, ℕ, ◌==◌, Bool, false, ◌||◌, List, length, replicate, Option, Some, None, Result, Err}
 use Rattle.std.specs.Str.{IsUtf8}
 use Rattle.krb_c.specs.declared.reply.Failure.{Failure}
 use Rattle.krb_c.specs.declared.reply.Failure.TheVariants.{Refused, Room, Argument, Handle}
 use Rattle.sspi_core.specs.declared.cause.Cause.TheVariants.{Memory}
+use Rattle.sspi_core.specs.declared.draw.Draw.{Draw}
 use Rattle.sspi_core.specs.declared.error.Error.{Error}
 use Rattle.sspi_core.specs.Kinds.{error_of}
 use Rattle.sspi_core.specs.Moments.{last_moment}
@@ -23,6 +24,18 @@ IsUnfit name key = IsNoText name ⊎ (has_key_length key ≡ false)
 -- the moment is after the end of 9999-12-28
 abbrev pub IsLate : ℕ → Type 0
 IsLate moment = last_moment < moment
+
+-- the random octets of a moment are all 0, as if nobody had filled them
+abbrev pub IsUnfilled : List ℕ → Type 0
+IsUnfilled random = random ≡ replicate 64 0
+
+-- a draw that is late or unfilled
+abbrev pub IsNoDraw : Draw → Type 0
+IsNoDraw draw = IsLate draw.moment ⊎ IsUnfilled draw.random
+
+-- a call with unfilled octets is refused for this argument, whatever else is the case
+abbrev pub RefusesUnfilled : {A : Type 0} → List ℕ → Result A Failure → Type 0
+RefusesUnfilled random answer = IsUnfilled random → answer ≡ Err Argument
 
 -- memory ran out
 abbrev pub IsWant : Error → Type 0

@@ -2,6 +2,7 @@
 use Rattle.std.specs.Prelude.{ℕ, Result, Ok, Err}
 use Rattle.krb_c.specs.Codes.{kind_code, cause_code, number_of}
 use Rattle.krb_c.specs.declared.reply.Reply.{Reply}
+use Rattle.krb_c.specs.declared.reply.Step.{Step}
 use Rattle.krb_c.specs.declared.reply.Failure.{Failure}
 use Rattle.krb_c.specs.declared.reply.Failure.TheVariants.{Refused, Room, Argument, Handle}
 use Rattle.krb_dialogue.specs.declared.dialogue.Next.{Next}
@@ -55,7 +56,7 @@ next_code AskKdc = 0
 next_code SendToken = 1
 next_code Established = 2
 
--- the reply to a step of an initiator
-abbrev pub step_reply : Result Next Failure → Reply
-step_reply (Ok next) = record { status = 0; kind = 0; cause = 0; number = next_code next; length = 0 }
-step_reply (Err failure) = reply_of (Err failure)
+-- the reply to a step of an initiator, and the next turn: 3 if the step failed
+abbrev pub step_reply : Result Next Failure → Step
+step_reply (Ok next) = record { reply = plain_reply 0 0; next = next_code next }
+step_reply (Err failure) = record { reply = reply_of (Err failure); next = 3 }

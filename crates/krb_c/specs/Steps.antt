@@ -42,12 +42,12 @@ pub record IsNobody (old new : Option Dialogue) : Type 0 where
   pub was_empty : old ≡ None
   pub stays : new ≡ None
 
--- why the step leads to nothing
-abbrev pub StepsNot : (Dialogue → Result Next Error → Dialogue → Type 0) → Option Dialogue → Option Dialogue → Failure → Type 0
-StepsNot steps old new (Refused error) = StepRefuses steps old new error
-StepsNot steps old new (Room count) = ⊥
-StepsNot steps old new Argument = ⊥
-StepsNot steps old new Handle = IsNobody old new
+-- why the step leads to nothing: it is refused, an argument is unfit, or no initiator is there
+abbrev pub StepsNot : Type 0 → (Dialogue → Result Next Error → Dialogue → Type 0) → Option Dialogue → Option Dialogue → Failure → Type 0
+StepsNot unfit steps old new (Refused error) = StepRefuses steps old new error
+StepsNot unfit steps old new (Room count) = ⊥
+StepsNot unfit steps old new Argument = unfit × (new ≡ old)
+StepsNot unfit steps old new Handle = IsNobody old new
 
 -- no refusal is one of the network's
 abbrev pub IsNoNetwork : Failure → Type 0

@@ -11,7 +11,7 @@ ghost use Rattle.krb_entrance.specs.Connections.{IsKeyless};
 ghost use Rattle.krb_c.specs.declared.reply.Failure.{Failure};
 ghost use Rattle.krb_c.specs.Replies.{reply_of};
 ghost use Rattle.krb_c.specs.Calls.{AdmitsTo, Turns, draw_of};
-ghost use Rattle.krb_c.specs.Failures.{IsLate};
+ghost use Rattle.krb_c.specs.Failures.{IsNoDraw, RefusesUnfilled};
 
 use crate::handles::{Acceptor, Connection};
 use crate::judge::blank;
@@ -56,7 +56,7 @@ fn accept_at(
 ) -> Result<usize, Failure>
     ensures admits { IfOk result (λ count. AdmitsTo token.now draw.now acceptor.old.place.value to.old.place.value count
         acceptor.new.place.value to.new.place.value) }
-    ensures turns { IfErr result (Turns (IsLate draw.now.moment) token.now draw.now acceptor.old.place.value to.old.place.value acceptor.new.place.value) }
+    ensures turns { IfErr result (Turns (IsNoDraw draw.now) token.now draw.now acceptor.old.place.value to.old.place.value acceptor.new.place.value) }
     ensures stays { OnErr result (to.new.place.value ≡ to.old.place.value) }
 {
     if !to.is_empty() {
@@ -82,8 +82,9 @@ fn accept(
 ) -> Result<usize, Failure>
     ensures admits { IfOk result (λ count. AdmitsTo token.now (draw_of moment.now) acceptor.old.place.value to.old.place.value count
         acceptor.new.place.value to.new.place.value) }
-    ensures turns { IfErr result (Turns (IsLate moment.now.moment) token.now (draw_of moment.now) acceptor.old.place.value to.old.place.value
+    ensures turns { IfErr result (Turns (IsNoDraw (draw_of moment.now)) token.now (draw_of moment.now) acceptor.old.place.value to.old.place.value
         acceptor.new.place.value) }
+    ensures unfilled { RefusesUnfilled moment.now.random result }
     ensures stays { OnErr result (to.new.place.value ≡ to.old.place.value) }
 {
     let draw = draw_of(moment)?;
@@ -95,8 +96,8 @@ fn accept(
 /// not ask for mutual authentication.
 ///
 /// Fails with REFUSED and the first check that failed, as `mk_judge` and then `mk_admit` have it; with ARGUMENT if the moment is past
-/// the end of 9999-12-28; with HANDLE if the acceptor is empty, or `to` is not. Then `to` stays empty. If memory runs out no record
-/// is made, so the token may be sent again.
+/// the end of 9999-12-28, or its random bytes are all 0; with HANDLE if the acceptor is empty, or `to` is not. Then `to` stays empty.
+/// If memory runs out no record is made, so the token may be sent again.
 #[unsafe(no_mangle)]
 pub extern "C" fn mk_accept(
     alloc: Global,
@@ -108,8 +109,9 @@ pub extern "C" fn mk_accept(
     ensures { (answer : Result ℕ Failure) × (result ≡ reply_of answer)
         × IfOk answer (λ count. AdmitsTo token.now (draw_of moment.now) acceptor.old.place.value to.old.place.value count
         acceptor.new.place.value to.new.place.value)
-        × IfErr answer (Turns (IsLate moment.now.moment) token.now (draw_of moment.now) acceptor.old.place.value to.old.place.value
+        × IfErr answer (Turns (IsNoDraw (draw_of moment.now)) token.now (draw_of moment.now) acceptor.old.place.value to.old.place.value
         acceptor.new.place.value)
+        × RefusesUnfilled moment.now.random answer
         × OnErr answer (to.new.place.value ≡ to.old.place.value) }
 {
     reply_of(accept(alloc, acceptor, to, token, moment))

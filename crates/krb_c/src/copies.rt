@@ -7,25 +7,16 @@ ghost use Rattle.krb_c.specs.Copies.{IsTwin, Copies, CopiesNot};
 
 use crate::handles::Acceptor;
 use crate::reply::{Failure, Reply, reply_of};
-use krb_context::KeptKey;
 use krb_der::{TryCopy, boxed};
 use krb_entrance::{Error, OutOfMemory, Service};
-use krb_replay::ReplayBook;
 use std::alloc::Global;
 
 fn twin_of(alloc: Global, service: &Service) -> Result<Box<Service>, OutOfMemory>
     ensures { IfOk result (λ twin. IsTwin service.now twin.value) }
 {
     let keys = service.keys.copy(alloc)?;
-    let book = ReplayBook::new(alloc, keys.properties.max_time_skew)?;
-    boxed(
-        alloc,
-        Service {
-            keys,
-            book,
-            kept: KeptKey::new(),
-        },
-    )
+    let skew = keys.properties.max_time_skew;
+    boxed(alloc, Service::from_keys(alloc, keys, skew)?)
 }
 
 fn copy(alloc: Global, acceptor: &mut Acceptor, to: &mut Acceptor) -> Result<usize, Failure>

@@ -12,7 +12,7 @@ ghost use Rattle.krb_c.specs.declared.reply.Failure.{Failure};
 ghost use Rattle.krb_c.specs.Brought.{Brings, CachesTicket, Caches, HandsCcache, CcacheNot};
 ghost use Rattle.krb_c.specs.Calls.{draw_of};
 ghost use Rattle.krb_c.specs.Ccaches.{ReadsCcache};
-ghost use Rattle.krb_c.specs.Failures.{IsLate};
+ghost use Rattle.krb_c.specs.Failures.{IsNoDraw, RefusesUnfilled};
 ghost use Rattle.krb_c.specs.Replies.{reply_of};
 
 use crate::accept::Moment;
@@ -128,8 +128,9 @@ fn get(
     out: &mut [u8],
 ) -> Result<usize, Failure>
     ensures hands { IfOk result (λ count. HandsCcache file.now reply.now (draw_of moment.now) initiator.old.place.value out.old count out.new) }
-    ensures fails { IfErr result (CcacheNot (IsLate moment.now.moment) file.now reply.now (draw_of moment.now) initiator.old.place.value
+    ensures fails { IfErr result (CcacheNot (IsNoDraw (draw_of moment.now)) file.now reply.now (draw_of moment.now) initiator.old.place.value
         (length out.old)) }
+    ensures unfilled { RefusesUnfilled moment.now.random result }
     ensures stays { initiator.new.place.value ≡ initiator.old.place.value }
     ensures room { OnErr result (out.new ≡ out.old) }
 {
@@ -142,7 +143,8 @@ fn get(
 /// unchanged.
 ///
 /// Fails with OutOfSequence `Sequence` if no KDC is asked, and as the step fails if the reply is refused; with InvalidToken `Shape` if the
-/// bytes are no cache of the formats 0503 and 0504; with ARGUMENT if the moment is past the end of 9999-12-28.
+/// bytes are no cache of the formats 0503 and 0504; with ARGUMENT if the moment is past the end of 9999-12-28, or
+/// its random bytes are all 0.
 #[unsafe(no_mangle)]
 pub extern "C" fn mk_initiator_get_ccache(
     alloc: Global,
@@ -154,8 +156,9 @@ pub extern "C" fn mk_initiator_get_ccache(
 ) -> Reply
     ensures told { (answer : Result ℕ Failure) × (result ≡ reply_of answer)
         × IfOk answer (λ count. HandsCcache file.now reply.now (draw_of moment.now) initiator.old.place.value out.old count out.new)
-        × IfErr answer (CcacheNot (IsLate moment.now.moment) file.now reply.now (draw_of moment.now) initiator.old.place.value
+        × IfErr answer (CcacheNot (IsNoDraw (draw_of moment.now)) file.now reply.now (draw_of moment.now) initiator.old.place.value
         (length out.old))
+        × RefusesUnfilled moment.now.random answer
         × OnErr answer (out.new ≡ out.old) }
     ensures stays { initiator.new.place.value ≡ initiator.old.place.value }
 {

@@ -10,7 +10,7 @@ ghost use Rattle.krb_entrance.specs.Candidates.{IsLetIn, Stops, TurnsAway};
 ghost use Rattle.krb_c.specs.declared.reply.Failure.{Failure};
 ghost use Rattle.krb_c.specs.Replies.{reply_of};
 ghost use Rattle.krb_c.specs.Calls.{draw_of};
-ghost use Rattle.krb_c.specs.Failures.{IsLate};
+ghost use Rattle.krb_c.specs.Failures.{IsNoDraw, RefusesUnfilled};
 ghost use Rattle.krb_c.specs.Halves.{IsCandidate, JudgesTo, JudgesNot, LetsInTo, LetsInNot};
 
 use crate::accept::Moment;
@@ -45,7 +45,7 @@ fn judge_at(
     draw: &Draw,
 ) -> Result<usize, Failure>
     ensures judges { IfOk result (λ count. JudgesTo None token.now draw.now acceptor.old.place.value to.old.place.value count to.new.place.value) }
-    ensures fails { IfErr result (JudgesNot (IsLate draw.now.moment) None token.now draw.now acceptor.old.place.value to.old.place.value) }
+    ensures fails { IfErr result (JudgesNot (IsNoDraw draw.now) None token.now draw.now acceptor.old.place.value to.old.place.value) }
     ensures acceptor { acceptor.new.place.value ≡ acceptor.old.place.value }
     ensures stays { OnErr result (to.new.place.value ≡ to.old.place.value) }
 {
@@ -69,7 +69,8 @@ fn judge(
     moment: &Moment,
 ) -> Result<usize, Failure>
     ensures judges { IfOk result (λ count. JudgesTo None token.now (draw_of moment.now) acceptor.old.place.value to.old.place.value count to.new.place.value) }
-    ensures fails { IfErr result (JudgesNot (IsLate moment.now.moment) None token.now (draw_of moment.now) acceptor.old.place.value to.old.place.value) }
+    ensures fails { IfErr result (JudgesNot (IsNoDraw (draw_of moment.now)) None token.now (draw_of moment.now) acceptor.old.place.value to.old.place.value) }
+    ensures unfilled { RefusesUnfilled moment.now.random result }
     ensures acceptor { acceptor.new.place.value ≡ acceptor.old.place.value }
     ensures stays { OnErr result (to.new.place.value ≡ to.old.place.value) }
 {
@@ -93,7 +94,8 @@ pub extern "C" fn mk_judge(
 ) -> Reply
     ensures told { (answer : Result ℕ Failure) × (result ≡ reply_of answer)
         × IfOk answer (λ count. JudgesTo None token.now (draw_of moment.now) acceptor.old.place.value to.old.place.value count to.new.place.value)
-        × IfErr answer (JudgesNot (IsLate moment.now.moment) None token.now (draw_of moment.now) acceptor.old.place.value to.old.place.value)
+        × IfErr answer (JudgesNot (IsNoDraw (draw_of moment.now)) None token.now (draw_of moment.now) acceptor.old.place.value to.old.place.value)
+        × RefusesUnfilled moment.now.random answer
         × OnErr answer (to.new.place.value ≡ to.old.place.value) }
     ensures acceptor { acceptor.new.place.value ≡ acceptor.old.place.value }
 {

@@ -8,7 +8,7 @@ ghost use Rattle.krb_entrance.specs.Candidates.{Stops};
 ghost use Rattle.krb_c.specs.declared.reply.Failure.{Failure};
 ghost use Rattle.krb_c.specs.Replies.{reply_of};
 ghost use Rattle.krb_c.specs.Calls.{draw_of};
-ghost use Rattle.krb_c.specs.Failures.{IsLate, IsWant, RefusedAs};
+ghost use Rattle.krb_c.specs.Failures.{IsNoDraw, IsWant, RefusedAs, RefusesUnfilled};
 ghost use Rattle.krb_c.specs.Halves.{IsCandidate, IsLong, JudgesTo, JudgesNot, channel_of};
 
 use crate::accept::Moment;
@@ -93,7 +93,7 @@ fn judge_at(
 ) -> Result<usize, Failure>
     ensures judges { IfOk result (λ count. JudgesTo (Some (channel_of octets.now)) token.now draw.now
         acceptor.old.place.value to.old.place.value count to.new.place.value) }
-    ensures fails { IfErr result (JudgesNot (IsLate draw.now.moment ⊎ IsLong octets.now) (Some (channel_of octets.now)) token.now draw.now
+    ensures fails { IfErr result (JudgesNot (IsNoDraw draw.now ⊎ IsLong octets.now) (Some (channel_of octets.now)) token.now draw.now
         acceptor.old.place.value to.old.place.value) }
     ensures acceptor { acceptor.new.place.value ≡ acceptor.old.place.value }
     ensures stays { OnErr result (to.new.place.value ≡ to.old.place.value) }
@@ -120,8 +120,9 @@ fn judge_bound(
 ) -> Result<usize, Failure>
     ensures judges { IfOk result (λ count. JudgesTo (Some (channel_of octets.now)) token.now (draw_of moment.now)
         acceptor.old.place.value to.old.place.value count to.new.place.value) }
-    ensures fails { IfErr result (JudgesNot (IsLate moment.now.moment ⊎ IsLong octets.now) (Some (channel_of octets.now)) token.now
+    ensures fails { IfErr result (JudgesNot (IsNoDraw (draw_of moment.now) ⊎ IsLong octets.now) (Some (channel_of octets.now)) token.now
         (draw_of moment.now) acceptor.old.place.value to.old.place.value) }
+    ensures unfilled { RefusesUnfilled moment.now.random result }
     ensures acceptor { acceptor.new.place.value ≡ acceptor.old.place.value }
     ensures stays { OnErr result (to.new.place.value ≡ to.old.place.value) }
 {
@@ -146,8 +147,9 @@ pub extern "C" fn mk_judge_bound(
     ensures told { (answer : Result ℕ Failure) × (result ≡ reply_of answer)
         × IfOk answer (λ count. JudgesTo (Some (channel_of octets.now)) token.now (draw_of moment.now)
         acceptor.old.place.value to.old.place.value count to.new.place.value)
-        × IfErr answer (JudgesNot (IsLate moment.now.moment ⊎ IsLong octets.now) (Some (channel_of octets.now)) token.now
+        × IfErr answer (JudgesNot (IsNoDraw (draw_of moment.now) ⊎ IsLong octets.now) (Some (channel_of octets.now)) token.now
         (draw_of moment.now) acceptor.old.place.value to.old.place.value)
+        × RefusesUnfilled moment.now.random answer
         × OnErr answer (to.new.place.value ≡ to.old.place.value) }
     ensures acceptor { acceptor.new.place.value ≡ acceptor.old.place.value }
 {

@@ -5,7 +5,7 @@ ghost use Rattle.krb_keyring.specs.Judging.{RefusesByRing};
 ghost use Rattle.krb_c.specs.declared.reply.Failure.{Failure};
 ghost use Rattle.krb_c.specs.Replies.{reply_of};
 ghost use Rattle.krb_c.specs.Calls.{draw_of};
-ghost use Rattle.krb_c.specs.Failures.{IsLate, IsWant, RefusedAs};
+ghost use Rattle.krb_c.specs.Failures.{IsNoDraw, IsWant, RefusedAs, RefusesUnfilled};
 ghost use Rattle.krb_c.specs.Keyrings.{IsLongIf, IsOfRing, RingJudgesTo, RingJudgesNot, channel_if};
 ghost use Rattle.krb_c.specs.Told.{is_set};
 
@@ -81,7 +81,7 @@ fn judge_at(
 ) -> Result<usize, Failure>
     ensures judges { IfOk result (λ count. RingJudgesTo (channel_if is_bound octets.now) token.now draw.now
         ring.old.place.value to.old.place.value count to.new.place.value) }
-    ensures fails { IfErr result (RingJudgesNot (IsLate draw.now.moment ⊎ IsLongIf is_bound octets.now) (channel_if is_bound octets.now)
+    ensures fails { IfErr result (RingJudgesNot (IsNoDraw draw.now ⊎ IsLongIf is_bound octets.now) (channel_if is_bound octets.now)
         token.now draw.now ring.old.place.value to.old.place.value) }
     ensures ring { ring.new.place.value ≡ ring.old.place.value }
     ensures stays { OnErr result (to.new.place.value ≡ to.old.place.value) }
@@ -109,8 +109,9 @@ fn judge(
 ) -> Result<usize, Failure>
     ensures judges { IfOk result (λ count. RingJudgesTo (channel_if (is_set bound) octets.now) token.now (draw_of moment.now)
         ring.old.place.value to.old.place.value count to.new.place.value) }
-    ensures fails { IfErr result (RingJudgesNot (IsLate moment.now.moment ⊎ IsLongIf (is_set bound) octets.now)
+    ensures fails { IfErr result (RingJudgesNot (IsNoDraw (draw_of moment.now) ⊎ IsLongIf (is_set bound) octets.now)
         (channel_if (is_set bound) octets.now) token.now (draw_of moment.now) ring.old.place.value to.old.place.value) }
+    ensures unfilled { RefusesUnfilled moment.now.random result }
     ensures ring { ring.new.place.value ≡ ring.old.place.value }
     ensures stays { OnErr result (to.new.place.value ≡ to.old.place.value) }
 {
@@ -127,8 +128,8 @@ fn judge(
 /// as at `mk_judge_bound`.
 ///
 /// Fails with REFUSED and the first check that failed: `Shape` for a token that is no AP-REQ or is past the limit, `NoServiceKey` if
-/// the ring has no key for the ticket. Fails with ARGUMENT if the moment is past the end of 9999-12-28, or a channel's data have over
-/// 2^24 bytes; with HANDLE if there is no keyring, or `to` is not empty. Then `to` is unchanged.
+/// the ring has no key for the ticket. Fails with ARGUMENT if the moment is past the end of 9999-12-28, or its random bytes are all 0,
+/// or a channel's data have over 2^24 bytes; with HANDLE if there is no keyring, or `to` is not empty. Then `to` is unchanged.
 #[unsafe(no_mangle)]
 pub extern "C" fn mk_keyring_judge(
     alloc: Global,
@@ -142,8 +143,9 @@ pub extern "C" fn mk_keyring_judge(
     ensures told { (answer : Result ℕ Failure) × (result ≡ reply_of answer)
         × IfOk answer (λ count. RingJudgesTo (channel_if (is_set bound) octets.now) token.now (draw_of moment.now)
         ring.old.place.value to.old.place.value count to.new.place.value)
-        × IfErr answer (RingJudgesNot (IsLate moment.now.moment ⊎ IsLongIf (is_set bound) octets.now)
+        × IfErr answer (RingJudgesNot (IsNoDraw (draw_of moment.now) ⊎ IsLongIf (is_set bound) octets.now)
         (channel_if (is_set bound) octets.now) token.now (draw_of moment.now) ring.old.place.value to.old.place.value)
+        × RefusesUnfilled moment.now.random answer
         × OnErr answer (to.new.place.value ≡ to.old.place.value) }
     ensures ring { ring.new.place.value ≡ ring.old.place.value }
 {

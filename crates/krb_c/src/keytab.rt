@@ -17,15 +17,11 @@ ghost use Rattle.krb_c.specs.Keytabs.{IsOfKeytab, MakesOfKeytab, IsNoKeytab, Ref
 
 use crate::handles::Acceptor;
 use crate::reply::{Failure, Reply, reply_of};
-use krb_context::{KeptKey, ServerProperties};
+use krb_context::ServerProperties;
 use krb_der::{Name, boxed};
 use krb_entrance::{Cause, Error, Keys, OutOfMemory, Service};
 use krb_keytab::{Keytab, KeytabError};
-use krb_replay::ReplayBook;
 use std::alloc::Global;
-
-/// The number of bytes that a token may have, unless the caller sets another limit.
-const TOKEN_LIMIT: usize = 65_536;
 
 /// Returns a realm's name, if it is ASCII.
 fn realm_of(alloc: Global, realm: &[u8]) -> Result<Name, Failure>
@@ -115,19 +111,8 @@ fn boxed_service(
     ensures skew { IfOk result (λ service. service.value.book.skew ≡ skew) }
     ensures book { IfOk result (λ service. StandsFor service.value.book no_history) }
 {
-    let book = ReplayBook::new(alloc, skew)?;
-    let keys = Keys {
-        properties,
-        token_limit: TOKEN_LIMIT,
-    };
-    boxed(
-        alloc,
-        Service {
-            keys,
-            book,
-            kept: KeptKey::new(),
-        },
-    )
+    let keys = Keys::from_properties(properties);
+    boxed(alloc, Service::from_keys(alloc, keys, skew)?)
 }
 
 /// Returns the services of the realm that have a key in the keytab, and their number.

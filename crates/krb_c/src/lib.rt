@@ -44,7 +44,7 @@ mod told;
 
 pub use accept::Moment;
 pub use handles::{Acceptor, Connection, Initiator, Judgement, Ring, Sasl};
-pub use reply::{Failure, Reply};
+pub use reply::{Failure, Reply, Step};
 pub use sasl_end::SaslEnd;
 pub use sasl_reply::SaslFailure;
 pub use tells::Times;

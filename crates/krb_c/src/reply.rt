@@ -18,6 +18,14 @@ pub struct Reply {
     pub length: usize,
 }
 
+/// The reply to a step of an initiator, and what comes next: 3 if the step failed.
+#[repr(C)]
+#[derive(Clone, Copy, Debug, PartialEq, Eq)]
+pub struct Step {
+    pub reply: Reply,
+    pub next: u32,
+}
+
 /// Why a call failed.
 #[derive(Clone, Copy, Debug, PartialEq, Eq)]
 pub enum Failure {
@@ -71,6 +79,9 @@ const ARGUMENT: u32 = 4;
 
 /// The handle has the wrong content for the call.
 const HANDLE: u32 = 5;
+
+/// The step failed: there is no next turn.
+const FAILED: u32 = 3;
 
 fn plain_reply(status: u32, length: usize) -> Reply
     ensures { result ≡ plain_reply status length }
@@ -141,17 +152,17 @@ fn next_code(next: Next) -> u32
 }
 
 /// Returns the reply to a step, as C has it.
-pub(crate) fn step_reply(answer: Result<Next, Failure>) -> Reply
+pub(crate) fn step_reply(answer: Result<Next, Failure>) -> Step
     ensures { result ≡ step_reply answer }
 {
     match answer {
-        Ok(next) => Reply {
-            status: DONE,
-            kind: 0,
-            cause: 0,
-            number: next_code(next),
-            length: 0,
+        Ok(next) => Step {
+            reply: plain_reply(DONE, 0),
+            next: next_code(next),
         },
-        Err(failure) => reply_of(Err(failure)),
+        Err(failure) => Step {
+            reply: reply_of(Err(failure)),
+            next: FAILED,
+        },
     }
 }

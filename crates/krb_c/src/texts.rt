@@ -4,7 +4,7 @@ ghost use Rattle.std.specs.Prelude.{◌≡◌, ◌≢◌, ◌≤◌, ◌<◌, tr
 ghost use Rattle.sspi_core.specs.Moments.{last_moment};
 ghost use Rattle.krb_c.specs.declared.reply.Failure.TheVariants as failures;
 ghost use Rattle.krb_c.specs.Calls.{draw_of};
-ghost use Rattle.krb_c.specs.Failures.{IsLate, IsNoText, IsWant, RefusedAs, has_key_length};
+ghost use Rattle.krb_c.specs.Failures.{IsLate, IsNoDraw, IsNoText, IsUnfilled, IsWant, RefusedAs, has_key_length};
 
 use crate::accept::Moment;
 use crate::reply::Failure;
@@ -78,28 +78,32 @@ pub(crate) fn etype_of(etype: u32) -> Result<u8, Failure>
     Ok(etype as u8)
 }
 
-/// Returns a moment as the library has it, if it is in range.
+/// Returns a moment as the library has it, if it is in range and its random bytes are filled.
 pub(crate) fn draw_of(moment: &Moment) -> Result<Draw, Failure>
     ensures same { IfOk result (λ draw. draw ≡ draw_of moment.now) }
     ensures in_range { OnOk result (moment.now.moment ≤ last_moment) }
+    ensures filled { OnOk result (IsUnfilled moment.now.random → ⊥) }
     ensures failure { IfErr result (λ failure. failure ≡ failures.Argument) }
-    ensures unfit { OnErr result (IsLate moment.now.moment) }
+    ensures unfit { OnErr result (IsNoDraw (draw_of moment.now)) }
 {
     if MAX_MOMENT < moment.moment {
+        return Err(Failure::Argument);
+    }
+    filled_draw(moment)
+}
+
+/// Returns a moment as the library has it, if its random bytes are not all 0, for a call that checks itself whether it is in range.
+pub(crate) fn filled_draw(moment: &Moment) -> Result<Draw, Failure>
+    ensures same { IfOk result (λ draw. draw ≡ draw_of moment.now) }
+    ensures filled { OnOk result (IsUnfilled moment.now.random → ⊥) }
+    ensures failure { IfErr result (λ failure. failure ≡ failures.Argument) }
+    ensures unfit { OnErr result (IsUnfilled moment.now.random) }
+{
+    if moment.random == [0; 64] {
         return Err(Failure::Argument);
     }
     Ok(Draw {
         moment: moment.moment,
         random: moment.random,
     })
-}
-
-/// Returns a moment as the library has it, for a call that checks itself whether it is in range.
-pub(crate) fn any_draw(moment: &Moment) -> Draw
-    ensures { result ≡ draw_of moment.now }
-{
-    Draw {
-        moment: moment.moment,
-        random: moment.random,
-    }
 }

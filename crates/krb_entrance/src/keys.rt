@@ -41,10 +41,18 @@ impl Keys {
         let parts = components(alloc, name)?;
         let key = Some(Secret::new(key));
         let properties = ServerProperties::new(alloc, &parts, None, skew, key)?;
-        Ok(Keys {
+        Ok(Keys::from_properties(properties))
+    }
+
+    /// Returns the names and keys in these properties. A token may have 65,536 bytes.
+    pub fn from_properties(properties: ServerProperties) -> Keys
+        ensures properties { result.properties ≡ properties }
+        ensures limit { result.token_limit ≡ token_limit }
+    {
+        Keys {
             properties,
             token_limit: TOKEN_LIMIT,
-        })
+        }
     }
 
     /// Adds a further name with its key, after the existing ones. Fails with `NotAscii` if the name is not ASCII.

@@ -41,6 +41,15 @@ impl Service {
         ensures refused { IfErr result (IsNotAscii (components name.now)) }
     {
         let keys = Keys::new(alloc, name, key, skew)?;
+        Ok(Service::from_keys(alloc, keys, skew)?)
+    }
+
+    /// Returns a service with these names and keys, and an empty book that has this skew, in seconds.
+    pub fn from_keys(alloc: Global, keys: Keys, skew: u32) -> Result<Service, OutOfMemory>
+        ensures keys { IfOk result (λ service. service.keys ≡ keys) }
+        ensures skew { IfOk result (λ service. service.book.skew ≡ skew) }
+        ensures book { IfOk result (λ service. StandsFor service.book no_history) }
+    {
         let book = ReplayBook::new(alloc, skew)?;
         Ok(Service {
             keys,
