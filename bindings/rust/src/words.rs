@@ -154,7 +154,7 @@ const WORDS: [(u32, &str); 62] = [
     ),
     (
         sys::MK_CAUSE_NETWORK,
-        "no KDC replied: check its address, and that it runs",
+        "no KDC answered: check its address, and that it runs",
     ),
     (sys::MK_CAUSE_REPLY_SHORT, "the KDC's reply is cut"),
     (

@@ -51,7 +51,7 @@ fn a_person_can_act_on_an_error() {
     initiator.start().unwrap();
     assert_eq!(
         words(initiator.fault(7).err()),
-        "refused: NoAuthenticatingAuthority Network 7: no KDC replied: check its address, and that it runs"
+        "refused: NoAuthenticatingAuthority Network 7: no KDC answered: check its address, and that it runs"
     );
 }
 
