@@ -10,14 +10,26 @@
 
 static uint8_t text_at[MOST], token_at[MOST + 76], out_at[MOST + 76];
 
-/* The blocks that a call takes: none writes its message in place, and mk_unwrap takes these. */
-enum { WRAP = 0, WRAP_IN_CLEAR = 0, UNWRAP = 0, UNWRAP_IN_CLEAR = 0, MIC = 0, VERIFY = 0 };
+/* The calls, and the most blocks of memory that each takes once a session has kept the keys of its first messages: messages are encrypted
+ * and signed in the caller's room, and verified where they lie. mk_wrap_in_clear makes its token apart, and mk_unwrap copies its token. */
+enum { WRAP, WRAP_IN_CLEAR, UNWRAP, MIC, VERIFY, CALLS };
+static const char *const NAMES[CALLS] = {"mk_wrap", "mk_wrap_in_clear", "mk_unwrap", "mk_mic", "mk_verify"};
+static const long MOST_BLOCKS[CALLS] = {0, 3, 1, 0, 0};
 
+/* The most that each took, and whether the keys are kept. */
+static long taken[CALLS];
+static int is_counted;
 static long before;
 
-static int takes(long blocks) { return blocks_given() - before == blocks; }
-
 static void begin(void) { before = blocks_given(); }
+
+static void end(int call) {
+    long blocks = blocks_given() - before;
+    if (is_counted) {
+        CHECK(blocks <= MOST_BLOCKS[call]);
+        taken[call] = blocks > taken[call] ? blocks : taken[call];
+    }
+}
 
 /* A token of one end, and its text at the other end. */
 static void send(mk_session *from, mk_session *to, size_t length, int is_sealed) {
@@ -26,14 +38,14 @@ static void send(mk_session *from, mk_session *to, size_t length, int is_sealed)
     begin();
     mk_reply made = is_sealed ? mk_wrap(from, text_at, length, confounder, sizeof confounder, token_at, sizeof token_at)
                               : mk_wrap_in_clear(from, text_at, length, token_at, sizeof token_at);
-    CHECK(takes(is_sealed ? WRAP : WRAP_IN_CLEAR));
+    end(is_sealed ? WRAP : WRAP_IN_CLEAR);
     CHECK(made.status == MK_OK && made.length == wanted && mk_is_sealed(token_at) == is_sealed);
     token_at[wanted - 1] ^= 1;
     CHECK(is_refused(mk_unwrap(to, token_at, wanted, out_at, sizeof out_at), MK_CAUSE_ALTERED));
     token_at[wanted - 1] ^= 1;
     begin();
     mk_reply read = mk_unwrap(to, token_at, wanted, out_at, sizeof out_at);
-    CHECK(takes(is_sealed ? UNWRAP : UNWRAP_IN_CLEAR));
+    end(UNWRAP);
     CHECK(read.status == MK_OK && read.length == length && memcmp(out_at, text_at, length) == 0);
     CHECK(is_refused(mk_unwrap(to, token_at, wanted, out_at, sizeof out_at), MK_CAUSE_REPEATED));
 }
@@ -43,10 +55,12 @@ static void sign(mk_session *from, mk_session *to, size_t length) {
     uint8_t mic[28];
     begin();
     mk_reply made = mk_mic(from, text_at, length, mic, sizeof mic);
-    CHECK(takes(MIC) && made.status == MK_OK && made.length == sizeof mic);
+    end(MIC);
+    CHECK(made.status == MK_OK && made.length == sizeof mic);
     begin();
     mk_reply verified = mk_verify(to, mic, sizeof mic, text_at, length);
-    CHECK(takes(VERIFY) && verified.status == MK_OK);
+    end(VERIFY);
+    CHECK(verified.status == MK_OK);
     mic[27] ^= 1;
     CHECK(is_refused(mk_verify(to, mic, sizeof mic, text_at, length), MK_CAUSE_ALTERED));
 }
@@ -74,6 +88,8 @@ int main(int count, char **words) {
     mk_session client = MK_EMPTY, server = MK_EMPTY;
     long held = blocks_held();
     meet(&x, &client, &server);
+    speak(&client, &server, 1);
+    is_counted = 1;
     const size_t kinds = sizeof lengths / sizeof *lengths;
     size_t rounds = count > 2 ? (size_t)atol(words[2]) : 1;
     for (size_t round = 0; round < rounds || round < kinds; round++) {
@@ -85,5 +101,8 @@ int main(int count, char **words) {
     mk_session_free(&client);
     mk_session_free(&server);
     CHECK(blocks_held() == held);
+    for (int call = 0; call < CALLS; call++) {
+        printf("%s takes %ld blocks of memory at most\n", NAMES[call], taken[call]);
+    }
     return tell_checks();
 }
