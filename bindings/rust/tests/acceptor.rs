@@ -85,17 +85,16 @@ fn clients_of_any_name_are_admitted_and_known_whole() {
     }
 }
 
-/// Other letters in the place of such bytes could be those of another client.
+/// A GeneralString has ASCII alone (RFC 4120, section 5.2.1): no other letters take the place of other bytes.
 #[test]
-fn a_name_that_is_not_utf_8_is_refused() {
-    let name: &[&str] = &["al\u{ff}ice"];
-    let token = Client::of(&KEY, &Ticket { name, ..USER }).ask(&Asked { name, ..asked() });
-    let acceptor = acceptor();
-    let mut judged = acceptor.judge_at(&token, now(), [1; 64]).unwrap();
-    assert!(matches!(judged.client(), Err(Error::NotUtf8)));
-    assert!(matches!(acceptor.admit(judged), Err(Error::NotUtf8)));
-    let error = accept(&acceptor, &token);
-    assert_eq!(cause_of(error), Some(Cause::Replayed));
+fn a_name_that_is_not_ascii_is_refused() {
+    let odd: &[&str] = &["al\u{ff}ice"]; // the byte ff
+    for name in [odd, &["al\u{e4}ice"]] {
+        let ticket = Ticket { name, ..USER };
+        let token = Client::of(&KEY, &ticket).ask(&Asked { name, ..asked() });
+        let session = accept(&acceptor(), &token);
+        assert_eq!(cause_of(session), Some(Cause::Inner), "{name:?}");
+    }
 }
 
 #[test]
