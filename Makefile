@@ -53,7 +53,7 @@ realm: build
 	@examples/realm/run
 
 library:
-	@for it in cc ar cargo rustc; do command -v $$it > /dev/null || { echo "make library needs cc and Rust 1.87, and there is no $$it"; exit 1; }; done
+	@for it in cc ar cargo rustc; do command -v $$it > /dev/null || { echo "make library needs cc and Rust 1.85, and there is no $$it"; exit 1; }; done
 	@bindings/check-names
 	@bindings/prove
 	@$(MAKE) --no-print-directory -C bindings/c all
@@ -61,6 +61,7 @@ library:
 bindings: library
 	$(MAKE) -C bindings/c -j3 test
 	tests/install/run
+	cd bindings/rust-sys && cargo test --offline --quiet
 	cd bindings/rust && cargo test --offline --quiet
 	bindings/check-docs
 

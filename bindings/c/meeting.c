@@ -80,13 +80,16 @@ void refuse_growth(long number) { granted = number; }
 
 static int is_granted(void) { return granted < 0 || granted-- > 0; }
 
-/* How many blocks were given and have not come back. */
-static long held;
+/* How many blocks were given and have not come back, and how many were given or grown at all. */
+static long held, given;
 
 long blocks_held(void) { return held; }
 
+long blocks_given(void) { return given; }
+
 static void *counted(void *at) {
     held += at != NULL;
+    given++;
     return at;
 }
 
@@ -109,4 +112,7 @@ void __wrap_free(void *at) {
     __real_free(at);
 }
 
-void *__wrap_realloc(void *at, size_t size) { return is_granted() ? __real_realloc(at, size) : NULL; }
+void *__wrap_realloc(void *at, size_t size) {
+    given++;
+    return is_granted() ? __real_realloc(at, size) : NULL;
+}

@@ -29,4 +29,7 @@ void refuse_growth(long number);
 /* How many blocks of memory were given and have not come back. */
 long blocks_held(void);
 
+/* How many blocks of memory were given or grown at all, those that came back too. */
+long blocks_given(void);
+
 #endif

@@ -428,6 +428,7 @@ static void once(const conversation *c) {
     reply = mk_version(out, sizeof out);
     static const char version[] = "0.1.0";
     CHECK(reply.status == MK_OK && reply.length == sizeof version - 1 && memcmp(out, version, sizeof version - 1) == 0);
+    CHECK(strcmp(MK_VERSION, version) == 0);
     CHECK(make(c, &acceptor).status == MK_OK);
     if (large != NULL) {
         memcpy(large, c->token.at, c->token.length);

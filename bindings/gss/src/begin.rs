@@ -90,7 +90,7 @@ impl Held {
             self.check(&file)?;
             match initiator.set_ccache(&file, SystemTime::now()) {
                 Ok(_) => return Ok(()),
-                Err(error) if error.cause() == Some(Cause::NO_IDENTITY) => {
+                Err(error) if error.cause() == Some(Cause::NoIdentity) => {
                     return Err(format!("{path} has no ticket that is valid"));
                 }
                 Err(error) => failed = format!("{path}: {error}"),
@@ -174,8 +174,8 @@ pub fn go(mut it: Ready) -> Result<Ready, Refused> {
 
 /// The refusal of a KDC's reply, or of a service's token. A KRB-ERROR has its own minor status.
 pub fn refused(error: &Error, token: &[u8]) -> Refused {
-    let by_kdc = match error {
-        Error::Refused(it) if it.cause == Cause::KDC => krb5::minor_of(it.number),
+    let by_kdc = match error.cause() {
+        Some(Cause::Kdc(code)) => krb5::minor_of(code),
         _ => None,
     };
     let mut refused = Refused::by(error);

@@ -38,7 +38,10 @@ pub struct Admitted {
 }
 
 fn by_library(error: Error) -> Refused {
-    Refused::by(&error)
+    match error {
+        Error::NotUtf8 => Refused::of(FAILURE, NAME, ""),
+        error => Refused::by(&error),
+    }
 }
 
 /// Admits the client of a token if the proved checks and the store do. Returns the facts of the client in either case.
@@ -104,8 +107,8 @@ fn ask_store(
     Ok(session)
 }
 
-/// A name goes to MIT's mechanism as text, which an octet 0 would end: "root\\0x" must not be root. The library's crate writes U+FFFD for
-/// octets that are not UTF-8.
+/// A name goes to MIT's mechanism as text, which an octet 0 would end: "root\\0x" must not be root. U+FFFD, which other programs
+/// write for octets that are not UTF-8, names nobody.
 fn is_plain(name: &str) -> bool {
     !name.chars().any(|it| it.is_control() || it == '\u{fffd}')
 }

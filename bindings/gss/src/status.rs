@@ -100,9 +100,6 @@ const CAUSE_WORDS: [(u32, &str); 38] = [
     ),
 ];
 
-/// The cause of a token that is not in the grammar of an AP-REQ.
-const SHAPE: Cause = Cause(6);
-
 /// The refusal of a call.
 #[derive(Debug)]
 pub struct Refused {
@@ -140,7 +137,7 @@ impl Refused {
     /// The KRB-ERROR that tells a client why it is refused, for the service of this name (RFC 4121, section 4.1). There is none for a token
     /// that is not in the grammar of an AP-REQ, and for a refusal that is not the library's.
     pub fn token(&self, service: &str) -> Vec<u8> {
-        let Some(refusal) = self.refusal.filter(|it| it.cause != SHAPE) else {
+        let Some(refusal) = self.refusal.filter(|it| it.cause != Cause::Shape) else {
             return Vec::new();
         };
         let (name, realm) = service.rsplit_once('@').unwrap_or((service, ""));
@@ -149,7 +146,12 @@ impl Refused {
 }
 
 fn minor_of(error: &Error) -> u32 {
-    error.cause().map_or(NOT_DONE, |it| MINOR | it.0)
+    error.cause().map_or(NOT_DONE, |it| MINOR | it.number())
+}
+
+/// The cause of a minor status, without its code.
+fn cause_of(minor: u32) -> Cause {
+    Cause::from_number(minor & 0xffff, 0)
 }
 
 /// The words of an error that is not a refusal.
@@ -162,11 +164,11 @@ fn further(error: &Error) -> String {
 
 /// The status of RFC 2744 for a client that is refused.
 fn major_of(minor: u32) -> u32 {
-    match Cause(minor & 0xffff) {
-        Cause(6 | 12 | 47) => DEFECTIVE_TOKEN,
-        Cause::NO_SERVICE_KEY => NO_CRED,
-        Cause::EXPIRED => CREDENTIALS_EXPIRED,
-        Cause::BINDINGS | Cause::CHECKSUM => BAD_BINDINGS,
+    match cause_of(minor) {
+        Cause::Shape | Cause::Inner | Cause::Header => DEFECTIVE_TOKEN,
+        Cause::NoServiceKey => NO_CRED,
+        Cause::Expired => CREDENTIALS_EXPIRED,
+        Cause::Bindings | Cause::Checksum => BAD_BINDINGS,
         _ => FAILURE,
     }
 }
@@ -174,9 +176,9 @@ fn major_of(minor: u32) -> u32 {
 /// The status for a message that is refused. Each is an error: a message that comes again is not returned, so it is no supplementary bit.
 pub fn of_message(error: &Error, altered: u32) -> (u32, u32) {
     let minor = minor_of(error);
-    let major = match Cause(minor & 0xffff) {
-        Cause(6 | 10 | 47 | 48) => DEFECTIVE_TOKEN,
-        Cause::ALTERED => altered,
+    let major = match cause_of(minor) {
+        Cause::Shape | Cause::Short | Cause::Header | Cause::Direction => DEFECTIVE_TOKEN,
+        Cause::Altered => altered,
         _ => FAILURE,
     };
     (major, minor)
@@ -200,7 +202,7 @@ pub fn words(minor: u32) -> String {
         return krb5::words(minor);
     }
     let known = CAUSE_WORDS.iter().find(|it| it.0 == number);
-    let name = Cause(number);
+    let name = cause_of(minor);
     match known {
         Some((_, words)) => format!("{name}: {words}"),
         None => name.to_string(),

@@ -5,8 +5,6 @@
 //!
 //! The arguments are the KDCs that are asked, by the same protocol, where the one of the line does not answer.
 
-#[path = "parts/causes.rs"]
-mod causes;
 #[path = "parts/telling.rs"]
 mod telling;
 

@@ -9,8 +9,6 @@
 //! wait may come `channel:` and the data of a channel's bindings, to which each client is then held. Who needs other rules for messages
 //! than those of the RFCs names them at the end (docs/DIFFERENCES.md), or `NONE`.
 
-#[path = "parts/causes.rs"]
-mod causes;
 #[path = "parts/connections.rs"]
 mod connections;
 #[path = "parts/frames.rs"]

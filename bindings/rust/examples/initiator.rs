@@ -11,8 +11,6 @@
 //! asked in turn, with commas between them, until one answers. The client goes by the RFCs. Who needs other rules names them after the
 //! KDCs (docs/DIFFERENCES.md), or `NONE`: then a recorded log-in can be played back to it.
 
-#[path = "parts/causes.rs"]
-mod causes;
 #[path = "parts/frames.rs"]
 mod frames;
 #[path = "parts/kdcs.rs"]

@@ -9,8 +9,6 @@
 
 #[path = "parts/base64.rs"]
 mod base64;
-#[path = "parts/causes.rs"]
-mod causes;
 #[path = "parts/kdcs.rs"]
 mod kdcs;
 #[path = "parts/keys.rs"]

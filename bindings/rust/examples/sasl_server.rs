@@ -8,8 +8,6 @@
 
 #[path = "parts/base64.rs"]
 mod base64;
-#[path = "parts/causes.rs"]
-mod causes;
 #[path = "parts/connections.rs"]
 mod connections;
 #[path = "parts/keys.rs"]

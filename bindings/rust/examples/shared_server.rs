@@ -8,8 +8,6 @@
 //! The keytab and 300 are those of `gss_server`. It does not wait after a start: the store knows whom an earlier process let in. Where the
 //! store does not answer, nobody is let in. The clocks of all these machines have to agree within the skew.
 
-#[path = "parts/causes.rs"]
-mod causes;
 #[path = "parts/connections.rs"]
 mod connections;
 #[path = "parts/frames.rs"]
@@ -31,11 +29,11 @@ mod service;
 #[path = "parts/telling.rs"]
 mod telling;
 
-use menolavuri::{Acceptor, Session};
+use menolavuri::{Acceptor, Session, Told};
 use redis::Store;
 use std::process::ExitCode;
 use std::sync::{Mutex, PoisonError};
-use std::time::{Duration, Instant, SystemTime};
+use std::time::{Duration, Instant};
 use std::{env, error::Error, io};
 
 type Answer<T> = Result<T, Box<dyn Error + Send + Sync>>;
@@ -49,7 +47,7 @@ struct Shared {
 
 impl Shared {
     /// The store's time, and whether a record was there before. A connection that fails is made anew for the next record.
-    fn ask(&self, record: &[u8]) -> io::Result<(SystemTime, bool)> {
+    fn ask(&self, record: &[u8], keep: Duration) -> io::Result<Told> {
         let mut connection = self
             .connection
             .lock()
@@ -59,18 +57,18 @@ impl Shared {
             None => Store::connect(&self.address, self.skew)?,
         };
         let now = store.now()?;
-        // A client's clock may be ahead by the skew, and its token is good for the skew after that.
-        let seen = store.was_there(record, 3 * self.skew)?;
+        let seen = store.was_there(record, keep)?;
         *connection = Some(store);
-        Ok((now, seen))
+        Ok(Told { now, seen })
     }
 
     fn admit(&self, acceptor: &Acceptor, token: &[u8]) -> Answer<Session> {
-        let mut judged = acceptor.judge(token)?;
-        let (now, seen) = self.ask(&judged.record()?).map_err(|error| {
-            format!("nobody is let in: {error} (the store at {})", self.address)
-        })?;
-        Ok(acceptor.admit_told(judged, now, seen)?)
+        let judged = acceptor.judge(token)?;
+        acceptor.admit_by_store(judged, |record, keep| {
+            let refused =
+                |error| format!("nobody is let in: {error} (the store at {})", self.address);
+            Ok(self.ask(record, keep).map_err(refused)?)
+        })
     }
 }
 

@@ -1,10 +1,11 @@
 //! Services, and the clients that they admit.
 
-use crate::error::{Error, done, told_flags};
-use crate::options::GssFlags;
-use crate::session::{Authorization, Session};
-use crate::sys::{self, Handle, Moment};
-use crate::{filled, microseconds, moment_of, random};
+use crate::error::{Error, done};
+use crate::judged::Judged;
+use crate::session::Session;
+use crate::{microseconds, moment_of, random};
+use menolavuri_sys::{self as sys, mk_acceptor, mk_moment};
+use std::fmt;
 use std::sync::atomic::{AtomicU32, Ordering};
 use std::sync::{Mutex, MutexGuard, PoisonError};
 use std::time::{Duration, SystemTime};
@@ -13,7 +14,7 @@ use std::time::{Duration, SystemTime};
 /// of an admission run outside of the book's lock.
 pub struct Acceptor {
     /// The services and the book.
-    book: Mutex<Handle>,
+    book: Mutex<mk_acceptor>,
     copies: Mutex<Copies>,
     /// The number of seconds by which a client's clock may be wrong.
     skew: AtomicU32,
@@ -22,7 +23,7 @@ pub struct Acceptor {
 
 /// Copies of the services that judge tokens, each for one thread at a time.
 struct Copies {
-    idle: Vec<Handle>,
+    idle: Vec<mk_acceptor>,
     /// How often the services or the limit were changed: a copy that was made before is not kept.
     changes: usize,
 }
@@ -32,19 +33,6 @@ struct Copies {
 unsafe impl Send for Acceptor {}
 // SAFETY: as above.
 unsafe impl Sync for Acceptor {}
-
-/// A client whose token passed every check but the replay book's. It is not admitted yet.
-pub struct Judged(Handle);
-
-// SAFETY: the library's handle of a judged token may go to another thread (`Send` is proved of it), and each call uses it up.
-unsafe impl Send for Judged {}
-
-impl Drop for Judged {
-    fn drop(&mut self) {
-        // SAFETY: the handle is ours.
-        unsafe { sys::mk_judged_free(&mut self.0) }
-    }
-}
 
 fn lock<T>(mutex: &Mutex<T>) -> MutexGuard<'_, T> {
     // No call unwinds, so the value in a poisoned lock is whole.
@@ -60,7 +48,7 @@ impl Acceptor {
     /// be wrong by up to `skew`, in whole seconds.
     pub fn new(name: &str, key: &[u8], skew: Duration) -> Result<Acceptor, Error> {
         let skew = seconds(skew)?;
-        let mut handle = Handle::EMPTY;
+        let mut handle = mk_acceptor::EMPTY;
         // SAFETY: the handle is empty, and each pointer and length are those of one slice.
         done(unsafe {
             sys::mk_acceptor_new(
@@ -76,11 +64,11 @@ impl Acceptor {
     }
 
     /// Makes an acceptor of all services of this realm that have a key in the bytes of a keytab file, each with one key: of type 18, or of
-    /// type 17 if there is none, with the greatest version. Refused as [`Cause::NO_SERVICE_KEY`](crate::Cause::NO_SERVICE_KEY) if no
+    /// type 17 if there is none, with the greatest version. Refused as [`Cause::NoServiceKey`](crate::Cause::NoServiceKey) if no
     /// service has a key.
     pub fn with_keytab(file: &[u8], realm: &str, skew: Duration) -> Result<Acceptor, Error> {
         let skew = seconds(skew)?;
-        let mut handle = Handle::EMPTY;
+        let mut handle = mk_acceptor::EMPTY;
         // SAFETY: the handle is empty, and each pointer and length are those of one slice.
         done(unsafe {
             sys::mk_acceptor_new_keytab(
@@ -99,13 +87,13 @@ impl Acceptor {
     /// judges itself.
     pub fn keyless(skew: Duration) -> Result<Acceptor, Error> {
         let skew = seconds(skew)?;
-        let mut handle = Handle::EMPTY;
+        let mut handle = mk_acceptor::EMPTY;
         // SAFETY: the handle is empty.
         done(unsafe { sys::mk_acceptor_new_keyless(&mut handle, skew) })?;
         Ok(Acceptor::of(handle, skew))
     }
 
-    fn of(handle: Handle, skew: u32) -> Acceptor {
+    fn of(handle: mk_acceptor, skew: u32) -> Acceptor {
         Acceptor {
             book: Mutex::new(handle),
             copies: Mutex::new(Copies {
@@ -125,7 +113,7 @@ impl Acceptor {
     }
 
     /// Returns a copy of the services for this thread, with the number of changes before it was made.
-    fn copy(&self) -> Result<(usize, Handle), Error> {
+    fn copy(&self) -> Result<(usize, mk_acceptor), Error> {
         let changes = {
             let mut copies = lock(&self.copies);
             if let Some(copy) = copies.idle.pop() {
@@ -133,13 +121,13 @@ impl Acceptor {
             }
             copies.changes
         };
-        let mut copy = Handle::EMPTY;
+        let mut copy = mk_acceptor::EMPTY;
         // SAFETY: the handle is the lock's, and the other one is empty.
         done(unsafe { sys::mk_acceptor_copy(&mut *lock(&self.book), &mut copy) })?;
         Ok((changes, copy))
     }
 
-    fn put_back(&self, changes: usize, mut copy: Handle) {
+    fn put_back(&self, changes: usize, mut copy: mk_acceptor) {
         let mut copies = lock(&self.copies);
         if copies.changes == changes {
             copies.idle.push(copy);
@@ -172,9 +160,9 @@ impl Acceptor {
     }
 
     /// Sets the greatest length of a token, in bytes: a longer one is refused unread. An acceptor begins with 65,536.
-    pub fn limit_tokens(&self, most: usize) -> Result<(), Error> {
+    pub fn set_token_limit(&self, most: usize) -> Result<(), Error> {
         if let Some(older) = &self.older {
-            older.limit_tokens(most)?;
+            older.set_token_limit(most)?;
         }
         // SAFETY: the handle is the lock's.
         done(unsafe { sys::mk_acceptor_set_token_limit(&mut *lock(&self.book), most) })?;
@@ -200,6 +188,15 @@ impl Acceptor {
         // SAFETY: the handle is the lock's.
         done(unsafe { sys::mk_acceptor_reserve(&mut *lock(&self.book), records) })?;
         Ok(())
+    }
+
+    fn seconds(&self) -> u32 {
+        self.skew.load(Ordering::SeqCst)
+    }
+
+    /// Returns the time by which a client's clock may be wrong.
+    pub fn skew(&self) -> Duration {
+        Duration::from_secs(self.seconds().into())
     }
 
     /// Returns the number of records of admitted clients that are kept.
@@ -245,8 +242,8 @@ impl Acceptor {
 
     /// Judges as [`judge`](Acceptor::judge) does, and requires that the client is on this channel. The data are those of
     /// [`Initiator::bind`](crate::Initiator::bind): for a TLS channel those of RFC 5929, as `tls-server-end-point:` and the hash of the
-    /// server's certificate. Refused as [`Cause::CHECKSUM`](crate::Cause::CHECKSUM) if the client's checksum has no room for bindings,
-    /// and as [`Cause::BINDINGS`](crate::Cause::BINDINGS) if it has others, or none.
+    /// server's certificate. Refused as [`Cause::Checksum`](crate::Cause::Checksum) if the client's checksum has no room for bindings,
+    /// and as [`Cause::Bindings`](crate::Cause::Bindings) if it has others, or none.
     pub fn judge_bound(&self, token: &[u8], data: &[u8]) -> Result<Judged, Error> {
         self.judge_bound_at(token, data, SystemTime::now(), random()?)
     }
@@ -267,7 +264,7 @@ impl Acceptor {
         &self,
         token: &[u8],
         data: Option<&[u8]>,
-        moment: &Moment,
+        moment: &mk_moment,
     ) -> Result<Judged, Error> {
         let judged = self.judge_by_own(token, data, moment);
         let (Err(error), Some(older)) = (&judged, &self.older) else {
@@ -286,11 +283,11 @@ impl Acceptor {
         &self,
         token: &[u8],
         data: Option<&[u8]>,
-        moment: &Moment,
+        moment: &mk_moment,
     ) -> Result<Judged, Error> {
         let (changes, mut copy) = self.copy()?;
         let mut judged = Judged::empty();
-        let (keys, to) = (&mut copy, &mut judged.0);
+        let (keys, to) = (&mut copy, judged.handle());
         // SAFETY: the copy is ours, the other handle is empty, and each pointer and length are those of one slice.
         let reply = unsafe {
             let (at, length) = (token.as_ptr(), token.len());
@@ -311,7 +308,7 @@ impl Acceptor {
         let mut session = Session::empty();
         // SAFETY: the acceptor's handle is the lock's, the session's is empty, and the judged token's is ours.
         let length = done(unsafe {
-            sys::mk_admit(&mut *lock(&self.book), &mut judged.0, &mut session.handle)
+            sys::mk_admit(&mut *lock(&self.book), judged.handle(), &mut session.handle)
         })?;
         session.learn(length)?;
         Ok(session)
@@ -331,9 +328,9 @@ impl Acceptor {
         // SAFETY: the judged token's handle is ours, and the session's is empty.
         let length = done(unsafe {
             sys::mk_admit_told(
-                &mut judged.0,
+                judged.handle(),
                 &mut session.handle,
-                self.skew.load(Ordering::SeqCst),
+                self.seconds(),
                 now,
                 u32::from(seen),
             )
@@ -343,88 +340,23 @@ impl Acceptor {
     }
 }
 
-impl Judged {
-    pub(crate) fn empty() -> Judged {
-        Judged(Handle::EMPTY)
-    }
-
-    pub(crate) fn handle(&mut self) -> &mut Handle {
-        &mut self.0
-    }
-
-    /// Returns the whole name of the client, in the form of [`Session::client`]. It is not admitted yet.
-    pub fn client(&mut self) -> Result<String, Error> {
-        let handle = &mut self.0;
-        // SAFETY: the handle is ours, and the pointer and the length are those of one vector.
-        let text = filled(64, |out, room| unsafe {
-            sys::mk_judged_get_client(handle, out, room)
-        })?;
-        Ok(String::from_utf8_lossy(&text).into_owned())
-    }
-
-    /// Returns the service that the ticket is for, as `host/server.example.com@EXAMPLE.COM`.
-    pub fn service(&mut self) -> Result<String, Error> {
-        let handle = &mut self.0;
-        // SAFETY: as above.
-        let text = filled(64, |out, room| unsafe {
-            sys::mk_judged_get_service(handle, out, room)
-        })?;
-        Ok(String::from_utf8_lossy(&text).into_owned())
-    }
-
-    /// Returns the flags of the client's request, or `None` if its checksum has no flags, as that of a client of another protocol.
-    pub fn flags(&mut self) -> Result<Option<GssFlags>, Error> {
-        // SAFETY: the handle is ours.
-        told_flags(unsafe { sys::mk_judged_get_flags(&mut self.0) })
-    }
-
-    /// Returns the last 12 bytes of the encrypted authenticator. Two log-ins have equal ones by chance alone, once in 2^96; a replay has
-    /// those of the first.
-    pub fn tag(&mut self) -> Result<[u8; 12], Error> {
-        let mut tag = [0; 12];
-        // SAFETY: the handle is ours, and the pointer and the length are those of one array.
-        done(unsafe { sys::mk_judged_get_tag(&mut self.0, tag.as_mut_ptr(), tag.len()) })?;
-        Ok(tag)
-    }
-
-    /// Returns the KRB-CRED by which the client delegates a ticket of its own (RFC 4121, section 4.1.1), as it came: no bytes if it asked
-    /// for no delegation. It is not decrypted.
-    pub fn delegation(&mut self) -> Result<Vec<u8>, Error> {
-        let handle = &mut self.0;
-        // SAFETY: as above.
-        filled(0, |out, room| unsafe {
-            sys::mk_judged_get_delegation(handle, out, room)
-        })
-    }
-
-    /// Returns an element of the authorization data of the ticket, as a PAC, or `None` if there are fewer (RFC 4120, section 5.2.6). The
-    /// place counts from 0, and each AD-IF-RELEVANT counts as the elements inside it, one level deep. **Nothing in it is checked here.**
-    pub fn authorization(&mut self, place: usize) -> Result<Option<Authorization>, Error> {
-        let handle = &mut self.0;
-        // SAFETY: the handle and the number are ours, and the pointer and the length are those of one vector.
-        Authorization::of(|kind, out, room| unsafe {
-            sys::mk_judged_get_authorization(handle, place, kind, out, room)
-        })
-    }
-
-    /// Returns the replay record, for a store that machines share and [`Acceptor::admit_told`]. Two uses of one authenticator have equal
-    /// bytes. The store inserts them and says whether it had them, in one step. It may drop them when its own time is later than the
-    /// client's by more than the skew; the client's may be ahead by the skew.
-    pub fn record(&mut self) -> Result<Vec<u8>, Error> {
-        let handle = &mut self.0;
-        // SAFETY: as above.
-        filled(96, |out, room| unsafe {
-            sys::mk_judged_get_record(handle, out, room)
-        })
-    }
-}
-
 impl Copies {
     fn free(&mut self) {
         for mut copy in self.idle.drain(..) {
             // SAFETY: nobody else has the handle.
             unsafe { sys::mk_acceptor_free(&mut copy) }
         }
+    }
+}
+
+/// Keys and records are not shown.
+impl fmt::Debug for Acceptor {
+    fn fmt(&self, f: &mut fmt::Formatter<'_>) -> fmt::Result {
+        f.debug_struct("Acceptor")
+            .field("skew", &self.skew())
+            .field("kept", &self.kept())
+            .field("older", &self.older)
+            .finish_non_exhaustive()
     }
 }
 

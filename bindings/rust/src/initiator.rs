@@ -3,8 +3,8 @@
 use crate::error::{Error, done};
 use crate::options::{Flags, Rules};
 use crate::session::Session;
-use crate::sys::{self, Handle};
-use crate::{filled, microseconds, moment_of, random};
+use crate::{filled, microseconds, moment_of, named, random};
+use menolavuri_sys::{self as sys, mk_initiator, mk_reply, mk_step};
 use std::time::SystemTime;
 
 /// A client that logs in at a service. It has no network: each step returns the next one, and its caller carries the bytes.
@@ -39,19 +39,20 @@ use std::time::SystemTime;
 /// initiator.kdc("tcp://kdc.example.com:88")?;
 /// initiator.password("alice", "EXAMPLE.COM", "secret")?;
 /// let error = reach(initiator, |_, _| None, |_| Vec::new()).err().unwrap();
-/// assert_eq!(error.to_string(), "refused: NoAuthenticatingAuthority Network 1");
+/// assert_eq!(error.cause(), Some(menolavuri::Cause::Network(1)));
 /// # Ok::<(), Error>(())
 /// ```
 ///
 /// # The steps
 ///
-/// A step out of its turn is refused as [`Cause::SEQUENCE`](crate::Cause::SEQUENCE), and changes nothing. A reply of a KDC that is
+/// A step out of its turn is refused as [`Cause::Sequence`](crate::Cause::Sequence), and changes nothing. A reply of a KDC that is
 /// refused, and a fault, end the exchange, and [`start`](Initiator::start) can be called again. A start, or a token of the service, that is
 /// refused changes nothing. After [`Error::Memory`] the same step can be repeated. A KDC is asked at most twelve times in an exchange.
 /// A KDC's reply to another request than that of this exchange is refused, and so is a service's answer to another token: a recorded log-in
 /// is not played back, unless [`set_rules`](Initiator::set_rules) gives that up. Without [`Flags::MUTUAL_AUTH`] an initiator is established
 /// at once; without [`Rules::ONE_WAY_IS_SETTLED`] among its rules it never is.
-pub struct Initiator(Handle);
+#[derive(Debug)]
+pub struct Initiator(mk_initiator);
 
 // SAFETY: the library's handle of an initiator may go to another thread (`Send` is proved of it), and each call takes `&mut self`.
 unsafe impl Send for Initiator {}
@@ -89,14 +90,17 @@ pub enum Step<'a> {
     Fault(u32),
 }
 
+/// A call that writes bytes into a buffer.
+type OutCall = unsafe extern "C" fn(*mut mk_initiator, *mut u8, usize) -> mk_reply;
+
 /// Returns the next step, if this one was done.
-fn next(step: sys::Step) -> Result<Next, Error> {
+fn next(step: mk_step) -> Result<Next, Error> {
     done(step.reply)?;
     match step.next {
-        sys::ASK_KDC => Ok(Next::AskKdc),
-        sys::SEND_TOKEN => Ok(Next::SendToken),
-        sys::ESTABLISHED => Ok(Next::Established),
-        number => unreachable!("a step does not lead to {number}"),
+        sys::MK_ASK_KDC => Ok(Next::AskKdc),
+        sys::MK_SEND_TOKEN => Ok(Next::SendToken),
+        sys::MK_ESTABLISHED => Ok(Next::Established),
+        number => Err(Error::Unknown(number)),
     }
 }
 
@@ -114,7 +118,7 @@ impl Initiator {
         flags: Flags,
         number: [u8; 4],
     ) -> Result<Initiator, Error> {
-        let mut initiator = Initiator(Handle::EMPTY);
+        let mut initiator = Initiator(mk_initiator::EMPTY);
         // SAFETY: the handle is empty, and each pointer and length are those of one slice.
         done(unsafe {
             sys::mk_initiator_new(
@@ -190,8 +194,8 @@ impl Initiator {
     /// which one. A password or key that was set before is dropped, and one that is set later drops the ticket. No ticket is renewed.
     ///
     /// # Errors
-    /// Refused as [`Cause::SHAPE`](crate::Cause::SHAPE) if the bytes are not such a file, as [`Cause::NO_IDENTITY`](crate::Cause::NO_IDENTITY)
-    /// if it has neither ticket, and as [`Cause::TARGET`](crate::Cause::TARGET) if the service's name has not two parts. Nothing is changed
+    /// Refused as [`Cause::Shape`](crate::Cause::Shape) if the bytes are not such a file, as [`Cause::NoIdentity`](crate::Cause::NoIdentity)
+    /// if it has neither ticket, and as [`Cause::Target`](crate::Cause::Target) if the service's name has not two parts. Nothing is changed
     /// then.
     pub fn set_ccache(&mut self, file: &[u8], now: SystemTime) -> Result<CacheTicket, Error> {
         let now = microseconds(now)?;
@@ -202,7 +206,7 @@ impl Initiator {
         match which {
             1 => Ok(CacheTicket::Service),
             2 => Ok(CacheTicket::Granting),
-            which => unreachable!("a cache has no ticket {which}"),
+            which => Err(Error::Unknown(u32::try_from(which).unwrap_or(u32::MAX))),
         }
     }
 
@@ -290,7 +294,7 @@ impl Initiator {
         self.step(Step::Answer(octets))
     }
 
-    /// Reports that no KDC replied, with a code of the caller's. Always refused, as [`Cause::NETWORK`](crate::Cause::NETWORK) with that number.
+    /// Reports that no KDC replied, with a code of the caller's. Always refused, as [`Cause::Network`](crate::Cause::Network) with that number.
     pub fn fault(&mut self, code: u32) -> Result<Next, Error> {
         self.step(Step::Fault(code))
     }
@@ -327,7 +331,7 @@ impl Initiator {
     /// before [`answer`](Initiator::answer), with the same reply, and changes nothing. There are no bytes if the reply brings no ticket.
     ///
     /// # Errors
-    /// Refused as [`answer`](Initiator::answer) refuses the reply, and as [`Cause::SHAPE`](crate::Cause::SHAPE) if `file` is not a cache of
+    /// Refused as [`answer`](Initiator::answer) refuses the reply, and as [`Cause::Shape`](crate::Cause::Shape) if `file` is not a cache of
     /// the format 0503 or 0504.
     pub fn get_ccache(
         &mut self,
@@ -352,12 +356,13 @@ impl Initiator {
         })
     }
 
-    fn text(&mut self, call: sys::OutCall) -> Result<String, Error> {
-        let octets = self.octets(64, call)?;
-        Ok(String::from_utf8_lossy(&octets).into_owned())
+    fn text(&mut self, call: OutCall) -> Result<String, Error> {
+        let handle = &mut self.0;
+        // SAFETY: the handle is ours, and the pointer and the length are those of one vector.
+        named(|out, room| unsafe { call(handle, out, room) })
     }
 
-    fn octets(&mut self, room: usize, call: sys::OutCall) -> Result<Vec<u8>, Error> {
+    fn octets(&mut self, room: usize, call: OutCall) -> Result<Vec<u8>, Error> {
         let handle = &mut self.0;
         // SAFETY: the handle is ours, and the pointer and the length are those of one vector.
         filled(room, |out, room| unsafe { call(handle, out, room) })
@@ -384,7 +389,7 @@ impl Initiator {
         self.text(sys::mk_initiator_get_peer)
     }
 
-    /// Returns the session of an initiator that is established. Refused as [`Cause::SEQUENCE`](crate::Cause::SEQUENCE) if it is not; the
+    /// Returns the session of an initiator that is established. Refused as [`Cause::Sequence`](crate::Cause::Sequence) if it is not; the
     /// initiator is then freed.
     pub fn into_session(mut self) -> Result<Session, Error> {
         let peer = self.peer()?;

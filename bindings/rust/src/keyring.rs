@@ -1,20 +1,21 @@
 //! All keys of an acceptor.
 
-use crate::acceptor::Judged;
 use crate::error::{Error, done};
-use crate::sys::{self, Handle, Moment};
+use crate::judged::Judged;
 use crate::{moment_of, random};
+use menolavuri_sys::{self as sys, mk_keyring, mk_moment};
 use std::time::SystemTime;
 
 /// All keys of an acceptor, of all realms, encryption types and versions. It has no replay book: it judges tokens, and
-/// [`Acceptor::admit`](crate::Acceptor::admit) or [`Acceptor::admit_told`](crate::Acceptor::admit_told) admits what it judged.
+/// [`Acceptor::admit`](crate::Acceptor::admit) or [`Acceptor::admit_by_store`](crate::Acceptor::admit_by_store) admits what it judged.
 ///
 /// A ticket is decrypted with the key that it names in the clear, by service, realm, encryption type and version. If it names no version,
 /// or one that the ring does not have, all keys of the service, the realm and the type are tried, newest first. So tickets under the key
 /// before and after a change of keys are accepted.
 ///
 /// A ring is used by one thread at a time: each thread has one of its own, or all threads have one in a lock.
-pub struct Keyring(Handle);
+#[derive(Debug)]
+pub struct Keyring(mk_keyring);
 
 // SAFETY: the library's handle of a keyring may go to another thread (`Send` is proved of it), and each call takes `&mut self`.
 unsafe impl Send for Keyring {}
@@ -22,7 +23,7 @@ unsafe impl Send for Keyring {}
 impl Keyring {
     /// Makes a keyring without a key.
     pub fn new() -> Result<Keyring, Error> {
-        let mut ring = Keyring(Handle::EMPTY);
+        let mut ring = Keyring(mk_keyring::EMPTY);
         // SAFETY: the handle is empty.
         done(unsafe { sys::mk_keyring_new(&mut ring.0) })?;
         Ok(ring)
@@ -36,7 +37,7 @@ impl Keyring {
     }
 
     /// Sets the greatest length of a token, in bytes: a longer one is refused unread. A ring begins with 65,536.
-    pub fn limit_tokens(&mut self, most: usize) -> Result<(), Error> {
+    pub fn set_token_limit(&mut self, most: usize) -> Result<(), Error> {
         // SAFETY: the handle is ours.
         done(unsafe { sys::mk_keyring_set_token_limit(&mut self.0, most) })?;
         Ok(())
@@ -50,7 +51,7 @@ impl Keyring {
 
     /// Judges a token by the system's clock: all checks before the replay book's. Nobody is admitted yet.
     ///
-    /// Refused as [`Cause::NO_SERVICE_KEY`](crate::Cause::NO_SERVICE_KEY) if the ring has no key for its ticket.
+    /// Refused as [`Cause::NoServiceKey`](crate::Cause::NoServiceKey) if the ring has no key for its ticket.
     pub fn judge(&mut self, token: &[u8]) -> Result<Judged, Error> {
         self.judge_at(token, SystemTime::now(), random()?)
     }
@@ -85,7 +86,7 @@ impl Keyring {
         &mut self,
         token: &[u8],
         data: Option<&[u8]>,
-        moment: &Moment,
+        moment: &mk_moment,
     ) -> Result<Judged, Error> {
         let mut judged = Judged::empty();
         let octets = data.unwrap_or(&[]);

@@ -2,8 +2,8 @@
 
 use crate::error::{Error, done};
 use crate::session::Session;
-use crate::sys::{self, Handle};
 use crate::{filled, random};
+use menolavuri_sys::{self as sys, mk_sasl};
 use std::ops::BitOr;
 
 /// A security layer of SASL GSSAPI (RFC 4752, section 3.3).
@@ -62,8 +62,9 @@ impl<T: Into<Layers>> BitOr<T> for Layer {
 }
 
 /// An end, and its session.
+#[derive(Debug)]
 struct End {
-    handle: Handle,
+    handle: mk_sasl,
     session: Session,
 }
 
@@ -73,7 +74,7 @@ unsafe impl Send for End {}
 impl End {
     fn new(session: Session) -> End {
         End {
-            handle: Handle::EMPTY,
+            handle: mk_sasl::EMPTY,
             session,
         }
     }
@@ -94,9 +95,9 @@ impl End {
             )
         };
         match (told.status, told.length) {
-            (sys::ROOM, 4) => Ok(Layer::None),
-            (sys::ROOM, 32) => Ok(Layer::Integrity),
-            (sys::ROOM, _) => Ok(Layer::Confidentiality),
+            (sys::MK_ROOM, 4) => Ok(Layer::None),
+            (sys::MK_ROOM, 32) => Ok(Layer::Integrity),
+            (sys::MK_ROOM, _) => Ok(Layer::Confidentiality),
             _ => Err(done(told).err().unwrap_or(Error::Argument)),
         }
     }
@@ -162,12 +163,13 @@ impl Drop for End {
 ///
 /// let acceptor = Acceptor::new("pop/server.example.com", &[7; 32], Duration::from_secs(300))?;
 /// let error = log_in(&acceptor, b"no token", |_| Vec::new()).err().unwrap();
-/// assert_eq!(error.to_string(), "refused: InvalidToken Shape");
+/// assert_eq!(error.cause(), Some(menolavuri::Cause::Shape));
 /// # Ok::<(), Error>(())
 /// ```
 ///
 /// Each step is made once, in this order: another is refused as [`LayerRefusal::State`](crate::LayerRefusal::State). After
 /// [`Error::Memory`] the same step can be repeated.
+#[derive(Debug)]
 pub struct SaslServer(End);
 
 impl SaslServer {
@@ -214,7 +216,7 @@ impl SaslServer {
         let user = filled(token.len(), |out, room| unsafe {
             sys::mk_sasl_accept(handle, token.as_ptr(), token.len(), out, room)
         })?;
-        Ok(String::from_utf8_lossy(&user).into_owned())
+        String::from_utf8(user).map_err(|_| Error::NotUtf8)
     }
 
     /// Returns the layer that the client chose.
@@ -248,6 +250,7 @@ impl SaslServer {
 ///     Ok(client)
 /// }
 /// ```
+#[derive(Debug)]
 pub struct SaslClient(End);
 
 impl SaslClient {

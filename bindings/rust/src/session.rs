@@ -1,14 +1,15 @@
 //! A connection whose exchange is over, and its messages.
 
-use crate::error::{Cause, Error, done, told_flags};
+use crate::error::{Error, done, told_flags};
 use crate::options::{GssFlags, Rules};
-use crate::sys::{self, Handle, Reply, Times};
-use crate::{filled, random};
+use crate::{Cause, filled, named, random};
+use menolavuri_sys::{self as sys, mk_reply, mk_session, mk_times};
+use std::fmt;
 use std::time::{Duration, SystemTime, UNIX_EPOCH};
 
 /// A connection whose exchange is over: at an acceptor's end with a client that was admitted, at an initiator's with its service.
 pub struct Session {
-    pub(crate) handle: Handle,
+    pub(crate) handle: mk_session,
     peer: String,
     client: Option<String>,
     local_name: Option<String>,
@@ -20,6 +21,9 @@ pub struct Session {
 
 // SAFETY: the library's handle of a session may go to another thread (`Send` is proved of it), and each call takes `&mut self`.
 unsafe impl Send for Session {}
+
+/// A call that writes bytes into a buffer.
+type OutCall = unsafe extern "C" fn(*mut mk_session, *mut u8, usize) -> mk_reply;
 
 /// The text of a token from the other end.
 #[derive(Clone, Debug, PartialEq, Eq)]
@@ -42,7 +46,7 @@ pub struct Authorization {
 impl Authorization {
     /// Returns the element that a call writes with its type, or `None` if the call says that there is none at its place.
     pub(crate) fn of(
-        mut call: impl FnMut(*mut i32, *mut u8, usize) -> Reply,
+        mut call: impl FnMut(*mut i32, *mut u8, usize) -> mk_reply,
     ) -> Result<Option<Authorization>, Error> {
         let mut kind = 0;
         match filled(0, |out, room| call(&mut kind, out, room)) {
@@ -56,7 +60,7 @@ impl Authorization {
 impl Session {
     pub(crate) fn empty() -> Session {
         Session {
-            handle: Handle::EMPTY,
+            handle: mk_session::EMPTY,
             peer: String::new(),
             client: None,
             local_name: None,
@@ -87,7 +91,7 @@ impl Session {
         let reply = unsafe { sys::mk_session_get_ticket_flags(&mut self.handle) };
         done(reply)?;
         self.ticket_flags = Some(reply.number);
-        let mut times = Times::default();
+        let mut times = mk_times::default();
         // SAFETY: both are ours.
         done(unsafe { sys::mk_session_get_times(&mut self.handle, &mut times) })?;
         let ends = u64::try_from(times.endtime).unwrap_or(0);
@@ -98,17 +102,18 @@ impl Session {
     fn short_name(&mut self) -> Result<Option<String>, Error> {
         match self.text(sys::mk_session_get_local_name) {
             Ok(name) => Ok(Some(name)),
-            Err(error) if error.cause() == Some(Cause::NO_IDENTITY) => Ok(None),
+            Err(error) if error.cause() == Some(Cause::NoIdentity) => Ok(None),
             Err(error) => Err(error),
         }
     }
 
-    fn text(&mut self, call: sys::OutCall) -> Result<String, Error> {
-        let octets = self.octets(64, call)?;
-        Ok(String::from_utf8_lossy(&octets).into_owned())
+    fn text(&mut self, call: OutCall) -> Result<String, Error> {
+        let handle = &mut self.handle;
+        // SAFETY: the handle is ours, and the pointer and the length are those of one vector.
+        named(|out, room| unsafe { call(handle, out, room) })
     }
 
-    fn octets(&mut self, room: usize, call: sys::OutCall) -> Result<Vec<u8>, Error> {
+    fn octets(&mut self, room: usize, call: OutCall) -> Result<Vec<u8>, Error> {
         let handle = &mut self.handle;
         // SAFETY: the handle is ours, and the pointer and the length are those of one vector.
         filled(room, |out, room| unsafe { call(handle, out, room) })
@@ -177,7 +182,7 @@ impl Session {
 
     /// Sets the order of the other end's messages and MICs: in order, each must have the number after the one before it, the first that of
     /// the client's token at an acceptor's session, and any at an initiator's. Otherwise they come in any order, as at first. A message with
-    /// another number is refused as [`Cause::NUMBER`].
+    /// another number is refused as [`Cause::Number`].
     pub fn set_in_order(&mut self, in_order: bool) -> Result<(), Error> {
         // SAFETY: the handle is ours.
         done(unsafe { sys::mk_session_set_order(&mut self.handle, u32::from(in_order)) })?;
@@ -284,6 +289,19 @@ impl Session {
             )
         })?;
         Ok(())
+    }
+}
+
+/// The key and the bytes of the answer are not shown.
+impl fmt::Debug for Session {
+    fn fmt(&self, f: &mut fmt::Formatter<'_>) -> fmt::Result {
+        f.debug_struct("Session")
+            .field("peer", &self.peer)
+            .field("client", &self.client)
+            .field("flags", &self.flags)
+            .field("ticket_flags", &self.ticket_flags)
+            .field("ends", &self.ends)
+            .finish_non_exhaustive()
     }
 }
 

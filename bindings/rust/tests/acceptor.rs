@@ -85,6 +85,18 @@ fn clients_of_any_name_are_admitted_and_known_whole() {
     }
 }
 
+/// A GeneralString has ASCII alone (RFC 4120, section 5.2.1): no other letters take the place of other bytes.
+#[test]
+fn a_name_that_is_not_ascii_is_refused() {
+    let odd: &[&str] = &["al\u{ff}ice"]; // the byte ff
+    for name in [odd, &["al\u{e4}ice"]] {
+        let ticket = Ticket { name, ..USER };
+        let token = Client::of(&KEY, &ticket).ask(&Asked { name, ..asked() });
+        let session = accept(&acceptor(), &token);
+        assert_eq!(cause_of(session), Some(Cause::Inner), "{name:?}");
+    }
+}
+
 #[test]
 fn the_type_of_a_name_is_a_hint() {
     let token = Client::of(&KEY, &USER).ask(&Asked {
@@ -98,17 +110,21 @@ fn the_type_of_a_name_is_a_hint() {
         ..asked()
     });
     let error = accept(&acceptor(), &other).err().unwrap();
-    assert_eq!(error.to_string(), "refused: InvalidToken Names");
+    assert!(
+        error
+            .to_string()
+            .starts_with("refused: InvalidToken Names: ")
+    );
 }
 
 #[test]
 fn flags_of_tickets_are_looked_at() {
     let rows: [([u8; 4], &[u8], Option<Cause>); 5] = [
         ([0x40, 0x80, 0, 0], b"", None),
-        ([0x41, 0x80, 0, 0], b"", Some(Cause::NOT_YET)), // INVALID
-        ([0x40, 0x80, 0, 0], b"B.COM", Some(Cause::TRANSITED)),
+        ([0x41, 0x80, 0, 0], b"", Some(Cause::NotYet)), // INVALID
+        ([0x40, 0x80, 0, 0], b"B.COM", Some(Cause::Transited)),
         ([0x40, 0x88, 0, 0], b"B.COM", None), // TRANSITED-POLICY-CHECKED
-        ([0x41, 0x88, 0, 0], b"B.COM", Some(Cause::NOT_YET)),
+        ([0x41, 0x88, 0, 0], b"B.COM", Some(Cause::NotYet)),
     ];
     for (flags, transited, cause) in rows {
         let ticket = Ticket {
@@ -138,16 +154,16 @@ fn clients_are_held_to_their_channel() {
     let plain = with(Some((0x8003, CHANNEL_HASH.to_vec())));
     let rows = [
         (&bound, CHANNEL, None),
-        (&bound, &CHANNEL[1..], Some(Cause::BINDINGS)),
-        (&bound, b"", Some(Cause::BINDINGS)),
-        (&unbound, CHANNEL, Some(Cause::BINDINGS)),
-        (&unbound, b"", Some(Cause::BINDINGS)),
-        (&plain, CHANNEL, Some(Cause::CHECKSUM)),
-        (&with(None), CHANNEL, Some(Cause::CHECKSUM)),
+        (&bound, &CHANNEL[1..], Some(Cause::Bindings)),
+        (&bound, b"", Some(Cause::Bindings)),
+        (&unbound, CHANNEL, Some(Cause::Bindings)),
+        (&unbound, b"", Some(Cause::Bindings)),
+        (&plain, CHANNEL, Some(Cause::Checksum)),
+        (&with(None), CHANNEL, Some(Cause::Checksum)),
         (
             &with(Some((7, vec![0; 24]))),
             CHANNEL,
-            Some(Cause::CHECKSUM),
+            Some(Cause::Checksum),
         ),
     ];
     for (number, (token, data, cause)) in rows.into_iter().enumerate() {
@@ -206,7 +222,7 @@ fn two_log_ins_of_one_microsecond_are_two() {
     accept(&acceptor, &first).unwrap();
     accept(&acceptor, &second).unwrap();
     for token in [first, second] {
-        assert_eq!(cause_of(accept(&acceptor, &token)), Some(Cause::REPLAYED));
+        assert_eq!(cause_of(accept(&acceptor, &token)), Some(Cause::Replayed));
     }
     assert_eq!(acceptor.kept(), 2);
 }
@@ -216,11 +232,19 @@ fn tokens_have_a_limit() {
     let token = Client::of(&KEY, &USER).ask(&asked());
     let acceptor = acceptor();
     let error = accept(&acceptor, &vec![0x60; 65_537]).err().unwrap();
-    assert_eq!(error.to_string(), "refused: InvalidToken Shape");
-    acceptor.limit_tokens(token.len() - 1).unwrap();
+    assert!(
+        error
+            .to_string()
+            .starts_with("refused: InvalidToken Shape: ")
+    );
+    acceptor.set_token_limit(token.len() - 1).unwrap();
     let error = accept(&acceptor, &token).err().unwrap();
-    assert_eq!(error.to_string(), "refused: InvalidToken Shape");
-    acceptor.limit_tokens(token.len()).unwrap();
+    assert!(
+        error
+            .to_string()
+            .starts_with("refused: InvalidToken Shape: ")
+    );
+    acceptor.set_token_limit(token.len()).unwrap();
     accept(&acceptor, &token).unwrap();
 }
 
@@ -236,13 +260,13 @@ fn a_new_book_ends_what_a_wrong_clock_did() {
     });
     let late = now() + Duration::from_secs(3600);
     let judged = acceptor.accept_at(&tokens[0], late, [1; 64]);
-    assert_eq!(cause_of(judged), Some(Cause::SKEW));
+    assert_eq!(cause_of(judged), Some(Cause::Skew));
     let error = accept(&acceptor, &tokens[1]);
-    assert_eq!(cause_of(error), Some(Cause::SKEW));
+    assert_eq!(cause_of(error), Some(Cause::Skew));
     acceptor.new_book(SKEW).unwrap();
     for token in &tokens {
         accept(&acceptor, token).unwrap();
-        assert_eq!(cause_of(accept(&acceptor, token)), Some(Cause::REPLAYED));
+        assert_eq!(cause_of(accept(&acceptor, token)), Some(Cause::Replayed));
     }
     acceptor.new_book(SKEW).unwrap();
     accept(&acceptor, &tokens[0]).unwrap();

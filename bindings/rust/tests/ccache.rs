@@ -68,7 +68,7 @@ fn a_ticket_that_is_not_valid_is_not_found() {
     let mut it = initiator("host/server.example.com");
     for seconds in [VALID_FROM - 1, VALID_TO, 1 << 33] {
         let error = it.set_ccache(&file, second(seconds)).unwrap_err();
-        assert_eq!(error.cause(), Some(Cause::NO_IDENTITY));
+        assert_eq!(error.cause(), Some(Cause::NoIdentity));
     }
     assert!(it.set_ccache(&file, second(VALID_TO - 1)).is_ok());
 }
@@ -80,17 +80,14 @@ fn other_octets_are_refused() {
     let now = second(VALID_FROM);
     for octets in [&file[..0], &file[..600], &file[1..]] {
         let error = it.set_ccache(octets, now).unwrap_err();
-        assert_eq!(error.cause(), Some(Cause::SHAPE));
+        assert_eq!(error.cause(), Some(Cause::Shape));
     }
     let (key, ticket) = (&file[KEY], &file[TGT]);
     let error = it.set_ticket("EXAMPLE.COM", "alice", 18, key, &ticket[1..]);
-    assert_eq!(error.unwrap_err().cause(), Some(Cause::SHAPE));
-    assert_eq!(
-        start(&mut it).unwrap_err().cause(),
-        Some(Cause::NO_IDENTITY)
-    );
+    assert_eq!(error.unwrap_err().cause(), Some(Cause::Shape));
+    assert_eq!(start(&mut it).unwrap_err().cause(), Some(Cause::NoIdentity));
     let error = initiator("alice").set_ccache(&file, now).unwrap_err();
-    assert_eq!(error.cause(), Some(Cause::TARGET));
+    assert_eq!(error.cause(), Some(Cause::Target));
 }
 
 /// The input of the log-in that was recorded, and its last request and its token.

@@ -132,12 +132,16 @@ fn play_back(rules: Option<Rules>) -> Result<Session, Error> {
 #[test]
 fn a_recorded_log_in_is_not_played_back() {
     let error = play_back(None).err().unwrap();
-    assert_eq!(error.to_string(), "refused: InvalidToken Nonce");
-    assert_eq!(error.cause(), Some(Cause::NONCE));
+    assert!(
+        error
+            .to_string()
+            .starts_with("refused: InvalidToken Nonce: ")
+    );
+    assert_eq!(error.cause(), Some(Cause::Nonce));
     // The AP-REP alone, to another authenticator.
     let fresh = Rules::RFC.without(Rules::FRESH_REPLIES);
     let error = play_back(Some(fresh)).err().unwrap();
-    assert_eq!(error.cause(), Some(Cause::REPLY_TIME));
+    assert_eq!(error.cause(), Some(Cause::ReplyTime));
     // Without the checks the initiator is fooled.
     let session = play_back(Some(Rules::NONE)).unwrap();
     assert_eq!(session.peer(), "host/server.example.com");
@@ -147,9 +151,13 @@ fn a_recorded_log_in_is_not_played_back() {
 fn a_session_is_not_there_before() {
     let mut early = initiator();
     show(&mut early);
-    assert_eq!(early.peer().unwrap_err().cause(), Some(Cause::SEQUENCE));
+    assert_eq!(early.peer().unwrap_err().cause(), Some(Cause::Sequence));
     let error = early.into_session().err().unwrap();
-    assert_eq!(error.to_string(), "refused: OutOfSequence Sequence");
+    assert!(
+        error
+            .to_string()
+            .starts_with("refused: OutOfSequence Sequence: ")
+    );
 }
 
 #[test]
@@ -158,17 +166,18 @@ fn a_fault_ends_an_exchange() {
     for _ in 0..2 {
         assert_eq!(initiator.start().unwrap(), Next::AskKdc);
         let error = initiator.start().unwrap_err();
-        assert_eq!(error.cause(), Some(Cause::SEQUENCE));
+        assert_eq!(error.cause(), Some(Cause::Sequence));
         let error = initiator.hear(b"").unwrap_err();
-        assert_eq!(error.cause(), Some(Cause::SEQUENCE));
+        assert_eq!(error.cause(), Some(Cause::Sequence));
         let error = initiator.fault(7).unwrap_err();
-        assert_eq!(error.cause(), Some(Cause::NETWORK));
-        assert_eq!(
-            error.to_string(),
-            "refused: NoAuthenticatingAuthority Network 7"
+        assert_eq!(error.cause(), Some(Cause::Network(7)));
+        assert!(
+            error
+                .to_string()
+                .starts_with("refused: NoAuthenticatingAuthority Network 7: ")
         );
         let error = initiator.answer(b"").unwrap_err();
-        assert_eq!(error.cause(), Some(Cause::SEQUENCE));
+        assert_eq!(error.cause(), Some(Cause::Sequence));
     }
 }
 
@@ -191,10 +200,17 @@ fn a_file_names_the_kdc() {
 fn bad_settings_are_told() {
     let mut initiator = initiator();
     let error = initiator.key("alice", "EXAMPLE.COM", 16, &[]).unwrap_err();
-    assert_eq!(error.to_string(), "refused: InvalidParameter Etype");
+    assert!(
+        error
+            .to_string()
+            .starts_with("refused: InvalidParameter Etype: ")
+    );
     assert!(initiator.key("a@b", "E", 18, &[7; 32]).is_err());
     let past = SystemTime::UNIX_EPOCH - Duration::from_secs(1);
-    let refused = initiator.step_at(Step::Start, past, [0; 64]);
+    let refused = initiator.step_at(Step::Start, past, [7; 64]);
+    assert!(matches!(refused, Err(Error::Argument)));
+    // Nobody filled these.
+    let refused = initiator.step_at(Step::Start, SystemTime::now(), [0; 64]);
     assert!(matches!(refused, Err(Error::Argument)));
     let error = Initiator::new("host/\u{e4}", "desk", Flags::USUAL);
     assert!(matches!(error, Err(Error::Refused(_))));

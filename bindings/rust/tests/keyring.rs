@@ -72,7 +72,7 @@ fn tickets_under_the_old_key_and_the_new_one_are_admitted_once() {
         assert_eq!(session.client(), Some("alice@EXAMPLE.COM"));
         let again = judge(&mut ring, token).unwrap();
         let error = book.admit(again).err().unwrap();
-        assert_eq!(error.cause(), Some(Cause::REPLAYED));
+        assert_eq!(error.cause(), Some(Cause::Replayed));
     }
     assert_eq!(book.kept(), 5);
 }
@@ -81,17 +81,21 @@ fn tickets_under_the_old_key_and_the_new_one_are_admitted_once() {
 fn a_ring_refuses_what_its_keys_do_not_open() {
     let entries = [("EXAMPLE.COM", 2, &OLD), ("EXAMPLE.COM", 3, &NEW)];
     let rows: [(&[(&str, u8, &[u8; 32])], Option<u32>, Cause); 4] = [
-        (&[], Some(2), Cause::NO_SERVICE_KEY),
-        (&[("B.COM", 2, &OLD)], Some(2), Cause::NO_SERVICE_KEY),
-        (&entries, Some(3), Cause::ALTERED), // the key of version 3 alone is tried
-        (&entries[1..], None, Cause::ALTERED),
+        (&[], Some(2), Cause::NoServiceKey),
+        (&[("B.COM", 2, &OLD)], Some(2), Cause::NoServiceKey),
+        (&entries, Some(3), Cause::Altered), // the key of version 3 alone is tried
+        (&entries[1..], None, Cause::Altered),
     ];
     for (entries, version, cause) in rows {
         let error = judge(&mut ring(entries), &token(&OLD, version, 1)).err();
         assert_eq!(error.unwrap().cause(), Some(cause));
     }
     let error = judge(&mut ring(&entries), b"none").err().unwrap();
-    assert_eq!(error.to_string(), "refused: InvalidToken Shape");
+    assert!(
+        error
+            .to_string()
+            .starts_with("refused: InvalidToken Shape: ")
+    );
 }
 
 #[test]
@@ -100,14 +104,18 @@ fn a_file_that_is_no_keytab_changes_nothing() {
     let more = keytab(&[("EXAMPLE.COM", 3, &NEW), ("B.COM", 3, &NEW)]);
     for file in [&more[1..], &more[..more.len() - 1], b"\x05\x01"] {
         let error = ring.add_keytab(file).err().unwrap();
-        assert_eq!(error.to_string(), "refused: InvalidToken Shape");
+        assert!(
+            error
+                .to_string()
+                .starts_with("refused: InvalidToken Shape: ")
+        );
         assert_eq!(ring.count(), 1);
     }
     judge(&mut ring, &token(&OLD, Some(3), 1)).unwrap();
     assert_eq!(ring.add_keytab(&more).unwrap(), 2);
     assert_eq!(ring.count(), 3);
     let error = judge(&mut ring, &token(&OLD, Some(3), 1)).err().unwrap();
-    assert_eq!(error.cause(), Some(Cause::ALTERED));
+    assert_eq!(error.cause(), Some(Cause::Altered));
 }
 
 #[test]
@@ -130,13 +138,17 @@ fn a_ring_has_a_limit_and_holds_clients_to_their_channel() {
     judge_bound(&bound, CHANNEL).unwrap();
     for (token, data) in [(&bound, &b"other"[..]), (&bound, b""), (&free, CHANNEL)] {
         let error = judge_bound(token, data).err().unwrap();
-        assert_eq!(error.cause(), Some(Cause::BINDINGS));
+        assert_eq!(error.cause(), Some(Cause::Bindings));
     }
     judge(&mut ring, &bound).unwrap();
-    ring.limit_tokens(bound.len() - 1).unwrap();
+    ring.set_token_limit(bound.len() - 1).unwrap();
     let error = judge(&mut ring, &bound).err().unwrap();
-    assert_eq!(error.to_string(), "refused: InvalidToken Shape");
-    ring.limit_tokens(bound.len()).unwrap();
+    assert!(
+        error
+            .to_string()
+            .starts_with("refused: InvalidToken Shape: ")
+    );
+    ring.set_token_limit(bound.len()).unwrap();
     judge(&mut ring, &bound).unwrap();
 }
 
@@ -144,7 +156,7 @@ fn a_ring_has_a_limit_and_holds_clients_to_their_channel() {
 fn a_book_without_a_key_judges_nothing() {
     let book = Acceptor::keyless(SKEW).unwrap();
     let error = book.accept_at(&token(&OLD, None, 1), now(), [1; 64]).err();
-    assert_eq!(error.unwrap().cause(), Some(Cause::NO_SERVICE_KEY));
+    assert_eq!(error.unwrap().cause(), Some(Cause::NoServiceKey));
 }
 
 /// RFC 4120, section 5.2.6: AD-IF-RELEVANT is type 1, and each counts as the elements inside it, one level deep.

@@ -1,75 +1,10 @@
 //! Security layers of SASL GSSAPI, between two ends of the library that meet over the replies of a KDC that were recorded. What frames and
 //! tokens are to be is that of RFC 4752, section 3, and of RFC 4121, section 4.2.
 
-use menolavuri::{
-    Acceptor, Cause, Error, Flags, Initiator, Layer, LayerRefusal, Layers, Next, SaslClient,
-    SaslServer, Session, Step,
-};
-use std::time::{Duration, SystemTime, UNIX_EPOCH};
+mod meeting;
 
-const EXCHANGE: &str = include_str!("../../../examples/both-ends");
-
-fn octets(hex: &str) -> Vec<u8> {
-    (0..hex.len() / 2)
-        .map(|i| u8::from_str_radix(&hex[2 * i..2 * i + 2], 16).unwrap())
-        .collect()
-}
-
-/// The lines of the exchange that begin with a word, in words.
-fn lines(word: &str) -> Vec<Vec<&'static str>> {
-    EXCHANGE
-        .lines()
-        .map(|line| line.split(' ').collect())
-        .filter(|words: &Vec<&str>| words[0] == word)
-        .collect()
-}
-
-/// The time of the exchange, and what was drawn.
-fn draw() -> (SystemTime, [u8; 64]) {
-    let event = &lines("event")[0];
-    let now = UNIX_EPOCH + Duration::from_micros(event[2].parse().unwrap());
-    (now, octets(event[3]).try_into().unwrap())
-}
-
-fn step(initiator: &mut Initiator, step: Step) -> Next {
-    let (now, random) = draw();
-    initiator.step_at(step, now, random).unwrap()
-}
-
-/// An initiator that the KDC's replies have brought to its token.
-fn asked() -> Initiator {
-    let password = &lines("password")[0];
-    let secret = String::from_utf8(octets(password[4])).unwrap();
-    let target = "host/server.example.com";
-    let mut initiator =
-        Initiator::with_number(target, "hostname", Flags::USUAL, [1, 2, 3, 4]).unwrap();
-    initiator.kdc(lines("kdc")[0][2]).unwrap();
-    initiator
-        .password(password[2], password[3], &secret)
-        .unwrap();
-    let mut next = step(&mut initiator, Step::Start);
-    for event in lines("event") {
-        if event[1] == "10" && event[5] == "reply" {
-            assert_eq!(next, Next::AskKdc);
-            next = step(&mut initiator, Step::Answer(&octets(event[6])));
-        }
-    }
-    assert_eq!(next, Next::SendToken);
-    initiator
-}
-
-/// Both ends of a session: the initiator's and the acceptor's.
-fn meet() -> (Session, Session) {
-    let key = &lines("key")[0];
-    let acceptor = Acceptor::new(key[2], &octets(key[3]), Duration::from_secs(300)).unwrap();
-    let mut initiator = asked();
-    let (now, random) = draw();
-    let token = initiator.token().unwrap();
-    let session = acceptor.accept_at(&token, now, random).unwrap();
-    let next = step(&mut initiator, Step::Hear(session.answer()));
-    assert_eq!(next, Next::Established);
-    (initiator.into_session().unwrap(), session)
-}
+use meeting::meet;
+use menolavuri::{Cause, Error, Layer, LayerRefusal, Layers, SaslClient, SaslServer, Session};
 
 /// Both ends of a layer.
 fn agree(layers: impl Into<Layers>, layer: Layer, user: &str) -> (SaslClient, SaslServer) {
@@ -110,7 +45,7 @@ fn data_go_both_ways_in_each_layer() {
             assert_eq!(frame.len(), 4 + length + longer);
             assert_eq!(server.unseal(&frame).unwrap(), data);
             let again = server.unseal(&frame);
-            assert!(layer == Layer::None || is_caused(again, Cause::REPEATED));
+            assert!(layer == Layer::None || is_caused(again, Cause::Repeated));
             let frame = server.seal(&data).unwrap();
             assert_eq!(client.unseal(&frame).unwrap(), data);
         }
@@ -165,12 +100,12 @@ fn what_was_not_offered_is_not_accepted() {
     server.offer().unwrap();
     let token = peer.wrap_in_clear(&[2, 0, 1, 0]).unwrap();
     assert!(is_refused(server.accept(&token), LayerRefusal::Layer));
-    assert!(is_caused(server.accept(&token), Cause::REPEATED));
+    assert!(is_caused(server.accept(&token), Cause::Repeated));
     let token = peer.wrap_in_clear(&[4, 0, 1, 0, 0xff]).unwrap();
     assert!(is_refused(server.accept(&token), LayerRefusal::Offer));
     let mut token = peer.wrap_in_clear(b"\x04\x00\x01\x00bj\xc3\xb6rn").unwrap();
     token[20] ^= 1;
-    assert!(is_caused(server.accept(&token), Cause::ALTERED));
+    assert!(is_caused(server.accept(&token), Cause::Altered));
     token[20] ^= 1;
     assert_eq!(server.accept(&token).unwrap(), "bj\u{f6}rn");
 }
@@ -228,7 +163,7 @@ fn frames_are_taken_in_order() {
     let first = frame(peer.wrap(b"a").unwrap());
     let second = frame(peer.wrap(b"b").unwrap());
     let early = server.unseal(&second).unwrap_err();
-    assert_eq!(early.cause(), Some(Cause::NUMBER));
+    assert_eq!(early.cause(), Some(Cause::Number));
     assert_eq!(server.unseal(&first).unwrap(), b"a");
     assert_eq!(server.unseal(&second).unwrap(), b"b");
     assert!(server.unseal(&first).is_err());

@@ -27,7 +27,7 @@ fn bring(acceptor: &Acceptor, tokens: &[Vec<u8>], thread: usize) -> (usize, usiz
                 admitted += 1;
             }
             Err(error) => {
-                assert_eq!(error.cause(), Some(Cause::REPLAYED), "{error}");
+                assert_eq!(error.cause(), Some(Cause::Replayed), "{error}");
                 replayed += 1;
             }
         }

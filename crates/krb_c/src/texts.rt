@@ -4,7 +4,7 @@ ghost use Rattle.std.specs.Prelude.{◌≡◌, ◌≢◌, ◌≤◌, ◌<◌, tr
 ghost use Rattle.sspi_core.specs.Moments.{last_moment};
 ghost use Rattle.krb_c.specs.declared.reply.Failure.TheVariants as failures;
 ghost use Rattle.krb_c.specs.Calls.{draw_of};
-ghost use Rattle.krb_c.specs.Failures.{IsLate, IsNoDraw, IsNoText, IsUnfilled, IsWant, RefusedAs, has_key_length};
+ghost use Rattle.krb_c.specs.Failures.{IsNoDraw, IsNoText, IsUnfilled, IsWant, RefusedAs, has_key_length};
 
 use crate::accept::Moment;
 use crate::reply::Failure;

@@ -22,7 +22,7 @@ pub fn encode(octets: &[u8]) -> String {
 /// The octets of a text, or None where it is no Base64.
 pub fn decode(text: &str) -> Option<Vec<u8>> {
     let padded = text.len() - text.trim_end_matches('=').len();
-    if !text.len().is_multiple_of(4) || padded > 2 {
+    if text.len() % 4 != 0 || padded > 2 {
         return None;
     }
     let (mut octets, mut bits, mut count) = (Vec::new(), 0u32, 0);

@@ -3,7 +3,7 @@
 use crate::Answer;
 use crate::peer::{Limits, Peer};
 use crate::places::{Place, Places};
-use crate::telling::{log, words};
+use crate::telling::log;
 use std::net::{SocketAddr, TcpListener, TcpStream};
 use std::thread::{self, Builder};
 use std::time::{Duration, Instant};
@@ -62,7 +62,7 @@ fn serve_within(
             let started = Builder::new().spawn_scoped(threads, move || {
                 let _place = place;
                 if let Err(error) = serve(Peer::new(stream, limits)) {
-                    log(&format!("{address}: {}", words(&*error)));
+                    log(&format!("{address}: {error}"));
                 }
             });
             // Its connection is closed, and its place given back.

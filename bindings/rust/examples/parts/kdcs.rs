@@ -2,14 +2,14 @@
 
 use crate::Answer;
 use crate::keys::keys;
-use crate::telling::{complain, words};
+use crate::telling::complain;
 use menolavuri::{Error, Initiator, Next, carrier};
 use std::io;
 use std::time::SystemTime;
 
 /// Names what an argument is about where the library does not take it.
 pub fn about(what: String) -> impl FnOnce(Error) -> String {
-    move |error| format!("{what}: {}", words(&error))
+    move |error| format!("{what}: {error}")
 }
 
 /// Gives the initiator the tickets of a credential cache.

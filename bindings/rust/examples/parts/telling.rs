@@ -1,8 +1,6 @@
 //! The output of a program: lines of its log, and why it failed, in words that a person can act on.
 
 use crate::Answer;
-use crate::causes::advice;
-use std::error::Error;
 use std::io::{self, Write};
 use std::process::ExitCode;
 
@@ -28,20 +26,12 @@ pub fn complain(words: &str) {
     let _ = io::stderr().write_all(line.as_bytes());
 }
 
-/// An error in words, with what can be done about it where that is known.
-pub fn words(error: &(dyn Error + 'static)) -> String {
-    match error.downcast_ref().and_then(advice) {
-        Some(advice) => format!("{error}: {advice}"),
-        None => error.to_string(),
-    }
-}
-
 /// How a program ends: where it failed, it tells why.
 pub fn end(result: Answer<()>) -> ExitCode {
     match result {
         Ok(()) => ExitCode::SUCCESS,
         Err(error) => {
-            complain(&words(&*error));
+            complain(&error.to_string());
             ExitCode::FAILURE
         }
     }

@@ -221,8 +221,19 @@ fn flags(octets: [u8; 4]) -> Vec<u8> {
     der(3, &[&[0], &octets[..]].concat())
 }
 
+/// A name of these parts. Its letter U+00FF is the one byte ff there, which is not UTF-8.
 fn name(kind: u32, parts: &[&str]) -> Vec<u8> {
-    let parts: Vec<_> = parts.iter().map(|part| text(part)).collect();
+    let octets = |part: &str| part.replace('\u{ff}', "\0").into_bytes();
+    let latin = |octet| if octet == 0 { 0xff } else { octet };
+    let parts: Vec<_> = parts
+        .iter()
+        .map(|part| {
+            der(
+                0x1b,
+                &octets(part).into_iter().map(latin).collect::<Vec<_>>(),
+            )
+        })
+        .collect();
     sequence(&[(0, number(kind)), (1, der(0x30, &parts.concat()))])
 }
 
