@@ -1,12 +1,12 @@
 //! As `gss_server`, for a service of several machines, or of several processes on one. They share a Redis, which remembers who was
-//! let in, and so a token that one of them let in is refused by the others:
+//! admitted, and so a token that one of them admitted is refused by the others:
 //!
 //!     redis-server --save ''
 //!     cargo run --offline --example shared_server 127.0.0.1:4444 host/server.example.com /etc/krb5.keytab 300 127.0.0.1:6379
 //!     cargo run --offline --example shared_server 127.0.0.1:4445 host/server.example.com /etc/krb5.keytab 300 127.0.0.1:6379
 //!
-//! The keytab and 300 are those of `gss_server`. It does not wait after a start: the store knows whom an earlier process let in. Where the
-//! store does not answer, nobody is let in. The clocks of all these machines have to agree within the skew.
+//! The keytab and 300 are those of `gss_server`. It does not wait after a start: the store knows whom an earlier process admitted. Where the
+//! store does not answer, nobody is admitted. The clocks of all these machines have to agree within the skew.
 
 #[path = "parts/causes.rs"]
 mod causes;
@@ -68,7 +68,7 @@ impl Shared {
     fn admit(&self, acceptor: &Acceptor, token: &[u8]) -> Answer<Session> {
         let mut judged = acceptor.judge(token)?;
         let (now, seen) = self.ask(&judged.record()?).map_err(|error| {
-            format!("nobody is let in: {error} (the store at {})", self.address)
+            format!("nobody is admitted: {error} (the store at {})", self.address)
         })?;
         Ok(acceptor.admit_told(judged, now, seen)?)
     }

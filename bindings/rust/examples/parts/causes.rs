@@ -25,7 +25,7 @@ pub fn advice(error: &Error) -> Option<&'static str> {
             "the client did not bind its log-in to this channel; who is between here and there?",
         ),
         Cause::EXPIRED => Some("the client's ticket has ended; kinit brings another"),
-        Cause::REPLAYED => Some("this token was let in before; the client is to make another"),
+        Cause::REPLAYED => Some("this token was admitted before; the client is to make another"),
         Cause::REPEATED | Cause::OLD => Some("a message came again, or far too late"),
         Cause::NETWORK => Some("no KDC answered; is one there, at these addresses?"),
         Cause::KDC => of_kdc(refusal.number),
