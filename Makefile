@@ -4,6 +4,7 @@
 # make test      runs the tests of the libraries, all cases and the checks of the pages, with every check at run time and no proof
 # make prove     proves all crates, runs the programs, and tries the few wrong bodies of must-fail: first part of the gate, .ci/run
 # make build     proves and builds `krb_run`
+# make tools     proves and builds `krb_run`, `krb_keys` and `krb_realm`
 # make realm     proves and builds `krb_run` and `krb_realm`, and goes from a password to an encrypted message with them
 # make library   proves and builds the library for C and Rust, static and shared
 # make bindings  does the same, and tests it in C and Rust, and as it is installed: in ROUNDS=10000 rounds in C
@@ -17,7 +18,6 @@
 # make live      lets real clients, KDCs and services speak to that library's examples, in throw-away realms (docs/INTEROP.md)
 # make bench     measures, draws two plots in out/bench, and reads the machine code (docs/PERFORMANCE.md)
 EXAMPLE ?= examples/one-client
-PROGRAM = crates/krb_run/out/krb_run
 PREFIX ?= /usr/local
 BINDIR ?= $(PREFIX)/bin
 MANDIR ?= $(PREFIX)/share/man
@@ -30,7 +30,7 @@ BUILT = $(foreach it,$(TOOLS),$(if $(wildcard crates/$(it)/out/$(it)),$(it)))
 COPY = $(MAKE) --no-print-directory -C bindings/c $@ DESTDIR=$(abspath $(DESTDIR)) PAGES="$(PAGES)" PREFIX=$(PREFIX)
 COPY_GSS = $(if $(wildcard bindings/gss/Makefile),$(MAKE) --no-print-directory -C bindings/gss $@ DESTDIR=$(abspath $(DESTDIR)) PREFIX=$(PREFIX))
 
-.PHONY: run help test prove build realm library bindings gss install install-tools uninstall dist deb fuzz live try-live bench
+.PHONY: run help test prove build tools realm library bindings gss install install-tools uninstall dist deb fuzz live try-live bench
 run:
 	@cd crates/krb_run && rt try -- serve < $(abspath $(EXAMPLE))
 	@echo "This was not proved: it ran with every check at run time. make build proves."
@@ -45,11 +45,13 @@ prove:
 	rt ci
 
 build:
-	@cd crates/krb_run && rt run -- --version
-	@echo "Proved and built: $(PROGRAM)"
+	@.ci/build krb_run
 
-realm: build
-	@cd crates/krb_realm && rt run -- --version
+tools:
+	@.ci/build $(TOOLS)
+
+realm:
+	@.ci/build krb_run krb_realm
 	@examples/realm/run
 
 library:
@@ -75,7 +77,7 @@ install:
 	install -m 644 $(CALLS:%=man/%) $(DESTDIR)$(MANDIR)/man3
 
 install-tools:
-	@test -n "$(BUILT)" || { echo "no program is there: make build and make realm prove and make them"; exit 1; }
+	@test -n "$(BUILT)" || { echo "no program is there: make tools proves and makes them"; exit 1; }
 	install -d $(DESTDIR)$(BINDIR) $(DESTDIR)$(MANDIR)/man1
 	for it in $(BUILT); do install crates/$$it/out/$$it $(DESTDIR)$(BINDIR) && install -m 644 man/$$it.1 $(DESTDIR)$(MANDIR)/man1 || exit 1; done
 

@@ -75,7 +75,7 @@ silent_clients_come() {
     local clients=() client status=0 _
     for _ in $(seq 64); do exec {client}<> "/dev/tcp/127.0.0.1/$acceptor_port" && clients+=("$client"); done
     verifies 1 "$acceptor_port" hello && status=1
-    logged acceptor 'not let in: its address has 64 places already' || status=1
+    logged acceptor 'not admitted: its address has 64 places already' || status=1
     for client in "${clients[@]}"; do exec {client}>&-; done
     return $status
 }
@@ -112,13 +112,13 @@ try_keytabs() {
     export KRB5CCNAME=$old
 }
 
-# A server that waits says so, and why, and lets nobody in until then.
+# A server that waits says so, and why, and admits nobody until then.
 try_wait() {
     check "gss_server with a wait" start_by_keytab waits host/server.example.com 4
-    check "its log tells the wait, and why" logged waits '^nobody is let in for 4 seconds: a token that an earlier process admitted'
-    check "during its wait nobody is let in" is_refused waits 'not let in: the wait is not over' 127.0.0.1 host@server.example.com hello
-    check "its log tells when that is over" logged waits '^clients are let in from now on$'
-    check "and then clients are let in" verifies 1 "$acceptor_port" hello
+    check "its log has the wait, and why" logged waits '^nobody is admitted for 4 seconds: a token that an earlier process admitted'
+    check "during its wait nobody is admitted" is_refused waits 'not admitted: the wait is not over' 127.0.0.1 host@server.example.com hello
+    check "its log says when that is over" logged waits '^clients are admitted from now on$'
+    check "and then clients are admitted" verifies 1 "$acceptor_port" hello
 }
 
 # A failure at the start names its file or its address, in one line.
@@ -167,7 +167,7 @@ try_acceptor() {
     check "what is no token is refused" noise_comes
     check "a frame that says 2^31 octets is refused" long_frame_comes
     check "64 silent clients of one address: the next is refused" silent_clients_come
-    check "and clients are let in as before" verifies 1 "$acceptor_port" hello
+    check "and clients are admitted as before" verifies 1 "$acceptor_port" hello
     acceptor_port=$other_port
     check "another key than the ticket's is refused" is_refused other-key 'Altered' 127.0.0.1 host@server.example.com hello
     try_keytabs

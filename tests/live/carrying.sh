@@ -31,7 +31,7 @@ start_proxy() {
 }
 
 try_proxy() {
-    "$python" -c 'import kdcproxy' 2> /dev/null || { echo "not tried: the proxy, which wants Debian's package python3-kdcproxy"; return; }
+    "$python" -c 'import kdcproxy' 2> /dev/null || { echo "not tried: the proxy, which needs Debian's package python3-kdcproxy"; return; }
     start_proxy
     check "through a proxy: nobody is not known" brings 'error 6' nobody http "http://127.0.0.1:$proxy_port/KdcProxy"
     check "through a proxy: alice is answered" brings as-rep alice http "http://127.0.0.1:$proxy_port/KdcProxy"

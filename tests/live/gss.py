@@ -5,7 +5,7 @@
 #                                                           sends this many sealed messages, and verifies the MICs that come back
 #   python3 gss.py crowd LIBRARY PORT SERVICE FLAGS PROCESSES EACH
 #                                                           makes this many first tokens in this many processes at once, logs in with each
-#                                                           and tells with how many it was let in
+#                                                           and tells with how many it was admitted
 # NAME is a service, as host@client.example.com, whose key the library finds by KRB5_CLIENT_KTNAME. DATA are those of the bindings of a
 # channel. FLAGS are the sum of GSS-API's own, as 62: mutual 2, replay 4, sequence 8, sealed 16, whole 32. Messages are opened by gss_unwrap, as
 # a whole, or in parts by gss_unwrap_iov, as RPC opens those of DCE style. A status that says more than that a call is done, as that a

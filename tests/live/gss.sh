@@ -141,12 +141,12 @@ has_krb5() { echo 'int main(void) { return 0; }' | ${CC:-cc} -x c -o "$room/link
 
 try_gss() {
     local gss gss_built gss_conf='' KRB5_CONFIG=$KRB5_CONFIG
-    has_krb5 2> /dev/null || { echo "not tried: servers over the interposer, which wants Debian's package libkrb5-dev"; return; }
+    has_krb5 2> /dev/null || { echo "not tried: servers over the interposer, which needs Debian's package libkrb5-dev"; return; }
     build_gss > "$room/built" 2>&1 || { cat "$room/built"; check "bindings/gss is built" false; return; }
     gss_room > "$room/gss-room.log" 2>&1 || { cat "$room/gss-room.log"; check "the room of the servers" false; return; }
     export KRB5_CONFIG=$gss/krb5.conf
     check "the interposer is loaded" finds_itself
-    check "settings that cannot be read are told" tells_bad_settings
+    check "settings that cannot be read are reported" tells_bad_settings
     [ "$(id -u)" -ne 0 ] || check "a setuid program reads no environment" is_deaf_as_setuid
     local server
     for server in ${GSS_SERVERS:-samples sshd postgres apache sasl dovecot ldap python java redis kadmin checked}; do "try_gss_$server"; done

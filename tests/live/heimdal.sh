@@ -1,7 +1,7 @@
 # Tickets of Heimdal's KDC: MIT's gss-client and a client over Heimdal's library show one to gss_server, and Cyrus' client over Heimdal's
 # library shows one to sasl_server.
 
-# Whether Cyrus' client is let in over Heimdal's library: heimdal_cyrus_in LEAST MOST
+# Whether Cyrus' client is admitted over Heimdal's library: heimdal_cyrus_in LEAST MOST
 heimdal_cyrus_in() {
     local plugins
     plugins=$(echo "$heimdal_folder"/usr/lib/*-linux-gnu/sasl2)

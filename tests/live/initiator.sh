@@ -41,7 +41,7 @@ fails() {
 }
 
 try_krb_run() {
-    [ -x "$krb_run" ] || { echo "not tried: krb_run's initiator, which wants $krb_run; make build makes it"; return; }
+    [ -x "$krb_run" ] || { echo "not tried: krb_run's initiator, which needs $krb_run; make build makes it"; return; }
     check "a password, Heimdal's KDC over TCP, a sealed message" logs_in "tcp://127.0.0.1:$heimdal_port" secret
     check "over UDP, and over TCP where the answer is too long" logs_in "udp://127.0.0.1:$heimdal_port" secret
     check "a second KDC where the first is away" logs_in "tcp://$nobody" secret "127.0.0.1:$heimdal_port"
@@ -51,7 +51,7 @@ try_krb_run() {
 
 try_initiator() {
     local nobody
-    has_heimdal || { echo "not tried: the initiators, which want Heimdal's KDC; tests/live/unpack unpacks it"; return; }
+    has_heimdal || { echo "not tried: the initiators, which need Heimdal's KDC; tests/live/unpack unpacks it"; return; }
     [ -n "${heimdal:-}" ] || start_heimdal > "$room/heimdal.log" 2>&1
     nobody=127.0.0.1:$(free_port)
     start_acceptor its-server host/server.example.com "$(heimdal_key host)"

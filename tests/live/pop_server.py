@@ -1,6 +1,6 @@
-# A server of POP3 that lets clients in by Cyrus' library of SASL:  python3 pop_server.py PORT LEAST MOST LONGEST
+# A server of POP3 that admits clients by Cyrus' library of SASL:  python3 pop_server.py PORT LEAST MOST LONGEST
 # The strength of its layer is between LEAST and MOST: 0 none, 1 integrity, more confidentiality; it receives messages of LONGEST octets at
-# most. It answers STAT and QUIT, one connection after another, and prints who was let in, with the strength. Its key is in KRB5_KTNAME.
+# most. It answers STAT and QUIT, one connection after another, and prints who was admitted, with the strength. Its key is in KRB5_KTNAME.
 import base64, ctypes as c, socket, sys
 
 port, least, most, longest = map(int, sys.argv[1:])
@@ -18,7 +18,7 @@ class Refused(Exception):
 
 
 class Connection:
-    """A client's connection, and its layer once it is let in."""
+    """A client's connection, and its layer once it is admitted."""
 
     def __init__(self, stream):
         self.stream, self.from_client, self.opened = stream, stream.makefile("rb"), b""

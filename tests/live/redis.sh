@@ -14,7 +14,7 @@ start_shared() {
     await_port "$shared_port"
 }
 
-# Whether a token that was let in is refused at another port, and the log says so: is_known NAME PORT
+# Whether a token that was admitted is refused at another port, and the log says so: is_known NAME PORT
 is_known() {
     "$python" "$live/relay.py" again "$2" "$room/shared-token" | tee /dev/stderr | grep -x 'answered by 0 octets' || return 1
     logged "$1" Replayed
@@ -31,8 +31,8 @@ keeps_token() {
 
 # Whether a client is refused at a port, and the log says why: nobody_in NAME PORT WORDS
 nobody_in() {
-    verifies 1 "$2" hello && { echo "it was let in"; return 1; }
-    logged "$1" "nobody is let in: $3"
+    verifies 1 "$2" hello && { echo "it was admitted"; return 1; }
+    logged "$1" "nobody is admitted: $3"
 }
 
 try_redis() {
@@ -41,18 +41,18 @@ try_redis() {
     redis_port=$(free_port)
     start_shared first && first=$shared_port
     start_shared second && second=$shared_port
-    check "the store is away: nobody is let in" nobody_in first "$first" 'Connection refused'
+    check "the store is away: nobody is admitted" nobody_in first "$first" 'Connection refused'
     start_redis
-    check "the store was started anew: nobody is let in" nobody_in first "$first" 'the store was started anew'
+    check "the store was started anew: nobody is admitted" nobody_in first "$first" 'the store was started anew'
     sleep 12
-    check "a client is let in at the first" keeps_token "$first"
+    check "a client is admitted at the first" keeps_token "$first"
     check "its token is refused at the second" is_known second "$second"
     check "and at the first" is_known first "$first"
-    check "other tokens are let in at both" verifies 1 "$second" hello
+    check "other tokens are admitted at both" verifies 1 "$second" hello
     kill -STOP "$redis"
-    check "the store is silent: nobody is let in" nobody_in second "$second" 'the store does not answer'
+    check "the store is silent: nobody is admitted" nobody_in second "$second" 'the store does not answer'
     kill -CONT "$redis"
-    check "the store answers again: a client is let in" verifies 1 "$second" hello
+    check "the store answers again: a client is admitted" verifies 1 "$second" hello
     kill "$redis" && wait "$redis"
-    check "the store is gone: nobody is let in" nobody_in second "$second" ''
+    check "the store is gone: nobody is admitted" nobody_in second "$second" ''
 }

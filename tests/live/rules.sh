@@ -41,11 +41,11 @@ refuses_without_rules() {
     grep -q -- "$1" "$room/said"
 }
 
-# is_away, and the initiator says so: `wants RULE PATTERN USER ASKED`
-wants() { is_away "$1" "$3" "$4" && grep -q -- "$2" "$room/said"; }
+# is_away, and the initiator says so: `needs RULE PATTERN USER ASKED`
+needs() { is_away "$1" "$3" "$4" && grep -q -- "$2" "$room/said"; }
 
-# As `wants`, and the service says so in its log: `its_service_wants RULE NAME PATTERN USER ASKED`
-its_service_wants() {
+# As `needs`, and the service says so in its log: `its_service_needs RULE NAME PATTERN USER ASKED`
+its_service_needs() {
     local before
     before=$(wc -l < "$room/$2.log")
     is_away "$1" "$4" "$5" || return 1
@@ -74,11 +74,11 @@ try_mit_kdc() {
     check "MIT's KDC and service" visits_plainly carol usual
     check "the same with the key of a keytab" visits carol "$mit/carol.keytab" usual
     check "MIT's KDC without any rule: its AS-REP is refused" refuses_without_rules 'refused: .* Inner' carol usual
-    check "MIT's KDC without AS_REP_TAGGED_26: each AS-REP is refused" wants AS_REP_TAGGED_26 'refused: .* Inner' carol usual
+    check "MIT's KDC without AS_REP_TAGGED_26: each AS-REP is refused" needs AS_REP_TAGGED_26 'refused: .* Inner' carol usual
     check "a user without pre-authentication" visits_plainly alice usual
-    check "without NO_PREAUTHENTICATION the first AS-REP is refused" wants NO_PREAUTHENTICATION 'refused: .* EarlyAsRep' alice usual
+    check "without NO_PREAUTHENTICATION the first AS-REP is refused" needs NO_PREAUTHENTICATION 'refused: .* EarlyAsRep' alice usual
     check "a user with one key of AES-128" visits_plainly small usual
-    check "without SUITE_OF_EACH_KEY the KDC refuses it" wants SUITE_OF_EACH_KEY 'refused: .* Kdc' small usual
+    check "without SUITE_OF_EACH_KEY the KDC refuses it" needs SUITE_OF_EACH_KEY 'refused: .* Kdc' small usual
     kdc=udp://127.0.0.1:$mit_port
     check "MIT's KDC over UDP" visits_plainly carol usual
     if "$python" -c 'import kdcproxy' 2> /dev/null; then
@@ -91,35 +91,35 @@ try_mit_kdc() {
     check "a service with one key of AES-128" visits_plainly carol usual
     kadmin.local setstr host/small.example.com session_enctypes aes128-cts-hmac-sha1-96 > "$room/small.log" 2>&1
     check "a service whose sessions are to have AES-128" visits_plainly carol usual
-    check "without SUITE_OF_EACH_KEY its key is refused" wants SUITE_OF_EACH_KEY 'refused: .* KeyLength' carol usual
+    check "without SUITE_OF_EACH_KEY its key is refused" needs SUITE_OF_EACH_KEY 'refused: .* KeyLength' carol usual
 }
 
 try_mit_service() {
     local kdc=tcp://127.0.0.1:$mit_port port service=host/server.example.com mit_library=libgssapi_krb5.so.2
     start_service mit-server env "$mit_keytab" stdbuf -oL gss-server -port PORT host@server.example.com
-    check "MIT's service without FIRST_NUMBER_AS_SHOWN: it tells a gap" its_service_wants FIRST_NUMBER_AS_SHOWN mit-server unsealing carol usual
+    check "MIT's service without FIRST_NUMBER_AS_SHOWN: it reports a gap" its_service_needs FIRST_NUMBER_AS_SHOWN mit-server unsealing carol usual
     check "MIT's service one way" visits_plainly carol one-way
-    check "without ONE_WAY_IS_SETTLED it awaits what never comes" wants ONE_WAY_IS_SETTLED 'sent nothing for 10s' carol one-way
-    check "MIT's service in DCE style, which opens messages as a whole: it refuses them" its_service_wants - mit-server unsealing carol dce-style
+    check "without ONE_WAY_IS_SETTLED it awaits what never comes" needs ONE_WAY_IS_SETTLED 'sent nothing for 10s' carol one-way
+    check "MIT's service in DCE style, which opens messages as a whole: it refuses them" its_service_needs - mit-server unsealing carol dce-style
     start_service mit-wraps env "$mit_keytab" "$python" "$live/gss.py" serve "$mit_library" PORT whole wrapped
     check "MIT's messages" visits_plainly carol usual
     start_service mit-parts env "$mit_keytab" "$python" "$live/gss.py" serve "$mit_library" PORT parts mic
     check "MIT's service in DCE style, which opens messages in parts" visits_plainly carol dce-style
     start_service mit-dce env "$mit_keytab" "$python" "$live/gss.py" serve "$mit_library" PORT parts wrapped
     check "MIT's messages in DCE style" visits_plainly carol dce-style
-    check "without EXTRA_COUNT_BY_TOKEN they are refused" wants EXTRA_COUNT_BY_TOKEN 'refused: .* ExtraCount' carol dce-style
+    check "without EXTRA_COUNT_BY_TOKEN they are refused" needs EXTRA_COUNT_BY_TOKEN 'refused: .* ExtraCount' carol dce-style
 }
 
 try_java_service() {
     local kdc=tcp://127.0.0.1:$mit_port port service=host/server.example.com
-    command -v java javac > /dev/null || { echo "not tried: a service in Java, which wants Debian's package openjdk-17-jdk-headless"; return; }
+    command -v java javac > /dev/null || { echo "not tried: a service in Java, which needs Debian's package openjdk-17-jdk-headless"; return; }
     javac -d "$room" "$live/Service.java" || return
     start_service java-service java -cp "$room" -Djava.security.krb5.conf="$mit/krb5.conf" -XX:TieredStopAtLevel=1 Service PORT "$mit/keytab" \
         host/server.example.com@EXAMPLE.COM
     check "a service in Java" visits_plainly carol usual
     check "a service in Java one way" visits_plainly carol one-way
-    check "without AP_REP_WITHOUT_SUBKEY its AP-REP is refused" wants AP_REP_WITHOUT_SUBKEY 'refused: .* NoSubKey' carol usual
-    check "without FIRST_NUMBER_AS_SHOWN it tells a gap" its_service_wants FIRST_NUMBER_AS_SHOWN java-service 'a message is missing' carol usual
+    check "without AP_REP_WITHOUT_SUBKEY its AP-REP is refused" needs AP_REP_WITHOUT_SUBKEY 'refused: .* NoSubKey' carol usual
+    check "without FIRST_NUMBER_AS_SHOWN it reports a gap" its_service_needs FIRST_NUMBER_AS_SHOWN java-service 'a message is missing' carol usual
 }
 
 # A user of Heimdal's realm with one key of AES-128.
@@ -137,16 +137,16 @@ try_heimdal_service() {
     check "Heimdal's KDC and service" visits_plainly alice usual
     check "the same with the key of a keytab, at Heimdal's KDC" visits alice "$heimdal/alice.keytab" usual
     check "a user with one key of AES-128 at Heimdal's KDC" visits_plainly small usual
-    check "without SUITE_OF_EACH_KEY Heimdal's KDC refuses it" wants SUITE_OF_EACH_KEY 'refused: .* Kdc' small usual
-    check "Heimdal's service without FIRST_NUMBER_AS_SHOWN: it tells a gap" its_service_wants FIRST_NUMBER_AS_SHOWN heimdal-service \
+    check "without SUITE_OF_EACH_KEY Heimdal's KDC refuses it" needs SUITE_OF_EACH_KEY 'refused: .* Kdc' small usual
+    check "Heimdal's service without FIRST_NUMBER_AS_SHOWN: it reports a gap" its_service_needs FIRST_NUMBER_AS_SHOWN heimdal-service \
         'gss_unwrap: 0x10' alice usual
     check "Heimdal's service one way" visits_plainly alice one-way
-    check "without SUBKEY_FLAG_BY_ORIGIN it refuses the messages" its_service_wants SUBKEY_FLAG_BY_ORIGIN heimdal-service gss_unwrap alice one-way
+    check "without SUBKEY_FLAG_BY_ORIGIN it refuses the messages" its_service_needs SUBKEY_FLAG_BY_ORIGIN heimdal-service gss_unwrap alice one-way
     check "Heimdal's service in DCE style" visits_plainly alice dce-style
     start_service heimdal-wraps env "${heimdal_settings[@]}" "$keytab" "$python" "$live/gss.py" serve libgssapi.so.3 PORT whole wrapped
     check "Heimdal's messages" visits_plainly alice usual
     check "Heimdal's messages in DCE style" visits_plainly alice dce-style
-    check "without EXTRA_COUNT_BY_TOKEN they are refused" wants EXTRA_COUNT_BY_TOKEN 'refused: .* ExtraCount' alice dce-style
+    check "without EXTRA_COUNT_BY_TOKEN they are refused" needs EXTRA_COUNT_BY_TOKEN 'refused: .* ExtraCount' alice dce-style
 }
 
 try_heimdal_client() {

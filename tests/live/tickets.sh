@@ -195,7 +195,7 @@ try_ticket_kdcs() {
     check "a second KDC where the first is away" finds_kdc away "$nobody" "127.0.0.1:$mit_port"
     check "no KDC is there" misses_all_kdcs "$nobody"
     check "a service of another realm, to which the KDC refers" is_referred
-    "$python" -c 'import kdcproxy' 2> /dev/null || { echo "not tried: the proxy, which wants Debian's package python3-kdcproxy"; return; }
+    "$python" -c 'import kdcproxy' 2> /dev/null || { echo "not tried: the proxy, which needs Debian's package python3-kdcproxy"; return; }
     start_proxy
     check "a proxy (MS-KKDCP)" finds_kdc proxy "http://127.0.0.1:$proxy_port/KdcProxy"
 }
@@ -232,7 +232,7 @@ try_ticket_limits() {
         timeout 20 gss-client -port "$sample_port" 127.0.0.1 nobody@localhost hello
     ! command -v valgrind > /dev/null || check "gss-client under valgrind" client_is_clean
     ! build_sanitized > "$room/sanitized" 2>&1 || check "gss-client under the address sanitizer" client_is_sane
-    check "a client is told so" bash -c "env GSS_MECH_CONFIG=$gss/mech.conf MENOLAVURI_GSS_CONF=$gss/tickets.conf gss-client -port $sample_port \
+    check "a client's error says so" bash -c "env GSS_MECH_CONFIG=$gss/mech.conf MENOLAVURI_GSS_CONF=$gss/tickets.conf gss-client -port $sample_port \
         127.0.0.1 nobody@localhost hello 2>&1 | grep 'Server not found in Kerberos database'"
 }
 
@@ -257,7 +257,7 @@ start_ticket_servers() {
 try_tickets() {
     local gss gss_built gss_conf='' gss_mech='' tickets_conf='' runtime sanitized KRB5_CONFIG=$KRB5_CONFIG
     local sample_port ssh_port pg_bin pg_port='' web_port='' mail_port='' ldap_port='' python_port bound_port postgres imtest
-    has_krb5 2> /dev/null || { echo "not tried: tickets over the interposer, which wants Debian's package libkrb5-dev"; return; }
+    has_krb5 2> /dev/null || { echo "not tried: tickets over the interposer, which needs Debian's package libkrb5-dev"; return; }
     build_gss > "$room/built" 2>&1 || { cat "$room/built"; check "bindings/gss is built" false; return; }
     tickets_room > "$room/tickets-room.log" 2>&1 || { cat "$room/tickets-room.log"; check "the room of the tickets" false; return; }
     export KRB5_CONFIG=$gss/krb5.conf python live imtest

@@ -1,5 +1,5 @@
 //! The settings: a file of lines `word = value`, at the path in MENOLAVURI_GSS_CONF, otherwise /etc/menolavuri/gss.conf. It is read once.
-//! docs/GSSAPI.md has each word. If it cannot be read, or a line is not understood, nobody is admitted.
+//! man/menolavuri_gss.5 has each word. If it cannot be read, or a line is not understood, nobody is admitted.
 
 use crate::behind::secure_getenv;
 use menolavuri::Rules;

@@ -1,4 +1,4 @@
-//! A message server that lets clients in by the mechanism GSSAPI of SASL (RFC 4752), as POP3 speaks it (RFC 1939, RFC 5034). Its
+//! A message server that admits clients by the mechanism GSSAPI of SASL (RFC 4752), as POP3 speaks it (RFC 1939, RFC 5034). Its
 //! mailboxes are empty. The layers are the library's: what is here carries lines and frames. A thread serves each connection:
 //!
 //!     cargo run --offline --example sasl_server 127.0.0.1:1110 pop/server.example.com /etc/krb5.keytab 300 600 7
@@ -115,7 +115,7 @@ fn authenticate(
     let (mechanism, first) = argument.split_once(' ').unwrap_or((argument, ""));
     if !mechanism.eq_ignore_ascii_case("GSSAPI") {
         connection.say("-ERR")?;
-        return Err("the client wants another mechanism than GSSAPI".into());
+        return Err("the client asks for another mechanism than GSSAPI".into());
     }
     let (server, layer) = match log_in(connection, acceptor, first, layers) {
         Ok(agreed) => agreed,

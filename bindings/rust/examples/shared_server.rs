@@ -1,12 +1,12 @@
 //! As `gss_server`, for a service of several machines, or of several processes on one. They share a Redis, which remembers who was
-//! let in, and so a token that one of them let in is refused by the others:
+//! admitted, and so a token that one of them admitted is refused by the others:
 //!
 //!     redis-server --save ''
 //!     cargo run --offline --example shared_server 127.0.0.1:4444 host/server.example.com /etc/krb5.keytab 300 127.0.0.1:6379
 //!     cargo run --offline --example shared_server 127.0.0.1:4445 host/server.example.com /etc/krb5.keytab 300 127.0.0.1:6379
 //!
-//! The keytab and 300 are those of `gss_server`. It does not wait after a start: the store knows whom an earlier process let in. Where the
-//! store does not answer, nobody is let in. The clocks of all these machines have to agree within the skew.
+//! The keytab and 300 are those of `gss_server`. It does not wait after a start: the store knows whom an earlier process admitted. Where the
+//! store does not answer, nobody is admitted. The clocks of all these machines have to agree within the skew.
 
 #[path = "parts/connections.rs"]
 mod connections;
@@ -66,7 +66,7 @@ impl Shared {
         let judged = acceptor.judge(token)?;
         acceptor.admit_by_store(judged, |record, keep| {
             let refused =
-                |error| format!("nobody is let in: {error} (the store at {})", self.address);
+                |error| format!("nobody is admitted: {error} (the store at {})", self.address);
             Ok(self.ask(record, keep).map_err(refused)?)
         })
     }

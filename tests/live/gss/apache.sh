@@ -25,7 +25,7 @@ web_client() {
     grep -q '^X-User: alice@EXAMPLE.COM' <<< "$said" && grep -qx 'hello from apache' <<< "$said"
 }
 
-# Whether 60 clients, ten at a time, are each let in, and none was refused.
+# Whether 60 clients, ten at a time, are each admitted, and none was refused.
 web_crowd() {
     : > "$gss/log"
     seq 60 | timeout 60 xargs -P 10 -I{} bash -c "web_client $1 || exit 255" || return 1

@@ -1,6 +1,6 @@
 # Two of gss-server as on two machines: each has a folder of its own for counters, and both ask one Redis.
 
-# Whether a client gets no answer, and the log says that nobody is let in.
+# Whether a client gets no answer, and the log says that nobody is admitted.
 store_is_away() {
     turns_away 'the store of admitted clients does not answer: nobody is admitted' bash -c "sample_client $1 1"
 }

@@ -1,6 +1,6 @@
 # A server over Cyrus' libsasl2 (pop_server.py), and clients over it, with each of the three layers.
 
-# Whether Cyrus' client is let in and answered in a layer of a strength between these: sasl_client PORT LEAST MOST
+# Whether Cyrus' client is admitted and answered in a layer of a strength between these: sasl_client PORT LEAST MOST
 sasl_client() {
     local said
     said=$(timeout 20 "$python" "$live/pop.py" "$1" "$2" "$3" - 65536 5) || { echo "$said"; return 1; }

@@ -30,7 +30,7 @@ ssh_delegates() {
     return $status
 }
 
-# Whether sshd lets nobody in where the interposer cannot be loaded: MIT's mechanism has no key.
+# Whether sshd admits nobody where the interposer cannot be loaded: MIT's mechanism has no key.
 is_closed_without() {
     local gss_mech=$gss/nothing.conf ssh_port
     echo "menolavuri 1.3.6.1.4.1.32473.4120.1 $gss/nothing.so <interposer>" > "$gss_mech"
@@ -47,5 +47,5 @@ try_gss_sshd() {
     try_admissions 'sshd, gssapi-with-mic' host/localhost bash -c "ssh_client $ssh_port gssapi-with-mic"
     try_admissions 'sshd, gssapi-keyex' host/localhost bash -c "ssh_client $ssh_port gssapi-keyex"
     check "sshd: a client's delegated ticket is in its session" ssh_delegates "$ssh_port"
-    check "sshd: without the interposer nobody is let in" is_closed_without
+    check "sshd: without the interposer nobody is admitted" is_closed_without
 }

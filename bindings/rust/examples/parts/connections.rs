@@ -55,7 +55,7 @@ fn serve_within(
             let place = match place(places, opens, address) {
                 Ok(place) => place,
                 Err(why) => {
-                    log(&format!("{address}: not let in: {why}"));
+                    log(&format!("{address}: not admitted: {why}"));
                     continue;
                 }
             };
