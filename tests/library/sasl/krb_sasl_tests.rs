@@ -28,11 +28,7 @@ enum ServerCase {
     Offer(Wanted),
     Call(&'static ServerRow),
     Spelled(&'static Row),
-    Frames(
-        Option<Order>,
-        &'static str,
-        &'static [(&'static str, Option<Wanted>)],
-    ),
+    Frames(Option<Order>, &'static str, &'static [(&'static str, Option<Wanted>)]),
     Texts(&'static str, &'static [(&'static str, &'static str)]),
     Rooms(&'static Row),
     Refuses,

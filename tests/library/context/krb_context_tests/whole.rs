@@ -73,18 +73,15 @@ fn is_written(
 }
 
 /// Whether a room that is an octet too short is refused and stays, and the number of the context too.
-fn stays(
-    alloc: Global,
-    context: &mut Kerberos,
-    text: &[u8],
-    token: &[u8],
-) -> Result<bool, Fail> {
+fn stays(alloc: Global, context: &mut Kerberos, text: &[u8], token: &[u8]) -> Result<bool, Fail> {
     let number = context.seq_number;
     let mut room = vec![in alloc; 0x5a; token.len() - 1]?;
     let refusal = cause_of(context.wrap_into(alloc, text, &CONFOUNDER, room.as_mut_slice()));
-    Ok(refusal == Some(Cause::TooSmall)
-        && all_are(room.as_slice(), 0x5a)
-        && context.seq_number == number)
+    Ok(
+        refusal == Some(Cause::TooSmall)
+            && all_are(room.as_slice(), 0x5a)
+            && context.seq_number == number,
+    )
 }
 
 fn new_end_writes(alloc: Global, row: &Row, more: usize) -> Result<bool, Fail> {
@@ -93,13 +90,7 @@ fn new_end_writes(alloc: Global, row: &Row, more: usize) -> Result<bool, Fail> {
     let token = octets(alloc, row.token)?;
     let len = context.wrapped_len(text.as_slice())?;
     let short = stays(alloc, &mut context, text.as_slice(), token.as_slice())?;
-    let written = is_written(
-        alloc,
-        &mut context,
-        text.as_slice(),
-        token.as_slice(),
-        more,
-    )?;
+    let written = is_written(alloc, &mut context, text.as_slice(), token.as_slice(), more)?;
     Ok(len == token.as_slice().len() && short && written)
 }
 
@@ -107,7 +98,12 @@ fn new_end_writes(alloc: Global, row: &Row, more: usize) -> Result<bool, Fail> {
 fn texts_are_written_into_a_room(rt: HostRuntime) -> Result<(), Fail> {
     for row in rows() {
         for more in [0, 1, 100] {
-            assert!(rt; new_end_writes(rt.alloc(), row, more)?, "{} {}", row.text, more);
+            assert!(rt;
+                new_end_writes(rt.alloc(), row, more)?,
+                "{} {}",
+                row.text,
+                more
+            );
         }
     }
     Ok(())

@@ -35,7 +35,10 @@ fn the_ticket_that_a_client_delegates_is_lent(rt: HostRuntime) -> Result<(), Fai
         moment: MOMENT,
         random: [7; 64],
     };
-    let candidate = boxed(alloc, service.judge(alloc, &hex::decode(alloc, TOKEN)?, &draw)?)?;
+    let candidate = boxed(
+        alloc,
+        service.judge(alloc, &hex::decode(alloc, TOKEN)?, &draw)?,
+    )?;
     let session = boxed(alloc, service.admit(alloc, Box::into_inner(candidate))?)?;
     match &session.client {
         Some(client) => {

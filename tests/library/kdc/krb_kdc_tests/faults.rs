@@ -11,6 +11,7 @@ use std::test::Fail;
 use url::Url;
 
 const HERE: &str = "tcp://kdc.example:88";
+
 const ELSEWHERE: &str = "tcp://other.example:88";
 
 /// To whom a request goes, what becomes of it (`None` is a reply), and how often the network has failed then.
